@@ -1,0 +1,18 @@
+-- The dealer and the vulnerability of each board (Law 2).
+use Rattle.std.specs.Prelude.{ℕ, ◌+◌, ◌-◌, ◌/◌, ◌%◌, ◌==◌, if◌then◌else◌}
+use Rattle.bridge_cards.specs.declared.seat.Seat.{Seat}
+use Rattle.bridge_cards.specs.declared.vulnerability.Vulnerability.{Vulnerability}
+use Rattle.bridge_cards.specs.declared.vulnerability.Vulnerability.TheVariants.{Neither, NorthSouth, EastWest, Both}
+use Rattle.bridge_cards.specs.Seat.{seat_at}
+
+-- the first board is North's, and each next one is dealt by the next seat clockwise
+abbrev pub dealer_of : ℕ → Seat
+dealer_of board = seat_at (board - 1)
+
+-- the four in turn, one place later after each four boards
+abbrev pub vulnerability_at : ℕ → Vulnerability
+vulnerability_at place =
+    if place % 4 == 0 then Neither else if place % 4 == 1 then NorthSouth else if place % 4 == 2 then EastWest else Both
+
+abbrev pub vulnerability_on : ℕ → Vulnerability
+vulnerability_on board = vulnerability_at ((board - 1) + (board - 1) / 4)

@@ -1,0 +1,4 @@
+pub mod Suit
+pub mod Seat
+pub mod Vulnerability
+pub mod Board

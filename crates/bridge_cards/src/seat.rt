@@ -1,0 +1,83 @@
+ghost use Rattle.std.specs.Prelude.{◌≡◌, ◌<◌};
+ghost use Rattle.bridge_cards.specs.Seat.{seat_number, seat_at, clockwise_from, side_of, other_side, seat_letter};
+
+/// A player's place at the table, clockwise from North.
+#[derive(Clone, Copy, Debug, PartialEq, Eq)]
+pub enum Seat {
+    North,
+    East,
+    South,
+    West,
+}
+
+/// The two partners who play together.
+#[derive(Clone, Copy, Debug, PartialEq, Eq)]
+pub enum Side {
+    NorthSouth,
+    EastWest,
+}
+
+impl Seat {
+    /// The four seats, clockwise from North.
+    pub const ALL: [Seat; 4] = [Seat::North, Seat::East, Seat::South, Seat::West];
+
+    /// The seat's number: 0 for North, then clockwise to 3 for West.
+    pub fn number(self) -> u8
+        ensures number { result ≡ seat_number self }
+        ensures range { result < 4 }
+    {
+        match self {
+            Seat::North => 0,
+            Seat::East => 1,
+            Seat::South => 2,
+            Seat::West => 3,
+        }
+    }
+
+    /// The seat that many places clockwise from this one.
+    pub fn clockwise(self, places: usize) -> Seat
+        ensures { result ≡ clockwise_from self places }
+    {
+        match (usize::from(self.number()) + places % 4) % 4 {
+            0 => Seat::North,
+            1 => Seat::East,
+            2 => Seat::South,
+            _ => Seat::West,
+        }
+    }
+
+    /// The side that the seat plays for.
+    pub fn side(self) -> Side
+        ensures { result ≡ side_of self }
+    {
+        match self {
+            Seat::North | Seat::South => Side::NorthSouth,
+            Seat::East | Seat::West => Side::EastWest,
+        }
+    }
+
+    /// The seat's letter: `N`, `E`, `S` or `W`.
+    pub fn letter(self) -> u8
+        ensures letter { result ≡ seat_letter self }
+        ensures ascii { result < 128 }
+    {
+        match self {
+            Seat::North => b'N',
+            Seat::East => b'E',
+            Seat::South => b'S',
+            Seat::West => b'W',
+        }
+    }
+}
+
+impl Side {
+    /// The opponents' side.
+    pub fn other(self) -> Side
+        ensures { result ≡ other_side self }
+    {
+        match self {
+            Side::NorthSouth => Side::EastWest,
+            Side::EastWest => Side::NorthSouth,
+        }
+    }
+}

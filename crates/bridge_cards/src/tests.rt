@@ -1,0 +1,88 @@
+use crate::{BoardNumber, Seat, Side, Suit, Vulnerability, dealer, vulnerability_of, vulnerable};
+use std::test::Fail;
+
+/// The table of Law 2, for boards 1 to 16, after which it repeats.
+const BOARDS: [(u8, Seat, Vulnerability); 16] = [
+    (1, Seat::North, Vulnerability::Neither),
+    (2, Seat::East, Vulnerability::NorthSouth),
+    (3, Seat::South, Vulnerability::EastWest),
+    (4, Seat::West, Vulnerability::Both),
+    (5, Seat::North, Vulnerability::NorthSouth),
+    (6, Seat::East, Vulnerability::EastWest),
+    (7, Seat::South, Vulnerability::Both),
+    (8, Seat::West, Vulnerability::Neither),
+    (9, Seat::North, Vulnerability::EastWest),
+    (10, Seat::East, Vulnerability::Both),
+    (11, Seat::South, Vulnerability::Neither),
+    (12, Seat::West, Vulnerability::NorthSouth),
+    (13, Seat::North, Vulnerability::Both),
+    (14, Seat::East, Vulnerability::Neither),
+    (15, Seat::South, Vulnerability::NorthSouth),
+    (16, Seat::West, Vulnerability::EastWest),
+];
+
+#[test]
+fn boards_follow_the_table(rt: HostRuntime) -> Result<(), Fail> {
+    for (number, seat, vulnerability) in BOARDS {
+        for repeat in [0, 16, 32] {
+            if number <= BoardNumber::MAX - repeat {
+                let board = BoardNumber::new(number + repeat).ok_or("a board from 1 to 36")?;
+                assert_eq!(rt; dealer(board), seat, "dealer of {number} + {repeat}");
+                assert_eq!(rt;
+                    vulnerability_of(board),
+                    vulnerability,
+                    "board {number} + {repeat}"
+                );
+            }
+        }
+    }
+    Ok(())
+}
+
+#[test]
+fn numbers_outside_1_to_36_are_no_boards(rt: HostRuntime) {
+    for number in [0, 37, 255] {
+        assert_eq!(rt; BoardNumber::new(number), None, "board {number}");
+    }
+}
+
+#[test]
+fn sides_are_vulnerable_as_the_board_says(rt: HostRuntime) -> Result<(), Fail> {
+    for (number, north_south, east_west) in [
+        (1, false, false),
+        (2, true, false),
+        (3, false, true),
+        (4, true, true),
+    ] {
+        let board = BoardNumber::new(number).ok_or("a board from 1 to 36")?;
+        assert_eq!(rt;
+            vulnerable(board, Side::NorthSouth),
+            north_south,
+            "board {number}"
+        );
+        assert_eq!(rt;
+            vulnerable(board, Side::EastWest),
+            east_west,
+            "board {number}"
+        );
+    }
+    Ok(())
+}
+
+#[test]
+fn seats_go_clockwise(rt: HostRuntime) {
+    for (places, seat, letter) in [
+        (0, Seat::East, b'E'),
+        (1, Seat::South, b'S'),
+        (2, Seat::West, b'W'),
+        (3, Seat::North, b'N'),
+        (318, Seat::West, b'W'),
+    ] {
+        let there = Seat::East.clockwise(places);
+        assert_eq!(rt; there, seat, "{places} places from East");
+        assert_eq!(rt; there.letter(), letter, "{places} places from East");
+    }
+    assert_eq!(rt; Seat::East.side(), Side::EastWest);
+    assert_eq!(rt; Seat::South.side().other(), Side::EastWest);
+    assert_eq!(rt; Suit::Spades.number(), 3);
+}
