@@ -1,0 +1,13 @@
+-- What a contract sees of an auction.
+use Rattle.std.specs.Prelude.{List, [], ◌∷◌, ◌++◌}
+use Rattle.bridge_cards.specs.declared.seat.Seat.{Seat}
+use Rattle.bridge_auction.specs.declared.call.Call.{Call}
+
+-- who calls first, and the calls so far
+pub record Bidding : Type 0 where
+  pub dealer : Seat
+  pub calls : List Call
+
+-- the same auction with one call more
+abbrev pub with_call : Bidding → Call → Bidding
+with_call auction call = record auction { calls = auction.calls ++ call ∷ [] }

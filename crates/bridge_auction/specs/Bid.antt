@@ -1,0 +1,21 @@
+-- Bids in order (Law 18).
+use Rattle.std.specs.Prelude.{ℕ, ◌+◌, ◌-◌, ◌*◌, ◌≤◌}
+use Rattle.bridge_auction.specs.declared.bid.Denomination.{Denomination}
+use Rattle.bridge_auction.specs.declared.bid.Denomination.TheVariants.{Clubs, Diamonds, Hearts, Spades, NoTrump}
+use Rattle.bridge_auction.specs.declared.bid.Bid.{Bid}
+
+-- the place of a denomination in their order, from 0
+abbrev pub denomination_number : Denomination → ℕ
+denomination_number Clubs = 0
+denomination_number Diamonds = 1
+denomination_number Hearts = 2
+denomination_number Spades = 3
+denomination_number NoTrump = 4
+
+-- the place of a bid in their order, from 0: first by level, then by denomination
+abbrev pub bid_number : Bid → ℕ
+bid_number bid = 5 * (bid.level - 1) + denomination_number bid.denomination
+
+-- a bid of a level from 1 to 7
+abbrev pub IsBid : Bid → Type 0
+IsBid bid = (1 ≤ bid.level) × (bid.level ≤ 7)

@@ -1,0 +1,5 @@
+pub mod Bid
+pub mod Call
+pub mod Legal
+pub mod Contract
+pub mod Auction

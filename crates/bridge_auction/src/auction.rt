@@ -1,0 +1,136 @@
+ghost use Rattle.std.specs.Prelude.{◌≡◌, ◌≤◌, ◌∷◌, ◌++◌, [], ◌↔◌, List, length, IsOk, OnOk, OnErr};
+ghost use Rattle.bridge_cards.specs.Seat.{clockwise_from};
+ghost use Rattle.bridge_auction.specs.Legal.{is_ended, answer_to, IsLegal};
+ghost use Rattle.bridge_auction.specs.Contract.{contract_of};
+ghost use Rattle.bridge_auction.specs.Auction.{with_call};
+
+use crate::call::Call;
+use crate::contract::Contract;
+use crate::look_back;
+use arrayvec::ArrayVec;
+use bridge_cards::Seat;
+use std::marker::Model;
+
+/// Why a call is refused. A refused call changes nothing.
+#[derive(Clone, Copy, Debug, PartialEq, Eq)]
+pub enum CallRefused {
+    /// The auction is over (Law 22).
+    Ended,
+    /// The bid is not higher than every bid so far (Law 18).
+    InsufficientBid,
+    /// The last call other than a pass is no bid by an opponent (Law 19A).
+    InadmissibleDouble,
+    /// The last call other than a pass is no double by an opponent (Law 19B).
+    InadmissibleRedouble,
+}
+
+/// The most calls that an auction has: three passes, then each of the 35 bids with two passes, a double,
+/// two passes, a redouble and two passes, then a last pass.
+pub const MOST_CALLS: usize = 319;
+
+/// No legal list of calls is longer than this (Laws 17 to 22).
+pub fn longest_auction() -> usize
+    ensures longest { (calls : List Call) → IsLegal calls → length calls ≤ result }
+    ensures value { result ≡ 319 }
+{
+    MOST_CALLS
+}
+
+/// The auction of one board: its dealer, and a legal list of calls.
+#[derive(Drop)]
+pub struct Auction {
+    dealer: Seat,
+    calls: ArrayVec<Call, MOST_CALLS>,
+}
+
+impl Model for Auction {
+    ghost use Rattle.std.specs.Prelude.{ℕ};
+    ghost use Rattle.bridge_auction.specs.Auction.{Bidding};
+    ghost use Rattle.bridge_auction.specs.Legal.{IsLegal};
+
+    ghost Value = { Bidding };
+
+    ghost view = { λ a. record { dealer = a.dealer; calls = a.calls.items } };
+
+    ghost invariant = { λ a. IsLegal a.calls.items };
+}
+
+impl Auction {
+    /// An auction without calls.
+    pub fn new(dealer: Seat) -> Auction
+        ensures dealer { result.dealer ≡ dealer }
+        ensures calls { result.calls ≡ [] }
+    {
+        Auction {
+            dealer,
+            calls: ArrayVec::new(),
+        }
+    }
+
+    /// Adds a call to the auction where the list with it is legal, and else says why not.
+    pub fn try_call(&mut self, call: Call) -> Result<(), CallRefused>
+        ensures answer { result ≡ answer_to self.old.calls call }
+        ensures legal { IsOk result ↔ IsLegal (self.old.calls ++ call ∷ []) }
+        ensures taken { OnOk result (self.new ≡ with_call self.old call) }
+        ensures refused { OnErr result (self.new ≡ self.old) }
+    {
+        let made = call;
+        let answer = look_back::answer(self.calls.as_slice(), call);
+        if answer.is_ok() {
+            self.calls.push(made);
+        }
+        answer
+    }
+
+    /// Who dealt the board, and calls first.
+    pub fn dealer(&self) -> Seat
+        ensures { result ≡ self.now.dealer }
+    {
+        self.dealer
+    }
+
+    /// Whose turn it is to call: the dealer's, then clockwise. It goes on so after the end.
+    pub fn turn(&self) -> Seat
+        ensures { result ≡ clockwise_from self.now.dealer (length self.now.calls) }
+    {
+        Seat::clockwise(self.dealer, self.calls.len())
+    }
+
+    /// Whether the auction is over (Law 22).
+    pub fn is_ended(&self) -> bool
+        ensures { result ≡ is_ended self.now.calls }
+    {
+        look_back::ended(self.calls.as_slice())
+    }
+
+    /// The calls so far, a legal list.
+    pub fn calls(&self) -> &[Call]
+        ensures calls { result.now ≡ self.now.calls }
+        ensures legal { IsLegal result.now }
+        ensures few { length result.now ≤ MOST_CALLS }
+    {
+        self.calls.as_slice()
+    }
+
+    /// The contract: `None` while the auction is open, and where nobody bid (Law 22).
+    pub fn contract(&self) -> Option<Contract>
+        ensures { result ≡ contract_of self.now.dealer self.now.calls }
+    {
+        let calls = self.calls.as_slice();
+        if !look_back::ended(calls) {
+            return None;
+        }
+        let last = look_back::last_bid(calls)?;
+        match calls.get(last) {
+            Some(Call::Bid(bid)) => {
+                let first = look_back::first_to_name(calls, last, bid.denomination).unwrap_or(last);
+                Some(Contract {
+                    bid: *bid,
+                    doubling: look_back::doubling(calls),
+                    declarer: self.dealer.clockwise(first),
+                })
+            }
+            _ => None,
+        }
+    }
+}

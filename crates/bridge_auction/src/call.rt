@@ -1,0 +1,41 @@
+ghost use Rattle.std.specs.Prelude.{◌≡◌};
+ghost use Rattle.bridge_auction.specs.Call.{is_pass, is_bid, IsCall};
+
+use crate::bid::Bid;
+
+/// What a player may say in turn (Law 17).
+#[derive(Clone, Copy, Debug, PartialEq, Eq)]
+pub enum Call {
+    Pass,
+    Bid(Bid),
+    Double,
+    Redouble,
+}
+
+impl Call {
+    /// Whether the call is a pass.
+    pub fn is_pass(self) -> bool
+        ensures { result ≡ is_pass self }
+    {
+        matches!(self, Call::Pass)
+    }
+
+    /// Whether the call is a bid.
+    pub fn is_bid(self) -> bool
+        ensures { result ≡ is_bid self }
+    {
+        matches!(self, Call::Bid(_))
+    }
+}
+
+/// A pass, so that a list of calls has a value for the places that it does not use.
+impl Default for Call {
+    ghost use Rattle.std.specs.Prelude.{◌≡◌};
+    ghost use Rattle.bridge_auction.specs.declared.call.Call.TheVariants.{Pass};
+
+    ghost is_default = { λ call. call ≡ Pass };
+
+    fn default() -> Self {
+        Call::Pass
+    }
+}

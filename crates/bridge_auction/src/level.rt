@@ -1,0 +1,43 @@
+ghost use Rattle.std.specs.Prelude.{◌≡◌, ◌≤◌, ◌↔◌, IsSome, IfSome};
+
+use std::marker::Model;
+
+/// The level of a bid: the number of tricks above six that it promises, 1 to 7 (Law 18A).
+#[derive(Clone, Copy, Debug, PartialEq, Eq, PartialOrd, Ord)]
+pub struct Level {
+    tricks: u8,
+}
+
+impl Model for Level {
+    ghost use Rattle.std.specs.Prelude.{ℕ, ◌≤◌};
+
+    ghost Value = { ℕ };
+
+    ghost view = { λ l. l.tricks };
+
+    ghost invariant = { λ l. (1 ≤ l.tricks) × (l.tricks ≤ 7) };
+
+    ghost inverse = { λ n. record { tricks = n } };
+}
+
+impl Level {
+    /// The level of that number, or `None` where it is not from 1 to 7.
+    pub fn new(number: u8) -> Option<Level>
+        ensures valid { IsSome result ↔ ((1 ≤ number) × (number ≤ 7)) }
+        ensures value { IfSome result (λ level. level ≡ number) }
+    {
+        if (1..=7).contains(&number) {
+            Some(Level { tricks: number })
+        } else {
+            None
+        }
+    }
+
+    /// The level as a number, 1 to 7.
+    pub fn number(self) -> u8
+        ensures number { result ≡ self }
+        ensures range { (1 ≤ result) × (result ≤ 7) }
+    {
+        self.tricks
+    }
+}

@@ -1,0 +1,131 @@
+//! Looks back over the calls of an auction, from the last one.
+ghost use Rattle.std.specs.Prelude.{◌≡◌, not, ◌<◌, length, unwrap_or, OnOk};
+ghost use Rattle.std.specs.List.{list_all};
+ghost use Rattle.bridge_auction.specs.Bid.{bid_number, IsBid};
+ghost use Rattle.bridge_auction.specs.Call.{is_pass, is_bid, is_double, IsCall};
+ghost use Rattle.bridge_auction.specs.Legal.{is_ended, last_place, opponents_call, is_below, is_admissible, answer_to};
+ghost use Rattle.bridge_auction.specs.Contract.{first_to_name, names, doubling_of};
+
+use crate::auction::CallRefused;
+use crate::bid::{Bid, Denomination};
+use crate::call::Call;
+use crate::contract::Doubling;
+
+/// Whether each of these calls is a pass.
+fn are_passes(calls: &[Call]) -> bool
+    ensures { result ≡ list_all is_pass calls.now }
+{
+    calls.iter().all(|call| call.is_pass())
+}
+
+/// Whether the auction is over.
+pub fn ended(calls: &[Call]) -> bool
+    ensures { result ≡ is_ended calls.now }
+{
+    calls.len() >= 4 && are_passes(&calls[calls.len() - 3..])
+}
+
+/// The place of the last call that is no pass.
+pub fn last_but_passes(calls: &[Call]) -> Option<usize>
+    ensures { result ≡ last_place (λ call. not (is_pass call)) calls.now }
+{
+    let mut end = calls.len();
+    while end > 0 {
+        end -= 1;
+        if !calls[end].is_pass() {
+            return Some(end);
+        }
+    }
+    None
+}
+
+/// The place of the last bid.
+pub fn last_bid(calls: &[Call]) -> Option<usize>
+    ensures { result ≡ last_place is_bid calls.now }
+{
+    let mut end = calls.len();
+    while end > 0 {
+        end -= 1;
+        if calls[end].is_bid() {
+            return Some(end);
+        }
+    }
+    None
+}
+
+/// The last call that is no pass, if an opponent of the player who calls next made it.
+pub fn opponents_call(calls: &[Call]) -> Option<Call>
+    ensures { result ≡ opponents_call calls.now }
+{
+    match last_but_passes(calls) {
+        Some(place) if place % 2 != calls.len() % 2 => calls.get(place).copied(),
+        _ => None,
+    }
+}
+
+/// Whether the call is no bid, or one of a lower number.
+fn is_below(number: u8, call: Call) -> bool
+    ensures { result ≡ is_below number call }
+{
+    match call {
+        Call::Bid(other) => other.number() < number,
+        Call::Pass | Call::Double | Call::Redouble => true,
+    }
+}
+
+/// Whether the bid is higher than every bid of these calls.
+fn is_sufficient(calls: &[Call], bid: Bid) -> bool
+    ensures higher { result ≡ list_all (is_below (bid_number bid)) calls.now }
+    ensures known { IsBid bid }
+{
+    let number = bid.number();
+    calls.iter().all(|call| is_below(number, *call))
+}
+
+/// The answer to a call after these, which are a legal list.
+pub fn answer(calls: &[Call], call: Call) -> Result<(), CallRefused>
+    ensures answer { result ≡ answer_to calls.now call }
+    ensures known { OnOk result (IsCall call) }
+{
+    if ended(calls) {
+        return Err(CallRefused::Ended);
+    }
+    match call {
+        Call::Pass => Ok(()),
+        Call::Bid(bid) if is_sufficient(calls, bid) => Ok(()),
+        Call::Bid(_) => Err(CallRefused::InsufficientBid),
+        Call::Double if matches!(opponents_call(calls), Some(Call::Bid(_))) => Ok(()),
+        Call::Double => Err(CallRefused::InadmissibleDouble),
+        Call::Redouble if opponents_call(calls) == Some(Call::Double) => Ok(()),
+        Call::Redouble => Err(CallRefused::InadmissibleRedouble),
+    }
+}
+
+/// The first place of a bid of that denomination by the side that made the call at `last`.
+pub fn first_to_name(calls: &[Call], last: usize, denomination: Denomination) -> Option<usize>
+    ensures { result ≡ first_to_name calls.now last denomination }
+{
+    calls.iter().enumerate().position(|(place, call)| place % 2 == last % 2
+        && names(denomination, *call))
+}
+
+/// Whether the call is a bid of that denomination.
+fn names(denomination: Denomination, call: Call) -> bool
+    ensures { result ≡ names denomination call }
+{
+    match call {
+        Call::Bid(bid) => bid.denomination.number() == denomination.number(),
+        Call::Pass | Call::Double | Call::Redouble => false,
+    }
+}
+
+/// The doubling after these calls, by the last of them that is no pass.
+pub fn doubling(calls: &[Call]) -> Doubling
+    ensures { result ≡ doubling_of calls.now }
+{
+    match last_but_passes(calls).and_then(|place| calls.get(place).copied()) {
+        Some(Call::Double) => Doubling::Doubled,
+        Some(Call::Redouble) => Doubling::Redoubled,
+        _ => Doubling::Undoubled,
+    }
+}
