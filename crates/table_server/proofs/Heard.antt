@@ -1,0 +1,139 @@
+-- An auction's bytes, heard piece by piece.
+use Rattle.std.proofs.Common.{◌≡◌, ℕ, zero, suc, ◌+◌, ◌-◌, ◌<◌, ◌≤◌, ◌∙◌, true, List, [], ◌++◌, length, take, Option, Some, None, refl, sym, ap, arith, length-append, append_assoc, append-nil}
+use Rattle.std.specs.List.{list_all}
+use Rattle.std.specs.Prelude.{nat_le, nat_eq, IfSome, Result, Ok, Err, OnOk, IfErr}
+use Rattle.std.proofs.lemmas.Bool.{le-leb, lt-leb, ne_eqb}
+use Rattle.std.proofs.lemmas.List.{take_at, take_all}
+use Rattle.std.specs.Io.KnownBytes.{Appends, Consumes, Keeps, IsAtEnd}
+use Rattle.bridge_cards.specs.declared.seat.Seat.{Seat}
+use Rattle.table_server.specs.Lines.{complete_lines}
+use Rattle.table_server.specs.Replies.{replies_to, calls_after, limit_notice, ending, byte_limit, output_for, auction_output}
+use Rattle.table_server.specs.declared.fault.ServeFault.{ServeFault}
+use Rattle.table_server.specs.declared.fault.ServeFault.TheVariants.{Read, Write}
+use Rattle.table_server.specs.Desk.{Desk, is_within_line, replies_from, calls_from, Answers}
+use Rattle.table_server.specs.Streams.{AppendsFront, Written}
+use Rattle.table_server.specs.Heard.{Heard, StopsAt}
+use Rattle.table_server.proofs.LineLemmas.{lines_none}
+use Rattle.table_server.proofs.Streams.{appends_join, appends_front, front_longer, consumes_join, consumes_keeps}
+
+-- nothing is written for a line that has begun
+pub begun_replies : (desk : Desk) → list_all is_within_line desk.line ≡ true → replies_from desk [] ≡ []
+begun_replies desk within = rw (append-nil desk.line, lines_none desk.line within) refl
+
+pub begun_calls : (desk : Desk) → list_all is_within_line desk.line ≡ true → calls_from desk [] ≡ desk.calls
+begun_calls desk within = rw (append-nil desk.line, lines_none desk.line within) refl
+
+-- the replies to one piece more
+pub piece_replies : (dealer : Seat) (given rest before written : Option (List ℕ)) (old new : Desk) (left : ℕ) (h : Heard dealer given rest before written old left) (piece text : List ℕ) → Answers old new piece text → replies_to [] (complete_lines (h.bytes ++ piece)) ≡ replies_to [] (complete_lines h.bytes) ++ text
+piece_replies dealer given rest before written old new left h piece text answers =
+    let whole : replies_from old piece ≡ text =
+    ap (replies_from old) (sym (append-nil piece)) ∙ answers.replies [] ∙ ap (λ more. text ++ more) (begun_replies new answers.within)
+    ∙ append-nil text in
+    h.replies piece ∙ ap (λ more. replies_to [] (complete_lines h.bytes) ++ more) whole
+
+-- one piece more was heard
+pub heard_piece : (dealer : Seat) (given rest rest' before written written' : Option (List ℕ)) (old new : Desk) (left left' : ℕ) (h : Heard dealer given rest before written old left) (piece text : List ℕ) → length piece + left' ≡ left → Consumes rest rest' piece → Answers old new piece text → Appends written written' text → Heard dealer given rest' before written' new left'
+heard_piece dealer given rest rest' before written written' old new left left' h piece text count consumed answers appended =
+    let replied = piece_replies dealer given rest before written old new left h piece text answers in
+    record {
+      bytes = h.bytes ++ piece;
+      count = omega (arith, h.count, count, length-append h.bytes piece);
+      consumed = consumes_join given rest rest' h.bytes piece h.consumed consumed;
+      appended = rw replied (appends_join before written written' (replies_to [] (complete_lines h.bytes)) text h.appended appended);
+      replies = λ more.
+          rw (append_assoc h.bytes piece more, replied, h.replies (piece ++ more), answers.replies more)
+          (sym (append_assoc (replies_to [] (complete_lines h.bytes)) text (replies_from new more)));
+      calls = λ more. rw (append_assoc h.bytes piece more) (h.calls (piece ++ more) ∙ answers.calls more);
+      dealt = answers.dealer ∙ h.dealt;
+      within = answers.within;
+    }
+
+consumes_none : (given : Option (List ℕ)) → Consumes given given []
+consumes_none None = tt
+consumes_none (Some bytes) = refl
+
+appends_none : (written : Option (List ℕ)) → Appends written written []
+appends_none None = tt
+appends_none (Some bytes) = sym (append-nil bytes)
+
+-- nothing was heard yet
+pub heard_none : (dealer : Seat) (given before : Option (List ℕ)) (desk : Desk) → desk.dealer ≡ dealer → desk.calls ≡ [] → desk.line ≡ [] → Heard dealer given given before before desk 65536
+heard_none dealer given before desk dealt no_calls no_line = record {
+  bytes = [];
+  count = refl;
+  consumed = consumes_none given;
+  appended = appends_none before;
+  replies = λ more. rw (no_calls, no_line) refl;
+  calls = λ more. rw (no_calls, no_line) refl;
+  dealt = dealt;
+  within = rw no_line refl;
+}
+
+-- a read fault after what was heard
+pub stops_reading : (dealer : Seat) (given rest rest' before written : Option (List ℕ)) (desk : Desk) (left : ℕ) → Heard dealer given rest before written desk left → 0 < left → Keeps rest rest' → StopsAt dealer given rest' before written Read
+stops_reading dealer given rest rest' before written desk left h some kept =
+    (h.bytes, omega (arith, h.count), consumes_keeps given rest rest' h.bytes h.consumed kept, h.appended)
+
+-- a write fault at the replies to one piece more
+pub stops_at_piece : (dealer : Seat) (given rest rest' before written written' : Option (List ℕ)) (old new : Desk) (left : ℕ) → Heard dealer given rest before written old left → (piece text : List ℕ) → length piece ≤ left → Consumes rest rest' piece → Answers old new piece text → AppendsFront written written' text → StopsAt dealer given rest' before written' Write
+stops_at_piece dealer given rest rest' before written written' old new left h piece text room consumed answers front =
+    let replied = piece_replies dealer given rest before written old new left h piece text answers in
+    let bytes : List ℕ = h.bytes ++ piece in
+    let last : List ℕ = limit_notice (nat_le byte_limit (length bytes)) ++ ending dealer (calls_after [] (complete_lines bytes)) in
+    let longer = front_longer before written' (replies_to [] (complete_lines h.bytes) ++ text) last
+    (appends_front before written written' (replies_to [] (complete_lines h.bytes)) text h.appended front) in (
+      bytes,
+      omega (arith, h.count, room, length-append h.bytes piece),
+      consumes_join given rest rest' h.bytes piece h.consumed consumed,
+      rw replied longer,
+    )
+
+-- what the limit says of the bytes heard
+at_limit : (count left : ℕ) → count + left ≡ 65536 → nat_le byte_limit count ≡ nat_eq left 0
+at_limit count zero sum = le-leb 65536 count (omega arith)
+at_limit count (suc left) sum = lt-leb 65536 count (omega arith) ∙ sym (ne_eqb (suc left) 0 (λ none. omega arith))
+
+-- the output for what was heard
+output_heard : (dealer : Seat) (given rest before written : Option (List ℕ)) (desk : Desk) (left : ℕ) (h : Heard dealer given rest before written desk left) → output_for dealer h.bytes ≡ replies_to [] (complete_lines h.bytes) ++ (limit_notice (nat_eq left 0) ++ ending desk.dealer desk.calls)
+output_heard dealer given rest before written desk left h =
+    let called : calls_after [] (complete_lines h.bytes) ≡ desk.calls =
+    ap (λ bytes. calls_after [] (complete_lines bytes)) (sym (append-nil h.bytes)) ∙ h.calls [] ∙ begun_calls desk h.within in
+    rw (called, at_limit (length h.bytes) left h.count, h.dealt) refl
+
+-- a write fault at the last line
+pub stops_at_end : (dealer : Seat) (given rest before written written' : Option (List ℕ)) (desk : Desk) (left : ℕ) → Heard dealer given rest before written desk left → AppendsFront written written' (limit_notice (nat_eq left 0) ++ ending desk.dealer desk.calls) → StopsAt dealer given rest before written' Write
+stops_at_end dealer given rest before written written' desk left h front = (
+  h.bytes,
+  omega (arith, h.count),
+  h.consumed,
+  rw (output_heard dealer given rest before written desk left h)
+      (appends_front before written written' (replies_to [] (complete_lines h.bytes)) (limit_notice (nat_eq left 0) ++ ending desk.dealer desk.calls) h.appended front),
+)
+
+-- all that is read of the input was heard, where the limit was reached or the input is at its end
+heard_all : (dealer : Seat) (input : List ℕ) (rest before written : Option (List ℕ)) (desk : Desk) (left : ℕ) (h : Heard dealer (Some input) rest before written desk left) → (0 < left → IsAtEnd rest) → take byte_limit input ≡ h.bytes
+heard_all dealer input None before written desk left h end = absurd h.consumed
+heard_all dealer input (Some bytes) before written desk zero h end =
+    let whole : length h.bytes ≡ 65536 = omega (arith, h.count) in
+    rw h.consumed (take_at h.bytes bytes 65536 whole)
+heard_all dealer input (Some bytes) before written desk (suc left) h end =
+    let none : bytes ≡ [] = end (omega arith) in
+    let all : input ≡ h.bytes = rw (none, append-nil) at h.consumed in
+    rw all (take_all 65536 h.bytes (omega (arith, h.count)))
+
+-- the whole output was written
+pub ends_well : (dealer : Seat) (given rest before written written' : Option (List ℕ)) (desk : Desk) (left : ℕ) → Heard dealer given rest before written desk left → (0 < left → IsAtEnd rest) → Appends written written' (limit_notice (nat_eq left 0) ++ ending desk.dealer desk.calls) → IfSome given (λ input. Appends before written' (auction_output dealer input) × Consumes given rest (take byte_limit input))
+ends_well dealer None rest before written written' desk left h end appended = tt
+ends_well dealer (Some input) rest before written written' desk left h end appended =
+    let heard = heard_all dealer input rest before written desk left h end in (
+      rw (heard, output_heard dealer (Some input) rest before written desk left h)
+          (appends_join before written written' (replies_to [] (complete_lines h.bytes)) (limit_notice (nat_eq left 0) ++ ending desk.dealer desk.calls) h.appended appended),
+      rw heard h.consumed,
+    )
+
+-- what holds once the last line was written, or a front of it
+pub ended : (dealer : Seat) (given rest before written written' : Option (List ℕ)) (desk : Desk) (left : ℕ) (result : Result (Unit {0}) ServeFault) → Heard dealer given rest before written desk left → (0 < left → IsAtEnd rest) → Written written written' (limit_notice (nat_eq left 0) ++ ending desk.dealer desk.calls) result → OnOk result (IfSome given (λ input. Appends before written' (auction_output dealer input) × Consumes given rest (take byte_limit input))) × IfErr result (StopsAt dealer given rest before written')
+ended dealer given rest before written written' desk left (Ok u) h end appended =
+    (ends_well dealer given rest before written written' desk left h end appended, tt)
+ended dealer given rest before written written' desk left (Err fault) h end front =
+    (tt, rw front.1 (stops_at_end dealer given rest before written written' desk left h front.0))

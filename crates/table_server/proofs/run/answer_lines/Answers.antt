@@ -1,0 +1,27 @@
+use Rattle.std.proofs.Common.{◌≡◌, ◌+◌, ◌-◌, length, take, arith, rules}
+use Rattle.std.proofs.lemmas.List.{length-take-le}
+use Rattle.table_server.proofs.Heard.{heard_piece, stops_at_piece}
+use Rattle.table_server.proofs.run.answer_lines.Goals as goal
+
+pub returns-in-Err-answer_piece-clause-fault : goal.returns-in-Err-answer_piece-clause-fault
+returns-in-Err-answer_piece-clause-fault g c =
+    let e = c.in-Err-answer_piece.ensures in
+    let taken = length-take-le c.in-Ok.taken c.read_piece.new.piece c.in-Ok.ensures.bound.1 in
+    rw e.2.1
+    (stops_at_piece c.args.desk.now.dealer (g.R.Read.remaining c.args.reader.now) (g.R.Read.remaining c.loop-left.reader)
+    (g.R.Read.remaining c.read_piece.new.reader) (g.W.Write.contents c.args.writer.now) (g.W.Write.contents c.loop-left.writer)
+    (g.W.Write.contents c.answer_piece.new.writer) c.loop-left.desk c.answer_piece.new.desk c.loop-left.left c.loop-left.invariant.heard
+    (take c.in-Ok.taken c.read_piece.new.piece) e.0 (omega (arith, taken, c.in-Ok.ensures.bound.0)) c.in-Ok.ensures.ok e.1 e.2.0)
+
+pub loop-left-preserved : goal.loop-left-preserved
+loop-left-preserved g c =
+    let e = c.in_default.ensures in
+    let taken = length-take-le c.in-Ok.taken c.read_piece.new.piece c.in-Ok.ensures.bound.1 in
+    record {
+      heard = heard_piece c.args.desk.now.dealer (g.R.Read.remaining c.args.reader.now) (g.R.Read.remaining c.loop-left.reader)
+          (g.R.Read.remaining c.read_piece.new.reader) (g.W.Write.contents c.args.writer.now) (g.W.Write.contents c.loop-left.writer)
+          (g.W.Write.contents c.answer_piece.new.writer) c.loop-left.desk c.answer_piece.new.desk c.loop-left.left
+          (c.loop-left.left - c.in-Ok.taken) c.loop-left.invariant.heard (take c.in-Ok.taken c.read_piece.new.piece) e.0
+          (omega (arith, taken, c.in-Ok.ensures.bound.0)) c.in-Ok.ensures.ok e.1 e.2;
+      room = search rules;
+    }

@@ -1,0 +1,14 @@
+use Rattle.std.proofs.Common.{rules}
+use Rattle.table_server.proofs.run.answer_piece.Goals as goal
+
+pub returns : goal.returns
+returns g c = (
+  c.feed.new.out.bytes,
+  record {
+    replies = λ rest. rw c.new-out.ensures at (c.feed.ensures.replies rest);
+    calls = c.feed.ensures.calls;
+    dealer = c.feed.ensures.dealer;
+    within = c.feed.ensures.within;
+  },
+  rw (c.as_bytes.ensures.value, c.as_str.ensures.value) at c.write_text.ensures,
+)

@@ -1,0 +1,32 @@
+-- An auction between two lines, and what is still to be written for the bytes to come.
+use Rattle.std.specs.Prelude.{◌≡◌, ℕ, Bool, true, not, ◌==◌, List, ◌++◌}
+use Rattle.std.specs.List.{list_all}
+use Rattle.bridge_cards.specs.declared.seat.Seat.{Seat}
+use Rattle.bridge_auction.specs.declared.call.Call.{Call}
+use Rattle.table_server.specs.Lines.{complete_lines}
+use Rattle.table_server.specs.Replies.{calls_after, replies_to}
+
+-- the dealer, the calls of the complete lines, and the bytes of the line that has begun
+pub record Desk : Type 0 where
+  pub dealer : Seat
+  pub calls : List Call
+  pub line : List ℕ
+
+-- no line feed
+abbrev pub is_within_line : ℕ → Bool
+is_within_line byte = not (byte == 10)
+
+-- the replies to the lines that these bytes complete
+abbrev pub replies_from : Desk → List ℕ → List ℕ
+replies_from desk bytes = replies_to desk.calls (complete_lines (desk.line ++ bytes))
+
+-- the calls after the lines that these bytes complete
+abbrev pub calls_from : Desk → List ℕ → List Call
+calls_from desk bytes = calls_after desk.calls (complete_lines (desk.line ++ bytes))
+
+-- the text has the replies to the lines that these bytes complete, whatever bytes come after them
+pub record Answers (old new : Desk) (bytes text : List ℕ) : Type 0 where
+  pub replies : (rest : List ℕ) → replies_from old (bytes ++ rest) ≡ text ++ replies_from new rest
+  pub calls : (rest : List ℕ) → calls_from old (bytes ++ rest) ≡ calls_from new rest
+  pub dealer : new.dealer ≡ old.dealer
+  pub within : list_all is_within_line new.line ≡ true

@@ -1,0 +1,30 @@
+-- What was heard of an auction's bytes, and what was written for them.
+use Rattle.std.specs.Prelude.{◌≡◌, ℕ, ◌+◌, ◌<◌, ◌≤◌, true, List, [], ◌++◌, length, Option}
+use Rattle.std.specs.List.{list_all}
+use Rattle.std.specs.Io.KnownBytes.{Appends, Consumes}
+use Rattle.bridge_cards.specs.declared.seat.Seat.{Seat}
+use Rattle.table_server.specs.declared.fault.ServeFault.{ServeFault}
+use Rattle.table_server.specs.declared.fault.ServeFault.TheVariants.{Read, Write}
+use Rattle.table_server.specs.Lines.{complete_lines}
+use Rattle.table_server.specs.Replies.{replies_to, calls_after, output_for, byte_limit}
+use Rattle.table_server.specs.Desk.{Desk, is_within_line, replies_from, calls_from}
+use Rattle.table_server.specs.Streams.{AppendsFront}
+
+-- The desk has heard some bytes, which the reader gave, and the replies to their complete lines are written.
+pub record Heard (dealer : Seat) (given rest written_before written : Option (List ℕ)) (desk : Desk) (left : ℕ) : Type 0 where
+  pub bytes : List ℕ
+  pub count : length bytes + left ≡ byte_limit
+  pub consumed : Consumes given rest bytes
+  pub appended : Appends written_before written (replies_to [] (complete_lines bytes))
+  pub replies : (more : List ℕ) → replies_to [] (complete_lines (bytes ++ more)) ≡ replies_to [] (complete_lines bytes) ++ replies_from desk more
+  pub calls : (more : List ℕ) → calls_after [] (complete_lines (bytes ++ more)) ≡ calls_from desk more
+  pub dealt : desk.dealer ≡ dealer
+  pub within : list_all is_within_line desk.line ≡ true
+
+-- What was read and written at a fault, of what was given to read and what was written before:
+-- at a read fault the replies to the complete lines, and at a write fault a front of the output for the bytes read.
+abbrev pub StopsAt : Seat → Option (List ℕ) → Option (List ℕ) → Option (List ℕ) → Option (List ℕ) → ServeFault → Type 0
+StopsAt dealer given rest before written Read =
+    (bytes : List ℕ) × (length bytes < byte_limit) × Consumes given rest bytes × Appends before written (replies_to [] (complete_lines bytes))
+StopsAt dealer given rest before written Write =
+    (bytes : List ℕ) × (length bytes ≤ byte_limit) × Consumes given rest bytes × AppendsFront before written (output_for dealer bytes)

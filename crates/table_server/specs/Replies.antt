@@ -1,0 +1,89 @@
+-- What is written for an auction that is read line by line.
+use Rattle.std.specs.Prelude.{ℕ, Bool, true, false, nat_lt, nat_le, if◌then◌else◌, List, [], ◌∷◌, ◌++◌, length, take, codes, Option, Some, None, Result, Ok, Err}
+use Rattle.std.specs.Io.BufRead.{strip_last}
+use Rattle.bridge_cards.specs.declared.seat.Seat.{Seat}
+use Rattle.bridge_auction.specs.declared.call.Call.{Call}
+use Rattle.bridge_auction.specs.declared.contract.Contract.{Contract}
+use Rattle.bridge_auction.specs.declared.auction.CallRefused.{CallRefused}
+use Rattle.bridge_auction.specs.declared.auction.CallRefused.TheVariants.{Ended, InsufficientBid, InadmissibleDouble, InadmissibleRedouble}
+use Rattle.bridge_auction.specs.Legal.{is_ended, answer_to}
+use Rattle.bridge_auction.specs.Contract.{contract_of}
+use Rattle.table_server.specs.declared.reply.Reply.{Reply}
+use Rattle.table_server.specs.declared.reply.Reply.TheVariants.{Accepted, Refused, BadLine, LongLine}
+use Rattle.table_server.specs.Spelling.{contract_text, call_of}
+use Rattle.table_server.specs.Lines.{complete_lines}
+
+-- the text of a reply, with its line feed
+abbrev pub reply_text : Reply → List ℕ
+reply_text Accepted = codes "OK\n"
+reply_text (Refused Ended) = codes "ERR 9 WrongPhase\n"
+reply_text (Refused InsufficientBid) = codes "ERR 17 InsufficientBid\n"
+reply_text (Refused InadmissibleDouble) = codes "ERR 18 InadmissibleDouble\n"
+reply_text (Refused InadmissibleRedouble) = codes "ERR 19 InadmissibleRedouble\n"
+reply_text BadLine = codes "ERR 30 BadLine\n"
+reply_text LongLine = codes "ERR 31 LongLine\n"
+
+-- a line may have 128 bytes
+abbrev pub is_long : List ℕ → Bool
+is_long line = nat_lt 128 (length line)
+
+-- the call that a line spells, without one carriage return (byte 13) at its end
+abbrev pub line_call : List ℕ → Option Call
+line_call line = if is_long line then None else call_of (strip_last 13 line)
+
+abbrev pub answer_reply : Result (Unit {0}) CallRefused → Reply
+answer_reply (Ok _) = Accepted
+answer_reply (Err refused) = Refused refused
+
+abbrev pub call_reply : List Call → Option Call → Reply
+call_reply calls None = BadLine
+call_reply calls (Some call) = answer_reply (answer_to calls call)
+
+-- the reply to a line after those calls
+abbrev pub line_reply : List Call → List ℕ → Reply
+line_reply calls line = if is_long line then LongLine else call_reply calls (line_call line)
+
+abbrev pub calls_by : Result (Unit {0}) CallRefused → List Call → Call → List Call
+calls_by (Ok _) calls call = calls ++ call ∷ []
+calls_by (Err refused) calls call = calls
+
+abbrev pub calls_with : List Call → Option Call → List Call
+calls_with calls None = calls
+calls_with calls (Some call) = calls_by (answer_to calls call) calls call
+
+-- the calls after those lines, each line that spells a legal call adding it
+abbrev pub calls_after : List Call → List (List ℕ) → List Call
+calls_after calls [] = calls
+calls_after calls (line ∷ lines) = calls_after (calls_with calls (line_call line)) lines
+
+-- the replies to those lines, one after another
+abbrev pub replies_to : List Call → List (List ℕ) → List ℕ
+replies_to calls [] = []
+replies_to calls (line ∷ lines) = reply_text (line_reply calls line) ++ replies_to (calls_with calls (line_call line)) lines
+
+abbrev pub contract_line : Option Contract → List ℕ
+contract_line None = codes "PASSED OUT\n"
+contract_line (Some contract) = (codes "CONTRACT " ++ contract_text contract) ++ codes "\n"
+
+-- the last line of all
+abbrev pub ending : Seat → List Call → List ℕ
+ending dealer calls = if is_ended calls then contract_line (contract_of dealer calls) else codes "UNFINISHED\n"
+
+-- no more than this is read
+abbrev pub byte_limit : ℕ
+byte_limit = 65536
+
+-- what stands before the last line, where the limit was reached
+abbrev pub limit_notice : Bool → List ℕ
+limit_notice true = codes "ERR 32 TooMuch\n"
+limit_notice false = []
+
+-- all that is written for bytes of which no more are read than the limit
+abbrev pub output_for : Seat → List ℕ → List ℕ
+output_for dealer bytes =
+    replies_to [] (complete_lines bytes)
+    ++ (limit_notice (nat_le byte_limit (length bytes)) ++ ending dealer (calls_after [] (complete_lines bytes)))
+
+-- all that is written for an auction of that dealer
+abbrev pub auction_output : Seat → List ℕ → List ℕ
+auction_output dealer bytes = output_for dealer (take byte_limit bytes)

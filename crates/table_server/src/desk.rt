@@ -1,0 +1,150 @@
+ghost use Rattle.std.specs.Prelude.{◌≡◌, ◌+◌, ◌*◌, ◌≤◌, ◌∷◌, Some, true, ◌++◌, [], List, ℕ, length};
+ghost use Rattle.arrayvec.specs.ArrayString.{array_string_len};
+ghost use Rattle.std.specs.Io.BufRead.{strip_last};
+ghost use Rattle.table_server.specs.Replies.{ending, contract_line, line_reply, line_call, calls_with};
+ghost use Rattle.table_server.specs.Desk.{is_within_line, replies_from, calls_from};
+ghost use Rattle.std.specs.List.{list_all};
+
+use crate::reply::Reply;
+use crate::spelling::{denomination_text, doubling_text, level_text, read_call, seat_text};
+use arrayvec::{ArrayString, ArrayVec};
+use bridge_auction::{Auction, Contract};
+use bridge_cards::Seat;
+use std::marker::Model;
+
+/// The most bytes that a line may have before its line feed.
+pub const LINE_BYTES: usize = 128;
+
+/// The most bytes that a desk is fed at a time.
+pub const PIECE_BYTES: usize = 1024;
+
+/// The room for replies: 28 bytes, the most that a reply has, for each byte of a piece.
+pub const REPLIES_BYTES: usize = 28672;
+
+/// An auction that is fed the bytes of its lines, in whatever pieces they come.
+///
+/// Of a line that is too long it keeps the first 129 bytes.
+#[derive(Drop)]
+pub struct Desk {
+    auction: Auction,
+    line: ArrayVec<u8, 129>,
+}
+
+impl Model for Desk {
+    ghost use Rattle.std.specs.Prelude.{◌≡◌, true};
+    ghost use Rattle.std.specs.List.{list_all};
+    ghost use Rattle.table_server.specs.Desk.{Desk as DeskValue, is_within_line};
+
+    ghost Value = { DeskValue };
+
+    ghost view = { λ d. record { dealer = d.auction.dealer; calls = d.auction.calls; line = d.line.items } };
+
+    ghost invariant = { λ d. list_all is_within_line d.line.items ≡ true };
+}
+
+impl Desk {
+    /// An auction of that dealer before its first line.
+    pub fn new(dealer: Seat) -> Desk
+        ensures dealer { result.dealer ≡ dealer }
+        ensures calls { result.calls ≡ [] }
+        ensures line { result.line ≡ [] }
+    {
+        Desk {
+            auction: Auction::new(dealer),
+            line: ArrayVec::new(),
+        }
+    }
+
+    /// Takes the next bytes of the lines, in any piece, and adds the reply to each line that they complete.
+    ///
+    /// What is written and what is still to be written for any bytes to come stay the same text together,
+    /// so how the lines are cut into pieces makes no difference.
+    pub fn feed(&mut self, piece: &[u8], out: &mut ArrayString<REPLIES_BYTES>)
+        requires { array_string_len out.old + 28 * length piece.now ≤ REPLIES_BYTES }
+        ensures replies { (rest : List ℕ) → out.old.bytes ++ replies_from self.old (piece.now ++ rest)
+            ≡ out.new.bytes ++ replies_from self.new rest }
+        ensures calls { (rest : List ℕ) → calls_from self.old (piece.now ++ rest) ≡ calls_from self.new rest }
+        ensures dealer { self.new.dealer ≡ self.old.dealer }
+        ensures within { list_all is_within_line self.new.line ≡ true }
+    {
+        let _ = &self.line;
+        for byte in piece {
+            self.feed_byte(*byte, out);
+        }
+    }
+
+    fn feed_byte(&mut self, byte: u8, out: &mut ArrayString<REPLIES_BYTES>)
+        requires { array_string_len out.old + 28 ≤ REPLIES_BYTES }
+        ensures replies { (rest : List ℕ) → out.old.bytes ++ replies_from self.old (byte ∷ rest)
+            ≡ out.new.bytes ++ replies_from self.new rest }
+        ensures calls { (rest : List ℕ) → calls_from self.old (byte ∷ rest) ≡ calls_from self.new rest }
+        ensures dealer { self.new.dealer ≡ self.old.dealer }
+        ensures within { list_all is_within_line self.new.line ≡ true }
+        ensures room { array_string_len out.new ≤ array_string_len out.old + 28 }
+    {
+        if byte == b'\n' {
+            let reply = answer(&mut self.auction, self.line.as_slice());
+            self.line.clear();
+            out.push_str(reply.text());
+        } else if !self.line.is_full() {
+            self.line.push(byte);
+        }
+    }
+
+    /// Adds the last line: the contract, `PASSED OUT`, or `UNFINISHED` while the auction is open.
+    pub fn push_ending(&self, out: &mut ArrayString<REPLIES_BYTES>)
+        requires { array_string_len out.old + 17 ≤ REPLIES_BYTES }
+        ensures { out.new.bytes ≡ out.old.bytes ++ ending self.now.dealer self.now.calls }
+    {
+        if !self.auction.is_ended() {
+            out.push_str("UNFINISHED\n");
+            return;
+        }
+        match self.auction.contract() {
+            None => out.push_str("PASSED OUT\n"),
+            Some(contract) => push_contract(&contract, out),
+        }
+    }
+}
+
+/// Adds the line of the contract.
+fn push_contract(contract: &Contract, out: &mut ArrayString<REPLIES_BYTES>)
+    requires { array_string_len out.old + 17 ≤ REPLIES_BYTES }
+    ensures { out.new.bytes ≡ out.old.bytes ++ contract_line (Some contract.now) }
+{
+    out.push_str("CONTRACT ");
+    out.push_str(level_text(contract.bid.level));
+    out.push_str(denomination_text(contract.bid.denomination));
+    out.push_str(doubling_text(contract.doubling));
+    out.push_str(" ");
+    out.push_str(seat_text(contract.declarer));
+    out.push_str("\n");
+}
+
+/// Answers a line, making its call where it spells a legal one.
+fn answer(auction: &mut Auction, line: &[u8]) -> Reply
+    ensures reply { result ≡ line_reply auction.old.calls line.now }
+    ensures calls { auction.new.calls ≡ calls_with auction.old.calls (line_call line.now) }
+    ensures dealer { auction.new.dealer ≡ auction.old.dealer }
+{
+    if line.len() > LINE_BYTES {
+        return Reply::LongLine;
+    }
+    match read_call(without_return(line)) {
+        None => Reply::BadLine,
+        Some(call) => match auction.try_call(call) {
+            Ok(()) => Reply::Accepted,
+            Err(refused) => Reply::Refused(refused),
+        },
+    }
+}
+
+/// The line without one carriage return at its end.
+fn without_return(line: &[u8]) -> &[u8]
+    ensures { result.now ≡ strip_last 13 line.now }
+{
+    match line.split_last() {
+        Some((b'\r', front)) => front,
+        _ => line,
+    }
+}

@@ -1,0 +1,12 @@
+use thiserror::Error;
+
+/// Why a run over a reader and a writer ended early.
+#[derive(Clone, Copy, Debug, PartialEq, Eq, Error)]
+pub enum ServeFault {
+    /// A read failed. The replies to the complete lines before it are written.
+    #[error("cannot read input")]
+    Read,
+    /// A write failed or took no byte. A front of the text is written.
+    #[error("cannot write output")]
+    Write,
+}

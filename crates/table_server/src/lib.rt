@@ -1,0 +1,18 @@
+//! The text protocol of the tables: lines of bytes in, replies out.
+#![tactic(auto)]
+
+mod desk;
+mod fault;
+mod reply;
+mod run;
+mod spelling;
+#[cfg(test)]
+mod tests;
+mod write;
+
+pub use desk::Desk;
+pub use fault::ServeFault;
+pub use reply::Reply;
+pub use run::{MOST_BYTES, run_auction};
+pub use spelling::read_call;
+pub use write::write_text;

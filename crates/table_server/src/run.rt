@@ -1,0 +1,123 @@
+ghost use Rattle.std.specs.Prelude.{◌≡◌, ◌<◌, ◌≤◌, [], ◌++◌, List, ℕ, length, take, Err, OnOk, OnErr, IfOk, IfErr, IfSome};
+ghost use Rattle.std.specs.Io.KnownBytes.{Appends, Consumes, Keeps, IsAtEnd};
+ghost use Rattle.bridge_cards.specs.Board.{dealer_of};
+ghost use Rattle.table_server.specs.Replies.{limit_notice, ending, auction_output};
+ghost use Rattle.table_server.specs.Streams.{Written};
+ghost use Rattle.table_server.specs.Desk.{Answers};
+ghost use Rattle.table_server.specs.Heard.{Heard, StopsAt};
+ghost use Rattle.table_server.specs.declared.fault.ServeFault.TheVariants.{Read as ReadFault};
+
+use crate::desk::{Desk, PIECE_BYTES, REPLIES_BYTES};
+use crate::fault::ServeFault;
+use crate::write::write_text;
+use arrayvec::ArrayString;
+use bridge_cards::{BoardNumber, dealer};
+use std::io::{Read, Write};
+
+/// The most bytes that are read.
+pub const MOST_BYTES: usize = 65536;
+
+/// Reads the calls of a board's auction line by line, and writes a reply to each and then the last line.
+///
+/// The replies to the lines that a read completes are written before the next read. Of the reader's bytes
+/// at most 65,536 are read. It takes no memory.
+///
+/// `Read` comes at the first error of the reader, and `Write` at the first error of the writer or where it takes no byte.
+pub fn run_auction<R: Read, W: Write>(
+    board: BoardNumber,
+    reader: &mut R,
+    writer: &mut W,
+) -> Result<(), ServeFault>
+    // All that is written is the output for the reader's bytes, however the reads cut them.
+    ensures ok { OnOk result (IfSome (R.remaining reader.old) (λ input.
+        Appends (W.contents writer.old) (W.contents writer.new) (auction_output (dealer_of board) input)
+        × Consumes (R.remaining reader.old) (R.remaining reader.new) (take MOST_BYTES input))) }
+    // At a read fault the replies to the complete lines before it are written, and no last line.
+    // At a write fault a front of the output for the bytes read so far is written.
+    ensures fault { IfErr result (StopsAt (dealer_of board) (R.remaining reader.old) (R.remaining reader.new)
+        (W.contents writer.old) (W.contents writer.new)) }
+{
+    let mut desk = Desk::new(dealer(board));
+    match answer_lines(&mut desk, reader, writer) {
+        Ok(left) => write_ending(&desk, left == 0, writer),
+        Err(fault) => Err(fault),
+    }
+}
+
+/// Answers the lines of the reader's bytes, up to the limit, and says how many bytes were left to it.
+fn answer_lines<R: Read, W: Write>(
+    desk: &mut Desk,
+    reader: &mut R,
+    writer: &mut W,
+) -> Result<usize, ServeFault>
+    requires no_calls { desk.old.calls ≡ [] }
+    requires no_line { desk.old.line ≡ [] }
+    ensures heard { IfOk result (Heard desk.old.dealer (R.remaining reader.old) (R.remaining reader.new)
+        (W.contents writer.old) (W.contents writer.new) desk.new) }
+    ensures end { IfOk result (λ left. 0 < left → IsAtEnd (R.remaining reader.new)) }
+    ensures fault { IfErr result (StopsAt desk.old.dealer (R.remaining reader.old) (R.remaining reader.new)
+        (W.contents writer.old) (W.contents writer.new)) }
+{
+    let mut piece = [0; PIECE_BYTES];
+    let mut left = MOST_BYTES;
+    while left > 0 {
+        match read_piece(reader, &mut piece, left) {
+            Err(fault) => return Err(fault),
+            Ok(0) => return Ok(left),
+            Ok(taken) => {
+                left -= taken;
+                if let Err(fault) = answer_piece(desk, &piece[..taken], writer) {
+                    return Err(fault);
+                }
+            }
+        }
+    }
+    Ok(0)
+}
+
+/// Reads once, at most so many bytes, into the front of the piece. None come only at the end of the input.
+fn read_piece<R: Read>(reader: &mut R, piece: &mut [u8], most: usize) -> Result<usize, ServeFault>
+    requires some { 0 < most }
+    requires room { 0 < length piece.old }
+    ensures bound { IfOk result (λ taken. (taken ≤ most) × (taken ≤ length piece.new)) }
+    ensures ok { IfOk result (λ taken. Consumes (R.remaining reader.old) (R.remaining reader.new) (take taken piece.new)) }
+    ensures end { IfOk result (λ taken. taken ≡ 0 → IsAtEnd (R.remaining reader.new)) }
+    ensures err { OnErr result (Keeps (R.remaining reader.old) (R.remaining reader.new)) }
+    ensures fault { IfErr result (λ fault. fault ≡ ReadFault) }
+{
+    let room = piece.len().min(most);
+    match reader.read(&mut piece[..room]) {
+        Ok(taken) => Ok(taken),
+        Err(_) => Err(ServeFault::Read),
+    }
+}
+
+/// Writes the replies to the lines that the piece completes.
+fn answer_piece<W: Write>(desk: &mut Desk, piece: &[u8], writer: &mut W) -> Result<(), ServeFault>
+    requires { length piece.now ≤ PIECE_BYTES }
+    ensures { (text : List ℕ) × Answers desk.old desk.new piece.now text
+        × Written (W.contents writer.old) (W.contents writer.new) text result }
+{
+    let mut out = ArrayString::<REPLIES_BYTES>::new();
+    desk.feed(piece, &mut out);
+    write_text(writer, out.as_str().as_bytes())
+}
+
+/// Writes the last line, below a notice where the limit of bytes was reached.
+fn write_ending<W: Write>(desk: &Desk, at_limit: bool, writer: &mut W) -> Result<(), ServeFault>
+    ensures { Written (W.contents writer.old) (W.contents writer.new)
+        (limit_notice at_limit ++ ending desk.now.dealer desk.now.calls) result }
+{
+    let mut out = ArrayString::<REPLIES_BYTES>::new();
+    out.push_str(limit_notice(at_limit));
+    desk.push_ending(&mut out);
+    write_text(writer, out.as_str().as_bytes())
+}
+
+/// What stands before the last line.
+fn limit_notice(at_limit: bool) -> &'static str
+    ensures text { result.now ≡ limit_notice at_limit }
+    ensures short { length result.now ≤ 15 }
+{
+    if at_limit { "ERR 32 TooMuch\n" } else { "" }
+}
