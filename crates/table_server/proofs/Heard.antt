@@ -1,5 +1,5 @@
 -- An auction's bytes, heard piece by piece.
-use Rattle.std.proofs.Common.{◌≡◌, ℕ, zero, suc, ◌+◌, ◌-◌, ◌<◌, ◌≤◌, ◌∙◌, true, List, [], ◌++◌, length, take, Option, Some, None, refl, sym, ap, arith, length-append, append_assoc, append-nil}
+use Rattle.std.proofs.Common.{◌≡◌, ℕ, zero, suc, ◌+◌, ◌<◌, ◌≤◌, ◌∙◌, true, List, [], ◌++◌, length, take, Option, Some, None, refl, sym, ap, arith, length-append, append_assoc, append-nil}
 use Rattle.std.specs.List.{list_all}
 use Rattle.std.specs.Prelude.{nat_le, nat_eq, IfSome, Result, Ok, Err, OnOk, IfErr}
 use Rattle.std.proofs.lemmas.Bool.{le-leb, lt-leb, ne_eqb}

@@ -1,13 +1,11 @@
 -- The complete lines of bytes, as bytes are added to a line that has begun.
-use Rattle.std.proofs.Common.{◌≡◌, ℕ, ◌+◌, ◌<◌, ◌≤◌, ◌∙◌, Bool, true, false, not, ◌&&◌, if◌then◌else◌, List, [], ◌∷◌, ◌++◌, length, Option, Some, None, refl, sym, ap, arith, length-append, append_assoc, append-nil}
+use Rattle.std.proofs.Common.{◌≡◌, ℕ, ◌<◌, ◌∙◌, Bool, true, false, not, ◌&&◌, List, [], ◌∷◌, ◌++◌, length, refl, sym, ap, arith, length-append, append_assoc, append-nil}
 use Rattle.std.proofs.lemmas.Bool.{le-leb}
-use Rattle.std.specs.Prelude.{nat_eq, nat_lt}
+use Rattle.std.specs.Prelude.{nat_eq}
 use Rattle.std.specs.List.{list_all}
-use Rattle.std.specs.Io.BufRead.{strip_last}
 use Rattle.bridge_auction.specs.declared.call.Call.{Call}
 use Rattle.table_server.specs.declared.reply.Reply.{Reply}
 use Rattle.table_server.specs.Lines.{onto_first, complete_lines}
-use Rattle.table_server.specs.Spelling.{call_of}
 use Rattle.table_server.specs.Replies.{is_long, line_call, line_reply, calls_with, calls_after, replies_to, reply_text}
 use Rattle.table_server.specs.Desk.{is_within_line}
 

@@ -1,5 +1,5 @@
 -- Runs of reads and writes, joined.
-use Rattle.std.proofs.Common.{◌≡◌, ℕ, ◌∙◌, List, [], ◌++◌, Option, Some, None, refl, sym, ap, append_assoc, append-nil}
+use Rattle.std.proofs.Common.{ℕ, ◌∙◌, List, ◌++◌, Option, Some, None, sym, ap, append_assoc}
 use Rattle.std.specs.Io.KnownBytes.{Appends, Consumes, Keeps}
 use Rattle.table_server.specs.Streams.{AppendsFront}
 

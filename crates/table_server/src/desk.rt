@@ -67,6 +67,7 @@ impl Desk {
         ensures dealer { self.new.dealer ≡ self.old.dealer }
         ensures within { list_all is_within_line self.new.line ≡ true }
     {
+        // Opens the desk, so that its invariant is known also where the piece is empty.
         let _ = &self.line;
         for byte in piece {
             self.feed_byte(*byte, out);

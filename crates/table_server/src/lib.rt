@@ -10,9 +10,6 @@ mod spelling;
 mod tests;
 mod write;
 
-pub use desk::Desk;
 pub use fault::ServeFault;
-pub use reply::Reply;
 pub use run::{MOST_BYTES, run_auction};
 pub use spelling::read_call;
-pub use write::write_text;

@@ -1,6 +1,7 @@
 //! How calls and contracts are spelled.
 ghost use Rattle.std.specs.Prelude.{◌≡◌, ◌≢◌, ◌≤◌, length, ◌∷◌, [], IfSome, IfNone};
 ghost use Rattle.bridge_cards.specs.Seat.{seat_letter};
+ghost use Rattle.bridge_auction.specs.declared.call.Call.{Call};
 ghost use Rattle.bridge_auction.specs.Call.{IsCall};
 ghost use Rattle.table_server.specs.Spelling.{denomination_text, level_text, doubling_text, call_text, denomination_of, bid_of, call_of};
 
@@ -10,6 +11,8 @@ use bridge_cards::Seat;
 /// Reads a call: `PASS`, `X`, `XX`, or a bid from `1C` to `7NT`.
 pub fn read_call(text: &[u8]) -> Option<Call>
     ensures value { result ≡ call_of text.now }
+    ensures spelled { IfSome result (λ call. call_text call ≡ text.now) }
+    ensures other { IfNone result ((call : Call) → IsCall call → call_text call ≢ text.now) }
 {
     if text == b"PASS".as_slice() {
         Some(Call::Pass)

@@ -1,4 +1,4 @@
-use Rattle.std.proofs.Common.{◌≡◌, ◌≤◌, length, take, not}
+use Rattle.std.proofs.Common.{◌≡◌, ◌≤◌, length, take}
 use Rattle.bridge_auction.specs.Call.{is_bid}
 use Rattle.bridge_auction.specs.Legal.{last_place}
 use Rattle.bridge_auction.proofs.look_back.last_bid.Given as goal

@@ -1,4 +1,4 @@
-use Rattle.std.proofs.Common.{◌≡◌, ◌+◌, ◌-◌, length, take, arith, rules}
+use Rattle.std.proofs.Common.{◌-◌, take, arith, rules}
 use Rattle.std.proofs.lemmas.List.{length-take-le}
 use Rattle.table_server.proofs.Heard.{heard_piece, stops_at_piece}
 use Rattle.table_server.proofs.run.answer_lines.Goals as goal

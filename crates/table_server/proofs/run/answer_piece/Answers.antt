@@ -1,4 +1,3 @@
-use Rattle.std.proofs.Common.{rules}
 use Rattle.table_server.proofs.run.answer_piece.Goals as goal
 
 pub returns : goal.returns

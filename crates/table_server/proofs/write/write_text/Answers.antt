@@ -1,4 +1,4 @@
-use Rattle.std.proofs.Common.{◌≡◌, [], ◌++◌, length, take, drop, refl, sym, arith, append-nil}
+use Rattle.std.proofs.Common.{[], take, drop, refl, sym, arith, append-nil}
 use Rattle.std.proofs.lemmas.List.{take-append-drop}
 use Rattle.std.proofs.Math.Seq.{take-add}
 use Rattle.table_server.proofs.Streams.{appends_join, appends_keeps}

@@ -1,4 +1,3 @@
-use Rattle.std.proofs.Common.{rules, arith}
 use Rattle.bridge_auction.proofs.Longest.{legal_length}
 use Rattle.bridge_auction.proofs.auction.Auction.calls.Goals as goal
 

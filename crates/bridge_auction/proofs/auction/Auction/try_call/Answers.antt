@@ -1,4 +1,4 @@
-use Rattle.std.proofs.Common.{◌≡◌, ◌≤◌, ◌∷◌, ◌++◌, [], length, arith, ap, sym, length-append}
+use Rattle.std.proofs.Common.{◌≡◌, ◌∷◌, ◌++◌, [], arith, ap, sym, length-append}
 use Rattle.bridge_auction.proofs.Legality.{answers_legal}
 use Rattle.bridge_auction.proofs.Longest.{legal_length}
 use Rattle.bridge_auction.proofs.auction.Auction.try_call.Goals as goal

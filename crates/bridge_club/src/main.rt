@@ -1,0 +1,36 @@
+//! The server of a duplicate bridge club.
+#![tactic(auto)]
+
+mod read;
+mod run;
+#[cfg(test)]
+mod tests;
+mod words;
+
+use std::alloc::AllocError;
+use std::process::ExitCode;
+use std::{env, io};
+
+fn main(rt: HostRuntime) -> ExitCode {
+    match run_with(&rt) {
+        Ok(status) => ExitCode::from(status),
+        Err(_) => ExitCode::from(run::fails("no memory\n", &mut rt.stderr())),
+    }
+}
+
+/// Hands the program's words and its standard streams to `run_words`.
+fn run_with(rt: &HostRuntime) -> Result<u8, io::Error> {
+    let arguments: Vec<String> = env::args(rt)?.skip(1).collect(rt.alloc())?;
+    let mut words = Vec::new(rt.alloc());
+    for argument in &arguments {
+        words.push(argument.as_str())?;
+    }
+    Ok(run::run_words(
+        rt,
+        rt.alloc(),
+        words.as_slice(),
+        &mut rt.stdin(),
+        &mut rt.stdout(),
+        &mut rt.stderr(),
+    ))
+}

@@ -1,0 +1,4 @@
+pub mod Order
+pub mod Faults
+pub mod MitchellFair
+pub mod Seats

@@ -1,0 +1,29 @@
+use Rattle.std.proofs.Common.{◌≡◌, ◌<◌, true, below_more, arith}
+use Rattle.bridge_movement.specs.Fair.{IsInPlace}
+use Rattle.bridge_movement.specs.Shape.{row_count}
+use Rattle.bridge_movement.proofs.Order.{in_place, misplaced_at, lacking}
+use Rattle.bridge_movement.proofs.checks.first_misplaced.Goals as goal
+
+pub returns-then-not-is_due-clause-first : goal.returns-then-not-is_due-clause-first
+returns-then-not-is_due-clause-first c =
+    misplaced_at c.args.shape c.args.rows.now c.loop-place.place _ c.loop-place-test.true c.loop-place.invariant.before
+    (λ due. let t : c.is_due.result ≡ true = c.is_due.ensures.1 due in cc)
+
+pub loop-place-preserved : goal.loop-place-preserved
+loop-place-preserved c =
+    let due = c.is_due.ensures.0 c.if-not-is_due.false in
+    record {
+      due = let less : c.loop-place.place < row_count c.args.shape = due.0 in omega arith;
+      before = below_more (λ k. IsInPlace c.args.shape c.args.rows.now k) _ c.loop-place.invariant.before
+          (in_place c.args.shape c.args.rows.now c.loop-place.place _ c.loop-place-test.true due);
+    }
+
+pub returns-then-rows-row_count-clause-first : goal.returns-then-rows-row_count-clause-first
+returns-then-rows-row_count-clause-first c =
+    lacking c.args.shape c.args.rows.now (omega arith) (λ k h. c.loop-place.invariant.before k (omega arith))
+
+pub returns-else-rows-row_count-clause-first : goal.returns-else-rows-row_count-clause-first
+returns-else-rows-row_count-clause-first c = record {
+  count = omega arith;
+  order = λ k h. c.loop-place.invariant.before k (omega arith);
+}

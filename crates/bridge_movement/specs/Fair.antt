@@ -1,0 +1,46 @@
+-- Rows that are complete, in order and fair. Places in a list count from 0.
+use Rattle.std.specs.Prelude.{ℕ, ◌≡◌, ◌+◌, ◌/◌, ◌%◌, ◌<◌, ◌≤◌, List, length, slice_index_or, All, AllPairs}
+use Rattle.bridge_movement.specs.declared.row.Row.{Row}
+use Rattle.bridge_movement.specs.declared.shape.Shape.{Shape}
+use Rattle.bridge_movement.specs.Row.{SeatPairTwice, PlaySetAgain}
+use Rattle.bridge_movement.specs.Shape.{row_count}
+
+-- the row that is due at a place: rows stand by round, then by table
+abbrev pub IsDue : Shape → ℕ → Row → Type 0
+IsDue shape place row =
+    (place < row_count shape) × (row.round ≡ place / shape.tables + 1) × (row.table ≡ place % shape.tables + 1)
+
+-- there is a row at the place, and it is the one due there
+abbrev pub IsInPlace : Shape → List Row → ℕ → Type 0
+IsInPlace shape rows place =
+    (place < length rows) × ((d : Row) → IsDue shape place (slice_index_or rows place d))
+
+-- one row for each table in each round, by round, then by table
+pub record IsComplete (shape : Shape) (rows : List Row) : Type 0 where
+  pub count : length rows ≡ row_count shape
+  pub order : (place : ℕ) → place < length rows → IsInPlace shape rows place
+
+-- the numbers of the pairs are within the shape; 0 is nobody
+abbrev pub HasPairsWithin : Shape → Row → Type 0
+HasPairsWithin shape row = (row.ns ≤ shape.pairs) × (row.ew ≤ shape.pairs)
+
+-- no pair meets itself
+abbrev pub HasTwoPairs : Row → Type 0
+HasTwoPairs row = row.ns ≡ row.ew → row.ns ≡ 0
+
+abbrev pub HasSetWithin : Shape → Row → Type 0
+HasSetWithin shape row = (1 ≤ row.set) × (row.set ≤ shape.sets)
+
+-- numbers are within the shape; no pair other than 0 stands twice in a round, on two sides or in two rows; no pair has
+-- one set in two live rows
+pub record IsFair (shape : Shape) (rows : List Row) : Type 0 where
+  pub pairs : All (HasPairsWithin shape) rows
+  pub opponents : All HasTwoPairs rows
+  pub sets : All (HasSetWithin shape) rows
+  pub one_table : AllPairs (λ a b. ¬ SeatPairTwice a b) rows
+  pub new_sets : AllPairs (λ a b. ¬ PlaySetAgain a b) rows
+
+-- what each movement is
+pub record IsMovement (shape : Shape) (rows : List Row) : Type 0 where
+  pub complete : IsComplete shape rows
+  pub fair : IsFair shape rows

@@ -1,0 +1,80 @@
+-- Why rows are no movement.
+use Rattle.std.specs.Prelude.{ℕ, ◌≡◌, ◌≢◌, ◌⊎◌, ◌+◌, ◌<◌, List, length, slice_index_or, take, Any}
+use Rattle.bridge_movement.specs.declared.refused.MovementRefused.{MovementRefused}
+use Rattle.bridge_movement.specs.declared.refused.MovementRefused.TheVariants.{MissingRow, BadPair, SamePair, BadSet, PairTwice, SetAgain}
+use Rattle.bridge_movement.specs.declared.row.Row.{Row}
+use Rattle.bridge_movement.specs.declared.shape.Shape.{Shape}
+use Rattle.bridge_movement.specs.Fair.{IsInPlace, IsComplete}
+use Rattle.bridge_movement.specs.Row.{SeatPairTwice, PlaySetAgain}
+
+-- the least place at which the row due does not stand, of rows that are not complete and in order
+pub record IsFirstMisplaced (shape : Shape) (rows : List Row) (place : ℕ) : Type 0 where
+  pub incomplete : ¬ IsComplete shape rows
+  pub here : ¬ IsInPlace shape rows place
+  pub before : (k : ℕ) → k < place → IsInPlace shape rows k
+
+-- the number of a pair is above the number of pairs
+abbrev pub HasBadPair : Shape → Row → Type 0
+HasBadPair shape row = (shape.pairs < row.ns) ⊎ (shape.pairs < row.ew)
+
+-- a pair meets itself
+abbrev pub HasSamePair : Row → Type 0
+HasSamePair row = (row.ns ≡ row.ew) × (row.ns ≢ 0)
+
+-- the set is 0, or above the number of sets
+abbrev pub HasBadSet : Shape → Row → Type 0
+HasBadSet shape row = (row.set ≡ 0) ⊎ (shape.sets < row.set)
+
+-- a pair of the row stands in an earlier row of its round
+abbrev pub HasPairTwice : List Row → Row → Type 0
+HasPairTwice earlier row = Any (λ a. SeatPairTwice a row) earlier
+
+-- a pair of the row has played its set in an earlier row
+abbrev pub HasSetAgain : List Row → Row → Type 0
+HasSetAgain earlier row = Any (λ a. PlaySetAgain a row) earlier
+
+-- a row after the earlier ones has no fault
+pub record IsFaultless (shape : Shape) (earlier : List Row) (row : Row) : Type 0 where
+  pub pairs : ¬ HasBadPair shape row
+  pub opponents : ¬ HasSamePair row
+  pub set_within : ¬ HasBadSet shape row
+  pub one_table : ¬ HasPairTwice earlier row
+  pub new_set : ¬ HasSetAgain earlier row
+
+-- the fault of a row after the earlier ones: the first that it has
+abbrev pub IsFaultOf : Shape → List Row → Row → MovementRefused → Type 0
+IsFaultOf shape earlier row (MissingRow _) = ⊥
+IsFaultOf shape earlier row (BadPair _) = HasBadPair shape row
+IsFaultOf shape earlier row (SamePair _) = (¬ HasBadPair shape row) × HasSamePair row
+IsFaultOf shape earlier row (BadSet _) = (¬ HasBadPair shape row) × (¬ HasSamePair row) × HasBadSet shape row
+IsFaultOf shape earlier row (PairTwice _) =
+    (¬ HasBadPair shape row) × (¬ HasSamePair row) × (¬ HasBadSet shape row) × HasPairTwice earlier row
+IsFaultOf shape earlier row (SetAgain _) =
+    (¬ HasBadPair shape row) × (¬ HasSamePair row) × (¬ HasBadSet shape row) × (¬ HasPairTwice earlier row)
+    × HasSetAgain earlier row
+
+-- the place that a refusal names, from 1
+abbrev pub refused_place : MovementRefused → ℕ
+refused_place (MissingRow place) = place
+refused_place (BadPair place) = place
+refused_place (SamePair place) = place
+refused_place (BadSet place) = place
+refused_place (PairTwice place) = place
+refused_place (SetAgain place) = place
+
+-- the row at a place, after the rows before it, has no fault
+abbrev pub IsFaultlessAt : Shape → List Row → ℕ → Type 0
+IsFaultlessAt shape rows place =
+    (d : Row) → IsFaultless shape (take place rows) (slice_index_or rows place d)
+
+-- the fault of the first row that has one
+pub record IsFirstFault (shape : Shape) (rows : List Row) (place : ℕ) (refused : MovementRefused) : Type 0 where
+  pub within : place < length rows
+  pub here : (d : Row) → IsFaultOf shape (take place rows) (slice_index_or rows place d) refused
+  pub before : (k : ℕ) → k < place → IsFaultlessAt shape rows k
+
+-- the refusal of rows: the order of all rows comes before the faults of any
+abbrev pub IsRefusal : Shape → List Row → MovementRefused → Type 0
+IsRefusal shape rows (MissingRow at) = (place : ℕ) × (at ≡ place + 1) × IsFirstMisplaced shape rows place
+IsRefusal shape rows refused =
+    (place : ℕ) × (refused_place refused ≡ place + 1) × IsComplete shape rows × IsFirstFault shape rows place refused

@@ -1,0 +1,8 @@
+-- What contracts see of a movement: its shape and the list of its rows.
+use Rattle.std.specs.Prelude.{List}
+use Rattle.bridge_movement.specs.declared.row.Row.{Row}
+use Rattle.bridge_movement.specs.declared.shape.Shape.{Shape}
+
+pub record Schedule : Type 0 where
+  pub shape : Shape
+  pub rows : List Row

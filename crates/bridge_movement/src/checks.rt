@@ -1,0 +1,73 @@
+ghost use Rattle.std.specs.Prelude.{◌≡◌, ◌+◌, ◌<◌, ◌≤◌, ◌↔◌, ℕ, IsTrue, length, IfSome, MatchOption, take, slice_index_or};
+ghost use Rattle.bridge_movement.specs.Shape.{IsShape, row_count};
+ghost use Rattle.bridge_movement.specs.Fair.{IsDue, IsComplete};
+ghost use Rattle.bridge_movement.specs.Refused.{IsFirstMisplaced, IsFaultless, IsFaultOf, refused_place};
+ghost use Rattle.bridge_movement.specs.Refused.{IsFirstFault, IsFaultlessAt};
+
+use crate::refused::MovementRefused;
+use crate::row::Row;
+use crate::shape::Shape;
+
+/// Whether the row is the one due at the place, from 0.
+fn is_due(shape: Shape, place: usize, row: Row) -> bool
+    requires { IsShape shape }
+    ensures { IsTrue result ↔ IsDue shape place row }
+{
+    let tables = usize::from(shape.tables);
+    place < shape.row_count()
+        && usize::from(row.round) == place / tables + 1
+        && usize::from(row.table) == place % tables + 1
+}
+
+/// The least place, from 0, at which the row due doesn't stand, or `None` where the rows are complete and in order.
+pub(crate) fn first_misplaced(shape: Shape, rows: &[Row]) -> Option<usize>
+    requires { IsShape shape }
+    ensures first { MatchOption result (IsComplete shape rows.now) (IsFirstMisplaced shape rows.now) }
+    ensures most { MatchOption result (length rows.now ≤ 144) (λ place. place ≤ 144) }
+{
+    for (place, row) in rows.iter().enumerate() {
+        if !is_due(shape, place, *row) {
+            return Some(place);
+        }
+    }
+    if rows.len() < shape.row_count() {
+        Some(rows.len())
+    } else {
+        None
+    }
+}
+
+/// The fault of the row that comes after the earlier ones, at the place, from 1.
+fn fault_of(shape: Shape, earlier: &[Row], row: Row, place: u16) -> Option<MovementRefused>
+    ensures fault { MatchOption result (IsFaultless shape earlier.now row) (IsFaultOf shape earlier.now row) }
+    ensures place { IfSome result (λ refused. refused_place refused ≡ place) }
+{
+    if row.ns > shape.pairs || row.ew > shape.pairs {
+        Some(MovementRefused::BadPair(place))
+    } else if row.ns == row.ew && row.ns != 0 {
+        Some(MovementRefused::SamePair(place))
+    } else if row.set == 0 || row.set > shape.sets {
+        Some(MovementRefused::BadSet(place))
+    } else if earlier.iter().any(|a| a.seats_pair_twice(row)) {
+        Some(MovementRefused::PairTwice(place))
+    } else if earlier.iter().any(|a| a.plays_set_again(row)) {
+        Some(MovementRefused::SetAgain(place))
+    } else {
+        None
+    }
+}
+
+/// The fault of the first row that has one.
+pub(crate) fn first_fault(shape: Shape, rows: &[Row]) -> Option<MovementRefused>
+    requires { length rows.now ≤ 144 }
+    ensures { MatchOption result
+        ((k : ℕ) → k < length rows.now → IsFaultlessAt shape rows.now k)
+        (λ refused. (k : ℕ) × (refused_place refused ≡ k + 1) × IsFirstFault shape rows.now k refused) }
+{
+    for (k, row) in rows.iter().enumerate() {
+        if let Some(refused) = fault_of(shape, &rows[..k], *row, k as u16 + 1) {
+            return Some(refused);
+        }
+    }
+    None
+}

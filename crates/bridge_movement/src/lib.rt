@@ -1,0 +1,19 @@
+//! Movements of a duplicate bridge session for pairs: which pairs meet in which round, at which table, with which set
+//! of boards (Laws 3 to 5 and 8 of the Laws of Duplicate Bridge 2017). Nothing here takes memory.
+#![tactic(auto)]
+
+mod checks;
+mod mitchell;
+pub mod movement;
+pub mod place;
+pub mod refused;
+pub mod row;
+pub mod shape;
+#[cfg(test)]
+mod tests;
+
+pub use movement::Movement;
+pub use place::Place;
+pub use refused::MovementRefused;
+pub use row::Row;
+pub use shape::Shape;

@@ -1,0 +1,128 @@
+ghost use Rattle.std.specs.Prelude.{◌≡◌, ◌↔◌, ◌+◌, ◌-◌, ◌*◌, ◌<◌, ◌≤◌, ℕ, length, slice_index_or, slice_get, IsOk, IfOk, IfErr, IfSome, IfNone, Some, AllPairs, Contains};
+ghost use Rattle.bridge_movement.specs.Shape.{IsShape};
+ghost use Rattle.bridge_movement.specs.Fair.{IsMovement, HasPairsWithin, HasSetWithin};
+ghost use Rattle.bridge_movement.specs.Refused.{IsRefusal};
+ghost use Rattle.bridge_movement.specs.Seating.{PlaysAt, PlaysOnlyAt, SitsOut, IsPlaceWithin, place_of};
+ghost use Rattle.bridge_movement.specs.Row.{MeetAgain};
+ghost use Rattle.bridge_movement.specs.Mitchell.{mitchell_shape, FollowsMitchell};
+
+use crate::checks::{first_fault, first_misplaced};
+use crate::mitchell;
+use crate::place::{Place, place_in};
+use crate::refused::MovementRefused;
+use crate::row::Row;
+use crate::shape::Shape;
+use arrayvec::ArrayVec;
+use std::marker::Model;
+
+/// A fair movement (Law 8): who meets whom, in which round, at which table, with which set of boards. No pair is in two
+/// places in a round, and no pair plays a set twice. It has at most 12 rounds of 12 tables.
+#[derive(Debug, Drop)]
+pub struct Movement {
+    shape: Shape,
+    rows: ArrayVec<Row, 144>,
+}
+
+impl Model for Movement {
+    ghost use Rattle.bridge_movement.specs.Schedule.{Schedule};
+    ghost use Rattle.bridge_movement.specs.Shape.{IsShape};
+    ghost use Rattle.bridge_movement.specs.Fair.{IsMovement};
+
+    ghost Value = { Schedule };
+
+    ghost view = { λ m. record { shape = m.shape; rows = m.rows.items } };
+
+    ghost invariant = { λ m. IsShape m.shape × IsMovement m.shape m.rows.items };
+}
+
+/// The rows, inline.
+fn inline_rows(rows: &[Row]) -> ArrayVec<Row, 144>
+    requires { length rows.now ≤ 144 }
+    ensures { result.items ≡ rows.now }
+{
+    let mut inline = ArrayVec::new();
+    inline.try_extend_from_slice(rows).unwrap();
+    inline
+}
+
+impl Movement {
+    /// The Mitchell movement of 2 to 12 tables. North and South stay, East and West go to the next higher table after
+    /// each round, and the sets go to the next lower. Where the tables are even in number, East and West skip a table
+    /// after half of them, and there is one round less.
+    pub fn mitchell(tables: u8) -> Movement
+        requires least { 2 ≤ tables }
+        requires most { tables ≤ 12 }
+        ensures shape { result.shape ≡ mitchell_shape tables }
+        ensures rows { FollowsMitchell tables result.rows }
+        ensures fair { IsMovement result.shape result.rows }
+        ensures meet_once { AllPairs (λ a b. ¬ MeetAgain a b) result.rows }
+    {
+        let shape = mitchell::shape_of(tables);
+        let mut rows = ArrayVec::new();
+        for place in 0..shape.rounds * tables {
+            rows.push(mitchell::row_of(tables, place / tables, place % tables));
+        }
+        Movement { shape, rows }
+    }
+
+    /// The movement of that shape with those rows, which stand by round, then by table, one for each.
+    ///
+    /// Refused is the first of these: a row that isn't the one due at its place, or rows lacking or left over
+    /// (`MissingRow`); then, row by row, a pair above the number of pairs (`BadPair`), a pair that meets itself
+    /// (`SamePair`), a set outside 1 to the number of sets (`BadSet`), a pair that stands in an earlier row of the round
+    /// (`PairTwice`), and a pair that has played the set in an earlier row (`SetAgain`).
+    pub fn from_rows(shape: Shape, rows: &[Row]) -> Result<Movement, MovementRefused>
+        requires { IsShape shape }
+        ensures accepted { IsOk result ↔ IsMovement shape rows.now }
+        ensures movement { IfOk result (λ m. m ≡ record { shape = shape; rows = rows.now }) }
+        ensures refused { IfErr result (IsRefusal shape rows.now) }
+    {
+        if let Some(place) = first_misplaced(shape, rows) {
+            return Err(MovementRefused::MissingRow(place as u16 + 1));
+        }
+        if let Some(refused) = first_fault(shape, rows) {
+            return Err(refused);
+        }
+        Ok(Movement {
+            shape,
+            rows: inline_rows(rows),
+        })
+    }
+
+    /// Where the pair plays in the round, or `None` where it sits out or there is no such round or pair. A pair without
+    /// opponents sits out.
+    pub fn place(&self, round: u8, pair: u8) -> Option<Place>
+        ensures value { result ≡ place_of self.now.rows round pair }
+        ensures plays { IfSome result (PlaysAt self.now.rows round pair) }
+        ensures only { IfSome result (PlaysOnlyAt self.now.rows round pair) }
+        ensures sits_out { IfNone result (SitsOut self.now.rows round pair) }
+        ensures within { IfSome result (IsPlaceWithin self.now.shape) }
+    {
+        place_in(&self.rows, round, pair)
+    }
+
+    /// The row of that round and table, both from 1.
+    pub fn row(&self, round: u8, table: u8) -> Row
+        requires round_least { 1 ≤ round }
+        requires round_most { round ≤ self.now.shape.rounds }
+        requires table_least { 1 ≤ table }
+        requires table_most { table ≤ self.now.shape.tables }
+        ensures at { slice_get self.now.rows ((round - 1) * self.now.shape.tables + (table - 1)) ≡ Some result }
+        ensures pairs { HasPairsWithin self.now.shape result }
+        ensures set { HasSetWithin self.now.shape result }
+        ensures round { result.round ≡ round }
+        ensures table { result.table ≡ table }
+    {
+        let before = usize::from(round - 1) * usize::from(self.shape.tables);
+        self.rows[before + usize::from(table - 1)]
+    }
+
+    /// The number of tables, rounds, sets and pairs, and the last pair of the first field.
+    pub fn shape(&self) -> Shape
+        ensures shape { result ≡ self.now.shape }
+        ensures limits { IsShape result }
+        ensures fair { IsMovement self.now.shape self.now.rows }
+    {
+        self.shape
+    }
+}

@@ -1,0 +1,39 @@
+ghost use Rattle.std.specs.Prelude.{◌↔◌, ◌≡◌, ◌≤◌, IsTrue};
+ghost use Rattle.bridge_movement.specs.Shape.{IsShape, row_count};
+
+/// How large a movement is.
+#[derive(Clone, Copy, Debug, PartialEq, Eq)]
+pub struct Shape {
+    /// The number of tables, 2 to 12.
+    pub tables: u8,
+    /// The number of rounds, 1 to 12.
+    pub rounds: u8,
+    /// The number of sets of boards, 1 to 12.
+    pub sets: u8,
+    /// The number of pairs, 2 to 24.
+    pub pairs: u8,
+    /// The last pair of the first field, 1 to `pairs`: pairs above it are the second field.
+    pub split: u8,
+}
+
+impl Shape {
+    /// Whether each number is within its limits.
+    pub fn is_within_limits(self) -> bool
+        ensures { IsTrue result ↔ IsShape self }
+    {
+        (2..=12).contains(&self.tables)
+            && (1..=12).contains(&self.rounds)
+            && (1..=12).contains(&self.sets)
+            && (2..=24).contains(&self.pairs)
+            && (1..=self.pairs).contains(&self.split)
+    }
+
+    /// The number of rows that a movement of this shape has: one for each table in each round.
+    pub(crate) fn row_count(self) -> usize
+        requires { IsShape self }
+        ensures count { result ≡ row_count self }
+        ensures most { result ≤ 144 }
+    {
+        usize::from(self.rounds) * usize::from(self.tables)
+    }
+}

@@ -1,0 +1,293 @@
+mod twin;
+
+use crate::{Movement, MovementRefused, Place, Row, Shape};
+use bridge_cards::Side;
+use twin::{is_fair, mitchell_rows};
+
+/// A fair movement of two tables: round, table, North and South, East and West, and set of each row.
+const GOOD: [[u8; 5]; 4] = [
+    [1, 1, 1, 3, 1],
+    [1, 2, 2, 4, 2],
+    [2, 1, 1, 4, 3],
+    [2, 2, 2, 3, 4],
+];
+
+const TWO_TABLES: Shape = Shape {
+    tables: 2,
+    rounds: 2,
+    sets: 4,
+    pairs: 4,
+    split: 2,
+};
+
+/// What takes the place of rows of the good movement, counted from 0, and why the rows are then refused.
+const REFUSED: [(&[(usize, [u8; 5])], MovementRefused); 20] = [
+    // another table, another round, a table and a round that there isn't
+    (
+        &[(0, [1, 2, 2, 4, 2]), (1, [1, 1, 1, 3, 1])],
+        MovementRefused::MissingRow(1),
+    ),
+    (&[(1, [2, 1, 2, 4, 2])], MovementRefused::MissingRow(2)),
+    (&[(2, [3, 1, 1, 4, 3])], MovementRefused::MissingRow(3)),
+    (&[(3, [2, 3, 2, 3, 4])], MovementRefused::MissingRow(4)),
+    // a pair above 4, on each side
+    (&[(1, [1, 2, 5, 4, 2])], MovementRefused::BadPair(2)),
+    (&[(3, [2, 2, 2, 255, 4])], MovementRefused::BadPair(4)),
+    // a pair against itself
+    (&[(1, [1, 2, 2, 2, 2])], MovementRefused::SamePair(2)),
+    // a set of 0 and one above 4, also where a pair sits out
+    (&[(0, [1, 1, 1, 3, 0])], MovementRefused::BadSet(1)),
+    (&[(3, [2, 2, 0, 3, 5])], MovementRefused::BadSet(4)),
+    // a pair at two tables of a round, on one side and across, also where it sits out
+    (&[(1, [1, 2, 1, 4, 2])], MovementRefused::PairTwice(2)),
+    (&[(3, [2, 2, 4, 0, 4])], MovementRefused::PairTwice(4)),
+    // a set again, on one side and across
+    (&[(2, [2, 1, 1, 4, 1])], MovementRefused::SetAgain(3)),
+    (&[(3, [2, 2, 3, 2, 1])], MovementRefused::SetAgain(4)),
+    // two faults: the order of all rows comes first, then the earlier row, then the order of the faults
+    (
+        &[(0, [1, 1, 5, 3, 1]), (3, [2, 1, 2, 3, 4])],
+        MovementRefused::MissingRow(4),
+    ),
+    (
+        &[(0, [1, 1, 1, 3, 5]), (1, [1, 2, 5, 4, 2])],
+        MovementRefused::BadSet(1),
+    ),
+    (
+        &[(0, [1, 1, 5, 3, 1]), (1, [1, 2, 2, 4, 5])],
+        MovementRefused::BadPair(1),
+    ),
+    (&[(0, [1, 1, 5, 5, 5])], MovementRefused::BadPair(1)),
+    (&[(0, [1, 1, 3, 3, 0])], MovementRefused::SamePair(1)),
+    (&[(1, [1, 2, 1, 4, 5])], MovementRefused::BadSet(2)),
+    (&[(1, [1, 2, 1, 3, 1])], MovementRefused::PairTwice(2)),
+];
+
+/// A Howell movement of three tables, made by hand from the usual rule of its guide cards: pair 6 sits at table 1, and
+/// each other pair takes the seat that the pair one number lower had in the round before, where 5 is the one before 1.
+/// The first round has 6 against 1, 2 against 5 and 3 against 4, so each two pairs meet once. A set goes to three games
+/// that each pair sits in once: in the first round the three tables share set 1, and the other sets go to one game in
+/// each of three rounds.
+const HOWELL: [[u8; 5]; 15] = [
+    [1, 1, 6, 1, 1],
+    [1, 2, 2, 5, 1],
+    [1, 3, 3, 4, 1],
+    [2, 1, 6, 2, 4],
+    [2, 2, 3, 1, 3],
+    [2, 3, 4, 5, 2],
+    [3, 1, 6, 3, 2],
+    [3, 2, 4, 2, 3],
+    [3, 3, 5, 1, 5],
+    [4, 1, 6, 4, 5],
+    [4, 2, 5, 3, 4],
+    [4, 3, 1, 2, 2],
+    [5, 1, 6, 5, 3],
+    [5, 2, 1, 4, 4],
+    [5, 3, 2, 3, 5],
+];
+
+/// The row of those numbers.
+fn row(numbers: [u8; 5]) -> Row {
+    let [round, table, ns, ew, set] = numbers;
+    Row {
+        round,
+        table,
+        ns,
+        ew,
+        set,
+    }
+}
+
+/// The good movement with some rows changed.
+fn changed(changes: &[(usize, [u8; 5])]) -> [Row; 4] {
+    let mut rows = GOOD.map(row);
+    for (place, numbers) in changes {
+        if let Some(changed) = rows.get_mut(*place) {
+            *changed = row(*numbers);
+        }
+    }
+    rows
+}
+
+#[test]
+fn shapes_have_limits(rt: HostRuntime) {
+    for (numbers, within) in [
+        ([2, 1, 1, 2, 1], true),
+        ([12, 12, 12, 24, 24], true),
+        ([1, 1, 1, 2, 1], false),
+        ([13, 1, 1, 2, 1], false),
+        ([2, 0, 1, 2, 1], false),
+        ([2, 13, 1, 2, 1], false),
+        ([2, 1, 0, 2, 1], false),
+        ([2, 1, 13, 2, 1], false),
+        ([2, 1, 1, 1, 1], false),
+        ([2, 1, 1, 25, 1], false),
+        ([2, 1, 1, 2, 0], false),
+        ([2, 1, 1, 2, 3], false),
+    ] {
+        let [tables, rounds, sets, pairs, split] = numbers;
+        let shape = Shape {
+            tables,
+            rounds,
+            sets,
+            pairs,
+            split,
+        };
+        assert_eq!(rt; shape.is_within_limits(), within, "{shape:?}");
+    }
+}
+
+#[test]
+fn mitchell_of_four_tables(rt: HostRuntime) {
+    let movement = Movement::mitchell(4);
+    assert_eq!(rt; movement.shape().rounds, 3);
+    for (round, table, set) in [(1, 1, 1), (2, 2, 3), (3, 4, 2)] {
+        let place = Place {
+            table,
+            side: Side::EastWest,
+            set,
+        };
+        assert_eq!(rt; movement.place(round, 5), Some(place), "round {round}");
+    }
+    assert_eq!(rt; movement.place(1, 9), None, "there is no pair 9");
+    assert_eq!(rt; movement.place(4, 5), None, "there is no round 4");
+}
+
+#[test]
+fn mitchell_moves_pairs_and_sets(rt: HostRuntime) {
+    for tables in 2..13 {
+        let movement = Movement::mitchell(tables);
+        let shape = movement.shape();
+        let rows = mitchell_rows(tables);
+        assert_eq!(rt; rows.len(), usize::from(shape.rounds) * usize::from(tables));
+        for due in &rows {
+            if (1..=shape.rounds).contains(&due.round) && (1..=shape.tables).contains(&due.table) {
+                assert_eq!(rt; movement.row(due.round, due.table), *due, "{tables} tables");
+            }
+        }
+        assert!(rt; is_fair(shape, &rows), "{tables} tables");
+        assert!(rt;
+            Movement::from_rows(shape, &rows).is_ok(),
+            "{tables} tables"
+        );
+    }
+}
+
+#[test]
+fn rows_at_fault_are_refused(rt: HostRuntime) {
+    for (changes, refused) in REFUSED {
+        let rows = changed(changes);
+        assert_eq!(rt;
+            Movement::from_rows(TWO_TABLES, &rows).err(),
+            Some(refused),
+            "{rows:?}"
+        );
+    }
+    let one_set = Shape {
+        sets: 1,
+        ..TWO_TABLES
+    };
+    let rows = GOOD.map(|[round, table, ns, ew, _]| row([round, table, ns, ew, 1]));
+    assert_eq!(rt;
+        Movement::from_rows(one_set, &rows).err(),
+        Some(MovementRefused::SetAgain(3))
+    );
+}
+
+#[test]
+fn rows_lacking_or_left_over_are_refused(rt: HostRuntime) {
+    let rows = GOOD.map(row);
+    for count in 0..4 {
+        let refused = MovementRefused::MissingRow(count as u16 + 1);
+        assert_eq!(rt;
+            Movement::from_rows(TWO_TABLES, &rows[..count]).err(),
+            Some(refused)
+        );
+        assert_eq!(rt; usize::from(refused.place()), count + 1);
+    }
+    assert_eq!(rt; Movement::from_rows(TWO_TABLES, &rows).err(), None);
+    let more = [rows[0], rows[1], rows[2], rows[3], rows[3]];
+    let refused = MovementRefused::MissingRow(5);
+    assert_eq!(rt; Movement::from_rows(TWO_TABLES, &more).err(), Some(refused));
+}
+
+#[test]
+fn howell_of_three_tables(rt: HostRuntime) -> Result<(), MovementRefused> {
+    let shape = Shape {
+        tables: 3,
+        rounds: 5,
+        sets: 5,
+        pairs: 6,
+        split: 6,
+    };
+    let howell = Movement::from_rows(shape, &HOWELL.map(row))?;
+    // where pair 6 has not come, its opponents sit out
+    let five = Shape {
+        pairs: 5,
+        split: 5,
+        ..shape
+    };
+    let rows = HOWELL.map(|[round, table, ns, ew, set]| row([round, table, ns % 6, ew, set]));
+    let sitting_out = Movement::from_rows(five, &rows)?;
+    for numbers in HOWELL {
+        let Row {
+            round,
+            table,
+            ns,
+            ew,
+            set,
+        } = row(numbers);
+        for (pair, side) in [(ns, Side::NorthSouth), (ew, Side::EastWest)] {
+            let place = Place { table, side, set };
+            assert_eq!(rt; howell.place(round, pair), Some(place), "{numbers:?}");
+            let place = (ns != 6).then_some(place);
+            assert_eq!(rt; sitting_out.place(round, pair), place, "{numbers:?}");
+        }
+        assert!(rt; row(numbers).is_live(), "{numbers:?}");
+        assert_eq!(rt;
+            row([round, table, ns % 6, ew, set]).is_live(),
+            ns != 6,
+            "{numbers:?}"
+        );
+    }
+    assert_eq!(rt; sitting_out.place(1, 0), None, "0 is nobody");
+    Ok(())
+}
+
+/// The row whose two pairs, 0 to 2, and set, 1 or 2, are the digits of `n`.
+fn small_row(n: u32, round: u8, table: u8) -> Row {
+    row([
+        round,
+        table,
+        (n % 3) as u8,
+        (n / 3 % 3) as u8,
+        (n / 9 % 2) as u8 + 1,
+    ])
+}
+
+#[test]
+fn small_movements_are_taken_where_they_are_fair(rt: HostRuntime) {
+    let shape = Shape {
+        tables: 2,
+        rounds: 2,
+        sets: 2,
+        pairs: 2,
+        split: 2,
+    };
+    let mut taken = 0u32;
+    for n in 0..18 * 18 * 18 * 18 {
+        let rows = [
+            small_row(n, 1, 1),
+            small_row(n / 18, 1, 2),
+            small_row(n / 18 / 18, 2, 1),
+            small_row(n / 18 / 18 / 18, 2, 2),
+        ];
+        let fair = is_fair(shape, &rows);
+        assert_eq!(rt; Movement::from_rows(shape, &rows).is_ok(), fair, "{rows:?}");
+        if fair {
+            taken += 1;
+        }
+    }
+    // as a program in Python counts them, from the same definition
+    assert_eq!(rt; taken, 6928);
+}
