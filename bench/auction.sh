@@ -1,7 +1,7 @@
 #!/usr/bin/env bash
 # Times the auction command beside `cat` and `true` on the same input, in one run, and prints ratios.
 # Build the program first: (cd crates/bridge_club && rt run -- auction 1 < ../../examples/auction.txt)
-set -euo pipefail
+set -eu
 cd "$(dirname "$0")/.."
 program=crates/bridge_club/out/bridge_club
 runs=${1:-200}
@@ -23,21 +23,26 @@ yes PASS | head -c 65536 > "$work/passes"
 # The longest auction: 319 calls.
 { cat "$work/open"; printf 'PASS\n'; } > "$work/longest"
 
-# The mean time of a command in microseconds.
-mean() {
-  local input=$1 start end
-  shift
+# Adds the time of one run of a command, in nanoseconds, to the total of that name.
+declare -A total
+timed() {
+  local name=$1 input=$2 start
+  shift 2
   start=$(date +%s%N)
-  for ((i = 0; i < runs; i++)); do "$@" < "$input" > /dev/null; done
-  end=$(date +%s%N)
-  echo $(((end - start) / runs / 1000))
+  "$@" < "$input" > /dev/null
+  total[$name]=$((${total[$name]} + $(date +%s%N) - start))
 }
 
 for input in passes insufficient longest; do
-  true_time=$(mean "$work/$input" /bin/true)
-  cat_time=$(mean "$work/$input" cat)
-  club_time=$(mean "$work/$input" "$program" auction 1)
-  awk -v name="$input" -v t="$true_time" -v c="$cat_time" -v b="$club_time" 'BEGIN {
-    printf "%-13s bridge_club %d us, cat %d us, true %d us: %.2f times cat, %.2f ms above true\n", name, b, c, t, b / c, (b - t) / 1000
+  total=([club]=0 [cat]=0 [true]=0)
+  # The three take turns, so that each meets the same load of the machine.
+  for ((i = 0; i < runs; i++)); do
+    timed club "$work/$input" "$program" auction 1
+    timed cat "$work/$input" cat
+    timed true "$work/$input" /bin/true
+  done
+  awk -v name="$input" -v b="${total[club]}" -v c="${total[cat]}" -v t="${total[true]}" -v n="$runs" 'BEGIN {
+    printf "%-13s bridge_club %.2f ms, cat %.2f ms, true %.2f ms: %.2f times cat, %.2f ms above true\n",
+      name, b / n / 1e6, c / n / 1e6, t / n / 1e6, b / c, (b - t) / n / 1e6
   }'
 done

@@ -2,3 +2,10 @@ pub mod Suit
 pub mod Seat
 pub mod Vulnerability
 pub mod Board
+pub mod Rank
+pub mod Card
+pub mod CardSet
+pub mod CardSetLaws
+pub mod Deal
+pub mod DealText
+pub mod CardCounts

@@ -1,5 +1,5 @@
 -- Suits in order (Law 1).
-use Rattle.std.specs.Prelude.{ℕ}
+use Rattle.std.specs.Prelude.{ℕ, ◌==◌, if◌then◌else◌}
 use Rattle.bridge_cards.specs.declared.suit.Suit.{Suit}
 use Rattle.bridge_cards.specs.declared.suit.Suit.TheVariants.{Clubs, Diamonds, Hearts, Spades}
 
@@ -9,3 +9,14 @@ suit_number Clubs = 0
 suit_number Diamonds = 1
 suit_number Hearts = 2
 suit_number Spades = 3
+
+-- the suit at that place in the order of the suits
+abbrev pub suit_at : ℕ → Suit
+suit_at place = if place == 0 then Clubs else if place == 1 then Diamonds else if place == 2 then Hearts else Spades
+
+-- the letter that stands for a suit, in ASCII
+abbrev pub suit_letter : Suit → ℕ
+suit_letter Clubs = 67
+suit_letter Diamonds = 68
+suit_letter Hearts = 72
+suit_letter Spades = 83

@@ -1,7 +1,12 @@
-//! Suits, seats and boards of duplicate bridge (Laws 1 and 2 of the Laws of Duplicate Bridge 2017).
+//! Suits, seats, boards, cards and deals of duplicate bridge (Laws 1 and 2 of the Laws of Duplicate Bridge 2017).
 #![tactic(auto)]
 
 pub mod board;
+pub mod card;
+pub mod card_set;
+pub mod deal;
+pub mod deal_text;
+pub mod rank;
 pub mod seat;
 pub mod suit;
 #[cfg(test)]
@@ -9,6 +14,11 @@ mod tests;
 pub mod vulnerability;
 
 pub use board::{BoardNumber, dealer, vulnerability_of, vulnerable};
+pub use card::{Card, read_card};
+pub use card_set::CardSet;
+pub use deal::{BadDeal, Deal};
+pub use deal_text::{print_deal, read_deal, read_hands};
+pub use rank::Rank;
 pub use seat::{Seat, Side};
 pub use suit::Suit;
 pub use vulnerability::Vulnerability;

@@ -1,5 +1,6 @@
-ghost use Rattle.std.specs.Prelude.{◌≡◌, ◌<◌};
+ghost use Rattle.std.specs.Prelude.{◌≡◌, ◌≢◌, ◌<◌, IfSome, IfNone};
 ghost use Rattle.bridge_cards.specs.Seat.{seat_number, seat_at, clockwise_from, side_of, other_side, seat_letter};
+ghost use Rattle.bridge_cards.specs.declared.seat.Seat.{Seat};
 
 /// A player's place at the table, clockwise from North.
 #[derive(Clone, Copy, Debug, PartialEq, Eq)]
@@ -66,6 +67,20 @@ impl Seat {
             Seat::East => b'E',
             Seat::South => b'S',
             Seat::West => b'W',
+        }
+    }
+
+    /// The seat of that letter, or `None` where it is no seat's.
+    pub fn from_letter(letter: u8) -> Option<Seat>
+        ensures seat { IfSome result (λ seat. seat_letter seat ≡ letter) }
+        ensures none { IfNone result ((seat : Seat) → seat_letter seat ≢ letter) }
+    {
+        match letter {
+            b'N' => Some(Seat::North),
+            b'E' => Some(Seat::East),
+            b'S' => Some(Seat::South),
+            b'W' => Some(Seat::West),
+            _ => None,
         }
     }
 }

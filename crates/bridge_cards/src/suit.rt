@@ -1,5 +1,6 @@
-ghost use Rattle.std.specs.Prelude.{◌≡◌, ◌<◌};
-ghost use Rattle.bridge_cards.specs.Suit.{suit_number};
+ghost use Rattle.std.specs.Prelude.{◌≡◌, ◌≢◌, ◌<◌, IfSome, IfNone};
+ghost use Rattle.bridge_cards.specs.Suit.{suit_number, suit_letter};
+ghost use Rattle.bridge_cards.specs.declared.suit.Suit.{Suit};
 
 /// A suit, from the lowest to the highest (Law 1).
 #[derive(Clone, Copy, Debug, PartialEq, Eq)]
@@ -24,6 +25,33 @@ impl Suit {
             Suit::Diamonds => 1,
             Suit::Hearts => 2,
             Suit::Spades => 3,
+        }
+    }
+
+    /// The suit's letter: `C`, `D`, `H` or `S`.
+    pub fn letter(self) -> u8
+        ensures letter { result ≡ suit_letter self }
+        ensures ascii { result < 128 }
+    {
+        match self {
+            Suit::Clubs => b'C',
+            Suit::Diamonds => b'D',
+            Suit::Hearts => b'H',
+            Suit::Spades => b'S',
+        }
+    }
+
+    /// The suit of that letter, or `None` where it is no suit's.
+    pub fn from_letter(letter: u8) -> Option<Suit>
+        ensures suit { IfSome result (λ suit. suit_letter suit ≡ letter) }
+        ensures none { IfNone result ((suit : Suit) → suit_letter suit ≢ letter) }
+    {
+        match letter {
+            b'C' => Some(Suit::Clubs),
+            b'D' => Some(Suit::Diamonds),
+            b'H' => Some(Suit::Hearts),
+            b'S' => Some(Suit::Spades),
+            _ => None,
         }
     }
 }

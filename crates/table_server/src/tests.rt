@@ -3,3 +3,4 @@ mod faults;
 mod limits;
 mod rows;
 mod streams;
+mod turns;

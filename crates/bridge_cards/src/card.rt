@@ -1,0 +1,102 @@
+ghost use Rattle.std.specs.Prelude.{◌≡◌, ◌≢◌, ◌↔◌, ℕ, IsSome, IfSome, IfNone};
+ghost use Rattle.bridge_cards.specs.Rank.{IsRank};
+ghost use Rattle.bridge_cards.specs.Card.{IsCard, card_of, card_suit, card_rank, card_text};
+
+use crate::rank::Rank;
+use crate::suit::Suit;
+use std::marker::Model;
+
+#[cfg(test)]
+mod tests;
+
+/// A card of the deck (Law 1). Cards are in order by suit, then by rank; the default is the lowest,
+/// the 2 of clubs.
+#[derive(Clone, Copy, Debug, Default, PartialEq, Eq, PartialOrd, Ord)]
+pub struct Card {
+    number: u8,
+}
+
+impl Model for Card {
+    ghost use Rattle.std.specs.Prelude.{ℕ};
+    ghost use Rattle.bridge_cards.specs.Card.{IsCard};
+
+    ghost Value = { ℕ };
+
+    ghost view = { λ c. c.number };
+
+    ghost invariant = { λ c. IsCard c.number };
+
+    ghost inverse = { λ n. record { number = n } };
+}
+
+impl Card {
+    /// How many cards the deck has.
+    pub const COUNT: u8 = 52;
+
+    /// The card of that number, or `None` where it is not from 0 to 51.
+    pub fn new(number: u8) -> Option<Card>
+        ensures valid { IsSome result ↔ IsCard number }
+        ensures value { IfSome result (λ card. card ≡ number) }
+    {
+        if number < Card::COUNT {
+            Some(Card { number })
+        } else {
+            None
+        }
+    }
+
+    /// The card of that suit and rank.
+    pub fn of(suit: Suit, rank: Rank) -> Card
+        ensures { result ≡ card_of suit rank }
+    {
+        Card {
+            number: 13 * suit.number() + (rank.number() - 2),
+        }
+    }
+
+    /// The card's number, 0 to 51: 13 times its suit's number, and its rank's less 2.
+    pub fn number(self) -> u8
+        ensures number { result ≡ self }
+        ensures range { IsCard result }
+    {
+        self.number
+    }
+
+    /// The card's suit.
+    pub fn suit(self) -> Suit
+        ensures { result ≡ card_suit self }
+    {
+        match self.number / 13 {
+            0 => Suit::Clubs,
+            1 => Suit::Diamonds,
+            2 => Suit::Hearts,
+            _ => Suit::Spades,
+        }
+    }
+
+    /// The card's rank.
+    pub fn rank(self) -> Rank
+        ensures rank { result ≡ card_rank self }
+        ensures range { IsRank result }
+    {
+        Rank::of_place(self.number % 13)
+    }
+
+    /// The card's text, as `SK` or `HT`: its suit's letter, and its rank's.
+    pub fn text(self) -> [u8; 2]
+        ensures { result ≡ card_text self }
+    {
+        [self.suit().letter(), self.rank().letter()]
+    }
+}
+
+/// The card of that text, as `SK` or `HT`, or `None` where it is no card's.
+pub fn read_card(text: &[u8]) -> Option<Card>
+    ensures card { IfSome result (λ card. IsCard card × (text.now ≡ card_text card)) }
+    ensures none { IfNone result ((card : ℕ) → IsCard card → text.now ≢ card_text card) }
+{
+    let [suit, rank] = text else {
+        return None;
+    };
+    Some(Card::of(Suit::from_letter(*suit)?, Rank::from_letter(*rank)?))
+}

@@ -1,0 +1,92 @@
+ghost use Rattle.std.specs.Prelude.{◌≡◌, ◌≢◌, ◌↔◌, ℕ, IsOk, IfOk, OnOk, MatchBool, All};
+ghost use Rattle.bridge_cards.specs.CardSet.{has_card, card_count};
+ghost use Rattle.bridge_cards.specs.Deal.{hand_at, holders, NoneTwice, SomeTwice, IsHand, SomeNotThirteen, IsDeal};
+
+use crate::card_set::CardSet;
+use crate::seat::Seat;
+use std::marker::Model;
+
+/// The four hands of a board (Law 1): the deck, 13 cards to each seat.
+#[derive(Clone, Copy, Debug, PartialEq, Eq)]
+pub struct Deal {
+    hands: [CardSet; 4],
+}
+
+impl Model for Deal {
+    ghost use Rattle.std.specs.Prelude.{ℕ, List};
+    ghost use Rattle.bridge_cards.specs.Deal.{IsDeal};
+
+    ghost Value = { List ℕ };
+
+    ghost view = { λ d. d.hands };
+
+    ghost invariant = { λ d. IsDeal d.hands };
+
+    ghost inverse = { λ hands. record { hands = hands } };
+}
+
+/// Why four hands, or a text, are no deal.
+#[derive(Clone, Copy, Debug, PartialEq, Eq)]
+pub enum BadDeal {
+    /// The text is not in the form of a deal text.
+    Form,
+    /// A card is in two hands.
+    Twice,
+    /// A hand has more or fewer than 13 cards.
+    NotThirteen,
+}
+
+impl Deal {
+    /// The deal of these hands, North's first and then clockwise. `Twice` where a card is in two of
+    /// them, and otherwise `NotThirteen` where one has another number of cards than 13.
+    pub fn from_hands(hands: [CardSet; 4]) -> Result<Deal, BadDeal>
+        ensures hands { IfOk result (λ deal. deal ≡ hands) }
+        ensures ok { IsOk result ↔ (NoneTwice hands × All (λ hand. card_count hand ≡ 13) hands) }
+        ensures twice { (result ≡ Err BadDeal.Twice) ↔ SomeTwice hands }
+        ensures not_thirteen { (result ≡ Err BadDeal.NotThirteen) ↔ (NoneTwice hands × SomeNotThirteen hands) }
+        ensures form { result ≢ Err BadDeal.Form }
+    {
+        if !are_disjoint(&hands) {
+            return Err(BadDeal::Twice);
+        }
+        if !have_thirteen_each(&hands) {
+            return Err(BadDeal::NotThirteen);
+        }
+        Ok(Deal { hands })
+    }
+
+    /// The hand of that seat: 13 cards, none of them in another's hand.
+    pub fn hand(&self, seat: Seat) -> CardSet
+        ensures hand { result ≡ hand_at self.now seat }
+        ensures deal { IsDeal self.now }
+        ensures thirteen { IsHand result }
+    {
+        self.hands[usize::from(seat.number())]
+    }
+}
+
+/// Whether no card is in two of the hands.
+fn are_disjoint(hands: &[CardSet]) -> bool
+    ensures { MatchBool result (NoneTwice hands.now) (SomeTwice hands.now) }
+{
+    let mut dealt = CardSet::new();
+    for hand in hands {
+        if !dealt.intersection(*hand).is_empty() {
+            return false;
+        }
+        dealt = dealt.union(*hand);
+    }
+    true
+}
+
+/// Whether each of the hands has 13 cards.
+fn have_thirteen_each(hands: &[CardSet]) -> bool
+    ensures { MatchBool result (All IsHand hands.now) (SomeNotThirteen hands.now) }
+{
+    for hand in hands {
+        if hand.len() != 13 {
+            return false;
+        }
+    }
+    true
+}
