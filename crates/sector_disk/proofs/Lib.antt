@@ -1,0 +1,5 @@
+mod Events
+mod Images
+mod Last
+mod MemoryCalls
+mod StagedLemmas

@@ -1,0 +1,53 @@
+//! The calls of a disk, and what they promise.
+ghost use Rattle.std.specs.Prelude.{◌≡◌, ◌<◌, ◌^◌, IfErr};
+ghost use Rattle.sector_disk.specs.Disk.{Disk};
+ghost use Rattle.sector_disk.specs.Calls.{Called, Reads, Writes, Syncs};
+
+/// Which call of a disk failed.
+#[derive(Clone, Copy, Debug, PartialEq, Eq)]
+pub enum DiskFault {
+    /// A read, or the opening of a disk.
+    Read,
+    /// A write, or the making of a disk.
+    Write,
+    /// A sync.
+    Sync,
+}
+
+/// A disk of sectors of 512 bytes each, numbered from 0.
+///
+/// What is said of a read's bytes and of power cuts is said of an honest disk alone: one that keeps each sector
+/// as it was before a write or as it is after it, never torn, and gives synced sectors as they were written.
+/// No contract can say that a real device is honest. Every call keeps honesty, or the want of it, and the number
+/// of sectors, and raises the number of faults by one exactly where it fails; at 2^64 - 1 that number stays.
+pub trait SectorDisk {
+    /// What the disk means: what reads give, what a power cut may leave, and how many calls failed.
+    ghost disk: { Disk Self };
+
+    /// The number of sectors.
+    fn count(&self) -> u32
+        ensures count { result ≡ disk.count self.now }
+        ensures fits { result < 2 ^ 32 };
+
+    /// Reads sector `i` into `bytes`. It changes nothing, also where it fails; `bytes` may be anything then.
+    fn read(&mut self, i: u32, bytes: &mut [u8; 512]) -> Result<(), DiskFault>
+        requires { i < disk.count self.old }
+        ensures called { Called disk self.old self.new result }
+        ensures reads { disk.honest self.old → Reads disk self.old self.new i bytes.new result }
+        ensures fault { IfErr result (λ fault. fault ≡ DiskFault.Read) };
+
+    /// Writes `bytes` to sector `i`. Until the next sync a power cut may leave them or what was possible before.
+    /// A write that fails did that or nothing.
+    fn write(&mut self, i: u32, bytes: &[u8; 512]) -> Result<(), DiskFault>
+        requires { i < disk.count self.old }
+        ensures called { Called disk self.old self.new result }
+        ensures writes { disk.honest self.old → Writes disk self.old self.new i bytes.now result }
+        ensures fault { IfErr result (λ fault. fault ≡ DiskFault.Write) };
+
+    /// Brings all that was written to the device: a power cut then leaves what reads give.
+    /// A sync that fails did that or nothing.
+    fn sync(&mut self) -> Result<(), DiskFault>
+        ensures called { Called disk self.old self.new result }
+        ensures syncs { disk.honest self.old → Syncs disk self.old self.new result }
+        ensures fault { IfErr result (λ fault. fault ≡ DiskFault.Sync) };
+}

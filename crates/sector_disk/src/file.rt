@@ -1,0 +1,131 @@
+//! A disk in a file of the runtime.
+ghost use Rattle.std.specs.Prelude.{◌≡◌, ◌/◌, ◌-◌, ◌^◌, min, IfOk, IfErr};
+
+#[cfg(test)]
+mod tests;
+
+use crate::faults::counted;
+use crate::{DiskFault, SectorDisk};
+use std::fs::{OpenFile, OpenOptions};
+use std::os::unix::fs::FileExt;
+use std::rt::Files;
+
+const SECTOR_BYTES: u64 = 512;
+
+/// Sectors of a disk that is made.
+const NEW_SECTORS: u32 = 2048;
+
+const CHUNK_BYTES: usize = 4096;
+
+const CHUNKS: u64 = 256;
+
+/// A disk in a file. Each read and each write is one call of the system at the sector's place, and a sync is the
+/// system's sync of the file's data to its device. Whether that keeps what was written is up to the device.
+#[derive(Drop)]
+pub struct FileDisk<F> {
+    file: F,
+    count: u32,
+    faults: u64,
+}
+
+impl<F: OpenFile + FileExt> FileDisk<F> {
+    ghost use Rattle.sector_disk.specs.File.{file_disk};
+
+    /// Makes a file of 1,048,576 zero bytes, which is 2,048 sectors, in place of what was there, and syncs it.
+    /// `Write` where the system refuses any of it; the file may then be of any length.
+    pub fn create<R: Files<File = F>>(rt: &R, path: &str) -> Result<FileDisk<F>, DiskFault>
+        ensures count { IfOk result (λ disk. file_disk.count disk ≡ 2048) }
+        ensures faults { IfOk result (λ disk. file_disk.faults disk ≡ 0) }
+        ensures fault { IfErr result (λ fault. fault ≡ DiskFault.Write) }
+    {
+        let mut options = OpenOptions::new();
+        options.read(true).write(true).create(true).truncate(true);
+        let Ok(file) = options.open(rt, path) else {
+            return Err(DiskFault::Write);
+        };
+        fill_with_zeros(&file)?;
+        Ok(FileDisk {
+            file,
+            count: NEW_SECTORS,
+            faults: 0,
+        })
+    }
+
+    /// Opens a file. It has as many sectors as the file has whole ones, at most 2^32 - 1; bytes past them don't
+    /// count. `Read` where the system refuses it, as for a file that is missing.
+    pub fn open<R: Files<File = F>>(rt: &R, path: &str) -> Result<FileDisk<F>, DiskFault>
+        ensures faults { IfOk result (λ disk. file_disk.faults disk ≡ 0) }
+        ensures fault { IfErr result (λ fault. fault ≡ DiskFault.Read) }
+    {
+        let mut options = OpenOptions::new();
+        options.read(true).write(true);
+        let Ok(file) = options.open(rt, path) else {
+            return Err(DiskFault::Read);
+        };
+        let Ok(metadata) = file.metadata() else {
+            return Err(DiskFault::Read);
+        };
+        Ok(FileDisk {
+            file,
+            count: whole_sectors(metadata.len()),
+            faults: 0,
+        })
+    }
+}
+
+// How many whole sectors a file of that many bytes has.
+fn whole_sectors(bytes: u64) -> u32
+    ensures { result ≡ min (bytes / 512) (2 ^ 32 - 1) }
+{
+    u32::try_from(bytes / SECTOR_BYTES).unwrap_or(u32::MAX)
+}
+
+fn fill_with_zeros<F: OpenFile + FileExt>(file: &F) -> Result<(), DiskFault>
+    ensures { IfErr result (λ fault. fault ≡ DiskFault.Write) }
+{
+    let zeros = [0; CHUNK_BYTES];
+    for chunk in 0..CHUNKS {
+        if let Err(_) = file.write_all_at(&zeros, chunk * CHUNK_BYTES as u64) {
+            return Err(DiskFault::Write);
+        }
+    }
+    match file.sync_all() {
+        Ok(()) => Ok(()),
+        Err(_) => Err(DiskFault::Write),
+    }
+}
+
+impl<F: OpenFile + FileExt> SectorDisk for FileDisk<F> {
+    ghost use Rattle.sector_disk.specs.Disk.{Disk};
+    ghost use Rattle.sector_disk.specs.File.{file_disk};
+
+    ghost disk = { file_disk };
+
+    fn count(&self) -> u32 {
+        self.count
+    }
+
+    fn read(&mut self, i: u32, bytes: &mut [u8; 512]) -> Result<(), DiskFault> {
+        let outcome = match self.file.read_exact_at(bytes, u64::from(i) * SECTOR_BYTES) {
+            Ok(()) => Ok(()),
+            Err(_) => Err(DiskFault::Read),
+        };
+        counted(&mut self.faults, outcome)
+    }
+
+    fn write(&mut self, i: u32, bytes: &[u8; 512]) -> Result<(), DiskFault> {
+        let outcome = match self.file.write_all_at(bytes, u64::from(i) * SECTOR_BYTES) {
+            Ok(()) => Ok(()),
+            Err(_) => Err(DiskFault::Write),
+        };
+        counted(&mut self.faults, outcome)
+    }
+
+    fn sync(&mut self) -> Result<(), DiskFault> {
+        let outcome = match self.file.sync_data() {
+            Ok(()) => Ok(()),
+            Err(_) => Err(DiskFault::Sync),
+        };
+        counted(&mut self.faults, outcome)
+    }
+}

@@ -1,0 +1,8 @@
+//! What a disk in memory went through.
+
+/// A write or a sync that was done.
+#[derive(Clone, Copy)]
+pub(crate) enum Event {
+    Write { sector: u32, bytes: [u8; 512] },
+    Sync,
+}
