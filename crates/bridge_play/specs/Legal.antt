@@ -1,0 +1,39 @@
+-- Which lists of cards are legal (Laws 44 and 45).
+use Rattle.std.specs.Prelude.{◌≡◌, ℕ, ◌*◌, ◌/◌, ◌%◌, Bool, true, not, ◌&&◌, ◌||◌, ◌==◌, List, length, take, slice_get, slice_index, Some}
+use Rattle.std.specs.List.{list_any}
+use Rattle.bridge_cards.specs.declared.seat.Seat.{Seat}
+use Rattle.bridge_cards.specs.CardSet.{has_card, cards_of}
+use Rattle.bridge_cards.specs.Deal.{hand_at}
+use Rattle.bridge_auction.specs.declared.contract.Contract.{Contract}
+use Rattle.bridge_play.specs.Trick.{same_suit, turn_of}
+
+-- whether the card stands in the list
+abbrev pub was_played : List ℕ → ℕ → Bool
+was_played cards card = list_any (λ other. card == other) cards
+
+-- whether the seat still holds the card after those cards
+abbrev pub holds : List ℕ → List ℕ → Seat → ℕ → Bool
+holds hands cards seat card = has_card (hand_at hands seat) card && not (was_played cards card)
+
+-- the card led to the trick that is not whole
+abbrev pub led_to : List ℕ → ℕ
+led_to cards = slice_index cards (4 * (length cards / 4))
+
+-- whether the seat still holds a card of the suit of that one
+abbrev pub holds_suit : List ℕ → List ℕ → Seat → ℕ → Bool
+holds_suit hands cards seat led = list_any (λ card. same_suit card led && not (was_played cards card)) (cards_of (hand_at hands seat))
+
+-- whether the card leads to a trick, or is of the suit led, or the hand has none of that suit
+abbrev pub follows : List ℕ → List ℕ → Seat → ℕ → Bool
+follows hands cards seat card =
+    length cards % 4 == 0 || (same_suit card (led_to cards) || not (holds_suit hands cards seat (led_to cards)))
+
+-- the card may be played after those cards
+pub record MayPlay (hands : List ℕ) (contract : Contract) (earlier : List ℕ) (card : ℕ) : Type 0 where
+  pub held : holds hands earlier (turn_of contract earlier) card ≡ true
+  pub following : follows hands earlier (turn_of contract earlier) card ≡ true
+
+-- A legal list of cards: each may be played after those before it.
+abbrev pub IsLegal : List ℕ → Contract → List ℕ → Type 0
+IsLegal hands contract cards =
+    (place : ℕ) (card : ℕ) → slice_get cards place ≡ Some card → MayPlay hands contract (take place cards) card

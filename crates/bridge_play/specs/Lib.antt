@@ -1,0 +1,4 @@
+pub mod Trick
+pub mod Legal
+pub mod Claims
+pub mod Play

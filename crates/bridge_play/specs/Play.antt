@@ -1,0 +1,98 @@
+-- What a contract sees of a play, and the answer to a card.
+use Rattle.std.specs.Prelude.{ℕ, ◌+◌, ◌-◌, ◌/◌, ◌%◌, nat_lt, nat_le, Bool, true, false, not, ◌||◌, ◌==◌, if◌then◌else◌, List, [], ◌∷◌, ◌++◌, length, Option, Some, None, is_some, Result, Ok, Err}
+use Rattle.std.specs.Option.{option_map, option_map_or}
+use Rattle.bridge_cards.specs.declared.seat.Seat.{Seat}
+use Rattle.bridge_cards.specs.declared.seat.Side.{Side}
+use Rattle.bridge_auction.specs.declared.contract.Contract.{Contract}
+use Rattle.bridge_play.specs.declared.claim.Claim.{Claim}
+use Rattle.bridge_play.specs.declared.refused.CardRefused.{CardRefused}
+use Rattle.bridge_play.specs.declared.refused.CardRefused.TheVariants.{Over, ClaimStands, NotYourTurn, NotHeld, MustFollow}
+use Rattle.bridge_play.specs.declared.refused.ClaimRefused.{ClaimRefused}
+use Rattle.bridge_play.specs.declared.refused.ClaimRefused.TheVariants as claim_refused
+use Rattle.bridge_play.specs.declared.refused.ConsentRefused.{ConsentRefused}
+use Rattle.bridge_play.specs.declared.refused.ConsentRefused.TheVariants as consent_refused
+use Rattle.bridge_play.specs.Trick.{turn_of, plays_for, tricks_won}
+use Rattle.bridge_play.specs.Legal.{holds, follows}
+use Rattle.bridge_play.specs.Claims.{same_seat, actor_of, dummy_of, all_agreed, consent_to, with_agreed}
+
+-- the dealt hands, the contract, the cards so far, how many claims were made, and the claim that stands or was agreed
+pub record Playing : Type 0 where
+  pub hands : List ℕ
+  pub contract : Contract
+  pub cards : List ℕ
+  pub claims : ℕ
+  pub claim : Option Claim
+
+-- the same play with one card more
+abbrev pub with_card : Playing → ℕ → Playing
+with_card play card = record play { cards = play.cards ++ card ∷ [] }
+
+-- all who were asked have agreed to the claim
+abbrev pub is_agreed : Playing → Bool
+is_agreed play = option_map_or (all_agreed play.contract) play.claim false
+
+-- the play is over: all 52 cards were played, or a claim is agreed
+abbrev pub is_over : Playing → Bool
+is_over play = length play.cards == 52 || is_agreed play
+
+-- the answer to a card by a player, the refusals in order
+abbrev pub card_answer : Playing → Seat → ℕ → Result (Unit {0}) CardRefused
+card_answer play seat card =
+    let hand = turn_of play.contract play.cards in
+    if is_over play then Err Over
+    else if is_some play.claim then Err ClaimStands
+    else if not (same_seat seat (actor_of play.contract hand)) then Err NotYourTurn
+    else if not (holds play.hands play.cards hand card) then Err NotHeld
+    else if not (follows play.hands play.cards hand card) then Err MustFollow
+    else Ok tt
+
+-- the answer to a claim of so many tricks by a player, the refusals in order
+abbrev pub claim_answer : Playing → Seat → ℕ → Result (Unit {0}) ClaimRefused
+claim_answer play seat tricks =
+    if is_over play then Err claim_refused.Over
+    else if is_some play.claim then Err claim_refused.ClaimStands
+    else if same_seat seat (dummy_of play.contract) then Err claim_refused.NotYourTurn
+    else if not (length play.cards % 4 == 0) then Err claim_refused.MidTrick
+    else if nat_lt 13 (length play.cards / 4 + tricks) then Err claim_refused.TooManyTricks
+    else if nat_le 99 play.claims then Err claim_refused.ClaimsSpent
+    else Ok tt
+
+-- the same play with one claim more, which stands, and to which nobody has agreed
+abbrev pub with_claim : Playing → Seat → ℕ → Playing
+with_claim play seat tricks = record play {
+  claims = play.claims + 1;
+  claim = Some (record { claimer = seat; tricks = tricks; agreed = false ∷ false ∷ false ∷ false ∷ [] });
+}
+
+-- the answer to a player who agrees to the claim that stands, or refuses it
+abbrev pub consent_if : Contract → Option Claim → Seat → Result (Unit {0}) ConsentRefused
+consent_if contract None seat = Err consent_refused.NoClaim
+consent_if contract (Some claim) seat = consent_to contract claim seat
+
+-- the answer to a player who agrees to the claim of that number, or refuses it
+abbrev pub consent_answer : Playing → Seat → ℕ → Result (Unit {0}) ConsentRefused
+consent_answer play seat number =
+    if not (number == play.claims) then Err consent_refused.Stale else consent_if play.contract play.claim seat
+
+-- the same play, where the seat has agreed to the claim
+abbrev pub with_agreement : Playing → Seat → Playing
+with_agreement play seat = record play { claim = option_map (with_agreed seat) play.claim }
+
+-- the same play, where no claim stands
+abbrev pub without_claim : Playing → Playing
+without_claim play = record play { claim = None }
+
+-- a claim that stands or was agreed claims no more tricks than are left
+abbrev pub claim_fits : List ℕ → Option Claim → Bool
+claim_fits cards claim = option_map_or (λ (c : Claim). nat_le (length cards / 4 + c.tricks) 13) claim true
+
+-- of the tricks left, those that a claim gives the side once it is agreed: what is not claimed goes to the other side
+abbrev pub claimed_tricks : Contract → List ℕ → Side → Option Claim → ℕ
+claimed_tricks contract cards side None = 0
+claimed_tricks contract cards side (Some claim) =
+    if all_agreed contract claim then (if plays_for side claim.claimer then claim.tricks else 13 - length cards / 4 - claim.tricks) else 0
+
+-- the tricks of a side: the whole tricks that its seats won, and those of an agreed claim (Law 68)
+abbrev pub tricks_of : Playing → Side → ℕ
+tricks_of play side =
+    tricks_won play.contract play.cards side (length play.cards / 4) + claimed_tricks play.contract play.cards side play.claim

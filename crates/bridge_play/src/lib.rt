@@ -1,0 +1,14 @@
+//! The play of one board: which cards are legal, who wins each trick, and claims (Laws 41 to 45 and 68).
+#![tactic(auto)]
+
+pub mod claim;
+mod follow;
+pub mod play;
+pub mod refused;
+#[cfg(test)]
+mod tests;
+mod trick;
+
+pub use claim::Claim;
+pub use play::Play;
+pub use refused::{CardRefused, ClaimRefused, ConsentRefused};

@@ -1,0 +1,258 @@
+ghost use Rattle.std.specs.Prelude.{◌≡◌, ℕ, ◌<◌, ◌≤◌, ◌++◌, ◌∷◌, [], ◌↔◌, length, IsOk, OnOk, OnErr, None};
+ghost use Rattle.bridge_play.specs.Play.{with_card, is_over, is_agreed, card_answer, claim_answer, with_claim, consent_answer, with_agreement, without_claim, tricks_of};
+ghost use Rattle.bridge_play.specs.Claims.{actor_of};
+ghost use Rattle.bridge_play.specs.Trick.{turn_of};
+ghost use Rattle.bridge_play.specs.Legal.{IsLegal, holds};
+ghost use Rattle.bridge_cards.specs.CardSet.{has_card};
+
+use crate::claim::{Claim, actor, agreed_by, all_agreed, dummy, may_consent, same_seat};
+use crate::follow::{follows, holds, remaining};
+use crate::refused::{CardRefused, ClaimRefused, ConsentRefused};
+use crate::trick::{plays_for, tricks_won, turn};
+use arrayvec::ArrayVec;
+use bridge_auction::Contract;
+use bridge_cards::{Card, CardSet, Deal, Seat, Side};
+use std::marker::Model;
+
+/// The play of one board: the dealt hands, the contract, a legal list of cards, and the claims made.
+#[derive(Drop)]
+pub struct Play {
+    deal: Deal,
+    contract: Contract,
+    cards: ArrayVec<Card, 52>,
+    claims: u8,
+    standing: Option<Claim>,
+}
+
+impl Model for Play {
+    ghost use Rattle.std.specs.Prelude.{◌≡◌, true};
+    ghost use Rattle.bridge_play.specs.Play.{Playing, claim_fits};
+    ghost use Rattle.bridge_play.specs.Legal.{IsLegal};
+
+    ghost Value = { Playing };
+
+    ghost view = { λ p. record { hands = p.deal; contract = p.contract; cards = p.cards.items; claims = p.claims; claim = p.standing } };
+
+    ghost invariant = { λ p. IsLegal p.deal p.contract p.cards.items × (claim_fits p.cards.items p.standing ≡ true) };
+}
+
+impl Play {
+    /// The play of a deal in a contract, before the opening lead.
+    pub fn new(deal: &Deal, contract: Contract) -> Play
+        ensures hands { result.hands ≡ deal.now }
+        ensures contract { result.contract ≡ contract }
+        ensures cards { result.cards ≡ [] }
+        ensures claims { result.claims ≡ 0 }
+        ensures claim { result.claim ≡ None }
+    {
+        Play {
+            deal: *deal,
+            contract,
+            cards: ArrayVec::new(),
+            claims: 0,
+            standing: None,
+        }
+    }
+
+    /// The hand to play: the leader's, then clockwise (Law 44).
+    pub fn turn(&self) -> Seat
+        ensures { result ≡ turn_of self.now.contract self.now.cards }
+    {
+        turn(&self.contract, self.cards.as_slice())
+    }
+
+    /// The cards so far, a legal list of at most 52.
+    pub fn cards(&self) -> &[Card]
+        ensures cards { result.now ≡ self.now.cards }
+        ensures legal { IsLegal self.now.hands self.now.contract result.now }
+        ensures few { length result.now ≤ 52 }
+    {
+        self.cards.as_slice()
+    }
+
+    /// Who plays the next card: the hand to play, or declarer for dummy's hand (Law 45).
+    pub fn actor(&self) -> Seat
+        ensures { result ≡ actor_of self.now.contract (turn_of self.now.contract self.now.cards) }
+    {
+        actor(&self.contract, self.turn())
+    }
+
+    /// Whether all tricks were played or a claim is agreed.
+    pub fn is_over(&self) -> bool
+        ensures { result ≡ is_over self.now }
+    {
+        self.cards.len() == 52 || self.is_agreed()
+    }
+
+    fn is_agreed(&self) -> bool
+        ensures { result ≡ is_agreed self.now }
+    {
+        match &self.standing {
+            Some(claim) => all_agreed(&self.contract, claim),
+            None => false,
+        }
+    }
+
+    /// The answer to a card by a player.
+    fn answer(&self, seat: Seat, card: Card) -> Result<(), CardRefused>
+        ensures answer { result ≡ card_answer self.now seat card }
+        ensures room { OnOk result (length self.now.cards < 52) }
+    {
+        let hand = self.turn();
+        let cards = self.cards.as_slice();
+        if self.is_over() {
+            Err(CardRefused::Over)
+        } else if self.standing.is_some() {
+            Err(CardRefused::ClaimStands)
+        } else if !same_seat(seat, actor(&self.contract, hand)) {
+            Err(CardRefused::NotYourTurn)
+        } else if !holds(&self.deal, cards, hand, card) {
+            Err(CardRefused::NotHeld)
+        } else if !follows(&self.deal, cards, hand, card) {
+            Err(CardRefused::MustFollow)
+        } else {
+            Ok(())
+        }
+    }
+
+    /// Plays a card of the hand in turn, where the player is the one who plays it and the list of cards with it is
+    /// legal, and else says why not. The seat is the player's: declarer's for a card of dummy's hand.
+    pub fn try_card(&mut self, seat: Seat, card: Card) -> Result<(), CardRefused>
+        ensures answer { result ≡ card_answer self.old seat card }
+        ensures played { OnOk result (self.new ≡ with_card self.old card) }
+        ensures legal { OnOk result (IsLegal self.old.hands self.old.contract (self.old.cards ++ card ∷ [])) }
+        ensures refused { OnErr result (self.new ≡ self.old) }
+    {
+        let played = card;
+        let answer = self.answer(seat, card);
+        if answer.is_ok() {
+            self.cards.push(played);
+        }
+        answer
+    }
+
+    /// How many claims were made.
+    pub fn claims(&self) -> u8
+        ensures { result ≡ self.now.claims }
+    {
+        self.claims
+    }
+
+    /// The claim that stands or was agreed.
+    pub fn claim(&self) -> Option<Claim>
+        ensures { result ≡ self.now.claim }
+    {
+        self.standing
+    }
+
+    /// The answer to a claim of that many of the tricks left by a player.
+    fn claim_answer(&self, seat: Seat, tricks: u8) -> Result<(), ClaimRefused>
+        ensures answer { result ≡ claim_answer self.now seat tricks }
+        ensures room { OnOk result (self.now.claims < 99) }
+    {
+        let tricks_played = self.cards.len() / 4;
+        if self.is_over() {
+            Err(ClaimRefused::Over)
+        } else if self.standing.is_some() {
+            Err(ClaimRefused::ClaimStands)
+        } else if same_seat(seat, dummy(&self.contract)) {
+            Err(ClaimRefused::NotYourTurn)
+        } else if self.cards.len() % 4 != 0 {
+            Err(ClaimRefused::MidTrick)
+        } else if tricks_played + usize::from(tricks) > 13 {
+            Err(ClaimRefused::TooManyTricks)
+        } else if self.claims >= 99 {
+            Err(ClaimRefused::ClaimsSpent)
+        } else {
+            Ok(())
+        }
+    }
+
+    /// Claims that many of the tricks left for the player's side, where a claim may be made, and else says why not.
+    /// It stands until it is refused or agreed (Law 68).
+    pub fn try_claim(&mut self, seat: Seat, tricks: u8) -> Result<(), ClaimRefused>
+        ensures answer { result ≡ claim_answer self.old seat tricks }
+        ensures claimed { OnOk result (self.new ≡ with_claim self.old seat tricks) }
+        ensures refused { OnErr result (self.new ≡ self.old) }
+    {
+        let answer = self.claim_answer(seat, tricks);
+        if answer.is_ok() {
+            self.claims += 1;
+            self.standing = Some(Claim {
+                claimer: seat,
+                tricks,
+                agreed: [false; 4],
+            });
+        }
+        answer
+    }
+
+    /// The answer to a player who agrees to the claim of that number, or refuses it.
+    fn consent_answer(&self, seat: Seat, number: u8) -> Result<(), ConsentRefused>
+        ensures { result ≡ consent_answer self.now seat number }
+    {
+        if number != self.claims {
+            return Err(ConsentRefused::Stale);
+        }
+        match &self.standing {
+            None => Err(ConsentRefused::NoClaim),
+            Some(claim) => may_consent(&self.contract, claim, seat),
+        }
+    }
+
+    /// Agrees to the claim of that number, the claims counted from 1. When all who are asked have agreed the play is over
+    /// (Law 68).
+    pub fn agree(&mut self, seat: Seat, number: u8) -> Result<(), ConsentRefused>
+        ensures answer { result ≡ consent_answer self.old seat number }
+        ensures agreed { OnOk result (self.new ≡ with_agreement self.old seat) }
+        ensures refused { OnErr result (self.new ≡ self.old) }
+    {
+        let answer = self.consent_answer(seat, number);
+        if answer.is_ok() {
+            self.standing = agreed_by(self.standing, seat);
+        }
+        answer
+    }
+
+    /// Refuses the claim of that number, the claims counted from 1, which then stands no longer (Law 68).
+    pub fn refuse(&mut self, seat: Seat, number: u8) -> Result<(), ConsentRefused>
+        ensures answer { result ≡ consent_answer self.old seat number }
+        ensures dropped { OnOk result (self.new ≡ without_claim self.old) }
+        ensures refused { OnErr result (self.new ≡ self.old) }
+    {
+        let answer = self.consent_answer(seat, number);
+        if answer.is_ok() {
+            self.standing = None;
+        }
+        answer
+    }
+
+    /// The tricks of a side: the whole tricks that it won, and those of an agreed claim; the tricks left that are not
+    /// claimed go to the other side (Law 68).
+    pub fn tricks(&self, side: Side) -> u8
+        ensures tricks { result ≡ tricks_of self.now side }
+        ensures most { result ≤ 13 }
+    {
+        let played = self.cards.len() / 4;
+        let won = tricks_won(&self.contract, self.cards.as_slice(), side, played);
+        let claimed = match &self.standing {
+            Some(claim) if all_agreed(&self.contract, claim) => {
+                let left = 13 - played;
+                if plays_for(side, claim.claimer) {
+                    usize::from(claim.tricks)
+                } else {
+                    left - usize::from(claim.tricks)
+                }
+            }
+            _ => 0,
+        };
+        (won + claimed) as u8
+    }
+
+    /// The cards that the seat still holds.
+    pub fn remaining(&self, seat: Seat) -> CardSet
+        ensures { (card : ℕ) → has_card result card ≡ holds self.now.hands self.now.cards seat card }
+    {
+        remaining(&self.deal, self.cards.as_slice(), seat)
+    }
+}

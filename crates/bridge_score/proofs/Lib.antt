@@ -1,0 +1,5 @@
+pub mod Sums
+pub mod OtherScores
+pub mod Order
+pub mod Shared
+pub mod Scale

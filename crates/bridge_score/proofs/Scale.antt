@@ -1,0 +1,72 @@
+-- A scale: numbers that rise, each of which holds up to the next.
+use Rattle.std.proofs.Common.{ℕ, zero, suc, ◌≡◌, ◌+◌, ◌<◌, ◌≤◌, ◌↔◌, Bool, true, false, ◌&&◌, leb, List, [], ◌∷◌, length, get_or, count_by, inl, inr, ap, ◌∙◌, cond, refl, arith}
+use Rattle.std.proofs.lemmas.Bool.Decides.{leb_tells}
+use Rattle.std.proofs.lemmas.Bool.{leb-true}
+use Rattle.std.proofs.lemmas.List.Sums.{sum_by-cons}
+
+-- none is below the one before it, and the first not below a given number
+abbrev pub rises : ℕ → List ℕ → Bool
+rises least [] = true
+rises least (x ∷ xs) = leb least x && rises x xs
+
+-- how many a number has reached
+abbrev pub reached : ℕ → List ℕ → ℕ
+reached n xs = count_by (λ x. leb x n) xs
+
+both : (a b : Bool) → (a && b) ≡ true → (a ≡ true) × (b ≡ true)
+both true b h = (refl, h)
+both false b h = cc
+
+reached-cons : (n x : ℕ) (xs : List ℕ) → reached n (x ∷ xs) ≡ cond (leb x n) 1 0 + reached n xs
+reached-cons n x xs = sum_by-cons (λ y. cond (leb y n) 1 0) x xs
+
+reached-cons_yes : (n x : ℕ) (xs : List ℕ) → leb x n ≡ true → reached n (x ∷ xs) ≡ 1 + reached n xs
+reached-cons_yes n x xs h = reached-cons n x xs ∙ ap (λ b. cond b 1 0 + reached n xs) h
+
+reached-cons_no : (n x : ℕ) (xs : List ℕ) → leb x n ≡ false → reached n (x ∷ xs) ≡ 0 + reached n xs
+reached-cons_no n x xs h = reached-cons n x xs ∙ ap (λ b. cond b 1 0 + reached n xs) h
+
+-- a number below the first has reached none
+reached_none : (n least : ℕ) (xs : List ℕ) → n < least → rises least xs ≡ true → reached n xs ≡ 0
+reached_none n least [] short up = refl
+reached_none n least (x ∷ xs) short up =
+    let parts = both (leb least x) (rises x xs) up in
+    let least_first : least ≤ x = leb-true least x parts.0 in
+    let above : n < x = omega arith in
+    let rest = reached_none n x xs above parts.1 in
+    elim (leb_tells x n) [
+      | inl at ↦ let under : x ≤ n = at.1 in absurd (omega arith)
+      | inr below ↦ omega (arith, reached-cons_no n x xs below.0, rest)
+    ]
+
+-- a number has reached as many as it is at or above
+pub reached_iff : (n least : ℕ) (xs : List ℕ) → rises least xs ≡ true → (k : ℕ) → k < length xs →
+    (k < reached n xs) ↔ (get_or xs k 0 ≤ n)
+reached_iff n least [] up k within = absurd (omega arith)
+reached_iff n least (x ∷ xs) up zero within =
+    let parts = both (leb least x) (rises x xs) up in
+    elim (leb_tells x n) [
+      | inl at ↦ let one = reached-cons_yes n x xs at.0 in (λ _. at.1, λ _. omega (arith, one))
+      | inr below ↦
+          let above : n < x = below.1 in
+          let none = reached-cons_no n x xs below.0 in
+          let rest = reached_none n x xs above parts.1 in
+          (λ (h : 0 < reached n (x ∷ xs)). absurd (omega (arith, none, rest, h)), λ (h : x ≤ n). absurd (omega (arith, h, above)))
+    ]
+reached_iff n least (x ∷ xs) up (suc k) within =
+    let parts = both (leb least x) (rises x xs) up in
+    let later = reached_iff n x xs parts.1 k (omega arith) in
+    elim (leb_tells x n) [
+      | inl at ↦
+          let one = reached-cons_yes n x xs at.0 in (
+            λ (h : suc k < reached n (x ∷ xs)). later.0 (omega (arith, one, h)),
+            λ (h : get_or xs k 0 ≤ n). let more : k < reached n xs = later.1 h in omega (arith, one, more),
+          )
+      | inr below ↦
+          let above : n < x = below.1 in
+          let none = reached-cons_no n x xs below.0 in
+          let rest = reached_none n x xs above parts.1 in (
+            λ (h : suc k < reached n (x ∷ xs)). absurd (omega (arith, none, rest, h)),
+            λ (h : get_or xs k 0 ≤ n). let more : k < reached n xs = later.1 h in absurd (omega (arith, rest, more)),
+          )
+    ]

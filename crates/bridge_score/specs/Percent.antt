@@ -1,0 +1,7 @@
+-- A share as a percentage.
+use Rattle.std.specs.Prelude.{ℕ, ◌+◌, ◌*◌, ◌/◌, ◌==◌, if◌then◌else◌, Option, Some, None}
+
+-- the share in hundredths of a per cent, to the nearest, and a half up; none where nothing is available
+abbrev pub percent_hundredths_of : ℕ → ℕ → Option ℕ
+percent_hundredths_of earned available =
+    if available == 0 then None else Some ((20000 * earned + available) / (2 * available))

@@ -1,0 +1,19 @@
+//! The score of a board, and how the scores of a duplicate session are compared (Laws 77 and 78 of the Laws of Duplicate
+//! Bridge 2017). Nothing here takes memory.
+#![tactic(auto)]
+
+pub mod comparison;
+pub mod imp_scale;
+pub mod laws;
+pub mod percent;
+pub mod ranking;
+pub mod scoring_table;
+#[cfg(test)]
+mod tests;
+
+pub use comparison::{cross_imps, matchpoints};
+pub use imp_scale::imps;
+pub use laws::{cross_imps_shared, matchpoints_shared};
+pub use percent::percent_hundredths;
+pub use ranking::{Line, Ranked, Scoring, rank};
+pub use scoring_table::score;

@@ -1,0 +1,19 @@
+//! Shares as percentages.
+ghost use Rattle.std.specs.Prelude.{◌≡◌, ◌≤◌, IfSome};
+ghost use Rattle.bridge_score.specs.Percent.{percent_hundredths_of};
+
+/// What was earned of what was available, in hundredths of a per cent, 0 to 10000, rounded to the nearest, and a half up.
+/// `None` where nothing was available.
+pub fn percent_hundredths(earned: u32, available: u32) -> Option<u32>
+    requires earned { earned ≤ available }
+    requires available { available ≤ 10000000 }
+    ensures value { result ≡ percent_hundredths_of earned available }
+    ensures most { IfSome result (λ hundredths. hundredths ≤ 10000) }
+{
+    if available == 0 {
+        return None;
+    }
+    let earned = u64::from(earned);
+    let available = u64::from(available);
+    Some(((20_000 * earned + available) / (2 * available)) as u32)
+}

@@ -1,0 +1,4 @@
+mod comparison;
+mod ranking;
+mod score;
+mod twin;
