@@ -22,7 +22,7 @@ trap 'rm -rf "$work"' EXIT
 crates=$work/repo/crates
 mkdir -p "$crates/disk_bench/src"
 cp -r "$top/crates/sector_disk" "$crates/sector_disk"
-cp "$here/disk/main.rt" "$crates/disk_bench/src/main.rt"
+cp "$here/disk/program.txt" "$crates/disk_bench/src/main.rt"
 printf 'sector_disk:\ndisk_bench: anyhow sector_disk\n' > "$work/repo/crates.txt"
 echo 'Handles allowed: none.' > "$work/repo/HANDLES"
 echo "building" >&2
