@@ -1,3 +1,5 @@
+use super::twin;
+use super::twin_agrees::agrees;
 use crate::{
     Auction, Bid, Call, CallRefused, Contract, Denomination, Doubling, Level, MOST_CALLS,
     longest_auction,
@@ -56,6 +58,10 @@ fn refusals_come_by_name(rt: HostRuntime) -> Result<(), Fail> {
     ];
     for (calls, refused, name) in rows {
         let mut auction = auction_of(Seat::North, calls)?;
+        agrees(&rt, auction.calls());
+        let by_twin = twin::is_ended(auction.calls())
+            || !twin::is_admissible(auction.calls(), call(refused)?);
+        assert!(rt; by_twin, "{refused} after {calls:?}");
         assert_eq!(rt;
             auction.try_call(call(refused)?),
             Err(name),
@@ -107,6 +113,7 @@ fn contracts_have_their_declarer(rt: HostRuntime) -> Result<(), Fail> {
     ];
     for (calls, bid, doubling, declarer) in rows {
         let auction = auction_of(Seat::North, calls)?;
+        agrees(&rt, auction.calls());
         let contract = auction.contract().ok_or("a contract")?;
         assert_eq!(rt; Call::Bid(contract.bid), call(bid)?, "{calls:?}");
         assert_eq!(rt; contract.doubling, doubling, "{calls:?}");
@@ -167,6 +174,7 @@ fn the_longest_auction_has_319_calls(rt: HostRuntime) -> Result<(), Fail> {
     assert_eq!(rt; auction.try_call(Call::Pass), Ok(()));
     assert_eq!(rt; auction.calls().len(), MOST_CALLS);
     assert_eq!(rt; longest_auction(), MOST_CALLS);
+    agrees(&rt, auction.calls());
     assert_eq!(rt; auction.try_call(Call::Pass), Err(CallRefused::Ended));
     let contract = auction.contract().ok_or("a contract")?;
     assert_eq!(rt; contract.bid.number(), Bid::COUNT - 1);

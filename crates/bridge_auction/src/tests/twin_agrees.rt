@@ -17,7 +17,7 @@ fn list_of(alphabet: &[Call; 5], length: u32, number: u32) -> ArrayVec<Call, 5> 
 }
 
 /// The auction takes exactly the legal lists, and ends where the twin does.
-fn agrees(rt: &impl Abort, calls: &[Call]) {
+pub fn agrees(rt: &impl Abort, calls: &[Call]) {
     let mut auction = Auction::new(Seat::North);
     for call in calls {
         let legal = !twin::is_ended(auction.calls()) && twin::is_admissible(auction.calls(), *call);
