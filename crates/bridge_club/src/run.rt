@@ -3,7 +3,7 @@ ghost use Rattle.std.specs.Prelude.{◌≡◌, ◌≢◌, ◌⊎◌, [], map};
 ghost use Rattle.std.specs.Io.KnownBytes.{Keeps};
 ghost use Rattle.clap.specs.Words.{fault_of};
 ghost use Rattle.bridge_club.specs.Words.{club_app, Asks};
-ghost use Rattle.bridge_club.specs.Run.{IsDone};
+ghost use Rattle.bridge_club.specs.Run.{IsDone, fault_line};
 ghost use Rattle.bridge_club.specs.declared.words.Words.{Words};
 
 use crate::read::read_words;
@@ -73,7 +73,10 @@ pub fn fails<E: Write>(text: &str, errors: &mut E) -> u8
     FAULT
 }
 
-fn fault_text(fault: ServeFault) -> &'static str {
+/// The line that names the fault.
+fn fault_text(fault: ServeFault) -> &'static str
+    ensures { result.now ≡ fault_line fault }
+{
     match fault {
         ServeFault::Read => "cannot read input\n",
         ServeFault::Write => "cannot write output\n",
