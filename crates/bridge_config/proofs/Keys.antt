@@ -1,0 +1,44 @@
+-- Keys among keys.
+use Rattle.std.proofs.Common.{◌≡◌, ℕ, Bool, ◌==◌, not, ◌&&◌, ◌||◌, List, [], ◌∷◌, ◌++◌, length, map, get_or, drop, refl, sym, ap, ◌∙◌, inl, inr, suc, arith, ◌<◌, ◌+◌}
+use Rattle.std.proofs.Math.Seq.{drop-cons}
+use Rattle.std.proofs.lemmas.Bool.{eq-eqb, ne_eqb}
+use Rattle.std.proofs.lemmas.Bool.Decides.{eqb_tells}
+use Rattle.std.specs.List.{list_any}
+use Rattle.bridge_config.specs.declared.fields.Key.{Key}
+use Rattle.std.specs.Prelude.{flat_map}
+use Rattle.std.proofs.lemmas.List.{append-nil, map_push}
+use Rattle.std.proofs.lemmas.Grind.{flat_map-append}
+use Rattle.bridge_config.specs.declared.fields.PairFields.{PairFields}
+use Rattle.bridge_config.specs.Configuration.{Pair, key_number, pair_of}
+use Rattle.bridge_config.specs.Limits.{stands_in, are_distinct}
+
+pub list_any-map : {X Y : Type 0} (p : Y → Bool) (f : X → Y) (xs : List X) → list_any p (map f xs) ≡ list_any (λ x. p (f x)) xs
+list_any-map p f [] = refl
+list_any-map p f (x ∷ xs) = ap (λ b. p (f x) || b) (list_any-map p f xs)
+
+pub stands_in-map : (keys : List Key) (key : ℕ) → stands_in (map key_number keys) key ≡ list_any (λ other. other.0 == key) keys
+stands_in-map keys key = list_any-map (λ other. other == key) key_number keys
+
+eqb-sym : (a b : ℕ) → (a == b) ≡ (b == a)
+eqb-sym a b = elim (eqb_tells a b) [ inl same ↦ same.0 ∙ sym (eq-eqb b a (sym same.1)) | inr other ↦ other.0 ∙ sym (ne_eqb b a (λ e. other.1 (sym e))) ]
+
+flipped : (key : ℕ) (keys : List ℕ) → list_any (λ other. key == other) keys ≡ stands_in keys key
+flipped key [] = refl
+flipped key (other ∷ keys) = ap (λ b. b || list_any (λ o. key == o) keys) (eqb-sym key other) ∙ ap (λ b. (other == key) || b) (flipped key keys)
+
+-- keys are distinct where the first does not stand in the others, and those are distinct
+pub are_distinct-cons : (key : ℕ) (keys : List ℕ) → are_distinct (key ∷ keys) ≡ (not (stands_in keys key) && are_distinct keys)
+are_distinct-cons key keys = ap (λ b. not b && are_distinct keys) (flipped key keys)
+
+-- the keys from a place on
+pub are_distinct-drop : (keys : List Key) (place : ℕ) (d : Key) → place < length keys → are_distinct (map key_number (drop place keys)) ≡ (not (stands_in (map key_number (drop (place + 1) keys)) (get_or keys place d).0) && are_distinct (map key_number (drop (place + 1) keys)))
+are_distinct-drop keys place d within =
+    let one : place + 1 ≡ suc place = omega arith in
+    ap (λ (ks : List Key). are_distinct (map key_number ks)) (drop-cons keys place d within ∙ ap (λ n. get_or keys place d ∷ drop n keys) (sym one))
+    ∙ are_distinct-cons (get_or keys place d).0 (map key_number (drop (place + 1) keys))
+
+pub keys_of-push : (front : List PairFields) (pair : PairFields) → flat_map (λ (p : Pair). p.keys) (map pair_of (front ++ pair ∷ [])) ≡ flat_map (λ (p : Pair). p.keys) (map pair_of front) ++ map key_number pair.keys
+keys_of-push front pair =
+    ap (flat_map (λ (p : Pair). p.keys)) (map_push pair_of front pair)
+    ∙ flat_map-append (λ (p : Pair). p.keys) (map pair_of front) (pair_of pair ∷ [])
+    ∙ ap (λ (keys : List ℕ). flat_map (λ (p : Pair). p.keys) (map pair_of front) ++ keys) (append-nil (map key_number pair.keys))

@@ -1,0 +1,6 @@
+pub mod Configuration
+pub mod Limits
+pub mod Spelling
+pub mod Reading
+pub mod Words
+pub mod Parts

@@ -1,0 +1,28 @@
+-- What contracts see of the parts that are read.
+use Rattle.std.specs.Prelude.{map, Result, Ok, Err}
+use Rattle.std.specs.Str.Lines.{lines}
+use Rattle.bridge_config.specs.declared.refused.ConfigFault.{ConfigFault}
+use Rattle.bridge_config.specs.declared.reading.Heading.{Heading as HeadingType}
+use Rattle.bridge_config.specs.declared.reading.Moved.{Moved as MovedType}
+use Rattle.bridge_config.specs.declared.reading.People.{People as PeopleType}
+use Rattle.bridge_config.specs.Configuration.{pair_of, key_number}
+use Rattle.bridge_config.specs.Reading.{Heading, Moved, People}
+
+abbrev pub view_of_heading : HeadingType → Heading
+view_of_heading heading = record {
+  event = heading.event.bytes;
+  site = heading.site.bytes;
+  date = heading.date.bytes;
+  scoring = heading.scoring;
+  boards = heading.boards;
+}
+
+abbrev pub view_of_moved : MovedType → Moved
+view_of_moved moved = record { movement = moved.movement; number = moved.number; rest = lines moved.rest.now }
+
+abbrev pub moved_of : Result MovedType ConfigFault → Result Moved ConfigFault
+moved_of (Ok moved) = Ok (view_of_moved moved)
+moved_of (Err fault) = Err fault
+
+abbrev pub view_of_people : PeopleType → People
+view_of_people people = record { director = key_number people.director; pairs = map pair_of people.pairs.items }

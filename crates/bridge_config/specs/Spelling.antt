@@ -1,0 +1,86 @@
+-- Which texts spell which configuration.
+use Rattle.std.specs.Prelude.{◌≡◌, ℕ, ◌+◌, ◌≤◌, ◌⊎◌, List, [], ◌∷◌, ◌++◌, length, map, codes, All}
+use Rattle.std.specs.List.{join_with_byte}
+use Rattle.std.specs.Fmt.{decimal}
+use Rattle.std.specs.Str.Lines.{lines}
+use Rattle.bridge_score.specs.declared.ranking.Scoring.{Scoring}
+use Rattle.bridge_score.specs.declared.ranking.Scoring.TheVariants.{MatchPoints, Imps}
+use Rattle.bridge_movement.specs.declared.row.Row.{Row}
+use Rattle.bridge_movement.specs.declared.shape.Shape.{Shape}
+use Rattle.bridge_movement.specs.Schedule.{Schedule}
+use Rattle.bridge_movement.specs.Shape.{IsBetween, row_count}
+use Rattle.bridge_movement.specs.Mitchell.{mitchell_shape, FollowsMitchell}
+use Rattle.bridge_config.specs.Configuration.{Configuration, Pair, keys_of}
+use Rattle.bridge_config.specs.Limits.{IsConfiguration}
+
+-- words with one space between each two
+abbrev pub spaced : List (List ℕ) → List ℕ
+spaced words = join_with_byte 32 words
+
+abbrev pub scoring_word : Scoring → List ℕ
+scoring_word MatchPoints = codes "MP"
+scoring_word Imps = codes "IMP"
+
+-- the first five lines
+abbrev pub heading_lines : Configuration → List (List ℕ)
+heading_lines configuration =
+    spaced (codes "EVENT" ∷ configuration.event ∷ [])
+    ∷ spaced (codes "SITE" ∷ configuration.site ∷ [])
+    ∷ spaced (codes "DATE" ∷ configuration.date ∷ [])
+    ∷ spaced (codes "SCORING" ∷ scoring_word configuration.scoring ∷ [])
+    ∷ spaced (codes "BOARDS" ∷ decimal configuration.boards ∷ [])
+    ∷ []
+
+abbrev pub mitchell_line : ℕ → List ℕ
+mitchell_line tables = spaced (codes "MITCHELL" ∷ decimal tables ∷ [])
+
+abbrev pub shape_text : Shape → List ℕ
+shape_text shape =
+    spaced (codes "MOVEMENT" ∷ decimal shape.tables ∷ decimal shape.rounds ∷ decimal shape.sets ∷ decimal shape.pairs
+    ∷ decimal shape.split ∷ [])
+
+abbrev pub row_text : Row → List ℕ
+row_text row =
+    spaced (codes "ROW" ∷ decimal row.round ∷ decimal row.table ∷ decimal row.ns ∷ decimal row.ew ∷ decimal row.set ∷ [])
+
+-- the Mitchell movement of that many tables
+pub record IsMitchell (tables : ℕ) (movement : Schedule) : Type 0 where
+  pub tables_within : IsBetween 2 12 tables
+  pub shape : movement.shape ≡ mitchell_shape tables
+  pub count : length movement.rows ≡ row_count movement.shape
+  pub rows : FollowsMitchell tables movement.rows
+
+-- the lines are the one of a Mitchell movement, or the shape and a line for each row
+abbrev pub SpellsMovement : Schedule → List (List ℕ) → Type 0
+SpellsMovement movement texts =
+    ((tables : ℕ) × IsMitchell tables movement × (texts ≡ mitchell_line tables ∷ []))
+    ⊎ (texts ≡ shape_text movement.shape ∷ map row_text movement.rows)
+
+-- each player's name and key in turn
+abbrev pub player_words : List (List ℕ) → List ℕ → List (List ℕ)
+player_words (name ∷ names) (key ∷ keys) = name ∷ decimal key ∷ player_words names keys
+player_words _ _ = []
+
+abbrev pub pair_text : ℕ → Pair → List ℕ
+pair_text index pair = spaced (codes "PAIR" ∷ decimal index ∷ player_words pair.names pair.keys)
+
+-- the lines of pairs, the first of which has that number
+abbrev pub pair_lines : ℕ → List Pair → List (List ℕ)
+pair_lines index [] = []
+pair_lines index (pair ∷ pairs) = pair_text index pair ∷ pair_lines (index + 1) pairs
+
+-- the lines after the movement's
+abbrev pub people_lines : Configuration → List (List ℕ)
+people_lines configuration =
+    spaced (codes "DIRECTOR" ∷ decimal configuration.director ∷ []) ∷ pair_lines 1 configuration.pairs
+
+-- The lines of the text are those of the configuration, which is within the limits. No line has more than 128 bytes, and
+-- the text has at most 16,384.
+pub record Spells (text : List ℕ) (configuration : Configuration) : Type 0 where
+  pub length_within : length text ≤ 16384
+  pub lines_within : All (λ line. length line ≤ 128) (lines text)
+  pub movement_texts : List (List ℕ)
+  pub movement : SpellsMovement configuration.movement movement_texts
+  pub whole : lines text ≡ heading_lines configuration ++ (movement_texts ++ people_lines configuration)
+  pub limits : IsConfiguration configuration
+  pub keys : All (λ key. key ≤ 4294967295) (keys_of configuration)

@@ -1,0 +1,97 @@
+ghost use Rattle.std.specs.Prelude.{◌≡◌, ◌↔◌, ◌≤◌, IsSome, IfSome, IsTrue, length, map, All, true};
+ghost use Rattle.std.specs.List.{list_all};
+ghost use Rattle.bridge_config.specs.Configuration.{configuration_of, pair_of, keys_of, key_number};
+ghost use Rattle.bridge_config.specs.Limits.{IsConfiguration, IsPair, is_name, are_distinct};
+
+use crate::fields::{ConfigFields, Key, PairFields};
+use crate::limits::{are_distinct, is_date_form, is_date_within, is_name};
+use arrayvec::ArrayVec;
+use std::marker::Model;
+
+/// The configuration of a session, within its limits.
+#[derive(Debug, Drop)]
+pub struct Config {
+    fields: ConfigFields,
+}
+
+impl Model for Config {
+    ghost use Rattle.bridge_config.specs.Configuration.{Configuration, configuration_of};
+    ghost use Rattle.bridge_config.specs.Limits.{IsConfiguration};
+
+    ghost Value = { Configuration };
+
+    ghost view = { λ config. configuration_of config.fields };
+
+    ghost invariant = { λ config. IsConfiguration (configuration_of config.fields) };
+}
+
+impl Config {
+    /// The configuration of these fields. `None` where a name, the date or the number of boards is outside its limits,
+    /// the pairs are not as many as the movement has, or a key stands twice.
+    pub fn from_fields(fields: ConfigFields) -> Option<Config>
+        ensures accepted { IsSome result ↔ IsConfiguration (configuration_of fields) }
+        ensures fields { IfSome result (λ config. config ≡ configuration_of fields) }
+    {
+        if is_within_limits(&fields) {
+            Some(Config { fields })
+        } else {
+            None
+        }
+    }
+
+    /// What the configuration states.
+    pub fn fields(&self) -> &ConfigFields
+        ensures fields { configuration_of result.now ≡ self.now }
+        ensures limits { IsConfiguration self.now }
+    {
+        &self.fields
+    }
+}
+
+/// Whether each field is within its limits.
+fn is_within_limits(fields: &ConfigFields) -> bool
+    ensures { IsTrue result ↔ IsConfiguration (configuration_of fields.now) }
+{
+    let shape = fields.movement.shape();
+    let date = fields.date.as_str().as_bytes();
+    is_name(fields.event.as_str().as_bytes())
+        && is_name(fields.site.as_str().as_bytes())
+        && is_date_form(date)
+        && is_date_within(date)
+        && (1..=3).contains(&fields.boards)
+        && fields.pairs.len() == usize::from(shape.pairs)
+        && have_names(&fields.pairs)
+        && are_distinct(&keys(fields))
+}
+
+/// Whether each player has a name.
+fn have_names(pairs: &[PairFields]) -> bool
+    ensures { IsTrue result ↔ All IsPair (map pair_of pairs.now) }
+{
+    for pair in pairs {
+        if !has_names(pair) {
+            return false;
+        }
+    }
+    true
+}
+
+/// Whether both players have names.
+fn has_names(pair: &PairFields) -> bool
+    ensures { IsTrue result ↔ IsPair (pair_of pair.now) }
+{
+    is_name(pair.names[0].as_str().as_bytes()) && is_name(pair.names[1].as_str().as_bytes())
+}
+
+/// The director's key and then the players', in order.
+fn keys(fields: &ConfigFields) -> ArrayVec<Key, 49>
+    ensures { map key_number result.items ≡ keys_of (configuration_of fields.now) }
+{
+    let pairs = fields.pairs.as_slice();
+    let mut keys = ArrayVec::new();
+    keys.push(fields.director);
+    for pair in pairs {
+        keys.try_extend_from_slice(&pair.keys).unwrap();
+    }
+    keys
+}

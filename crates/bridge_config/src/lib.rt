@@ -1,0 +1,16 @@
+//! The configuration of a session: its text, its limits, and what it states. Nothing here takes memory.
+#![tactic(auto)]
+
+pub mod config;
+mod cut;
+pub mod fields;
+mod limits;
+mod line;
+mod reading;
+pub mod refused;
+mod words;
+
+pub use config::Config;
+pub use fields::{ConfigFields, Key, PairFields};
+pub use reading::read_config;
+pub use refused::{ConfigFault, ConfigRefused};

@@ -1,0 +1,95 @@
+//! The limits of names, dates and keys.
+ghost use Rattle.std.specs.Prelude.{◌≡◌, ◌==◌, map, length};
+ghost use Rattle.std.specs.List.{list_all, list_any};
+ghost use Rattle.std.specs.Char.{is_ascii_digit};
+ghost use Rattle.bridge_config.specs.Configuration.{key_number};
+ghost use Rattle.bridge_config.specs.Limits.{is_name_byte, is_name, is_between, is_date_form, is_date_within, two_digits, are_distinct, stands_in};
+
+use crate::fields::Key;
+
+fn is_name_byte(byte: u8) -> bool
+    ensures { result ≡ is_name_byte byte }
+{
+    byte.is_ascii_alphanumeric() || byte == b'.' || byte == b'-' || byte == b'_'
+}
+
+fn are_name_bytes(text: &[u8]) -> bool
+    ensures { result ≡ list_all is_name_byte text.now }
+{
+    text.iter().all(|byte| is_name_byte(*byte))
+}
+
+/// Whether the bytes are a name.
+pub fn is_name(text: &[u8]) -> bool
+    ensures { result ≡ is_name text.now }
+{
+    are_name_bytes(text) && !text.is_empty() && text.len() <= 24
+}
+
+/// Whether each byte is a decimal digit.
+pub fn are_digits(text: &[u8]) -> bool
+    ensures { result ≡ list_all is_ascii_digit text.now }
+{
+    text.iter().all(|byte| byte.is_ascii_digit())
+}
+
+/// Whether the bytes have a date's form: four, two and two digits with dots between.
+pub fn is_date_form(text: &[u8]) -> bool
+    ensures { result ≡ is_date_form text.now }
+{
+    text.len() == 10
+        && text[4] == b'.'
+        && text[7] == b'.'
+        && are_digits(&text[..4])
+        && are_digits(&text[5..7])
+        && are_digits(&text[8..])
+}
+
+/// Whether the month is from 01 to 12 and the day from 01 to 31.
+pub fn is_date_within(date: &[u8]) -> bool
+    requires { length date.now ≡ 10 }
+    ensures { result ≡ is_date_within date.now }
+{
+    is_between(1, 12, two_digits(date[5], date[6]))
+        && is_between(1, 31, two_digits(date[8], date[9]))
+}
+
+/// The number of two digits.
+fn two_digits(tens: u8, ones: u8) -> u32
+    ensures { result ≡ two_digits tens ones }
+{
+    10 * u32::from(tens.saturating_sub(b'0')) + u32::from(ones.saturating_sub(b'0'))
+}
+
+/// Whether the number lies from low to high.
+pub fn is_between(low: u32, high: u32, number: u32) -> bool
+    ensures { result ≡ is_between low high number }
+{
+    low <= number && number <= high
+}
+
+/// Whether no key stands twice.
+pub fn are_distinct(keys: &[Key]) -> bool
+    ensures { result ≡ are_distinct (map key_number keys.now) }
+{
+    for (place, key) in keys.iter().enumerate() {
+        let (_, later) = keys.split_at(place + 1);
+        if stands_in(later, *key) {
+            return false;
+        }
+    }
+    true
+}
+
+/// Whether the key is among those.
+pub fn stands_in(keys: &[Key], key: Key) -> bool
+    ensures { result ≡ stands_in (map key_number keys.now) (key_number key) }
+{
+    has_key(keys, key)
+}
+
+fn has_key(keys: &[Key], key: Key) -> bool
+    ensures { result ≡ list_any (λ other. other.0 == key.0) keys.now }
+{
+    keys.iter().any(|other| other.0 == key.0)
+}

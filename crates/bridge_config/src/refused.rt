@@ -1,0 +1,27 @@
+//! Why a text is no configuration.
+use bridge_movement::MovementRefused;
+
+/// What is wrong with a line, or with the whole text.
+#[derive(Clone, Copy, Debug, PartialEq, Eq)]
+pub enum ConfigRefused {
+    /// The text has more than 16,384 bytes.
+    TooLong,
+    /// The line is not the one due there: another first word, a word too few or too many, a name or a number out of
+    /// form, more than 128 bytes, a line that is missing, or one after the last.
+    Form,
+    /// A number or the date is outside its limits, or the number of a pair is out of order.
+    Range,
+    /// A key stands earlier in the text.
+    KeyTwice,
+    /// The rows are no movement.
+    Movement(MovementRefused),
+}
+
+/// The first fault of a text, with its line.
+#[derive(Clone, Copy, Debug, PartialEq, Eq)]
+pub struct ConfigFault {
+    /// The number of the line, from 1, or 0 where the text is too long.
+    pub line: u32,
+    /// What is wrong with it.
+    pub cause: ConfigRefused,
+}

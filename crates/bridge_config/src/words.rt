@@ -1,0 +1,117 @@
+//! The words of a line, which single spaces separate.
+ghost use Rattle.std.specs.Prelude.{◌≡◌, ◌<◌, ◌≤◌, ◌∷◌, [], ℕ, List, MatchOption, true, length};
+ghost use Rattle.std.specs.Option.{option_map};
+ghost use Rattle.std.specs.List.{list_all};
+ghost use Rattle.std.specs.Char.{is_ascii};
+ghost use Rattle.std.specs.Str.Parse.{digits_value};
+ghost use Rattle.bridge_config.specs.Reading.{spaced_words, words_of, only_word, five_words, word_after, five_after, is_numeral};
+ghost use Rattle.bridge_config.specs.Words.{view_of_five};
+
+use crate::cut::cut;
+use crate::limits::are_digits;
+use arrayvec::ArrayString;
+
+/// The most bytes that a line may have.
+const LINE_BYTES: usize = 128;
+
+/// Five words of a line.
+#[derive(Clone, Copy)]
+pub struct Five<'a> {
+    pub first: &'a [u8],
+    pub second: &'a [u8],
+    pub third: &'a [u8],
+    pub fourth: &'a [u8],
+    pub fifth: &'a [u8],
+}
+
+/// The first word and the text after its space; `None` where there is one word alone.
+fn first_word(text: &[u8]) -> Option<(&[u8], &[u8])>
+    ensures { MatchOption result
+        (spaced_words text.now ≡ text.now ∷ [])
+        (λ parts. spaced_words text.now ≡ parts.0.now ∷ spaced_words parts.1.now) }
+{
+    cut(text, b' ')
+}
+
+/// The text, where it is one word alone.
+fn only_word(text: &[u8]) -> Option<&[u8]>
+    ensures { option_map (λ word. word.now) result ≡ only_word (spaced_words text.now) }
+{
+    match first_word(text) {
+        None => Some(text),
+        Some(_) => None,
+    }
+}
+
+/// The word after the keyword, in a line of these two words.
+pub fn word_after<'a>(keyword: &[u8], line: &'a [u8]) -> Option<&'a [u8]>
+    ensures { option_map (λ word. word.now) result ≡ word_after keyword.now (words_of line.now) }
+{
+    if line.len() > LINE_BYTES {
+        return None;
+    }
+    let (first, rest) = first_word(line)?;
+    if first != keyword {
+        return None;
+    }
+    only_word(rest)
+}
+
+/// The five words after the keyword, in a line of these six words.
+pub fn five_after<'a>(keyword: &[u8], line: &'a [u8]) -> Option<Five<'a>>
+    ensures { option_map view_of_five result ≡ five_after keyword.now (words_of line.now) }
+{
+    if line.len() > LINE_BYTES {
+        return None;
+    }
+    let (word, rest) = first_word(line)?;
+    if word != keyword {
+        return None;
+    }
+    five_words(rest)
+}
+
+/// The words of a text of five words.
+fn five_words(text: &[u8]) -> Option<Five<'_>>
+    ensures { option_map view_of_five result ≡ five_words (spaced_words text.now) }
+{
+    let (first, rest) = first_word(text)?;
+    let (second, rest) = first_word(rest)?;
+    let (third, rest) = first_word(rest)?;
+    let (fourth, rest) = first_word(rest)?;
+    let fifth = only_word(rest)?;
+    Some(Five {
+        first,
+        second,
+        third,
+        fourth,
+        fifth,
+    })
+}
+
+/// Whether the word is decimal digits without a leading zero.
+pub fn is_numeral(word: &[u8]) -> bool
+    ensures { result ≡ is_numeral word.now }
+{
+    are_digits(word) && !word.is_empty() && (word.len() == 1 || word[0] != b'0')
+}
+
+/// The number of a numeral; `None` where it is above 4,294,967,295.
+pub fn value_of(word: &[u8]) -> Option<u32>
+    requires { is_numeral word.now ≡ true }
+    ensures { MatchOption result (4294967295 < digits_value 10 word.now) (λ value. value ≡ digits_value 10 word.now) }
+{
+    let text = str::from_utf8(word).unwrap();
+    text.parse::<u32>().ok()
+}
+
+/// The word as an inline text.
+pub fn inline<const N: usize>(word: &[u8]) -> ArrayString<N>
+    requires ascii { list_all is_ascii word.now ≡ true }
+    requires fits { length word.now ≤ N }
+    ensures { result.bytes ≡ word.now }
+{
+    let mut text = ArrayString::new();
+    text.push_str(str::from_utf8(word).unwrap());
+    text
+}
