@@ -30,3 +30,9 @@ prefixes-push {X} May xs x legal may place y is =
           let is_x : y ≡ x = cc in
           rw (last, take-append_seam xs (x ∷ []), is_x) may
     ]
+
+-- the last element is one that may follow those before it
+pub prefixes-last : {X : Type 0} (May : List X → X → Type 0) (xs : List X) (x : X) → ((place : ℕ) (y : X) → slice_get (xs ++ x ∷ []) place ≡ Some y → May (take place (xs ++ x ∷ [])) y) → May xs x
+prefixes-last May xs x legal =
+    let may = legal (length xs) x (slice_get-seam xs x []) in
+    rw (take-append_seam xs (x ∷ [])) at may

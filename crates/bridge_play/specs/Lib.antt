@@ -1,4 +1,5 @@
 pub mod Trick
 pub mod Legal
+pub mod CardPlay
 pub mod Claims
 pub mod Play

@@ -1,5 +1,5 @@
 -- What a contract sees of a play, and the answer to a card.
-use Rattle.std.specs.Prelude.{ℕ, ◌+◌, ◌-◌, ◌/◌, ◌%◌, nat_lt, nat_le, Bool, true, false, not, ◌||◌, ◌==◌, if◌then◌else◌, List, [], ◌∷◌, ◌++◌, length, Option, Some, None, is_some, Result, Ok, Err}
+use Rattle.std.specs.Prelude.{◌≡◌, ℕ, ◌+◌, ◌-◌, ◌/◌, ◌%◌, nat_lt, nat_le, Bool, true, false, not, ◌||◌, ◌==◌, if◌then◌else◌, List, [], ◌∷◌, ◌++◌, length, Option, Some, None, IsNone, is_some, Result, Ok, Err}
 use Rattle.std.specs.Option.{option_map, option_map_or}
 use Rattle.bridge_cards.specs.declared.seat.Seat.{Seat}
 use Rattle.bridge_cards.specs.declared.seat.Side.{Side}
@@ -12,7 +12,7 @@ use Rattle.bridge_play.specs.declared.refused.ClaimRefused.TheVariants as claim_
 use Rattle.bridge_play.specs.declared.refused.ConsentRefused.{ConsentRefused}
 use Rattle.bridge_play.specs.declared.refused.ConsentRefused.TheVariants as consent_refused
 use Rattle.bridge_play.specs.Trick.{turn_of, plays_for, tricks_won}
-use Rattle.bridge_play.specs.Legal.{holds, follows}
+use Rattle.bridge_play.specs.Legal.{holds, follows, IsLegal}
 use Rattle.bridge_play.specs.Claims.{same_seat, actor_of, dummy_of, all_agreed, consent_to, with_agreed}
 
 -- the dealt hands, the contract, the cards so far, how many claims were made, and the claim that stands or was agreed
@@ -45,6 +45,14 @@ card_answer play seat card =
     else if not (holds play.hands play.cards hand card) then Err NotHeld
     else if not (follows play.hands play.cards hand card) then Err MustFollow
     else Ok tt
+
+-- The card may be played by that player: the play is not over, no claim stands, the player is the one who acts for the
+-- hand in turn, and the list of cards with that card is legal (Laws 44 and 45).
+pub record MayBePlayed (play : Playing) (seat : Seat) (card : ℕ) : Type 0 where
+  pub going_on : is_over play ≡ false
+  pub unclaimed : IsNone play.claim
+  pub acting : seat ≡ actor_of play.contract (turn_of play.contract play.cards)
+  pub legal : IsLegal play.hands play.contract (play.cards ++ card ∷ [])
 
 -- the answer to a claim of so many tricks by a player, the refusals in order
 abbrev pub claim_answer : Playing → Seat → ℕ → Result (Unit {0}) ClaimRefused
@@ -96,3 +104,7 @@ claimed_tricks contract cards side (Some claim) =
 abbrev pub tricks_of : Playing → Side → ℕ
 tricks_of play side =
     tricks_won play.contract play.cards side (length play.cards / 4) + claimed_tricks play.contract play.cards side play.claim
+
+-- how many tricks have a winner: all 13 once the play is over, and before that the whole tricks
+abbrev pub settled_tricks : Playing → ℕ
+settled_tricks play = if is_over play then 13 else length play.cards / 4

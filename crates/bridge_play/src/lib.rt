@@ -1,8 +1,8 @@
 //! The play of one board: which cards are legal, who wins each trick, and claims (Laws 41 to 45 and 68).
 #![tactic(auto)]
 
+mod card_play;
 pub mod claim;
-mod follow;
 pub mod play;
 pub mod refused;
 #[cfg(test)]

@@ -1,15 +1,15 @@
-ghost use Rattle.std.specs.Prelude.{◌≡◌, ℕ, ◌<◌, ◌≤◌, ◌++◌, ◌∷◌, [], ◌↔◌, length, IsOk, OnOk, OnErr, None};
-ghost use Rattle.bridge_play.specs.Play.{with_card, is_over, is_agreed, card_answer, claim_answer, with_claim, consent_answer, with_agreement, without_claim, tricks_of};
-ghost use Rattle.bridge_play.specs.Claims.{actor_of};
+ghost use Rattle.std.specs.Prelude.{◌≡◌, ◌≢◌, ℕ, ◌+◌, ◌<◌, ◌≤◌, ◌++◌, ◌∷◌, [], ◌↔◌, length, IsOk, OnOk, OnErr, None};
+ghost use Rattle.std.specs.Bool.{OnFalse};
+ghost use Rattle.bridge_play.specs.Play.{with_card, is_over, is_agreed, card_answer, MayBePlayed, claim_answer, with_claim, consent_answer, with_agreement, without_claim, tricks_of, settled_tricks};
+ghost use Rattle.bridge_play.specs.Claims.{actor_of, dummy_of};
 ghost use Rattle.bridge_play.specs.Trick.{turn_of};
 ghost use Rattle.bridge_play.specs.Legal.{IsLegal, holds};
 ghost use Rattle.bridge_cards.specs.CardSet.{has_card};
 
+use crate::card_play::CardPlay;
 use crate::claim::{Claim, actor, agreed_by, all_agreed, dummy, may_consent, same_seat};
-use crate::follow::{follows, holds, remaining};
 use crate::refused::{CardRefused, ClaimRefused, ConsentRefused};
-use crate::trick::{plays_for, tricks_won, turn};
-use arrayvec::ArrayVec;
+use crate::trick::plays_for;
 use bridge_auction::Contract;
 use bridge_cards::{Card, CardSet, Deal, Seat, Side};
 use std::marker::Model;
@@ -17,9 +17,7 @@ use std::marker::Model;
 /// The play of one board: the dealt hands, the contract, a legal list of cards, and the claims made.
 #[derive(Drop)]
 pub struct Play {
-    deal: Deal,
-    contract: Contract,
-    cards: ArrayVec<Card, 52>,
+    card_play: CardPlay,
     claims: u8,
     standing: Option<Claim>,
 }
@@ -31,9 +29,9 @@ impl Model for Play {
 
     ghost Value = { Playing };
 
-    ghost view = { λ p. record { hands = p.deal; contract = p.contract; cards = p.cards.items; claims = p.claims; claim = p.standing } };
+    ghost view = { λ p. record { hands = p.card_play.hands; contract = p.card_play.contract; cards = p.card_play.cards; claims = p.claims; claim = p.standing } };
 
-    ghost invariant = { λ p. IsLegal p.deal p.contract p.cards.items × (claim_fits p.cards.items p.standing ≡ true) };
+    ghost invariant = { λ p. IsLegal p.card_play.hands p.card_play.contract p.card_play.cards × (claim_fits p.card_play.cards p.standing ≡ true) };
 }
 
 impl Play {
@@ -46,9 +44,7 @@ impl Play {
         ensures claim { result.claim ≡ None }
     {
         Play {
-            deal: *deal,
-            contract,
-            cards: ArrayVec::new(),
+            card_play: CardPlay::new(deal, contract),
             claims: 0,
             standing: None,
         }
@@ -58,7 +54,7 @@ impl Play {
     pub fn turn(&self) -> Seat
         ensures { result ≡ turn_of self.now.contract self.now.cards }
     {
-        turn(&self.contract, self.cards.as_slice())
+        self.card_play.turn()
     }
 
     /// The cards so far, a legal list of at most 52.
@@ -67,28 +63,31 @@ impl Play {
         ensures legal { IsLegal self.now.hands self.now.contract result.now }
         ensures few { length result.now ≤ 52 }
     {
-        self.cards.as_slice()
+        self.card_play.cards()
     }
 
-    /// Who plays the next card: the hand to play, or declarer for dummy's hand (Law 45).
+    /// Who plays the next card: the hand to play, or declarer for dummy's hand (Law 45). It is never dummy.
     pub fn actor(&self) -> Seat
-        ensures { result ≡ actor_of self.now.contract (turn_of self.now.contract self.now.cards) }
+        ensures actor { result ≡ actor_of self.now.contract (turn_of self.now.contract self.now.cards) }
+        ensures not_dummy { result ≢ dummy_of self.now.contract }
     {
-        actor(&self.contract, self.turn())
+        actor(self.card_play.contract(), self.turn())
     }
 
-    /// Whether all tricks were played or a claim is agreed.
+    /// Whether all tricks were played or a claim is agreed. Before that there are fewer than 52 cards.
     pub fn is_over(&self) -> bool
-        ensures { result ≡ is_over self.now }
+        ensures over { result ≡ is_over self.now }
+        ensures room { OnFalse result (length self.now.cards < 52) }
     {
-        self.cards.len() == 52 || self.is_agreed()
+        let played = self.card_play.cards().len();
+        played == 52 || self.is_agreed()
     }
 
     fn is_agreed(&self) -> bool
         ensures { result ≡ is_agreed self.now }
     {
         match &self.standing {
-            Some(claim) => all_agreed(&self.contract, claim),
+            Some(claim) => all_agreed(self.card_play.contract(), claim),
             None => false,
         }
     }
@@ -99,16 +98,15 @@ impl Play {
         ensures room { OnOk result (length self.now.cards < 52) }
     {
         let hand = self.turn();
-        let cards = self.cards.as_slice();
         if self.is_over() {
             Err(CardRefused::Over)
         } else if self.standing.is_some() {
             Err(CardRefused::ClaimStands)
-        } else if !same_seat(seat, actor(&self.contract, hand)) {
+        } else if !same_seat(seat, actor(self.card_play.contract(), hand)) {
             Err(CardRefused::NotYourTurn)
-        } else if !holds(&self.deal, cards, hand, card) {
+        } else if !self.card_play.holds(hand, card) {
             Err(CardRefused::NotHeld)
-        } else if !follows(&self.deal, cards, hand, card) {
+        } else if !self.card_play.follows(hand, card) {
             Err(CardRefused::MustFollow)
         } else {
             Ok(())
@@ -119,14 +117,14 @@ impl Play {
     /// legal, and else says why not. The seat is the player's: declarer's for a card of dummy's hand.
     pub fn try_card(&mut self, seat: Seat, card: Card) -> Result<(), CardRefused>
         ensures answer { result ≡ card_answer self.old seat card }
+        ensures accepted { IsOk result ↔ MayBePlayed self.old seat card }
         ensures played { OnOk result (self.new ≡ with_card self.old card) }
-        ensures legal { OnOk result (IsLegal self.old.hands self.old.contract (self.old.cards ++ card ∷ [])) }
         ensures refused { OnErr result (self.new ≡ self.old) }
     {
         let played = card;
         let answer = self.answer(seat, card);
         if answer.is_ok() {
-            self.cards.push(played);
+            self.card_play.push(played);
         }
         answer
     }
@@ -150,14 +148,14 @@ impl Play {
         ensures answer { result ≡ claim_answer self.now seat tricks }
         ensures room { OnOk result (self.now.claims < 99) }
     {
-        let tricks_played = self.cards.len() / 4;
+        let tricks_played = self.card_play.cards().len() / 4;
         if self.is_over() {
             Err(ClaimRefused::Over)
         } else if self.standing.is_some() {
             Err(ClaimRefused::ClaimStands)
-        } else if same_seat(seat, dummy(&self.contract)) {
+        } else if same_seat(seat, dummy(self.card_play.contract())) {
             Err(ClaimRefused::NotYourTurn)
-        } else if self.cards.len() % 4 != 0 {
+        } else if self.card_play.cards().len() % 4 != 0 {
             Err(ClaimRefused::MidTrick)
         } else if tricks_played + usize::from(tricks) > 13 {
             Err(ClaimRefused::TooManyTricks)
@@ -196,7 +194,7 @@ impl Play {
         }
         match &self.standing {
             None => Err(ConsentRefused::NoClaim),
-            Some(claim) => may_consent(&self.contract, claim, seat),
+            Some(claim) => may_consent(self.card_play.contract(), claim, seat),
         }
     }
 
@@ -228,31 +226,31 @@ impl Play {
     }
 
     /// The tricks of a side: the whole tricks that it won, and those of an agreed claim; the tricks left that are not
-    /// claimed go to the other side (Law 68).
+    /// claimed go to the other side (Law 68). Those of both sides are the whole tricks, and 13 when the play is over.
     pub fn tricks(&self, side: Side) -> u8
         ensures tricks { result ≡ tricks_of self.now side }
         ensures most { result ≤ 13 }
+        ensures both { tricks_of self.now Side.NorthSouth + tricks_of self.now Side.EastWest ≡ settled_tricks self.now }
     {
-        let played = self.cards.len() / 4;
-        let won = tricks_won(&self.contract, self.cards.as_slice(), side, played);
+        let won = self.card_play.tricks_won(side);
+        let played = self.card_play.cards().len() / 4;
         let claimed = match &self.standing {
-            Some(claim) if all_agreed(&self.contract, claim) => {
-                let left = 13 - played;
+            Some(claim) if all_agreed(self.card_play.contract(), claim) => {
                 if plays_for(side, claim.claimer) {
-                    usize::from(claim.tricks)
+                    claim.tricks
                 } else {
-                    left - usize::from(claim.tricks)
+                    13 - played as u8 - claim.tricks
                 }
             }
             _ => 0,
         };
-        (won + claimed) as u8
+        won + claimed
     }
 
     /// The cards that the seat still holds.
     pub fn remaining(&self, seat: Seat) -> CardSet
         ensures { (card : ℕ) → has_card result card ≡ holds self.now.hands self.now.cards seat card }
     {
-        remaining(&self.deal, self.cards.as_slice(), seat)
+        self.card_play.remaining(seat)
     }
 }

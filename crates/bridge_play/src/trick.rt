@@ -1,13 +1,17 @@
 //! Who wins a trick, and who leads to the next.
-ghost use Rattle.std.specs.Prelude.{◌≡◌, ◌*◌, ◌/◌, ◌<◌, ◌≤◌, length, position};
-ghost use Rattle.bridge_play.specs.Trick.{same_suit, is_trump, beats, is_or_beats, wins, winning_place, leader_of, turn_of, plays_for, tricks_won};
+ghost use Rattle.std.specs.Prelude.{◌≡◌, ◌-◌, ◌/◌, ◌<◌, ◌≤◌, length, position};
+ghost use Rattle.bridge_cards.specs.Card.{IsCard};
+ghost use Rattle.bridge_play.specs.Trick.{same_suit, is_trump, beats, is_or_beats, wins, winning_place, leader_of, plays_for, tricks_won};
 
 use bridge_auction::{Contract, Denomination};
 use bridge_cards::{Card, Seat, Side};
 
 /// Whether the cards are of one suit.
 pub fn same_suit(c: Card, d: Card) -> bool
-    ensures { result ≡ same_suit c d }
+    ensures same { result ≡ same_suit c d }
+
+    // Each is a card of the deck.
+    ensures known { IsCard c × IsCard d }
 {
     c.number() / 13 == d.number() / 13
 }
@@ -62,27 +66,6 @@ fn winning_place(trump: Denomination, trick: &[Card]) -> usize
     winner(trump, trick).unwrap_or(0)
 }
 
-/// The seat that leads to that trick, the tricks counted from 0 (Law 44).
-pub fn leader(contract: &Contract, cards: &[Card], tricks: usize) -> Seat
-    requires { 4 * tricks ≤ length cards.now }
-    ensures { result ≡ leader_of contract.now cards.now tricks }
-{
-    let mut leader = contract.declarer.clockwise(1);
-    for trick in 0..tricks {
-        let (_, rest) = cards.split_at(4 * trick);
-        let (played, _) = rest.split_at(4);
-        leader = leader.clockwise(winning_place(contract.bid.denomination, played));
-    }
-    leader
-}
-
-/// The hand to play after those cards.
-pub fn turn(contract: &Contract, cards: &[Card]) -> Seat
-    ensures { result ≡ turn_of contract.now cards.now }
-{
-    leader(contract, cards, cards.len() / 4).clockwise(cards.len() % 4)
-}
-
 /// Whether the seat plays for that side.
 pub fn plays_for(side: Side, seat: Seat) -> bool
     ensures { result ≡ plays_for side seat }
@@ -93,17 +76,32 @@ pub fn plays_for(side: Side, seat: Seat) -> bool
     }
 }
 
-/// How many of the first tricks the side's seats won.
-pub fn tricks_won(contract: &Contract, cards: &[Card], side: Side, tricks: usize) -> usize
-    requires { 4 * tricks ≤ length cards.now }
-    ensures won { result ≡ tricks_won contract.now cards.now side tricks }
-    ensures most { result ≤ tricks }
+/// Who leads to the trick after those cards: after a whole trick its winner, and else the seat that led to the trick of
+/// the last card (Law 44).
+pub fn next_leader(contract: &Contract, cards: &[Card], leader: Seat) -> Seat
+    requires some { 0 < length cards.now }
+    requires led { leader ≡ leader_of contract.now cards.now ((length cards.now - 1) / 4) }
+    ensures { result ≡ leader_of contract.now cards.now (length cards.now / 4) }
 {
-    let mut won = 0;
-    for trick in 0..tricks {
-        if plays_for(side, leader(contract, cards, trick + 1)) {
-            won += 1;
-        }
+    if cards.len() % 4 != 0 {
+        return leader;
     }
-    won
+    let (_, trick) = cards.split_at(cards.len() - 4);
+    leader.clockwise(winning_place(contract.bid.denomination, trick))
+}
+
+/// How many of the whole tricks North and South won, of which they won so many before the last card; after a whole trick
+/// that seat leads.
+pub fn next_won(contract: &Contract, cards: &[Card], leader: Seat, won: u8) -> u8
+    requires some { 0 < length cards.now }
+    requires few { length cards.now ≤ 52 }
+    requires led { leader ≡ leader_of contract.now cards.now (length cards.now / 4) }
+    requires won { won ≡ tricks_won contract.now cards.now Side.NorthSouth ((length cards.now - 1) / 4) }
+    ensures { result ≡ tricks_won contract.now cards.now Side.NorthSouth (length cards.now / 4) }
+{
+    if cards.len() % 4 == 0 && plays_for(Side::NorthSouth, leader) {
+        won + 1
+    } else {
+        won
+    }
 }

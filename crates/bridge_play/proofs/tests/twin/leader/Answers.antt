@@ -1,5 +1,5 @@
 use Rattle.std.proofs.Common.{add-one, refl}
-use Rattle.bridge_play.proofs.trick.leader.Goals as goal
+use Rattle.bridge_play.proofs.tests.twin.leader.Goals as goal
 
 pub loop-trick-preserved : goal.loop-trick-preserved
 loop-trick-preserved c =

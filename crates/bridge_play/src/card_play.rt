@@ -1,0 +1,160 @@
+ghost use Rattle.std.specs.Prelude.{◌≡◌, ℕ, ◌/◌, ◌<◌, ◌≤◌, ◌&&◌, ◌==◌, not, [], length};
+ghost use Rattle.bridge_cards.specs.Card.{IsCard};
+ghost use Rattle.bridge_cards.specs.CardSet.{has_card};
+ghost use Rattle.bridge_cards.specs.Deal.{hand_at};
+ghost use Rattle.bridge_play.specs.Trick.{turn_of, tricks_won};
+ghost use Rattle.bridge_play.specs.Legal.{holds, holds_suit, follows};
+ghost use Rattle.bridge_play.specs.CardPlay.{with_next};
+
+use crate::trick::{next_leader, next_won, same_suit};
+use arrayvec::ArrayVec;
+use bridge_auction::Contract;
+use bridge_cards::{Card, CardSet, Deal, Seat, Side};
+use std::marker::Model;
+
+/// The cards played to a contract, and beside them what makes each question about them cheap.
+#[derive(Drop)]
+pub struct CardPlay {
+    deal: Deal,
+    contract: Contract,
+    cards: ArrayVec<Card, 52>,
+    /// The cards left in each hand, by the seat's number.
+    left: [CardSet; 4],
+    /// Who led to the trick that is not whole, or leads to the next.
+    leader: Seat,
+    /// How many of the whole tricks North and South won.
+    won: u8,
+}
+
+impl Model for CardPlay {
+    ghost use Rattle.bridge_play.specs.CardPlay.{PlayedCards, IsKept};
+
+    ghost Value = { PlayedCards };
+
+    ghost view = { λ p. record { hands = p.deal; contract = p.contract; cards = p.cards.items } };
+
+    ghost invariant = { λ p. IsKept p.deal p.contract p.cards.items p.left p.leader p.won };
+}
+
+impl CardPlay {
+    /// No card of the deal is played.
+    pub fn new(deal: &Deal, contract: Contract) -> CardPlay
+        ensures hands { result.hands ≡ deal.now }
+        ensures contract { result.contract ≡ contract }
+        ensures cards { result.cards ≡ [] }
+    {
+        let leader = contract.declarer.clockwise(1);
+        CardPlay {
+            deal: *deal,
+            contract,
+            cards: ArrayVec::new(),
+            left: dealt(deal),
+            leader,
+            won: 0,
+        }
+    }
+
+    /// The contract.
+    pub fn contract(&self) -> &Contract
+        ensures { result.now ≡ self.now.contract }
+    {
+        &self.contract
+    }
+
+    /// The cards so far.
+    pub fn cards(&self) -> &[Card]
+        ensures cards { result.now ≡ self.now.cards }
+        ensures few { length result.now ≤ 52 }
+    {
+        self.cards.as_slice()
+    }
+
+    /// The hand to play.
+    pub fn turn(&self) -> Seat
+        ensures { result ≡ turn_of self.now.contract self.now.cards }
+    {
+        self.leader.clockwise(self.cards.len() % 4)
+    }
+
+    /// The cards that the seat still holds.
+    pub fn remaining(&self, seat: Seat) -> CardSet
+        ensures { (card : ℕ) → has_card result card ≡ holds self.now.hands self.now.cards seat card }
+    {
+        self.left[usize::from(seat.number())]
+    }
+
+    /// Whether the seat still holds the card.
+    pub fn holds(&self, seat: Seat, card: Card) -> bool
+        ensures { result ≡ holds self.now.hands self.now.cards seat card }
+    {
+        self.remaining(seat).has(card)
+    }
+
+    /// Whether the seat still holds a card of the suit of that one.
+    fn holds_suit(&self, seat: Seat, led: Card) -> bool
+        requires { IsCard led }
+        ensures { result ≡ holds_suit self.now.hands self.now.cards seat led }
+    {
+        !self.remaining(seat).of_suit(led.suit()).is_empty()
+    }
+
+    /// Whether the card leads to a trick, or is of the suit led, or the hand has none of that suit.
+    pub fn follows(&self, seat: Seat, card: Card) -> bool
+        ensures { result ≡ follows self.now.hands self.now.cards seat card }
+    {
+        let cards = self.cards();
+        if cards.len() % 4 == 0 {
+            return true;
+        }
+        let led = cards[4 * (cards.len() / 4)];
+        same_suit(card, led) || !self.holds_suit(seat, led)
+    }
+
+    /// How many of the whole tricks the side won.
+    pub fn tricks_won(&self, side: Side) -> u8
+        ensures won { result ≡ tricks_won self.now.contract self.now.cards side (length self.now.cards / 4) }
+        ensures most { result ≤ length self.now.cards / 4 }
+    {
+        match side {
+            Side::NorthSouth => self.won,
+            Side::EastWest => (self.cards.len() / 4) as u8 - self.won,
+        }
+    }
+
+    /// Adds a card, which no hand has then.
+    pub fn push(&mut self, card: Card)
+        requires { length self.old.cards < 52 }
+        ensures { self.new ≡ with_next self.old card }
+    {
+        self.left = without(&self.left, card);
+        self.cards.push(card);
+        let cards = self.cards.as_slice();
+        let leader = next_leader(&self.contract, cards, self.leader);
+        self.won = next_won(&self.contract, cards, leader, self.won);
+        self.leader = leader;
+    }
+}
+
+/// The hands as they were dealt, by the seat's number.
+fn dealt(deal: &Deal) -> [CardSet; 4]
+    ensures { (seat : Seat) → hand_at result seat ≡ hand_at deal.now seat }
+{
+    [
+        deal.hand(Seat::North),
+        deal.hand(Seat::East),
+        deal.hand(Seat::South),
+        deal.hand(Seat::West),
+    ]
+}
+
+/// The hands without the card.
+fn without(hands: &[CardSet; 4], card: Card) -> [CardSet; 4]
+    ensures { (seat : Seat) (other : ℕ) → has_card (hand_at result seat) other ≡ (has_card (hand_at hands.now seat) other && not (other == card)) }
+{
+    [
+        hands[0].without(card),
+        hands[1].without(card),
+        hands[2].without(card),
+        hands[3].without(card),
+    ]
+}

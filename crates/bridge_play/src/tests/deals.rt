@@ -1,0 +1,48 @@
+use bridge_auction::{Bid, Contract, Denomination, Doubling, Level};
+use bridge_cards::{Deal, Seat, read_deal};
+use std::test::Fail;
+
+/// Each hand has one suit: North spades, East hearts, South diamonds and West clubs.
+pub const ONE_SUIT_EACH: &[u8] =
+    b"N:AKQJT98765432... .AKQJT98765432.. ..AKQJT98765432. ...AKQJT98765432";
+
+/// Each hand has four cards in a row of one suit, and three of each other.
+pub const CARDS_IN_A_ROW: &[u8] =
+    b"N:AKQJ.T98.765.432 T98.765.432.AKQJ 765.432.AKQJ.T98 432.AKQJ.T98.765";
+
+/// Two hands have no card of a suit.
+pub const TWO_VOIDS: &[u8] =
+    b"N:QT76.KQ843.Q86.A K2.72.J432.T6532 J843.AJT9..KQ874 A95.65.AKT975.J9";
+
+/// West has six spades and one club.
+pub const LONG_SPADES: &[u8] =
+    b"N:873.AKJ9.T4.8754 2.853.K853.AJT63 AQJ.T76.Q976.K92 KT9654.Q42.AJ2.Q";
+
+/// South has no club, and East one spade.
+pub const LONG_DIAMONDS: &[u8] =
+    b"N:K9865.K5.42.AJ54 2.AQJ9.KQ8.QT862 QT74.864.AJT963. AJ3.T732.75.K973";
+
+/// The deal of that text.
+pub fn deal_of(text: &[u8]) -> Result<Deal, Fail> {
+    let Ok(deal) = read_deal(text) else {
+        return Err(Fail::from("a deal"));
+    };
+    Ok(deal)
+}
+
+/// The contract at that level in that denomination by that declarer, undoubled.
+pub fn contract_of(
+    level: u8,
+    denomination: Denomination,
+    declarer: Seat,
+) -> Result<Contract, Fail> {
+    let level = Level::new(level).ok_or("a level")?;
+    Ok(Contract {
+        bid: Bid {
+            level,
+            denomination,
+        },
+        doubling: Doubling::Undoubled,
+        declarer,
+    })
+}

@@ -1,0 +1,174 @@
+use super::deals::{CARDS_IN_A_ROW, ONE_SUIT_EACH, contract_of, deal_of};
+use crate::{CardRefused, ClaimRefused, ConsentRefused, Play};
+use bridge_auction::Denomination;
+use bridge_cards::{Card, Seat, Side, read_card};
+use std::test::Fail;
+
+/// A play of that deal in spades at that level by North.
+fn spades_by_north(text: &[u8], level: u8) -> Result<Play, Fail> {
+    let deal = deal_of(text)?;
+    Ok(Play::new(
+        &deal,
+        contract_of(level, Denomination::Spades, Seat::North)?,
+    ))
+}
+
+#[test]
+fn cards_are_taken_or_refused_by_name(rt: HostRuntime) -> Result<(), Fail> {
+    let mut play = spades_by_north(CARDS_IN_A_ROW, 1)?;
+    for (seat, text, answer) in [
+        (Seat::West, "CA", Err(CardRefused::NotYourTurn)),
+        (Seat::East, "SA", Err(CardRefused::NotHeld)),
+        (Seat::East, "H7", Ok(())),
+        (Seat::South, "H2", Err(CardRefused::NotYourTurn)),
+        (Seat::North, "S7", Err(CardRefused::MustFollow)),
+        (Seat::North, "H2", Ok(())),
+        (Seat::West, "HA", Ok(())),
+        (Seat::North, "H8", Ok(())),
+        (Seat::West, "HA", Err(CardRefused::NotHeld)),
+    ] {
+        let card = read_card(text.as_bytes()).ok_or("a card")?;
+        let before = play.cards().len();
+        assert_eq!(rt; play.try_card(seat, card), answer, "{text}");
+        let kept = if answer.is_ok() {
+            before.wrapping_add(1)
+        } else {
+            before
+        };
+        assert_eq!(rt; play.cards().len(), kept, "{text}");
+    }
+    assert_eq!(rt; play.turn(), Seat::West);
+    assert_eq!(rt; play.claims(), 0);
+    assert_eq!(rt; play.claim(), None);
+    Ok(())
+}
+
+#[test]
+fn all_tricks_are_played(rt: HostRuntime) -> Result<(), Fail> {
+    let mut play = spades_by_north(ONE_SUIT_EACH, 7)?;
+    assert_eq!(rt;
+        play.turn(),
+        Seat::East,
+        "declarer's left-hand opponent leads"
+    );
+    for rank in [
+        "A", "K", "Q", "J", "T", "9", "8", "7", "6", "5", "4", "3", "2",
+    ] {
+        assert!(rt; !play.is_over());
+        for _ in 0..4 {
+            let hand = play.turn();
+            let suit = match hand {
+                Seat::North => "S",
+                Seat::East => "H",
+                Seat::South => "D",
+                Seat::West => "C",
+            };
+            let text = [suit.as_bytes()[0], rank.as_bytes()[0]];
+            let card = read_card(text.as_slice()).ok_or("a card")?;
+            assert_eq!(rt; play.try_card(play.actor(), card), Ok(()), "{suit}{rank}");
+        }
+        assert_eq!(rt; play.turn(), Seat::North, "North's trump wins");
+    }
+    assert!(rt; play.is_over());
+    assert_eq!(rt;
+        (play.tricks(Side::NorthSouth), play.tricks(Side::EastWest)),
+        (13, 0)
+    );
+    let first = read_card(b"SA").ok_or("a card")?;
+    assert_eq!(rt; play.try_card(Seat::North, first), Err(CardRefused::Over));
+    assert_eq!(rt; play.cards().len(), usize::from(Card::COUNT));
+    Ok(())
+}
+
+#[test]
+fn claims_are_answered(rt: HostRuntime) -> Result<(), Fail> {
+    let mut play = spades_by_north(CARDS_IN_A_ROW, 1)?;
+    for text in ["H7", "H2", "HA", "H8"] {
+        let card = read_card(text.as_bytes()).ok_or("a card")?;
+        assert_eq!(rt; play.try_card(play.actor(), card), Ok(()), "{text}");
+    }
+    assert_eq!(rt;
+        play.try_claim(Seat::South, 5),
+        Err(ClaimRefused::NotYourTurn)
+    );
+    assert_eq!(rt;
+        play.try_claim(Seat::East, 13),
+        Err(ClaimRefused::TooManyTricks)
+    );
+    assert_eq!(rt; play.try_claim(Seat::East, 12), Ok(()));
+    assert_eq!(rt;
+        play.try_claim(Seat::East, 12),
+        Err(ClaimRefused::ClaimStands)
+    );
+    assert_eq!(rt; play.agree(Seat::West, 1), Err(ConsentRefused::NotAsked));
+    let king = read_card(b"HK").ok_or("a card")?;
+    assert_eq!(rt;
+        play.try_card(Seat::West, king),
+        Err(CardRefused::ClaimStands)
+    );
+    assert_eq!(rt; play.refuse(Seat::North, 1), Ok(()));
+    assert_eq!(rt; play.agree(Seat::North, 1), Err(ConsentRefused::NoClaim));
+    assert_eq!(rt; play.agree(Seat::North, 0), Err(ConsentRefused::Stale));
+    assert_eq!(rt; play.try_card(Seat::West, king), Ok(()));
+    assert_eq!(rt; play.try_claim(Seat::North, 3), Err(ClaimRefused::MidTrick));
+    for text in ["H9", "H6", "H3"] {
+        let card = read_card(text.as_bytes()).ok_or("a card")?;
+        assert_eq!(rt; play.try_card(play.actor(), card), Ok(()), "{text}");
+    }
+    assert_eq!(rt; play.try_claim(Seat::North, 11), Ok(()));
+    assert_eq!(rt; play.agree(Seat::East, 2), Ok(()));
+    assert_eq!(rt; play.agree(Seat::East, 2), Err(ConsentRefused::NotAsked));
+    assert!(rt; !play.is_over());
+    assert_eq!(rt; play.agree(Seat::West, 2), Ok(()));
+    assert!(rt; play.is_over());
+    assert_eq!(rt; play.refuse(Seat::West, 2), Err(ConsentRefused::NoClaim));
+    assert_eq!(rt; play.try_claim(Seat::North, 1), Err(ClaimRefused::Over));
+    assert_eq!(rt;
+        (play.tricks(Side::NorthSouth), play.tricks(Side::EastWest)),
+        (11, 2)
+    );
+    let six = read_card(b"H6").ok_or("a card")?;
+    assert!(rt; !play.remaining(Seat::East).has(six));
+    assert_eq!(rt; play.remaining(Seat::East).len(), 11);
+    Ok(())
+}
+
+#[test]
+fn claims_are_spent_after_99(rt: HostRuntime) -> Result<(), Fail> {
+    let mut play = spades_by_north(ONE_SUIT_EACH, 7)?;
+    assert_eq!(rt; play.agree(Seat::East, 0), Err(ConsentRefused::NoClaim));
+    assert_eq!(rt; play.agree(Seat::East, 1), Err(ConsentRefused::Stale));
+    for number in 1..=99 {
+        assert_eq!(rt; play.try_claim(Seat::North, 13), Ok(()), "claim {number}");
+        assert_eq!(rt; play.refuse(Seat::East, number), Ok(()), "claim {number}");
+    }
+    assert_eq!(rt; play.claims(), 99);
+    assert_eq!(rt;
+        play.try_claim(Seat::North, 13),
+        Err(ClaimRefused::ClaimsSpent)
+    );
+    assert_eq!(rt;
+        play.try_claim(Seat::North, 14),
+        Err(ClaimRefused::TooManyTricks)
+    );
+    Ok(())
+}
+
+#[test]
+fn tricks_not_claimed_go_to_the_other_side(rt: HostRuntime) -> Result<(), Fail> {
+    let mut play = spades_by_north(ONE_SUIT_EACH, 7)?;
+    assert_eq!(rt; play.try_claim(Seat::North, 10), Ok(()));
+    assert_eq!(rt;
+        (play.tricks(Side::NorthSouth), play.tricks(Side::EastWest)),
+        (0, 0)
+    );
+    assert_eq!(rt; play.agree(Seat::East, 1), Ok(()));
+    assert_eq!(rt; play.agree(Seat::West, 1), Ok(()));
+    assert_eq!(rt;
+        (play.tricks(Side::NorthSouth), play.tricks(Side::EastWest)),
+        (10, 3)
+    );
+    assert!(rt; play.is_over());
+    assert_eq!(rt; play.refuse(Seat::West, 1), Err(ConsentRefused::NoClaim));
+    Ok(())
+}
