@@ -1,8 +1,9 @@
 -- Bids in order (Law 18).
-use Rattle.std.specs.Prelude.{ℕ, ◌+◌, ◌-◌, ◌*◌, ◌≤◌}
+use Rattle.std.specs.Prelude.{ℕ, ◌+◌, ◌-◌, ◌*◌}
 use Rattle.bridge_auction.specs.declared.bid.Denomination.{Denomination}
 use Rattle.bridge_auction.specs.declared.bid.Denomination.TheVariants.{Clubs, Diamonds, Hearts, Spades, NoTrump}
 use Rattle.bridge_auction.specs.declared.bid.Bid.{Bid}
+use Rattle.bridge_auction.specs.Level.{IsLevel}
 
 -- the place of a denomination in their order, from 0
 abbrev pub denomination_number : Denomination → ℕ
@@ -18,4 +19,4 @@ bid_number bid = 5 * (bid.level - 1) + denomination_number bid.denomination
 
 -- a bid of a level from 1 to 7
 abbrev pub IsBid : Bid → Type 0
-IsBid bid = (1 ≤ bid.level) × (bid.level ≤ 7)
+IsBid bid = IsLevel bid.level

@@ -1,4 +1,4 @@
--- The four kinds of call (Law 17).
+-- The four kinds of call (Laws 17 to 19).
 use Rattle.std.specs.Prelude.{Bool, true, false, Option, Some, None}
 use Rattle.bridge_auction.specs.declared.bid.Bid.{Bid as BidType}
 use Rattle.bridge_auction.specs.declared.call.Call.{Call}

@@ -60,7 +60,7 @@ pub record MayFollow (earlier : List Call) (call : Call) : Type 0 where
 abbrev pub IsLegal : List Call → Type 0
 IsLegal calls = (place : ℕ) (call : Call) → slice_get calls place ≡ Some call → MayFollow (take place calls) call
 
--- why a call is refused that is not admissible, as a pass always is
+-- why a call that is not admissible is refused; a pass always is admissible, so its answer here is never given
 abbrev pub fault_of : Call → CallRefused
 fault_of Pass = Ended
 fault_of (Bid _) = InsufficientBid

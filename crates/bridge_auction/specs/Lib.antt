@@ -1,3 +1,4 @@
+pub mod Level
 pub mod Bid
 pub mod Call
 pub mod Legal

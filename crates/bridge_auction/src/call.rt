@@ -3,7 +3,7 @@ ghost use Rattle.bridge_auction.specs.Call.{is_pass, is_bid, IsCall};
 
 use crate::bid::Bid;
 
-/// What a player may say in turn (Law 17).
+/// What a player may say in turn (Laws 17 to 19).
 #[derive(Clone, Copy, Debug, PartialEq, Eq)]
 pub enum Call {
     Pass,

@@ -1,4 +1,5 @@
-ghost use Rattle.std.specs.Prelude.{◌≡◌, ◌≤◌, ◌↔◌, IsSome, IfSome};
+ghost use Rattle.std.specs.Prelude.{◌≡◌, ◌↔◌, IsSome, IfSome};
+ghost use Rattle.bridge_auction.specs.Level.{IsLevel};
 
 use std::marker::Model;
 
@@ -9,13 +10,14 @@ pub struct Level {
 }
 
 impl Model for Level {
-    ghost use Rattle.std.specs.Prelude.{ℕ, ◌≤◌};
+    ghost use Rattle.std.specs.Prelude.{ℕ};
+    ghost use Rattle.bridge_auction.specs.Level.{IsLevel};
 
     ghost Value = { ℕ };
 
     ghost view = { λ l. l.tricks };
 
-    ghost invariant = { λ l. (1 ≤ l.tricks) × (l.tricks ≤ 7) };
+    ghost invariant = { λ l. IsLevel l.tricks };
 
     ghost inverse = { λ n. record { tricks = n } };
 }
@@ -23,7 +25,7 @@ impl Model for Level {
 impl Level {
     /// The level of that number, or `None` where it is not from 1 to 7.
     pub fn new(number: u8) -> Option<Level>
-        ensures valid { IsSome result ↔ ((1 ≤ number) × (number ≤ 7)) }
+        ensures valid { IsSome result ↔ IsLevel number }
         ensures value { IfSome result (λ level. level ≡ number) }
     {
         if (1..=7).contains(&number) {
@@ -36,7 +38,7 @@ impl Level {
     /// The level as a number, 1 to 7.
     pub fn number(self) -> u8
         ensures number { result ≡ self }
-        ensures range { (1 ≤ result) × (result ≤ 7) }
+        ensures range { IsLevel result }
     {
         self.tricks
     }

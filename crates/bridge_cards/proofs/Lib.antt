@@ -6,3 +6,4 @@ mod HandText
 mod DealLemmas
 mod PrintLemmas
 mod PrintedDeal
+mod DealtHands

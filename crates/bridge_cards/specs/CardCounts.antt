@@ -10,7 +10,7 @@ use Rattle.bridge_cards.specs.CardSet.{has_card, deck, cards_of, card_count}
 -- ---- tests on a list
 
 -- what passes either of two tests, which nothing passes both of
-count_either : (p q r : ℕ → Bool) → ((x : ℕ) → r x ≡ (p x || q x)) → ((x : ℕ) → (p x && q x) ≡ false) → (xs : List ℕ) → count_by r xs ≡ count_by p xs + count_by q xs
+pub count_either : (p q r : ℕ → Bool) → ((x : ℕ) → r x ≡ (p x || q x)) → ((x : ℕ) → (p x && q x) ≡ false) → (xs : List ℕ) → count_by r xs ≡ count_by p xs + count_by q xs
 count_either p q r either apart [] = refl
 count_either p q r either apart (x ∷ xs) =
     omega (
@@ -30,14 +30,14 @@ count_either p q r either apart (x ∷ xs) =
     one false false e = refl
 
 -- one number is counted once among numbers in a row
-count_none : (card k a : ℕ) → card < a → count_by (λ x. x == card) (range_with_len a k) ≡ 0
+pub count_none : (card k a : ℕ) → card < a → count_by (λ x. x == card) (range_with_len a k) ≡ 0
 count_none card zero a above = refl
 count_none card (suc k) a above =
     sum_by-cons (λ x. cond (x == card) 1 0) a (range_with_len (a + 1) k)
     ∙ ap (λ b. cond b 1 0 + count_by (λ x. x == card) (range_with_len (a + 1) k)) (ne_eqb a card (λ e. omega arith))
     ∙ ap (λ n. 0 + n) (count_none card k (a + 1) (omega arith))
 
-count_one : (card k a : ℕ) → a ≤ card → card < a + k → count_by (λ x. x == card) (range_with_len a k) ≡ 1
+pub count_one : (card k a : ℕ) → a ≤ card → card < a + k → count_by (λ x. x == card) (range_with_len a k) ≡ 1
 count_one card zero a low high = absurd (omega arith)
 count_one card (suc k) a low high = sum_by-cons (λ x. cond (x == card) 1 0) a (range_with_len (a + 1) k) ∙ at (count_one card k (a + 1)) (cases_eq a card)
   where

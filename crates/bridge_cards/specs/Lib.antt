@@ -8,4 +8,5 @@ pub mod CardSet
 pub mod CardSetLaws
 pub mod Deal
 pub mod DealText
+pub mod Shuffle
 pub mod CardCounts

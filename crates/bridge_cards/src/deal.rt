@@ -41,6 +41,7 @@ impl Deal {
     /// them, and otherwise `NotThirteen` where one has another number of cards than 13.
     pub fn from_hands(hands: [CardSet; 4]) -> Result<Deal, BadDeal>
         ensures hands { IfOk result (λ deal. deal ≡ hands) }
+        ensures deal { IfOk result IsDeal }
         ensures ok { IsOk result ↔ (NoneTwice hands × All (λ hand. card_count hand ≡ 13) hands) }
         ensures twice { (result ≡ Err BadDeal.Twice) ↔ SomeTwice hands }
         ensures not_thirteen { (result ≡ Err BadDeal.NotThirteen) ↔ (NoneTwice hands × SomeNotThirteen hands) }

@@ -11,6 +11,7 @@ use crate::deal::{BadDeal, Deal};
 use crate::rank::Rank;
 use crate::seat::Seat;
 use crate::suit::Suit;
+use crate::text::cut;
 use arrayvec::ArrayString;
 
 #[cfg(test)]
@@ -143,17 +144,6 @@ fn read_suit(letters: &[u8], suit: Suit) -> Option<CardSet>
         cards = cards.with(card);
     }
     Some(cards)
-}
-
-/// What stands before the first such byte, and what stands after it; `None` where there is none.
-fn cut(text: &[u8], separator: u8) -> Option<(&[u8], &[u8])>
-    ensures parts { IfSome result
-        (λ parts. text.now ≡ parts.0.now ++ separator ∷ parts.1.now) }
-    ensures first { IfSome result (λ parts. All (λ byte. byte ≢ separator) parts.0.now) }
-    ensures none { IfNone result (All (λ byte. byte ≢ separator) text.now) }
-{
-    let place = text.iter().position(|byte| *byte == separator)?;
-    Some((&text[..place], &text[place + 1..]))
 }
 
 /// Writes a hand at the text's end.

@@ -1,4 +1,5 @@
-//! Suits, seats, boards, cards and deals of duplicate bridge (Laws 1 and 2 of the Laws of Duplicate Bridge 2017).
+//! Suits, seats, boards, cards, deals and shuffles of duplicate bridge (Laws 1, 2 and 6 of the Laws of Duplicate
+//! Bridge 2017).
 #![tactic(auto)]
 
 pub mod board;
@@ -8,7 +9,9 @@ pub mod deal;
 pub mod deal_text;
 pub mod rank;
 pub mod seat;
+pub mod shuffle;
 pub mod suit;
+pub mod text;
 #[cfg(test)]
 mod tests;
 pub mod vulnerability;
@@ -20,5 +23,7 @@ pub use deal::{BadDeal, Deal};
 pub use deal_text::{print_deal, read_deal, read_hands};
 pub use rank::Rank;
 pub use seat::{Seat, Side};
+pub use shuffle::deal_board;
 pub use suit::Suit;
+pub use text::cut;
 pub use vulnerability::Vulnerability;

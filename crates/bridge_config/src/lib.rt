@@ -2,7 +2,6 @@
 #![tactic(auto)]
 
 pub mod config;
-mod cut;
 pub mod fields;
 mod limits;
 mod line;

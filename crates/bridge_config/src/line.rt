@@ -5,12 +5,12 @@ ghost use Rattle.bridge_config.specs.Configuration.{pair_of, key_number};
 ghost use Rattle.bridge_config.specs.Words.{view_of_five};
 ghost use Rattle.bridge_config.specs.Reading.{Gives, word_after, words_of, is_numeral, within, name_in, name_line, date_line, scoring_line, number_in, number_line, are_numerals, shape_within, shape_line, row_within, row_line, is_pair_form, keys_after, pair_within, pair_line, form_at, range_at, due_line};
 
-use crate::cut::cut;
 use crate::fields::{Key, PairFields};
 use crate::limits::{is_between, is_date_form, is_date_within, is_name, stands_in};
 use crate::refused::{ConfigFault, ConfigRefused};
 use crate::words::{Five, five_after, inline, is_numeral, value_of, word_after};
 use arrayvec::ArrayString;
+use bridge_cards::cut;
 use bridge_movement::{Row, Shape};
 use bridge_score::Scoring;
 

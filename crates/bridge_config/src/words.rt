@@ -7,9 +7,9 @@ ghost use Rattle.std.specs.Str.Parse.{digits_value};
 ghost use Rattle.bridge_config.specs.Reading.{spaced_words, words_of, only_word, five_words, word_after, five_after, is_numeral};
 ghost use Rattle.bridge_config.specs.Words.{view_of_five};
 
-use crate::cut::cut;
 use crate::limits::are_digits;
 use arrayvec::ArrayString;
+use bridge_cards::cut;
 
 /// The most bytes that a line may have.
 const LINE_BYTES: usize = 128;

@@ -15,7 +15,7 @@ use crate::shape::Shape;
 use arrayvec::ArrayVec;
 use std::marker::Model;
 
-/// A fair movement (Law 8): who meets whom, in which round, at which table, with which set of boards. No pair is in two
+/// A fair movement: who meets whom, in which round, at which table, with which set of boards. No pair is in two
 /// places in a round, and no pair plays a set twice. It has at most 12 rounds of 12 tables.
 #[derive(Debug, Drop)]
 pub struct Movement {

@@ -1,4 +1,3 @@
-//! Cuts a text at a byte.
 ghost use Rattle.std.specs.Prelude.{◌≡◌, ◌≢◌, ◌∷◌, ◌++◌, IfSome, IfNone, All};
 
 /// What stands before the first such byte, and what stands after it; `None` where there is none.
