@@ -8,7 +8,7 @@ use Rattle.std.proofs.Math.Nat.{pow-le-pow_right}
 use Rattle.std.proofs.lemmas.Bool.{cases_lt, cases_eq, eq-eqb, ne_eqb}
 use Rattle.std.proofs.lemmas.Bool.Decides.{nat_tests}
 use Rattle.bridge_cards.specs.CardSet.{IsCardSet, has_card}
-use Rattle.bridge_cards.specs.CardSetLaws.{has_card-beyond}
+use Rattle.bridge_cards.proofs.CardSetLaws.{has_card-beyond}
 
 one-max : (x y : ℕ) → x < 2 → y < 2 → (max x y == 1) ≡ ((x == 1) || (y == 1))
 one-max x y p q = grind (arith, nat_tests)

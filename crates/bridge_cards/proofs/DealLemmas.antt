@@ -10,7 +10,7 @@ use Rattle.bridge_cards.specs.Seat.{seat_letter, seat_number, clockwise_from}
 use Rattle.bridge_cards.specs.Rank.{IsRank}
 use Rattle.bridge_cards.specs.Card.{card_of}
 use Rattle.bridge_cards.specs.CardSet.{IsCardSet, has_card}
-use Rattle.bridge_cards.specs.CardSetLaws.{same_cards_of_deck}
+use Rattle.bridge_cards.proofs.CardSetLaws.{same_cards_of_deck}
 use Rattle.bridge_cards.specs.Deal.{hand_at}
 use Rattle.bridge_cards.specs.DealText.{space, dot, colon, SpellsSuit, SpellsHand, SpellsFour, SpellsDeal}
 use Rattle.bridge_cards.proofs.Joining.{joined_once}

@@ -13,7 +13,7 @@ use Rattle.std.proofs.lemmas.Map.Views.{Contains-from_any, list_any-from_Contain
 use Rattle.bridge_cards.specs.declared.seat.Seat.{Seat}
 use Rattle.bridge_cards.specs.declared.seat.Seat.TheVariants.{North, East, South, West}
 use Rattle.bridge_cards.specs.CardSet.{has_card, deck, card_count}
-use Rattle.bridge_cards.specs.CardCounts.{count_either, count_none, count_one}
+use Rattle.bridge_cards.proofs.CardCounts.{count_either, count_none, count_one}
 use Rattle.bridge_cards.specs.Deal.{hand_at, NoneTwice}
 use Rattle.bridge_cards.specs.Shuffle.{cards_dealt, IsDealtFrom}
 

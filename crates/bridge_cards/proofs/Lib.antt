@@ -1,3 +1,5 @@
+mod CardSetLaws
+mod CardCounts
 mod CardBits
 mod OnesCounted
 mod SuitText

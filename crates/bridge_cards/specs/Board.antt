@@ -1,9 +1,13 @@
 -- The dealer and the vulnerability of each board (Law 2).
-use Rattle.std.specs.Prelude.{ℕ, ◌+◌, ◌-◌, ◌/◌, ◌%◌, ◌==◌, if◌then◌else◌}
+use Rattle.std.specs.Prelude.{ℕ, ◌+◌, ◌-◌, ◌/◌, ◌%◌, ◌==◌, ◌≤◌, if◌then◌else◌}
 use Rattle.bridge_cards.specs.declared.seat.Seat.{Seat}
 use Rattle.bridge_cards.specs.declared.vulnerability.Vulnerability.{Vulnerability}
 use Rattle.bridge_cards.specs.declared.vulnerability.Vulnerability.TheVariants.{Neither, NorthSouth, EastWest, Both}
 use Rattle.bridge_cards.specs.Seat.{seat_at}
+
+-- the numbers of boards are 1 to 36
+abbrev pub IsBoard : ℕ → Type 0
+IsBoard number = (1 ≤ number) × (number ≤ 36)
 
 -- the first board is North's, and each next one is dealt by the next seat clockwise
 abbrev pub dealer_of : ℕ → Seat

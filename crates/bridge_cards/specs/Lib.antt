@@ -5,8 +5,6 @@ pub mod Board
 pub mod Rank
 pub mod Card
 pub mod CardSet
-pub mod CardSetLaws
 pub mod Deal
 pub mod DealText
 pub mod Shuffle
-pub mod CardCounts

@@ -1,5 +1,5 @@
-ghost use Rattle.std.specs.Prelude.{◌≡◌, ◌≤◌, ◌↔◌, IsSome, IfSome};
-ghost use Rattle.bridge_cards.specs.Board.{dealer_of, vulnerability_on};
+ghost use Rattle.std.specs.Prelude.{◌≡◌, ◌↔◌, IsSome, IfSome};
+ghost use Rattle.bridge_cards.specs.Board.{IsBoard, dealer_of, vulnerability_on};
 ghost use Rattle.bridge_cards.specs.Vulnerability.{includes_side};
 
 use crate::seat::{Seat, Side};
@@ -13,13 +13,14 @@ pub struct BoardNumber {
 }
 
 impl Model for BoardNumber {
-    ghost use Rattle.std.specs.Prelude.{ℕ, ◌≤◌};
+    ghost use Rattle.std.specs.Prelude.{ℕ};
+    ghost use Rattle.bridge_cards.specs.Board.{IsBoard};
 
     ghost Value = { ℕ };
 
     ghost view = { λ b. b.number };
 
-    ghost invariant = { λ b. (1 ≤ b.number) × (b.number ≤ 36) };
+    ghost invariant = { λ b. IsBoard b.number };
 
     ghost inverse = { λ n. record { number = n } };
 }
@@ -30,7 +31,7 @@ impl BoardNumber {
 
     /// The board of that number, or `None` where it is not from 1 to 36.
     pub fn new(number: u8) -> Option<BoardNumber>
-        ensures valid { IsSome result ↔ ((1 ≤ number) × (number ≤ 36)) }
+        ensures valid { IsSome result ↔ IsBoard number }
         ensures value { IfSome result (λ board. board ≡ number) }
     {
         if (1..=BoardNumber::MAX).contains(&number) {
@@ -43,7 +44,7 @@ impl BoardNumber {
     /// The board's number, 1 to 36.
     pub fn number(self) -> u8
         ensures number { result ≡ self }
-        ensures range { (1 ≤ result) × (result ≤ 36) }
+        ensures range { IsBoard result }
     {
         self.number
     }

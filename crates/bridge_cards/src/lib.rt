@@ -11,9 +11,9 @@ pub mod rank;
 pub mod seat;
 pub mod shuffle;
 pub mod suit;
-pub mod text;
 #[cfg(test)]
 mod tests;
+pub mod text;
 pub mod vulnerability;
 
 pub use board::{BoardNumber, dealer, vulnerability_of, vulnerable};

@@ -22,6 +22,16 @@ const BOARDS: [(u8, Seat, Vulnerability); 16] = [
 ];
 
 #[test]
+fn lists_of_all_stand_in_order(rt: HostRuntime) {
+    for (number, suit) in (0..4).zip(Suit::ALL) {
+        assert_eq!(rt; suit.number(), number, "{suit:?}");
+    }
+    for (number, seat) in (0..4).zip(Seat::ALL) {
+        assert_eq!(rt; seat.number(), number, "{seat:?}");
+    }
+}
+
+#[test]
 fn boards_follow_the_table(rt: HostRuntime) -> Result<(), Fail> {
     for (number, seat, vulnerability) in BOARDS {
         for repeat in [0, 16, 32] {

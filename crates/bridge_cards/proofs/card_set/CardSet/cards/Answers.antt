@@ -1,8 +1,8 @@
 use Rattle.std.proofs.Common.{◌∷◌, ◌++◌, [], length, refl, sym, ap, ◌∙◌, arith, lit<}
 use Rattle.std.proofs.lemmas.List.{append_assoc, append-nil, length-append}
 use Rattle.bridge_cards.specs.CardSet.{cards_of, has_card}
-use Rattle.bridge_cards.specs.CardCounts.{cards_of-lowest, cards_of-empty, card_count-without, length-cards_of, card_count_le}
-use Rattle.bridge_cards.specs.CardSetLaws.{has_card-zero}
+use Rattle.bridge_cards.proofs.CardCounts.{cards_of-lowest, cards_of-empty, card_count-without, length-cards_of, card_count_le}
+use Rattle.bridge_cards.proofs.CardSetLaws.{has_card-zero}
 use Rattle.bridge_cards.proofs.card_set.CardSet.cards.Goals as goal
 
 pub push-requires : goal.push-requires

@@ -1,7 +1,7 @@
 use Rattle.std.proofs.Common.{◌≡◌, ℕ, Bool, false, nat_eq, IsTrue, MatchBool, ◌⊎◌, inl, inr, sym, ap, ◌∙◌, subst, arith}
 use Rattle.std.proofs.lemmas.Bool.{cases_eq, eq-eqb, ne_eqb}
 use Rattle.bridge_cards.specs.CardSet.{IsCardSet, has_card}
-use Rattle.bridge_cards.specs.CardSetLaws.{has_card-zero}
+use Rattle.bridge_cards.proofs.CardSetLaws.{has_card-zero}
 use Rattle.bridge_cards.proofs.CardBits.{some_card}
 use Rattle.bridge_cards.proofs.card_set.CardSet.is_empty.Goals as goal
 

@@ -1,7 +1,7 @@
 use Rattle.std.proofs.Common.{ap, ◌∙◌, arith}
 use Rattle.bridge_cards.specs.CardSet.{card_count}
 use Rattle.bridge_cards.proofs.OnesCounted.{count_ones_is}
-use Rattle.bridge_cards.specs.CardCounts.{card_count_le}
+use Rattle.bridge_cards.proofs.CardCounts.{card_count_le}
 use Rattle.bridge_cards.proofs.card_set.CardSet.len.Goals as goal
 
 pub returns-clause-count : goal.returns-clause-count
