@@ -1,4 +1,10 @@
 //! The auction of one board: its calls, which of them are legal, and the contract that they make (Laws 17 to 22).
+//!
+//! ```rust
+//! let mut auction = Auction::new(dealer(board));
+//! auction.try_call(Call::Pass)?;
+//! let declarer = auction.contract().map(|contract| contract.declarer);
+//! ```
 #![tactic(auto)]
 
 pub mod auction;

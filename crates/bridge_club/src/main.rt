@@ -7,15 +7,15 @@ mod run;
 mod tests;
 mod words;
 
-use std::alloc::AllocError;
 use std::process::ExitCode;
 use std::{env, io};
 
 fn main(rt: HostRuntime) -> ExitCode {
-    match run_with(&rt) {
-        Ok(status) => ExitCode::from(status),
-        Err(_) => ExitCode::from(run::fails("no memory\n", &mut rt.stderr())),
-    }
+    let status = match run_with(&rt) {
+        Ok(status) => status,
+        Err(error) => run::words_fail(error.kind(), &mut rt.stderr()),
+    };
+    ExitCode::from(status)
 }
 
 /// Hands the program's words and its standard streams to `run_words`.

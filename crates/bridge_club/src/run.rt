@@ -3,15 +3,16 @@ ghost use Rattle.std.specs.Prelude.{◌≡◌, ◌≢◌, ◌⊎◌, [], map};
 ghost use Rattle.std.specs.Io.KnownBytes.{Keeps};
 ghost use Rattle.clap.specs.Words.{fault_of};
 ghost use Rattle.bridge_club.specs.Words.{club_app, Asks};
-ghost use Rattle.bridge_club.specs.Run.{IsDone, fault_line};
+ghost use Rattle.table_server.specs.Streams.{AppendsFront};
+ghost use Rattle.bridge_club.specs.Run.{IsDone, IsStopped, IsWithoutMemory, Refuses, fault_line, memory_line, text_line};
 ghost use Rattle.bridge_club.specs.declared.words.Words.{Words};
 
 use crate::read::read_words;
 use crate::words::{Words, WordsFault};
 use std::alloc::Global;
-use std::io::{Read, Write};
+use std::io::{ErrorKind, Read, Write};
 use std::rt::Files;
-use table_server::{ServeFault, run_auction};
+use table_server::{ServeFault, run_auction, write_text};
 
 /// The command was done.
 pub const DONE: u8 = 0;
@@ -19,6 +20,10 @@ pub const DONE: u8 = 0;
 pub const USAGE: u8 = 2;
 /// Reading, writing or memory failed.
 pub const FAULT: u8 = 3;
+
+const NO_MEMORY: &str = "no memory\n";
+
+const NOT_TEXT: &str = "a word of the command line is not UTF-8\n";
 
 /// Runs the command that the words after the program's name ask for, and answers the exit status.
 ///
@@ -33,18 +38,33 @@ pub fn run_words<F: Files, R: Read, W: Write, E: Write>(
     errors: &mut E,
 ) -> u8
     ensures done { result ≡ 0 → (command : Words) × Asks (map (λ word. word.now) words.entry.now) command
-        × IsDone command (R.remaining input.old) (W.contents output.old) (W.contents output.new) }
+        × IsDone command (R.remaining input.old) (W.contents output.old) (W.contents output.new)
+        × Keeps (E.contents errors.old) (E.contents errors.new) }
     ensures usage { result ≡ 2 → (fault_of club_app (map (λ word. word.now) words.entry.now) ≢ [])
-        × Keeps (W.contents output.old) (W.contents output.new) }
+        × Keeps (R.remaining input.old) (R.remaining input.new) × Keeps (W.contents output.old) (W.contents output.new) }
+    ensures fault { result ≡ 3 → IsWithoutMemory (R.remaining input.old) (R.remaining input.new)
+        (W.contents output.old) (W.contents output.new) (E.contents errors.old) (E.contents errors.new)
+        ⊎ ((command : Words) × Asks (map (λ word. word.now) words.entry.now) command
+        × IsStopped command (R.remaining input.old) (R.remaining input.new)
+        (W.contents output.old) (W.contents output.new) (E.contents errors.old) (E.contents errors.new)) }
     ensures status { (result ≡ 0) ⊎ ((result ≡ 2) ⊎ (result ≡ 3)) }
 {
     match read_words(alloc, words) {
         Ok(command) => run_command(command, input, output, errors),
-        Err(WordsFault::Usage(error)) => {
+        Err(fault) => refuse(fault, errors),
+    }
+}
+
+/// Says on `errors` why the words are no command, and answers the exit status.
+pub fn refuse<E: Write>(fault: WordsFault, errors: &mut E) -> u8
+    ensures { Refuses fault result (E.contents errors.old) (E.contents errors.new) }
+{
+    match fault {
+        WordsFault::Usage(error) => {
             let _ = write!(errors, "{error}");
             USAGE
         }
-        Err(WordsFault::Memory) => fails("no memory\n", errors),
+        WordsFault::Memory => fails(NO_MEMORY, errors),
     }
 }
 
@@ -55,7 +75,10 @@ fn run_command<R: Read, W: Write, E: Write>(
     output: &mut W,
     errors: &mut E,
 ) -> u8
-    ensures done { result ≡ 0 → IsDone command (R.remaining input.old) (W.contents output.old) (W.contents output.new) }
+    ensures done { result ≡ 0 → IsDone command (R.remaining input.old) (W.contents output.old) (W.contents output.new)
+        × Keeps (E.contents errors.old) (E.contents errors.new) }
+    ensures fault { result ≡ 3 → IsStopped command (R.remaining input.old) (R.remaining input.new)
+        (W.contents output.old) (W.contents output.new) (E.contents errors.old) (E.contents errors.new) }
     ensures status { (result ≡ 0) ⊎ (result ≡ 3) }
 {
     let Words::Auction(board) = command;
@@ -65,11 +88,30 @@ fn run_command<R: Read, W: Write, E: Write>(
     }
 }
 
-/// Writes the line of a fault.
-pub fn fails<E: Write>(text: &str, errors: &mut E) -> u8
-    ensures { result ≡ 3 }
+/// Says on a line of `errors` why the program's words cannot be had, and answers the exit status.
+///
+/// 3 where memory is refused. 2 at any other error, which is that a word is not UTF-8.
+pub fn words_fail<E: Write>(kind: ErrorKind, errors: &mut E) -> u8
+    ensures memory { kind ≡ ErrorKind.OutOfMemory → (result ≡ 3)
+        × AppendsFront (E.contents errors.old) (E.contents errors.new) memory_line }
+    ensures text { kind ≢ ErrorKind.OutOfMemory → (result ≡ 2)
+        × AppendsFront (E.contents errors.old) (E.contents errors.new) text_line }
 {
-    let _ = errors.write_all(text.as_bytes());
+    match kind {
+        ErrorKind::OutOfMemory => fails(NO_MEMORY, errors),
+        _ => {
+            let _ = write_text(errors, NOT_TEXT.as_bytes());
+            USAGE
+        }
+    }
+}
+
+/// Writes the line of a fault.
+fn fails<E: Write>(text: &str, errors: &mut E) -> u8
+    ensures status { result ≡ 3 }
+    ensures line { AppendsFront (E.contents errors.old) (E.contents errors.new) text.now }
+{
+    let _ = write_text(errors, text.as_bytes());
     FAULT
 }
 

@@ -1,4 +1,9 @@
 //! The configuration of a session: its text, its limits, and what it states. Nothing here takes memory.
+//!
+//! ```rust
+//! let config = read_config(text)?;
+//! let movement = &config.fields().movement;
+//! ```
 #![tactic(auto)]
 
 pub mod config;

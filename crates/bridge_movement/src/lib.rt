@@ -1,5 +1,10 @@
 //! Movements of a duplicate bridge session for pairs: which pairs meet in which round, at which table, with which set
 //! of boards (Laws 3 to 5 and 8 of the Laws of Duplicate Bridge 2017). Nothing here takes memory.
+//!
+//! ```rust
+//! let movement = Movement::mitchell(5);
+//! let place = movement.place(1, 6);
+//! ```
 #![tactic(auto)]
 
 mod checks;

@@ -1,4 +1,10 @@
 //! The play of one board: which cards are legal, who wins each trick, and claims (Laws 41 to 45 and 68).
+//!
+//! ```rust
+//! let mut play = Play::new(&deal, contract);
+//! play.try_card(play.actor(), card)?;
+//! let won = play.tricks(Side::NorthSouth);
+//! ```
 #![tactic(auto)]
 
 mod card_play;

@@ -1,9 +1,10 @@
 -- An auction's bytes, heard piece by piece.
-use Rattle.std.proofs.Common.{◌≡◌, ℕ, zero, suc, ◌+◌, ◌<◌, ◌≤◌, ◌∙◌, true, List, [], ◌++◌, length, take, Option, Some, None, refl, sym, ap, arith, length-append, append_assoc, append-nil}
+use Rattle.std.proofs.Common.{◌≡◌, ℕ, zero, suc, ◌+◌, ◌-◌, ◌<◌, ◌≤◌, ◌∙◌, true, List, [], ◌++◌, length, take, Option, Some, None, refl, sym, ap, arith, length-append, append_assoc, append-nil}
 use Rattle.std.specs.List.{list_all}
 use Rattle.std.specs.Prelude.{nat_le, nat_eq, IfSome, Result, Ok, Err, OnOk, IfErr}
 use Rattle.std.proofs.lemmas.Bool.{le-leb, lt-leb, ne_eqb}
 use Rattle.std.proofs.lemmas.List.{take_at, take_all}
+use Rattle.std.proofs.Math.Seq.{take-append-add}
 use Rattle.std.specs.Io.KnownBytes.{Appends, Consumes, Keeps, IsAtEnd}
 use Rattle.bridge_cards.specs.declared.seat.Seat.{Seat}
 use Rattle.table_server.specs.Lines.{complete_lines}
@@ -31,6 +32,13 @@ piece_replies dealer given rest before written old new left h piece text answers
     ∙ append-nil text in
     h.replies piece ∙ ap (λ more. replies_to [] (complete_lines h.bytes) ++ more) whole
 
+-- the replies to the bytes after one piece more
+pub more_replies : (dealer : Seat) (given rest before written : Option (List ℕ)) (old new : Desk) (left : ℕ) (h : Heard dealer given rest before written old left) (piece text : List ℕ) → Answers old new piece text → (more : List ℕ) → replies_to [] (complete_lines ((h.bytes ++ piece) ++ more)) ≡ replies_to [] (complete_lines (h.bytes ++ piece)) ++ replies_from new more
+more_replies dealer given rest before written old new left h piece text answers more =
+    let replied = piece_replies dealer given rest before written old new left h piece text answers in
+    rw (append_assoc h.bytes piece more, replied, h.replies (piece ++ more), answers.replies more)
+    (sym (append_assoc (replies_to [] (complete_lines h.bytes)) text (replies_from new more)))
+
 -- one piece more was heard
 pub heard_piece : (dealer : Seat) (given rest rest' before written written' : Option (List ℕ)) (old new : Desk) (left left' : ℕ) (h : Heard dealer given rest before written old left) (piece text : List ℕ) → length piece + left' ≡ left → Consumes rest rest' piece → Answers old new piece text → Appends written written' text → Heard dealer given rest' before written' new left'
 heard_piece dealer given rest rest' before written written' old new left left' h piece text count consumed answers appended =
@@ -40,9 +48,7 @@ heard_piece dealer given rest rest' before written written' old new left left' h
       count = omega (arith, h.count, count, length-append h.bytes piece);
       consumed = consumes_join given rest rest' h.bytes piece h.consumed consumed;
       appended = rw replied (appends_join before written written' (replies_to [] (complete_lines h.bytes)) text h.appended appended);
-      replies = λ more.
-          rw (append_assoc h.bytes piece more, replied, h.replies (piece ++ more), answers.replies more)
-          (sym (append_assoc (replies_to [] (complete_lines h.bytes)) text (replies_from new more)));
+      replies = more_replies dealer given rest before written old new left h piece text answers;
       calls = λ more. rw (append_assoc h.bytes piece more) (h.calls (piece ++ more) ∙ answers.calls more);
       dealt = answers.dealer ∙ h.dealt;
       within = answers.within;
@@ -74,18 +80,36 @@ pub stops_reading : (dealer : Seat) (given rest rest' before written : Option (L
 stops_reading dealer given rest rest' before written desk left h some kept =
     (h.bytes, omega (arith, h.count), consumes_keeps given rest rest' h.bytes h.consumed kept, h.appended)
 
+-- a front of the replies to the bytes read is a front of the whole output, where the bytes given are known
+front_of_whole : (dealer : Seat) (given rest before written : Option (List ℕ)) (desk : Desk) (bytes : List ℕ) → length bytes ≤ byte_limit → Consumes given rest bytes → ((more : List ℕ) → replies_to [] (complete_lines (bytes ++ more)) ≡ replies_to [] (complete_lines bytes) ++ replies_from desk more) → AppendsFront before written (replies_to [] (complete_lines bytes)) → IfSome given (λ input. AppendsFront before written (auction_output dealer input))
+front_of_whole dealer None rest before written desk bytes room consumed replies front = tt
+front_of_whole dealer (Some input) None before written desk bytes room consumed replies front = absurd consumed
+front_of_whole dealer (Some input) (Some rest) before written desk bytes room consumed replies front =
+    let more : List ℕ = take (byte_limit - length bytes) rest in
+    let all : List ℕ = bytes ++ more in
+    let last : List ℕ = limit_notice (nat_le byte_limit (length all)) ++ ending dealer (calls_after [] (complete_lines all)) in
+    let count : byte_limit ≡ length bytes + (byte_limit - length bytes) = omega (arith, room) in
+    let taken : take byte_limit input ≡ all =
+    ap (take byte_limit) consumed ∙ ap (λ most. take most (bytes ++ rest)) count ∙ take-append-add bytes rest (byte_limit - length bytes) in
+    let replied = front_longer before written (replies_to [] (complete_lines bytes)) (replies_from desk more) front in
+    rw (taken, replies more) (front_longer before written (replies_to [] (complete_lines bytes) ++ replies_from desk more) last replied)
+
 -- a write fault at the replies to one piece more
 pub stops_at_piece : (dealer : Seat) (given rest rest' before written written' : Option (List ℕ)) (old new : Desk) (left : ℕ) → Heard dealer given rest before written old left → (piece text : List ℕ) → length piece ≤ left → Consumes rest rest' piece → Answers old new piece text → AppendsFront written written' text → StopsAt dealer given rest' before written' Write
 stops_at_piece dealer given rest rest' before written written' old new left h piece text room consumed answers front =
-    let replied = piece_replies dealer given rest before written old new left h piece text answers in
     let bytes : List ℕ = h.bytes ++ piece in
     let last : List ℕ = limit_notice (nat_le byte_limit (length bytes)) ++ ending dealer (calls_after [] (complete_lines bytes)) in
-    let longer = front_longer before written' (replies_to [] (complete_lines h.bytes) ++ text) last
+    let few : length bytes ≤ byte_limit = omega (arith, h.count, room, length-append h.bytes piece) in
+    let all_consumed = consumes_join given rest rest' h.bytes piece h.consumed consumed in
+    let replied : AppendsFront before written' (replies_to [] (complete_lines bytes)) =
+    rw (piece_replies dealer given rest before written old new left h piece text answers)
     (appends_front before written written' (replies_to [] (complete_lines h.bytes)) text h.appended front) in (
       bytes,
-      omega (arith, h.count, room, length-append h.bytes piece),
-      consumes_join given rest rest' h.bytes piece h.consumed consumed,
-      rw replied longer,
+      few,
+      all_consumed,
+      front_longer before written' (replies_to [] (complete_lines bytes)) last replied,
+      front_of_whole dealer given rest' before written' new bytes few all_consumed
+          (more_replies dealer given rest before written old new left h piece text answers) replied,
     )
 
 -- what the limit says of the bytes heard
@@ -100,16 +124,6 @@ output_heard dealer given rest before written desk left h =
     ap (λ bytes. calls_after [] (complete_lines bytes)) (sym (append-nil h.bytes)) ∙ h.calls [] ∙ begun_calls desk h.within in
     rw (called, at_limit (length h.bytes) left h.count, h.dealt) refl
 
--- a write fault at the last line
-pub stops_at_end : (dealer : Seat) (given rest before written written' : Option (List ℕ)) (desk : Desk) (left : ℕ) → Heard dealer given rest before written desk left → AppendsFront written written' (limit_notice (nat_eq left 0) ++ ending desk.dealer desk.calls) → StopsAt dealer given rest before written' Write
-stops_at_end dealer given rest before written written' desk left h front = (
-  h.bytes,
-  omega (arith, h.count),
-  h.consumed,
-  rw (output_heard dealer given rest before written desk left h)
-      (appends_front before written written' (replies_to [] (complete_lines h.bytes)) (limit_notice (nat_eq left 0) ++ ending desk.dealer desk.calls) h.appended front),
-)
-
 -- all that is read of the input was heard, where the limit was reached or the input is at its end
 heard_all : (dealer : Seat) (input : List ℕ) (rest before written : Option (List ℕ)) (desk : Desk) (left : ℕ) (h : Heard dealer (Some input) rest before written desk left) → (0 < left → IsAtEnd rest) → take byte_limit input ≡ h.bytes
 heard_all dealer input None before written desk left h end = absurd h.consumed
@@ -120,6 +134,25 @@ heard_all dealer input (Some bytes) before written desk (suc left) h end =
     let none : bytes ≡ [] = end (omega arith) in
     let all : input ≡ h.bytes = rw (none, append-nil) at h.consumed in
     rw all (take_all 65536 h.bytes (omega (arith, h.count)))
+
+-- a front of the output for what was heard is a front of the whole output, where all that is read was heard
+front_at_end : (dealer : Seat) (given rest before written written' : Option (List ℕ)) (desk : Desk) (left : ℕ) (h : Heard dealer given rest before written desk left) → (0 < left → IsAtEnd rest) → AppendsFront before written' (output_for dealer h.bytes) → IfSome given (λ input. AppendsFront before written' (auction_output dealer input))
+front_at_end dealer None rest before written written' desk left h end front = tt
+front_at_end dealer (Some input) rest before written written' desk left h end front =
+    rw (heard_all dealer input rest before written desk left h end) front
+
+-- a write fault at the last line
+pub stops_at_end : (dealer : Seat) (given rest before written written' : Option (List ℕ)) (desk : Desk) (left : ℕ) → Heard dealer given rest before written desk left → (0 < left → IsAtEnd rest) → AppendsFront written written' (limit_notice (nat_eq left 0) ++ ending desk.dealer desk.calls) → StopsAt dealer given rest before written' Write
+stops_at_end dealer given rest before written written' desk left h end front =
+    let written_front : AppendsFront before written' (output_for dealer h.bytes) =
+    rw (output_heard dealer given rest before written desk left h)
+    (appends_front before written written' (replies_to [] (complete_lines h.bytes)) (limit_notice (nat_eq left 0) ++ ending desk.dealer desk.calls) h.appended front) in (
+      h.bytes,
+      omega (arith, h.count),
+      h.consumed,
+      written_front,
+      front_at_end dealer given rest before written written' desk left h end written_front,
+    )
 
 -- the whole output was written
 pub ends_well : (dealer : Seat) (given rest before written written' : Option (List ℕ)) (desk : Desk) (left : ℕ) → Heard dealer given rest before written desk left → (0 < left → IsAtEnd rest) → Appends written written' (limit_notice (nat_eq left 0) ++ ending desk.dealer desk.calls) → IfSome given (λ input. Appends before written' (auction_output dealer input) × Consumes given rest (take byte_limit input))
@@ -136,4 +169,4 @@ pub ended : (dealer : Seat) (given rest before written written' : Option (List �
 ended dealer given rest before written written' desk left (Ok u) h end appended =
     (ends_well dealer given rest before written written' desk left h end appended, tt)
 ended dealer given rest before written written' desk left (Err fault) h end front =
-    (tt, rw front.1 (stops_at_end dealer given rest before written written' desk left h front.0))
+    (tt, rw front.1 (stops_at_end dealer given rest before written written' desk left h end front.0))

@@ -1,12 +1,12 @@
 -- What was heard of an auction's bytes, and what was written for them.
-use Rattle.std.specs.Prelude.{◌≡◌, ℕ, ◌+◌, ◌<◌, ◌≤◌, true, List, [], ◌++◌, length, Option}
+use Rattle.std.specs.Prelude.{◌≡◌, ℕ, ◌+◌, ◌<◌, ◌≤◌, true, List, [], ◌++◌, length, Option, IfSome}
 use Rattle.std.specs.List.{list_all}
 use Rattle.std.specs.Io.KnownBytes.{Appends, Consumes}
 use Rattle.bridge_cards.specs.declared.seat.Seat.{Seat}
 use Rattle.table_server.specs.declared.fault.ServeFault.{ServeFault}
 use Rattle.table_server.specs.declared.fault.ServeFault.TheVariants.{Read, Write}
 use Rattle.table_server.specs.Lines.{complete_lines}
-use Rattle.table_server.specs.Replies.{replies_to, calls_after, output_for, byte_limit}
+use Rattle.table_server.specs.Replies.{replies_to, calls_after, output_for, auction_output, byte_limit}
 use Rattle.table_server.specs.Desk.{Desk, is_within_line, replies_from, calls_from}
 use Rattle.table_server.specs.Streams.{AppendsFront}
 
@@ -22,9 +22,12 @@ pub record Heard (dealer : Seat) (given rest written_before written : Option (Li
   pub within : list_all is_within_line desk.line ≡ true
 
 -- What was read and written at a fault, of what was given to read and what was written before:
--- at a read fault the replies to the complete lines, and at a write fault a front of the output for the bytes read.
+-- at a read fault the replies to the complete lines; at a write fault a front of the output for the bytes read,
+-- which, where all the bytes given are known, is a front of the whole output too.
 abbrev pub StopsAt : Seat → Option (List ℕ) → Option (List ℕ) → Option (List ℕ) → Option (List ℕ) → ServeFault → Type 0
 StopsAt dealer given rest before written Read =
     (bytes : List ℕ) × (length bytes < byte_limit) × Consumes given rest bytes × Appends before written (replies_to [] (complete_lines bytes))
 StopsAt dealer given rest before written Write =
-    (bytes : List ℕ) × (length bytes ≤ byte_limit) × Consumes given rest bytes × AppendsFront before written (output_for dealer bytes)
+    (bytes : List ℕ) × (length bytes ≤ byte_limit) × Consumes given rest bytes
+    × AppendsFront before written (output_for dealer bytes)
+    × IfSome given (λ input. AppendsFront before written (auction_output dealer input))

@@ -13,3 +13,4 @@ mod write;
 pub use fault::ServeFault;
 pub use run::{MOST_BYTES, run_auction};
 pub use spelling::read_call;
+pub use write::write_text;
