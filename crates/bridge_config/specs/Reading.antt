@@ -83,7 +83,7 @@ abbrev pub within : ℕ → ℕ → ℕ → List ℕ → Result ℕ ConfigFault
 within number low high word =
     if is_between low high (digits_value 10 word) then Ok (digits_value 10 word) else Err (range_at number)
 
--- What a line states that has a number, or its fault: first its form, and then its range.
+-- What the line of that number states, or its fault: first its form, and then its range.
 abbrev pub name_in : ℕ → Option (List ℕ) → Result (List ℕ) ConfigFault
 name_in number None = Err (form_at number)
 name_in number (Some word) = if is_name word then Ok word else Err (form_at number)

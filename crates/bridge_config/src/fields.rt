@@ -10,7 +10,7 @@ pub struct Key(pub u32);
 /// The two players of a pair. The first sits North or East, the second South or West.
 #[derive(Clone, Copy, Debug, Default, PartialEq, Eq)]
 pub struct PairFields {
-    /// The players' names, each of 1 to 24 letters, digits, dots, hyphens and underscores.
+    /// The players' names, each of 1 to 24 ASCII letters, digits, dots, hyphens and underscores.
     pub names: [ArrayString<24>; 2],
     /// The players' keys.
     pub keys: [Key; 2],
@@ -19,11 +19,11 @@ pub struct PairFields {
 /// The fields of a configuration, within its limits or not.
 #[derive(Debug, Drop)]
 pub struct ConfigFields {
-    /// The name of the event, of 1 to 24 letters, digits, dots, hyphens and underscores.
+    /// The name of the event, of 1 to 24 ASCII letters, digits, dots, hyphens and underscores.
     pub event: ArrayString<24>,
     /// The name of the site, likewise.
     pub site: ArrayString<24>,
-    /// The date, as `2026.03.14`: the month from 01 to 12 and the day from 01 to 31.
+    /// The date, as `2026.03.14`: four digits of a year, the month from 01 to 12 and the day from 01 to 31.
     pub date: ArrayString<10>,
     /// How scores are compared.
     pub scoring: Scoring,

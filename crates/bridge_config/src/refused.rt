@@ -6,14 +6,15 @@ use bridge_movement::MovementRefused;
 pub enum ConfigRefused {
     /// The text has more than 16,384 bytes.
     TooLong,
-    /// The line is not the one due there: another first word, a word too few or too many, a name or a number out of
-    /// form, more than 128 bytes, a line that is missing, or one after the last.
+    /// The line is not the one due there: another first word, a word too few or too many, a name, a number or the date
+    /// out of form, a scoring other than `MP` and `IMP`, more than 128 bytes, a line that is missing, or one after the
+    /// last.
     Form,
     /// A number or the date is outside its limits, or the number of a pair is out of order.
     Range,
     /// A key stands earlier in the text.
     KeyTwice,
-    /// The rows are no movement.
+    /// The rows are no movement. The fault's line is that of the row at fault.
     Movement(MovementRefused),
 }
 

@@ -6,33 +6,33 @@ use crate::refused::ConsentRefused;
 use bridge_auction::Contract;
 use bridge_cards::Seat;
 
-/// A claim of the rest of the tricks (Law 68): it stands until it is refused, and the play is over when it is agreed.
+/// A claim of some of the tricks left (Law 68): it stands until it is refused, and the play is over when it is agreed.
 #[derive(Clone, Copy, Debug, PartialEq, Eq)]
 pub struct Claim {
     /// Who claims.
     pub claimer: Seat,
-    /// How many of the tricks left the claimer's side is to win.
+    /// How many of the tricks left the claimer's side is to win, 0 to 13. The others go to the other side.
     pub tricks: u8,
     /// Who has agreed, by the seat's number.
     pub agreed: [bool; 4],
 }
 
 /// Whether the seats are one.
-pub fn same_seat(a: Seat, b: Seat) -> bool
+pub(crate) fn same_seat(a: Seat, b: Seat) -> bool
     ensures { result ≡ same_seat a b }
 {
     a.number() == b.number()
 }
 
 /// Declarer's partner.
-pub fn dummy(contract: &Contract) -> Seat
+pub(crate) fn dummy(contract: &Contract) -> Seat
     ensures { result ≡ dummy_of contract.now }
 {
     contract.declarer.clockwise(2)
 }
 
 /// Who plays the cards of a hand: declarer plays dummy's (Law 45).
-pub fn actor(contract: &Contract, hand: Seat) -> Seat
+pub(crate) fn actor(contract: &Contract, hand: Seat) -> Seat
     ensures { result ≡ actor_of contract.now hand }
 {
     if same_seat(hand, dummy(contract)) {
@@ -43,7 +43,7 @@ pub fn actor(contract: &Contract, hand: Seat) -> Seat
 }
 
 /// Whether a claim by that seat asks this one.
-pub fn is_asked(contract: &Contract, claimer: Seat, seat: Seat) -> bool
+pub(crate) fn is_asked(contract: &Contract, claimer: Seat, seat: Seat) -> bool
     ensures { result ≡ is_asked contract.now claimer seat }
 {
     if same_seat(claimer, contract.declarer) {
@@ -70,7 +70,7 @@ fn is_content(contract: &Contract, claim: &Claim, seat: Seat) -> bool
 }
 
 /// Whether all who are asked have agreed.
-pub fn all_agreed(contract: &Contract, claim: &Claim) -> bool
+pub(crate) fn all_agreed(contract: &Contract, claim: &Claim) -> bool
     ensures { result ≡ all_agreed contract.now claim.now }
 {
     is_content(contract, claim, Seat::North)
@@ -80,7 +80,7 @@ pub fn all_agreed(contract: &Contract, claim: &Claim) -> bool
 }
 
 /// The answer to a player who agrees to that claim, or refuses it.
-pub fn may_consent(contract: &Contract, claim: &Claim, seat: Seat) -> Result<(), ConsentRefused>
+pub(crate) fn may_consent(contract: &Contract, claim: &Claim, seat: Seat) -> Result<(), ConsentRefused>
     ensures { result ≡ consent_to contract.now claim.now seat }
 {
     if all_agreed(contract, claim) {
@@ -93,7 +93,7 @@ pub fn may_consent(contract: &Contract, claim: &Claim, seat: Seat) -> Result<(),
 }
 
 /// The claim, to which the seat has agreed too.
-pub fn agreed_by(claim: Option<Claim>, seat: Seat) -> Option<Claim>
+pub(crate) fn agreed_by(claim: Option<Claim>, seat: Seat) -> Option<Claim>
     ensures { result ≡ option_map (with_agreed seat) claim }
 {
     match claim {

@@ -50,7 +50,7 @@ impl Play {
         }
     }
 
-    /// The hand to play: the leader's, then clockwise (Law 44).
+    /// The hand to play: the leader's, then clockwise (Law 44). When the play is over, the hand that would play next.
     pub fn turn(&self) -> Seat
         ensures { result ≡ turn_of self.now.contract self.now.cards }
     {
@@ -66,7 +66,8 @@ impl Play {
         self.card_play.cards()
     }
 
-    /// Who plays the next card: the hand to play, or declarer for dummy's hand (Law 45). It is never dummy.
+    /// Who plays the next card: the hand to play, or declarer for dummy's hand (Law 45). It is never dummy. When the play
+    /// is over, who would play next.
     pub fn actor(&self) -> Seat
         ensures actor { result ≡ actor_of self.now.contract (turn_of self.now.contract self.now.cards) }
         ensures not_dummy { result ≢ dummy_of self.now.contract }
@@ -129,7 +130,7 @@ impl Play {
         answer
     }
 
-    /// How many claims were made.
+    /// How many claims were made, 0 to 99.
     pub fn claims(&self) -> u8
         ensures { result ≡ self.now.claims }
     {
