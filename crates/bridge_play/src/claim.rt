@@ -80,7 +80,11 @@ pub(crate) fn all_agreed(contract: &Contract, claim: &Claim) -> bool
 }
 
 /// The answer to a player who agrees to that claim, or refuses it.
-pub(crate) fn may_consent(contract: &Contract, claim: &Claim, seat: Seat) -> Result<(), ConsentRefused>
+pub(crate) fn may_consent(
+    contract: &Contract,
+    claim: &Claim,
+    seat: Seat,
+) -> Result<(), ConsentRefused>
     ensures { result ≡ consent_to contract.now claim.now seat }
 {
     if all_agreed(contract, claim) {
