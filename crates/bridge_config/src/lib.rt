@@ -12,6 +12,8 @@ mod limits;
 mod line;
 mod reading;
 pub mod refused;
+#[cfg(test)]
+mod tests;
 mod words;
 
 pub use config::Config;

@@ -11,6 +11,7 @@ use Rattle.sector_disk.specs.Calls.{IsUntouched, IsWritten, IsSynced, WithOrWith
 use Rattle.sector_disk.specs.Held.{Held, newest, picked, restarted, written, settled, cut_to, blank, possible, sector_at, after, IsImage}
 use Rattle.sector_disk.specs.Memory.{held, memory_disk}
 use Rattle.sector_disk.specs.declared.memory.MemoryDisk.{MemoryDisk}
+use Rattle.sector_disk.specs.declared.memory.events.Event.{Event}
 use Rattle.sector_disk.specs.declared.memory.events.Event.TheVariants.{Write, Sync}
 use Rattle.sector_disk.proofs.Last.{last_of-push}
 
@@ -89,25 +90,23 @@ module _ (old new : List Held) (picks : ℕ → ℕ) (count : length new ≡ len
   ]
 
 module _ (m n : MemoryDisk) where
+  -- the clock goes on by an event
+  grew : (e : Event) → n.events.items ≡ m.events.items ++ e ∷ [] → length m.events.items < length n.events.items
+  grew e events = omega (arith, length_push m.events.items e, ap length events)
+
   pub is_written : (i : ℕ) (bytes : List ℕ) → n.events.items ≡ m.events.items ++ (Write i bytes) ∷ [] → ((k : ℕ) → held n k ≡ after k (held m k) (Write i bytes)) → IsWritten memory_disk m n i bytes
   is_written i bytes events wrote = record {
     reads = write_reads (held m) (held n) i bytes wrote;
     images = write_images (held m) (held n) i bytes wrote;
-    later = grew;
+    later = grew (Write i bytes) events;
   }
-    where
-      grew : length m.events.items < length n.events.items
-      grew = omega (arith, length_push m.events.items (Write i bytes), ap length events)
 
   pub is_synced : n.events.items ≡ m.events.items ++ Sync ∷ [] → ((k : ℕ) → held n k ≡ settled (held m k)) → IsSynced memory_disk m n
   is_synced events synced = record {
     reads = λ k. ap newest (synced k);
     images = λ c image k. only_newest (held n) (λ k. ap (λ (h : Held). h.since) (synced k)) c image k ∙ ap newest (synced k);
-    later = grew;
+    later = grew Sync events;
   }
-    where
-      grew : length m.events.items < length n.events.items
-      grew = omega (arith, length_push m.events.items Sync, ap length events)
 
   pub is_untouched : n.sectors.items ≡ m.sectors.items → IsUntouched memory_disk m n
   is_untouched same = record {

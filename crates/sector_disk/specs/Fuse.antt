@@ -61,18 +61,19 @@ pub record FuseReads {D T E : Type 0} (disk : Disk D) (old new : Fuse D) (i : �
   pub fails : FailsNext old → IsErr result
   pub spared : FailsNext old → inner new ≡ inner old
 
--- A write: passed on, or failed; one that fails reaches the disk only with `effect`, and then is a call of it.
-pub record FuseWrites {D T E : Type 0} (disk : Disk D) (old new : Fuse D) (i : ℕ) (bytes : List ℕ) (result : Result T E) : Type 0 where
+-- A call that changes the disk: passed on, or failed; one that fails reaches the disk only with `effect`, and then is
+-- a call of it. `Did` says what such a call of the disk does.
+pub record FuseChanges {D T E : Type 0} (Did : D → D → Result T E → Type 0) (old new : Fuse D) (result : Result T E) : Type 0 where
   pub counts : CountsCall old new
-  pub passes : ¬ FailsNext old → WriteCall disk (inner old) (inner new) i bytes result
+  pub passes : ¬ FailsNext old → Did (inner old) (inner new) result
   pub fails : FailsNext old → IsErr result
   pub spared : FailsNext old → has_effect old ≡ false → inner new ≡ inner old
-  pub reached : FailsNext old → has_effect old ≡ true → (outcome : Result T E) × WriteCall disk (inner old) (inner new) i bytes outcome
+  pub reached : FailsNext old → has_effect old ≡ true → (outcome : Result T E) × Did (inner old) (inner new) outcome
 
--- A sync, likewise.
-pub record FuseSyncs {D T E : Type 0} (disk : Disk D) (old new : Fuse D) (result : Result T E) : Type 0 where
-  pub counts : CountsCall old new
-  pub passes : ¬ FailsNext old → SyncCall disk (inner old) (inner new) result
-  pub fails : FailsNext old → IsErr result
-  pub spared : FailsNext old → has_effect old ≡ false → inner new ≡ inner old
-  pub reached : FailsNext old → has_effect old ≡ true → (outcome : Result T E) × SyncCall disk (inner old) (inner new) outcome
+-- A write of a fuse.
+abbrev pub FuseWrites : {D T E : Type 0} → Disk D → Fuse D → Fuse D → ℕ → List ℕ → Result T E → Type 0
+FuseWrites disk old new i bytes result = FuseChanges (λ before after. WriteCall disk before after i bytes) old new result
+
+-- A sync of a fuse.
+abbrev pub FuseSyncs : {D T E : Type 0} → Disk D → Fuse D → Fuse D → Result T E → Type 0
+FuseSyncs disk old new result = FuseChanges (SyncCall disk) old new result

@@ -12,15 +12,16 @@ use std::rt::Files;
 
 const SECTOR_BYTES: u64 = 512;
 
-/// Sectors of a disk that is made.
-const NEW_SECTORS: u32 = 2048;
+/// Bytes of a file that is made: 2,048 sectors.
+const NEW_BYTES: u64 = 1_048_576;
 
 const CHUNK_BYTES: usize = 4096;
 
 const CHUNKS: u64 = 256;
 
-/// A disk in a file. Each read and each write is one call of the system at the sector's place, and a sync is the
-/// system's sync of the file's data to its device. Whether that keeps what was written is up to the device.
+/// A disk in a file. Sector `i` is bytes 512 i to 512 i + 511. Each read and each write is asked of the system at
+/// that place, again for what is left after a short or interrupted answer, and a sync is the system's sync of the
+/// file's data to its device. Whether that keeps what was written is up to the device.
 #[derive(Drop)]
 pub struct FileDisk<F> {
     file: F,
@@ -28,11 +29,11 @@ pub struct FileDisk<F> {
     faults: u64,
 }
 
-impl<F: OpenFile + FileExt> FileDisk<F> {
+impl<F: OpenFile + FileExt + Drop> FileDisk<F> {
     ghost use Rattle.sector_disk.specs.File.{file_disk};
 
     /// Makes a file of 1,048,576 zero bytes, which is 2,048 sectors, in place of what was there, and syncs it.
-    /// `Write` where the system refuses any of it; the file may then be of any length.
+    /// No fault is counted yet. `Write` where the system refuses any of it; the file may then be of any length.
     pub fn create<R: Files<File = F>>(rt: &R, path: &str) -> Result<FileDisk<F>, DiskFault>
         ensures count { IfOk result (λ disk. file_disk.count disk ≡ 2048) }
         ensures faults { IfOk result (λ disk. file_disk.faults disk ≡ 0) }
@@ -43,16 +44,11 @@ impl<F: OpenFile + FileExt> FileDisk<F> {
         let Ok(file) = options.open(rt, path) else {
             return Err(DiskFault::Write);
         };
-        fill_with_zeros(&file)?;
-        Ok(FileDisk {
-            file,
-            count: NEW_SECTORS,
-            faults: 0,
-        })
+        FileDisk::filled(file)
     }
 
     /// Opens a file. It has as many sectors as the file has whole ones, at most 2^32 - 1; bytes past them don't
-    /// count. `Read` where the system refuses it, as for a file that is missing.
+    /// count. No fault is counted yet. `Read` where the system refuses it, as for a file that is missing.
     pub fn open<R: Files<File = F>>(rt: &R, path: &str) -> Result<FileDisk<F>, DiskFault>
         ensures faults { IfOk result (λ disk. file_disk.faults disk ≡ 0) }
         ensures fault { IfErr result (λ fault. fault ≡ DiskFault.Read) }
@@ -62,24 +58,44 @@ impl<F: OpenFile + FileExt> FileDisk<F> {
         let Ok(file) = options.open(rt, path) else {
             return Err(DiskFault::Read);
         };
+        FileDisk::found(file)
+    }
+
+    /// The disk in an empty file, which it fills with zeros and syncs.
+    fn filled(file: F) -> Result<FileDisk<F>, DiskFault>
+        ensures count { IfOk result (λ disk. file_disk.count disk ≡ 2048) }
+        ensures faults { IfOk result (λ disk. file_disk.faults disk ≡ 0) }
+        ensures fault { IfErr result (λ fault. fault ≡ DiskFault.Write) }
+    {
+        fill_with_zeros(&file)?;
+        Ok(FileDisk::of_length(file, NEW_BYTES))
+    }
+
+    /// The disk in a file as it stands.
+    fn found(file: F) -> Result<FileDisk<F>, DiskFault>
+        ensures faults { IfOk result (λ disk. file_disk.faults disk ≡ 0) }
+        ensures fault { IfErr result (λ fault. fault ≡ DiskFault.Read) }
+    {
         let Ok(metadata) = file.metadata() else {
             return Err(DiskFault::Read);
         };
-        Ok(FileDisk {
+        Ok(FileDisk::of_length(file, metadata.len()))
+    }
+
+    /// The disk in a file of that many bytes.
+    fn of_length(file: F, bytes: u64) -> FileDisk<F>
+        ensures count { file_disk.count result ≡ min (bytes / 512) (2 ^ 32 - 1) }
+        ensures faults { file_disk.faults result ≡ 0 }
+    {
+        FileDisk {
             file,
-            count: whole_sectors(metadata.len()),
+            count: u32::try_from(bytes / SECTOR_BYTES).unwrap_or(u32::MAX),
             faults: 0,
-        })
+        }
     }
 }
 
-// How many whole sectors a file of that many bytes has.
-fn whole_sectors(bytes: u64) -> u32
-    ensures { result ≡ min (bytes / 512) (2 ^ 32 - 1) }
-{
-    u32::try_from(bytes / SECTOR_BYTES).unwrap_or(u32::MAX)
-}
-
+/// Writes zeros to the first 1,048,576 bytes of a file, and syncs it.
 fn fill_with_zeros<F: OpenFile + FileExt>(file: &F) -> Result<(), DiskFault>
     ensures { IfErr result (λ fault. fault ≡ DiskFault.Write) }
 {

@@ -31,7 +31,8 @@ pub struct Fuse<D: SectorDisk> {
 
 impl<D: SectorDisk> Fuse<D> {
     /// A fuse that passes on that many reads, writes and syncs, and then fails the next one or every later one.
-    /// With `effect` a write or sync that it fails is passed on first; without, it does nothing.
+    /// With `effect` a write or sync that it fails is passed on first; without, it does nothing. No fault is
+    /// counted yet, also where the disk in it has counted some.
     pub fn new(disk: D, passes: u64, fail: Fail, effect: bool) -> Fuse<D>
         ensures disk { inner result ≡ disk }
         ensures passes { passes_left result ≡ Some passes }
@@ -57,7 +58,7 @@ impl<D: SectorDisk> Fuse<D> {
     }
 }
 
-// Counts a call, and says whether it is one to fail.
+/// Counts a call, and says whether it is one to fail.
 fn burns(passes_left: &mut Option<u64>, fail: Fail) -> bool
     ensures burnt { IsTrue result ↔ (passes_left.old ≡ Some 0) }
     ensures left { passes_left.new ≡ passes_after fail passes_left.old }

@@ -31,7 +31,7 @@ impl MemoryDisk {
     ghost use Rattle.sector_disk.specs.Held.{picked};
     ghost use Rattle.sector_disk.specs.Memory.{held, memory_disk};
 
-    /// A disk of that many sectors, all zeros, on which a power cut changes nothing.
+    /// A disk of that many sectors, all zeros, on which a power cut changes nothing. No fault is counted yet.
     pub fn new(alloc: Global, count: u32) -> Result<MemoryDisk, AllocError>
         ensures count { IfOk result (λ disk. memory_disk.count disk ≡ count) }
         ensures zeros { IfOk result (λ disk. (k : ℕ) → k < count → memory_disk.reads disk k ≡ replicate 512 0) }

@@ -1,5 +1,5 @@
 //! Runs of calls over any disk.
-ghost use Rattle.std.specs.Prelude.{◌≡◌, ◌<◌, ◌≤◌, ◌-◌, ◌+◌, ◌^◌, min, OnErr};
+ghost use Rattle.std.specs.Prelude.{◌<◌, ◌≤◌, ◌-◌, OnErr};
 ghost use Rattle.sector_disk.specs.Disk.{Rose};
 ghost use Rattle.sector_disk.specs.Runs.{EveryMoment, OnlyRead};
 ghost use Rattle.sector_disk.specs.Staged.{IsStaged};

@@ -1,16 +1,18 @@
 //! A disk in a file of the system.
-ghost use Rattle.std.specs.Prelude.{◌≡◌};
+
+mod calls;
 
 use super::*;
 use std::fs;
 use std::test::Fail;
 
-const NAME: &str = "sector_disk_test.disk";
-
-// Writes that byte to sector `i`, if there is such a sector, and syncs.
-fn put<D: SectorDisk>(disk: &mut D, i: u32, value: u8) -> Result<(), DiskFault> {
+// Writes a sector of 7s with these ends, if there is such a sector, and syncs.
+fn put<D: SectorDisk>(disk: &mut D, i: u32, first: u8, last: u8) -> Result<(), DiskFault> {
     if i < disk.count() {
-        disk.write(i, &[value; 512])?;
+        let mut bytes = [7; 512];
+        bytes[0] = first;
+        bytes[511] = last;
+        disk.write(i, &bytes)?;
     }
     disk.sync()
 }
@@ -26,41 +28,83 @@ fn ends_of<D: SectorDisk>(disk: &mut D, i: u32) -> Result<(u8, u8), DiskFault> {
 
 #[test]
 fn a_file_keeps_sectors(rt: HostRuntime) -> Result<(), Fail> {
-    let _ = fs::remove_file(&rt, NAME);
+    let name = "sector_disk_test.disk";
+    let _ = fs::remove_file(&rt, name);
     assert_eq!(rt;
-        FileDisk::open(&rt, NAME).err(),
+        FileDisk::open(&rt, name).err(),
         Some(DiskFault::Read),
         "a missing file"
     );
-    fs::write(&rt, NAME, "what was there")?;
-    let mut disk = FileDisk::create(&rt, NAME)?;
+    let mut disk = FileDisk::create(&rt, name)?;
     assert_eq!(rt; disk.count(), 2048);
-    assert_eq!(rt; fs::metadata(&rt, NAME)?.len(), 1_048_576);
-    for i in [0, 1, 1024, 2047] {
-        assert_eq!(rt; ends_of(&mut disk, i)?, (0, 0), "sector {i} of a new disk");
-    }
-    put(&mut disk, 1, 7)?;
-    put(&mut disk, 2047, 9)?;
-    for (i, want) in [(0, 0), (1, 7), (2, 0), (2046, 0), (2047, 9)] {
-        assert_eq!(rt;
-            ends_of(&mut disk, i)?,
-            (want, want),
-            "sector {i} as written"
-        );
+    put(&mut disk, 1, 3, 4)?;
+    put(&mut disk, 2047, 5, 6)?;
+    for (i, want) in [
+        (0, (0, 0)),
+        (1, (3, 4)),
+        (2, (0, 0)),
+        (2046, (0, 0)),
+        (2047, (5, 6)),
+    ] {
+        assert_eq!(rt; ends_of(&mut disk, i)?, want, "sector {i} as written");
     }
     drop(disk);
 
-    let mut disk = FileDisk::open(&rt, NAME)?;
+    let mut disk = FileDisk::open(&rt, name)?;
     assert_eq!(rt; disk.count(), 2048);
-    for (i, want) in [(0, 0), (1, 7), (2, 0), (2046, 0), (2047, 9)] {
-        assert_eq!(rt;
-            ends_of(&mut disk, i)?,
-            (want, want),
-            "sector {i} opened again"
-        );
+    assert_eq!(rt; put(&mut disk, 2, 8, 9), Ok(()), "a write after opening");
+    drop(disk);
+
+    let mut disk = FileDisk::open(&rt, name)?;
+    for (i, want) in [
+        (0, (0, 0)),
+        (1, (3, 4)),
+        (2, (8, 9)),
+        (2046, (0, 0)),
+        (2047, (5, 6)),
+    ] {
+        assert_eq!(rt; ends_of(&mut disk, i)?, want, "sector {i} opened again");
     }
     drop(disk);
-    fs::remove_file(&rt, NAME)?;
+    fs::remove_file(&rt, name)?;
+    Ok(())
+}
+
+#[test]
+fn a_sector_stands_at_its_place_in_the_file(rt: HostRuntime) -> Result<(), Fail> {
+    let name = "sector_disk_place_test.disk";
+    let mut disk = FileDisk::create(&rt, name)?;
+    put(&mut disk, 1, 3, 4)?;
+    put(&mut disk, 2047, 5, 6)?;
+    drop(disk);
+    let bytes = fs::read(&rt, name)?;
+    assert_eq!(rt; bytes.len(), 1_048_576);
+    for (place, byte) in bytes.iter().enumerate() {
+        let want = match place {
+            512 => 3,
+            1023 => 4,
+            1_048_064 => 5,
+            1_048_575 => 6,
+            513..=1022 | 1_048_065..=1_048_574 => 7,
+            _ => 0,
+        };
+        assert_eq!(rt; *byte, want, "byte {place}");
+    }
+    fs::remove_file(&rt, name)?;
+    Ok(())
+}
+
+#[test]
+fn a_longer_file_is_replaced(rt: HostRuntime) -> Result<(), Fail> {
+    let name = "sector_disk_longer_test.disk";
+    let older = vec![in rt.alloc(); 0xffu8; 2_000_000]?;
+    fs::write(&rt, name, older)?;
+    assert_eq!(rt; fs::metadata(&rt, name)?.len(), 2_000_000);
+    drop(FileDisk::create(&rt, name)?);
+    let bytes = fs::read(&rt, name)?;
+    assert_eq!(rt; bytes.len(), 1_048_576);
+    assert!(rt; bytes.iter().all(|byte| *byte == 0), "all zeros");
+    fs::remove_file(&rt, name)?;
     Ok(())
 }
 
@@ -86,17 +130,4 @@ fn a_part_of_a_sector_does_not_count(rt: HostRuntime) -> Result<(), Fail> {
         Some(DiskFault::Write)
     );
     Ok(())
-}
-
-#[test]
-fn whole_sectors_are_counted_up_to_a_limit(rt: HostRuntime) {
-    for (bytes, want) in [
-        (0, 0),
-        (512 * 4_294_967_295 - 1, 4_294_967_294),
-        (512 * 4_294_967_295, 4_294_967_295),
-        (512 * 4_294_967_296, 4_294_967_295),
-        (u64::MAX, 4_294_967_295),
-    ] {
-        assert_eq!(rt; whole_sectors(bytes), want, "{bytes} bytes");
-    }
 }

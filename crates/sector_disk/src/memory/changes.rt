@@ -7,7 +7,7 @@ use super::events::Event;
 use super::sectors::Sector;
 use std::alloc::AllocError;
 
-// Writes a sector. Where memory is refused, nothing changes.
+/// Writes a sector. Where memory is refused, nothing changes.
 pub(super) fn keep_write(
     sectors: &mut Vec<Sector>,
     events: &mut Vec<Event>,
@@ -34,7 +34,7 @@ pub(super) fn keep_write(
     Ok(())
 }
 
-// Syncs all sectors. Where memory is refused, nothing changes.
+/// Syncs all sectors. Where memory is refused, nothing changes.
 pub(super) fn keep_sync(
     sectors: &mut Vec<Sector>,
     events: &mut Vec<Event>,
@@ -59,7 +59,7 @@ fn settle_all(sectors: &mut [Sector])
     }
 }
 
-// Each sector takes the value that is picked for it.
+/// Each sector takes the value that is picked for it.
 pub(super) fn lose_power(sectors: &mut Vec<Sector>, picks: &[u32])
     ensures count { length sectors.new.items ≡ length sectors.old.items }
     ensures cut { (k : ℕ) → k < length sectors.old.items

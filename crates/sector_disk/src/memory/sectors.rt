@@ -22,7 +22,7 @@ impl Model for Sector {
 }
 
 impl Sector {
-    // All zeros.
+    /// All zeros.
     pub(crate) fn zeroed(alloc: Global) -> Sector
         ensures { result ≡ cut_to (replicate 512 0) }
     {
@@ -33,7 +33,7 @@ impl Sector {
         }
     }
 
-    // The value last written.
+    /// The value last written.
     #[tactic(auto, using(crate::proofs::Last::last_value))]
     pub(crate) fn newest(&self) -> &[u8; 512]
         ensures { result.now ≡ newest self.now }
@@ -44,7 +44,7 @@ impl Sector {
         }
     }
 
-    // Another value is written.
+    /// Another value is written.
     pub(crate) fn write(&mut self, bytes: &[u8; 512]) -> Result<(), AllocError>
         ensures ok { OnOk result (self.new ≡ written bytes.now self.old) }
         ensures err { OnErr result (self.new ≡ self.old) }
@@ -53,7 +53,7 @@ impl Sector {
         Ok(())
     }
 
-    // The value last written is synced.
+    /// The value last written is synced.
     pub(crate) fn settle(&mut self)
         ensures { self.new ≡ settled self.old }
     {
@@ -61,7 +61,7 @@ impl Sector {
         self.since.clear();
     }
 
-    // Power is lost: the value that is picked is left.
+    /// Power is lost: the value that is picked is left.
     pub(crate) fn lose_power(&mut self, pick: u32)
         ensures { self.new ≡ cut_to (picked self.old pick) }
     {

@@ -1,0 +1,101 @@
+//! The reader and its plain twin say the same of two texts with one line or one byte changed.
+use super::stated::read;
+use super::texts::{MITCHELL, ROWS};
+use super::twin;
+use std::alloc::{AllocError, Global};
+use std::process::Abort;
+use std::test::Fail;
+
+/// What takes the place of a byte, beside the byte that is one greater.
+const BYTES: [u8; 8] = [b' ', b'0', b'9', b'A', b'.', b'\n', b'\r', 200];
+
+/// The reader and the twin say the same of the text. Returns whether they accept it.
+fn agree(rt: &impl Abort, alloc: Global, text: &[u8], what: &str, place: usize) -> bool {
+    let said = read(alloc, text);
+    assert_eq!(rt; said, twin::read(alloc, text), "{what} at {place}");
+    said.is_ok()
+}
+
+/// The text of these lines.
+fn joined(alloc: Global, lines: &[&str]) -> Result<Vec<u8>, AllocError> {
+    let mut text = Vec::new(alloc);
+    for line in lines {
+        text.extend_from_slice(line.as_bytes())?;
+        text.push(b'\n')?;
+    }
+    Ok(text)
+}
+
+/// How many of the texts are accepted in which one line is dropped, doubled or swapped with the next.
+fn accepted_lines(rt: &impl Abort, alloc: Global, text: &str) -> Result<usize, Fail> {
+    let lines: Vec<&str> = text.lines().collect(alloc)?;
+    let mut accepted = 0usize;
+    for place in 0..lines.len() {
+        let line = lines.get(place).copied().ok_or("a line")?;
+        let mut dropped = lines.clone()?;
+        dropped.remove(place);
+        let mut doubled = lines.clone()?;
+        doubled.insert(place, line)?;
+        let mut swapped = dropped.clone()?;
+        if place < swapped.len() {
+            swapped.insert(place + 1, line)?;
+        }
+        for (what, changed) in [
+            ("a line dropped", dropped),
+            ("a line doubled", doubled),
+            ("a line swapped", swapped),
+        ] {
+            let changed = joined(alloc, changed.as_slice())?;
+            if agree(rt, alloc, changed.as_slice(), what, place) {
+                accepted = accepted.saturating_add(1);
+            }
+        }
+    }
+    Ok(accepted)
+}
+
+/// How many of the texts are accepted in which one byte is another.
+fn accepted_bytes(rt: &impl Abort, alloc: Global, text: &str) -> Result<usize, Fail> {
+    let mut changed = text.as_bytes().to_vec(alloc)?;
+    let mut accepted = 0usize;
+    for (place, byte) in text.as_bytes().iter().enumerate() {
+        for other in BYTES.iter().copied().chain([byte.wrapping_add(1)]) {
+            if let Some(at) = changed.get_mut(place) {
+                *at = other;
+            }
+            if agree(rt, alloc, changed.as_slice(), "a byte", place) {
+                accepted = accepted.saturating_add(1);
+            }
+        }
+        if let Some(at) = changed.get_mut(place) {
+            *at = *byte;
+        }
+    }
+    Ok(accepted)
+}
+
+// How many texts are accepted, a reader in Python counts, which was written from the format alone.
+
+#[test]
+fn lines_of_rows(rt: HostRuntime) -> Result<(), Fail> {
+    assert_eq!(rt; accepted_lines(&rt, rt.alloc(), ROWS)?, 0);
+    Ok(())
+}
+
+#[test]
+fn lines_of_a_mitchell(rt: HostRuntime) -> Result<(), Fail> {
+    assert_eq!(rt; accepted_lines(&rt, rt.alloc(), MITCHELL)?, 0);
+    Ok(())
+}
+
+#[test]
+fn bytes_of_rows(rt: HostRuntime) -> Result<(), Fail> {
+    assert_eq!(rt; accepted_bytes(&rt, rt.alloc(), ROWS)?, 352);
+    Ok(())
+}
+
+#[test]
+fn bytes_of_a_mitchell(rt: HostRuntime) -> Result<(), Fail> {
+    assert_eq!(rt; accepted_bytes(&rt, rt.alloc(), MITCHELL)?, 329);
+    Ok(())
+}
