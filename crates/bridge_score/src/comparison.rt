@@ -33,7 +33,7 @@ fn matchpoints_over(own: i32, others: &[i32]) -> u16
 }
 
 /// The matchpoints of the score at place `i`, from 0, of the scores of a board: two for each other score that is
-/// inferior, one for each that is equal (Law 78A).
+/// inferior, one for each that is equal (Law 78A). There are at most 144 scores, each from -7600 to 7600.
 pub fn matchpoints(scores: &[i32], i: usize) -> u16
     requires count { length scores.now ≤ 144 }
     requires scores { All IsScore scores.now }
@@ -70,7 +70,8 @@ fn imps_over(own: i32, others: &[i32]) -> i32
 }
 
 /// The cross-IMPs of the score at place `i`, from 0, of the scores of a board: the sum of the IMPs against each other
-/// score, won from a lesser one and lost to a greater one (Law 78B).
+/// score, won from a lesser one and lost to a greater one (Law 78B). There are at most 144 scores, each from -7600 to
+/// 7600.
 pub fn cross_imps(scores: &[i32], i: usize) -> i32
     requires count { length scores.now ≤ 144 }
     requires scores { All IsScore scores.now }

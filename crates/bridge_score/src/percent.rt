@@ -3,7 +3,7 @@ ghost use Rattle.std.specs.Prelude.{◌≡◌, ◌≤◌, IfSome};
 ghost use Rattle.bridge_score.specs.Percent.{percent_hundredths_of};
 
 /// What was earned of what was available, in hundredths of a per cent, 0 to 10000, rounded to the nearest, and a half up.
-/// `None` where nothing was available.
+/// `None` where nothing was available. No more was earned than was available, at most 10,000,000.
 pub fn percent_hundredths(earned: u32, available: u32) -> Option<u32>
     requires earned { earned ≤ available }
     requires available { available ≤ 10000000 }
