@@ -3,11 +3,11 @@ use Rattle.std.proofs.Common.{◌≡◌, ℕ, suc, ◌<◌, ◌≤◌, Bool, tru
 use Rattle.std.specs.List.{slice_get}
 use Rattle.std.specs.Option.{option_map_or}
 use Rattle.std.specs.Prelude.{option_and_then}
+use Rattle.bridge_cards.specs.EachMayFollow.{slice_get-left, slice_get-seam}
 use Rattle.bridge_auction.specs.declared.call.Call.{Call}
 use Rattle.bridge_auction.specs.declared.call.Call.TheVariants.{Pass, Bid, Double, Redouble}
 use Rattle.bridge_auction.specs.Call.{is_pass, is_bid, is_double}
 use Rattle.bridge_auction.specs.Legal.{last_place, later_or_here, is_opponents, opponents_call}
-use Rattle.bridge_auction.proofs.Legality.{slice_get-left, slice_get-seam}
 
 -- the last call that is no pass
 abbrev pub last_call : List Call → Option Call

@@ -1,4 +1,4 @@
 pub mod Places
 pub mod Legality
 pub mod LastCall
-pub mod Longest
+pub mod LegalLength

@@ -1,11 +1,12 @@
 -- Which lists of calls are an auction (Laws 17 to 22).
-use Rattle.std.specs.Prelude.{◌≡◌, ℕ, suc, ◌-◌, ◌%◌, Bool, true, false, not, ◌&&◌, ◌==◌, nat_le, nat_lt, if◌then◌else◌, List, [], ◌∷◌, length, take, drop, slice_get, Option, Some, None, option_and_then, Result, Ok, Err}
+use Rattle.std.specs.Prelude.{◌≡◌, ℕ, suc, ◌-◌, ◌%◌, Bool, true, false, not, ◌&&◌, ◌==◌, nat_le, nat_lt, if◌then◌else◌, List, [], ◌∷◌, length, drop, slice_get, Option, Some, None, option_and_then, Result, Ok, Err}
 use Rattle.std.specs.List.{list_all}
 use Rattle.std.specs.Option.{option_map_or}
+use Rattle.bridge_cards.specs.EachMayFollow.{EachMayFollow}
 use Rattle.bridge_auction.specs.declared.call.Call.{Call}
 use Rattle.bridge_auction.specs.declared.call.Call.TheVariants.{Pass, Bid, Double, Redouble}
-use Rattle.bridge_auction.specs.declared.auction.CallRefused.{CallRefused}
-use Rattle.bridge_auction.specs.declared.auction.CallRefused.TheVariants.{Ended, InsufficientBid, InadmissibleDouble, InadmissibleRedouble}
+use Rattle.bridge_auction.specs.declared.refused.CallRefused.{CallRefused}
+use Rattle.bridge_auction.specs.declared.refused.CallRefused.TheVariants.{Ended, InsufficientBid, InadmissibleDouble, InadmissibleRedouble}
 use Rattle.bridge_auction.specs.Bid.{bid_number}
 use Rattle.bridge_auction.specs.Call.{is_pass, is_bid, is_double, IsCall}
 
@@ -58,7 +59,7 @@ pub record MayFollow (earlier : List Call) (call : Call) : Type 0 where
 
 -- A legal list of calls: each may be made after those before it.
 abbrev pub IsLegal : List Call → Type 0
-IsLegal calls = (place : ℕ) (call : Call) → slice_get calls place ≡ Some call → MayFollow (take place calls) call
+IsLegal = EachMayFollow MayFollow
 
 -- why a call that is not admissible is refused; a pass always is admissible, so its answer here is never given
 abbrev pub fault_of : Call → CallRefused

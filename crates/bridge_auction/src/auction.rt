@@ -1,4 +1,4 @@
-ghost use Rattle.std.specs.Prelude.{◌≡◌, ◌≤◌, ◌∷◌, ◌++◌, [], ◌↔◌, List, length, IsOk, OnOk, OnErr};
+ghost use Rattle.std.specs.Prelude.{◌≡◌, ◌≤◌, ◌∷◌, ◌++◌, [], ◌↔◌, length, IsOk, OnOk, OnErr};
 ghost use Rattle.bridge_cards.specs.Seat.{clockwise_from};
 ghost use Rattle.bridge_auction.specs.Legal.{is_ended, answer_to, IsLegal};
 ghost use Rattle.bridge_auction.specs.Contract.{contract_of};
@@ -6,35 +6,12 @@ ghost use Rattle.bridge_auction.specs.Auction.{with_call};
 
 use crate::call::Call;
 use crate::contract::Contract;
+use crate::longest::MOST_CALLS;
 use crate::look_back;
+use crate::refused::CallRefused;
 use arrayvec::ArrayVec;
 use bridge_cards::Seat;
 use std::marker::Model;
-
-/// Why a call is refused. A refused call changes nothing.
-#[derive(Clone, Copy, Debug, PartialEq, Eq)]
-pub enum CallRefused {
-    /// The auction is over (Law 22).
-    Ended,
-    /// The bid is not higher than every bid so far (Law 18).
-    InsufficientBid,
-    /// The last call other than a pass is no bid by an opponent (Law 19A).
-    InadmissibleDouble,
-    /// The last call other than a pass is no double by an opponent (Law 19B).
-    InadmissibleRedouble,
-}
-
-/// The most calls that an auction has: three passes, then each of the 35 bids with two passes, a double,
-/// two passes, a redouble and two passes, then a last pass.
-pub const MOST_CALLS: usize = 319;
-
-/// No legal list of calls is longer than this (Laws 17 to 22).
-pub fn longest_auction() -> usize
-    ensures longest { (calls : List Call) → IsLegal calls → length calls ≤ result }
-    ensures value { result ≡ 319 }
-{
-    MOST_CALLS
-}
 
 /// The auction of one board: its dealer, and a legal list of calls.
 #[derive(Drop)]

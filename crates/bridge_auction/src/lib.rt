@@ -12,12 +12,16 @@ pub mod bid;
 pub mod call;
 pub mod contract;
 pub mod level;
+pub mod longest;
 mod look_back;
+pub mod refused;
 #[cfg(test)]
 mod tests;
 
-pub use auction::{Auction, CallRefused, MOST_CALLS, longest_auction};
+pub use auction::Auction;
 pub use bid::{Bid, Denomination};
 pub use call::Call;
 pub use contract::{Contract, Doubling};
 pub use level::Level;
+pub use longest::{MOST_CALLS, longest_auction};
+pub use refused::CallRefused;

@@ -6,10 +6,10 @@ ghost use Rattle.bridge_auction.specs.Call.{is_pass, is_bid, is_double, IsCall};
 ghost use Rattle.bridge_auction.specs.Legal.{is_ended, last_place, opponents_call, is_below, is_admissible, answer_to};
 ghost use Rattle.bridge_auction.specs.Contract.{first_to_name, names, doubling_of};
 
-use crate::auction::CallRefused;
 use crate::bid::{Bid, Denomination};
 use crate::call::Call;
 use crate::contract::Doubling;
+use crate::refused::CallRefused;
 
 /// Whether each of these calls is a pass.
 fn are_passes(calls: &[Call]) -> bool
@@ -114,7 +114,7 @@ fn names(denomination: Denomination, call: Call) -> bool
     ensures { result ≡ names denomination call }
 {
     match call {
-        Call::Bid(bid) => bid.denomination.number() == denomination.number(),
+        Call::Bid(bid) => bid.denomination == denomination,
         Call::Pass | Call::Double | Call::Redouble => false,
     }
 }

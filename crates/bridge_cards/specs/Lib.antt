@@ -8,3 +8,4 @@ pub mod CardSet
 pub mod Deal
 pub mod DealText
 pub mod Shuffle
+pub mod EachMayFollow

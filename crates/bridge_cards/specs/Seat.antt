@@ -1,5 +1,5 @@
 -- Seats and sides of the table.
-use Rattle.std.specs.Prelude.{ℕ, ◌+◌, ◌%◌, ◌==◌, if◌then◌else◌}
+use Rattle.std.specs.Prelude.{ℕ, ◌+◌, ◌%◌, ◌==◌, Bool, true, false, if◌then◌else◌}
 use Rattle.bridge_cards.specs.declared.seat.Seat.{Seat}
 use Rattle.bridge_cards.specs.declared.seat.Seat.TheVariants.{North, East, South, West}
 use Rattle.bridge_cards.specs.declared.seat.Side.{Side}
@@ -32,6 +32,13 @@ side_of West = EastWest
 abbrev pub other_side : Side → Side
 other_side NorthSouth = EastWest
 other_side EastWest = NorthSouth
+
+-- whether two sides are one
+abbrev pub same_side : Side → Side → Bool
+same_side NorthSouth NorthSouth = true
+same_side NorthSouth EastWest = false
+same_side EastWest NorthSouth = false
+same_side EastWest EastWest = true
 
 -- the letter that stands for a seat, in ASCII
 abbrev pub seat_letter : Seat → ℕ

@@ -4,7 +4,7 @@ use Rattle.std.specs.Prelude.{All}
 use Rattle.std.proofs.lemmas.List.{same_lists}
 use Rattle.std.proofs.lemmas.Bool.Decides.{nat_tests}
 use Rattle.std.proofs.lemmas.Nat.{div_below, mod_below}
-use Rattle.bridge_movement.specs.Mitchell.{mitchell_rounds, mitchell_shape}
+use Rattle.bridge_movement.specs.Mitchell.{mitchell_within}
 use Rattle.bridge_movement.specs.declared.row.Row.{Row}
 use Rattle.bridge_movement.specs.declared.shape.Shape.{Shape}
 use Rattle.bridge_movement.specs.Fair.{IsMovement}
@@ -41,18 +41,6 @@ one_mitchell tables a b p q =
     let rows : a.rows ≡ b.rows =
     same_lists a.rows b.rows count (λ k d h. p.rows k d h ∙ sym (q.rows k d (omega arith))) in
     same_schedule a.shape b.shape a.rows b.rows shape rows
-
--- the shape of the rule is within the limits
-mitchell_within : (T : ℕ) → 2 ≤ T → T ≤ 12 → IsShape (mitchell_shape T)
-mitchell_within T least most =
-    let rounds : (1 ≤ mitchell_rounds T) × (mitchell_rounds T ≤ 12) = grind (arith, nat_tests) in
-    record {
-      tables = (least, most);
-      rounds = rounds;
-      sets = (omega arith, most);
-      pairs = (omega arith, omega arith);
-      split = (omega arith, omega arith);
-    }
 
 -- a Mitchell movement is within the limits
 pub mitchell_shape_within : (tables : ℕ) (movement : Schedule) → IsMitchell tables movement → IsShape movement.shape

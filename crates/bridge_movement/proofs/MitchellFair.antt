@@ -8,7 +8,6 @@ use Rattle.bridge_movement.specs.declared.row.Row.{Row}
 use Rattle.bridge_movement.specs.Fair.{IsComplete, IsFair, IsMovement, HasPairsWithin, HasTwoPairs, HasSetWithin}
 use Rattle.bridge_movement.specs.Mitchell.{mitchell_rounds, mitchell_shape, tables_moved, mitchell_row, mitchell_row_at, FollowsMitchell}
 use Rattle.bridge_movement.specs.Row.{ShareAPair, SeatPairTwice, PlaySetAgain, MeetAgain}
-use Rattle.bridge_movement.specs.Shape.{IsShape}
 
 -- how far the pairs of East and West have moved on by round r, where there are 2 h tables, or 2 h + 1
 abbrev Moved : ℕ → ℕ → ℕ → ℕ → Type 0
@@ -149,18 +148,6 @@ each_two R T rows rule holds i j d less within =
     let P : Row → Type 0 = λ a. R a (slice_index_or rows j d) in
     let Q : Row → Type 0 = λ b. R (mitchell_row_at T i) b in
     subst P (sym first) (subst Q (sym second) (holds i j less within))
-
--- the shape of the rule is within the limits
-pub mitchell_within : (T : ℕ) → 2 ≤ T → T ≤ 12 → IsShape (mitchell_shape T)
-mitchell_within T least most =
-    let rounds : (1 ≤ mitchell_rounds T) × (mitchell_rounds T ≤ 12) = grind (arith, nat_tests) in
-    record {
-      tables = (least, most);
-      rounds = rounds;
-      sets = (omega arith, most);
-      pairs = (omega arith, omega arith);
-      split = (omega arith, omega arith);
-    }
 
 mitchell_complete : (T : ℕ) (rows : List Row) → 2 ≤ T → length rows ≡ mitchell_rounds T * T →
     FollowsMitchell T rows → IsComplete (mitchell_shape T) rows

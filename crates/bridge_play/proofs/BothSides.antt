@@ -1,6 +1,6 @@
 -- The tricks of both sides.
 use Rattle.std.proofs.Common.{◌≡◌, ◌≤◌, ◌+◌, ◌-◌, ◌/◌, ℕ, zero, suc, Bool, true, false, ◌==◌, ◌||◌, if◌then◌else◌, List, length, refl, arith}
-use Rattle.std.specs.Prelude.{Option, Some, None}
+use Rattle.std.specs.Prelude.{Option, Some, None, IfSome}
 use Rattle.std.specs.Option.{option_map_or}
 use Rattle.std.proofs.lemmas.Bool.Decides.{nat_tests}
 use Rattle.bridge_cards.specs.declared.seat.Seat.{Seat}
@@ -10,7 +10,7 @@ use Rattle.bridge_auction.specs.declared.contract.Contract.{Contract}
 use Rattle.bridge_play.specs.declared.claim.Claim.{Claim}
 use Rattle.bridge_play.specs.Trick.{leader_of, plays_for, tricks_won}
 use Rattle.bridge_play.specs.Claims.{all_agreed}
-use Rattle.bridge_play.specs.Play.{Playing, is_agreed, claim_fits, claimed_tricks, tricks_of, settled_tricks}
+use Rattle.bridge_play.specs.Play.{Playing, IsPlay, IsClaimIn, is_agreed, claimed_tricks, tricks_of, settled_tricks}
 
 -- a seat plays for one side
 one_side : (seat : Seat) → (if plays_for NorthSouth seat then 1 else 0) + (if plays_for EastWest seat then 1 else 0) ≡ 1
@@ -37,20 +37,19 @@ claimed_if : (agreed : Bool) (seat : Seat) (own left : ℕ) → own ≤ left →
 claimed_if true seat own left fits = omega (arith, one_each seat own (left - own))
 claimed_if false seat own left fits = refl
 
-claimed_tricks-both : (contract : Contract) (cards : List ℕ) (claim : Option Claim) → claim_fits cards claim ≡ true → claimed_tricks contract cards NorthSouth claim + claimed_tricks contract cards EastWest claim ≡ (if option_map_or (all_agreed contract) claim false then 13 - length cards / 4 else 0)
-claimed_tricks-both contract cards None fits = refl
-claimed_tricks-both contract cards (Some claim) fits =
-    let within : claim.tricks ≤ 13 - length cards / 4 = grind (arith, nat_tests, fits) in
-    claimed_if (all_agreed contract claim) claim.claimer claim.tricks (13 - length cards / 4) within
+claimed_tricks-both : (play : Playing) (claim : Option Claim) → IfSome claim (IsClaimIn play) → claimed_tricks play.contract play.cards NorthSouth claim + claimed_tricks play.contract play.cards EastWest claim ≡ (if option_map_or (all_agreed play.contract) claim false then 13 - length play.cards / 4 else 0)
+claimed_tricks-both play None is = refl
+claimed_tricks-both play (Some claim) is =
+    claimed_if (all_agreed play.contract claim) claim.claimer claim.tricks (13 - length play.cards / 4) (omega (arith, is.within))
 
 -- the tricks of both sides, by whether all cards were played and whether a claim is agreed
 settled_if : (agreed : Bool) (n : ℕ) → n ≤ 52 → n / 4 + (if agreed then 13 - n / 4 else 0) ≡ (if n == 52 || agreed then 13 else n / 4)
 settled_if true n few = grind (arith, nat_tests)
 settled_if false n few = grind (arith, nat_tests)
 
-pub tricks_of-both : (play : Playing) → length play.cards ≤ 52 → claim_fits play.cards play.claim ≡ true → tricks_of play NorthSouth + tricks_of play EastWest ≡ settled_tricks play
-tricks_of-both play few fits =
+pub tricks_of-both : (play : Playing) → length play.cards ≤ 52 → IsPlay play → tricks_of play NorthSouth + tricks_of play EastWest ≡ settled_tricks play
+tricks_of-both play few is =
     let won = tricks_won-both play.contract play.cards (length play.cards / 4) in
-    let claimed = claimed_tricks-both play.contract play.cards play.claim fits in
+    let claimed = claimed_tricks-both play play.claim is.claimed in
     let settled = settled_if (is_agreed play) (length play.cards) few in
     omega (arith, won, claimed, settled)

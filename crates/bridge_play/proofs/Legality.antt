@@ -1,16 +1,15 @@
 -- A card is answered by Ok exactly where it may be played.
-use Rattle.std.proofs.Common.{◌≡◌, ◌↔◌, ◌∙◌, Bool, true, false, not, if◌then◌else◌, List, [], ◌∷◌, ◌++◌, ℕ, Result, Ok, Err, IsOk, OnOk, refl, ap}
-use Rattle.std.specs.Prelude.{Option, Some, None, is_some}
+use Rattle.std.proofs.Common.{◌≡◌, ◌↔◌, ◌∙◌, Bool, true, false, not, if◌then◌else◌, [], ◌∷◌, ◌++◌, ℕ, Result, Ok, Err, IsOk, OnOk, refl, ap}
+use Rattle.std.specs.Prelude.{is_some}
 use Rattle.bridge_cards.specs.declared.seat.Seat.{Seat}
-use Rattle.bridge_play.specs.declared.claim.Claim.{Claim}
+use Rattle.bridge_cards.specs.EachMayFollow.{may_follow_front, each_may_follow-push}
 use Rattle.bridge_play.specs.declared.refused.CardRefused.{CardRefused}
 use Rattle.bridge_play.specs.declared.refused.CardRefused.TheVariants.{Over, ClaimStands, NotYourTurn, NotHeld, MustFollow}
 use Rattle.bridge_play.specs.Trick.{turn_of}
 use Rattle.bridge_play.specs.Claims.{same_seat, actor_of}
 use Rattle.bridge_play.specs.Legal.{holds, follows, MayPlay, IsLegal}
-use Rattle.bridge_play.specs.Play.{Playing, is_over, card_answer, claim_fits, MayBePlayed}
+use Rattle.bridge_play.specs.Play.{Playing, is_over, card_answer, MayBePlayed}
 use Rattle.bridge_play.proofs.Seats.{same_seat-eq, same_seat-self}
-use Rattle.bridge_play.proofs.Prefixes.{prefixes-push, prefixes-last}
 
 -- no refusal of a card applies
 record Passes (over claimed acts holding suited : Bool) : Type 0 where
@@ -58,19 +57,15 @@ card_passes play seat card ok =
     ok_passes (is_over play) (is_some play.claim) (same_seat seat (actor_of play.contract hand))
     (holds play.hands play.cards hand card) (follows play.hands play.cards hand card) ok
 
--- no claim stands where a card is taken, so none claims too much after it
-claim_fits-none : (cards : List ℕ) (claim : Option Claim) → is_some claim ≡ false → claim_fits cards claim ≡ true
-claim_fits-none cards None none = refl
-claim_fits-none cards (Some claim) none = cc
-
-pub card_claim_fits : (play : Playing) (seat : Seat) (card : ℕ) (cards : List ℕ) → IsOk (card_answer play seat card) → claim_fits cards play.claim ≡ true
-card_claim_fits play seat card cards ok = claim_fits-none cards play.claim (card_passes play seat card ok).unclaimed
+-- no claim stands where a card is taken
+pub card_unclaimed : (play : Playing) (seat : Seat) (card : ℕ) → IsOk (card_answer play seat card) → is_some play.claim ≡ false
+card_unclaimed play seat card ok = (card_passes play seat card ok).unclaimed
 
 -- the list with the card is legal
 pub card_legal : (play : Playing) (seat : Seat) (card : ℕ) → IsLegal play.hands play.contract play.cards → IsOk (card_answer play seat card) → IsLegal play.hands play.contract (play.cards ++ card ∷ [])
 card_legal play seat card legal ok =
     let passes = card_passes play seat card ok in
-    prefixes-push (MayPlay play.hands play.contract) play.cards card legal (record { held = passes.held; following = passes.following })
+    each_may_follow-push (MayPlay play.hands play.contract) play.cards card legal (record { held = passes.held; following = passes.following })
 
 -- a card that is answered by Ok may be played
 ok_may : (play : Playing) (seat : Seat) (card : ℕ) → IsLegal play.hands play.contract play.cards → IsOk (card_answer play seat card) → MayBePlayed play seat card
@@ -88,7 +83,7 @@ may_ok : (play : Playing) (seat : Seat) (card : ℕ) → MayBePlayed play seat c
 may_ok play seat card may =
     let hand : Seat = turn_of play.contract play.cards in
     let actor : Seat = actor_of play.contract hand in
-    let last = prefixes-last (MayPlay play.hands play.contract) play.cards card may.legal in
+    let last = may_follow_front (MayPlay play.hands play.contract) play.cards card [] may.legal in
     passes_ok (is_over play) (is_some play.claim) (same_seat seat actor)
     (holds play.hands play.cards hand card) (follows play.hands play.cards hand card)
     (record {

@@ -1,8 +1,8 @@
 -- Claims (Law 68): who is asked, and when a claim is agreed.
-use Rattle.std.specs.Prelude.{◌%◌, Bool, true, false, not, ◌&&◌, ◌||◌, ◌==◌, if◌then◌else◌, slice_index_or, slice_set, Result, Ok, Err}
+use Rattle.std.specs.Prelude.{Bool, true, false, not, ◌&&◌, ◌||◌, ◌==◌, if◌then◌else◌, slice_index_or, slice_set, Result, Ok, Err}
 use Rattle.bridge_cards.specs.declared.seat.Seat.{Seat}
 use Rattle.bridge_cards.specs.declared.seat.Seat.TheVariants.{North, East, South, West}
-use Rattle.bridge_cards.specs.Seat.{seat_number, clockwise_from}
+use Rattle.bridge_cards.specs.Seat.{seat_number, clockwise_from, side_of, same_side}
 use Rattle.bridge_auction.specs.declared.contract.Contract.{Contract}
 use Rattle.bridge_play.specs.declared.claim.Claim.{Claim}
 use Rattle.bridge_play.specs.declared.refused.ConsentRefused.{ConsentRefused}
@@ -11,10 +11,6 @@ use Rattle.bridge_play.specs.declared.refused.ConsentRefused.TheVariants.{NoClai
 -- whether two seats are one
 abbrev pub same_seat : Seat → Seat → Bool
 same_seat a b = seat_number a == seat_number b
-
--- whether two seats are of one side
-abbrev pub same_side : Seat → Seat → Bool
-same_side a b = seat_number a % 2 == seat_number b % 2
 
 -- declarer's partner
 abbrev pub dummy_of : Contract → Seat
@@ -27,7 +23,7 @@ actor_of contract hand = if same_seat hand (dummy_of contract) then contract.dec
 -- declarer's claim asks both defenders, and a defender's claim asks declarer
 abbrev pub is_asked : Contract → Seat → Seat → Bool
 is_asked contract claimer seat =
-    if same_seat claimer contract.declarer then not (same_side seat contract.declarer) else same_seat seat contract.declarer
+    if same_seat claimer contract.declarer then not (same_side (side_of seat) (side_of contract.declarer)) else same_seat seat contract.declarer
 
 -- whether the seat has agreed
 abbrev pub has_agreed : Claim → Seat → Bool

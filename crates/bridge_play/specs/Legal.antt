@@ -1,7 +1,8 @@
 -- Which lists of cards are legal (Laws 44 and 45).
-use Rattle.std.specs.Prelude.{◌≡◌, ℕ, ◌*◌, ◌/◌, ◌%◌, Bool, true, not, ◌&&◌, ◌||◌, ◌==◌, List, length, take, slice_get, slice_index, Some}
+use Rattle.std.specs.Prelude.{◌≡◌, ℕ, ◌*◌, ◌/◌, ◌%◌, Bool, true, not, ◌&&◌, ◌||◌, ◌==◌, List, length, slice_index}
 use Rattle.std.specs.List.{list_any}
 use Rattle.bridge_cards.specs.declared.seat.Seat.{Seat}
+use Rattle.bridge_cards.specs.EachMayFollow.{EachMayFollow}
 use Rattle.bridge_cards.specs.CardSet.{has_card, cards_of}
 use Rattle.bridge_cards.specs.Deal.{hand_at}
 use Rattle.bridge_auction.specs.declared.contract.Contract.{Contract}
@@ -35,5 +36,4 @@ pub record MayPlay (hands : List ℕ) (contract : Contract) (earlier : List ℕ)
 
 -- A legal list of cards: each may be played after those before it.
 abbrev pub IsLegal : List ℕ → Contract → List ℕ → Type 0
-IsLegal hands contract cards =
-    (place : ℕ) (card : ℕ) → slice_get cards place ≡ Some card → MayPlay hands contract (take place cards) card
+IsLegal hands contract = EachMayFollow (MayPlay hands contract)

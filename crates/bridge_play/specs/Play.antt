@@ -1,5 +1,5 @@
 -- What a contract sees of a play, and the answer to a card.
-use Rattle.std.specs.Prelude.{◌≡◌, ℕ, ◌+◌, ◌-◌, ◌/◌, ◌%◌, nat_lt, nat_le, Bool, true, false, not, ◌||◌, ◌==◌, if◌then◌else◌, List, [], ◌∷◌, ◌++◌, length, Option, Some, None, IsNone, is_some, Result, Ok, Err}
+use Rattle.std.specs.Prelude.{◌≡◌, ◌≢◌, ℕ, ◌+◌, ◌-◌, ◌/◌, ◌%◌, ◌<◌, ◌≤◌, nat_lt, nat_le, Bool, true, false, not, ◌||◌, ◌==◌, if◌then◌else◌, List, [], ◌∷◌, ◌++◌, length, Option, Some, None, IsNone, IfSome, is_some, Result, Ok, Err}
 use Rattle.std.specs.Option.{option_map, option_map_or}
 use Rattle.bridge_cards.specs.declared.seat.Seat.{Seat}
 use Rattle.bridge_cards.specs.declared.seat.Side.{Side}
@@ -13,7 +13,8 @@ use Rattle.bridge_play.specs.declared.refused.ConsentRefused.{ConsentRefused}
 use Rattle.bridge_play.specs.declared.refused.ConsentRefused.TheVariants as consent_refused
 use Rattle.bridge_play.specs.Trick.{turn_of, plays_for, tricks_won}
 use Rattle.bridge_play.specs.Legal.{holds, follows, IsLegal}
-use Rattle.bridge_play.specs.Claims.{same_seat, actor_of, dummy_of, all_agreed, consent_to, with_agreed}
+use Rattle.bridge_play.specs.CardPlay.{PlayedCards}
+use Rattle.bridge_play.specs.Claims.{same_seat, actor_of, dummy_of, is_asked, has_agreed, all_agreed, consent_to, with_agreed}
 
 -- the dealt hands, the contract, the cards so far, how many claims were made, and the claim that stands or was agreed
 pub record Playing : Type 0 where
@@ -22,6 +23,16 @@ pub record Playing : Type 0 where
   pub cards : List ℕ
   pub claims : ℕ
   pub claim : Option Claim
+
+-- the cards of a play, and its claims
+abbrev pub with_claims : PlayedCards → ℕ → Option Claim → Playing
+with_claims played claims claim = record {
+  hands = played.hands;
+  contract = played.contract;
+  cards = played.cards;
+  claims = claims;
+  claim = claim;
+}
 
 -- the same play with one card more
 abbrev pub with_card : Playing → ℕ → Playing
@@ -90,9 +101,21 @@ with_agreement play seat = record play { claim = option_map (with_agreed seat) p
 abbrev pub without_claim : Playing → Playing
 without_claim play = record play { claim = None }
 
--- a claim that stands or was agreed claims no more tricks than are left
-abbrev pub claim_fits : List ℕ → Option Claim → Bool
-claim_fits cards claim = option_map_or (λ (c : Claim). nat_le (length cards / 4 + c.tricks) 13) claim true
+-- A claim that stands or was agreed: it was made between tricks, not by dummy, for no more tricks than are left, and
+-- nobody has agreed to it who is not asked (Law 68).
+pub record IsClaimIn (play : Playing) (claim : Claim) : Type 0 where
+  pub counted : 1 ≤ play.claims
+  pub between : length play.cards % 4 ≡ 0
+  pub some_left : length play.cards < 52
+  pub claimer : claim.claimer ≢ dummy_of play.contract
+  pub within : length play.cards / 4 + claim.tricks ≤ 13
+  pub asked : (seat : Seat) → has_agreed claim seat ≡ true → is_asked play.contract claim.claimer seat ≡ true
+
+-- what each play is: its cards are a legal list, and at most 99 claims were made
+pub record IsPlay (play : Playing) : Type 0 where
+  pub legal : IsLegal play.hands play.contract play.cards
+  pub few : play.claims ≤ 99
+  pub claimed : IfSome play.claim (IsClaimIn play)
 
 -- of the tricks left, those that a claim gives the side once it is agreed: what is not claimed goes to the other side
 abbrev pub claimed_tricks : Contract → List ℕ → Side → Option Claim → ℕ

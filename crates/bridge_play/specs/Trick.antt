@@ -3,8 +3,7 @@ use Rattle.std.specs.Prelude.{ℕ, zero, suc, ◌+◌, ◌*◌, ◌/◌, ◌%◌
 use Rattle.std.specs.List.{list_all}
 use Rattle.bridge_cards.specs.declared.seat.Seat.{Seat}
 use Rattle.bridge_cards.specs.declared.seat.Side.{Side}
-use Rattle.bridge_cards.specs.declared.seat.Side.TheVariants.{NorthSouth, EastWest}
-use Rattle.bridge_cards.specs.Seat.{seat_number, clockwise_from}
+use Rattle.bridge_cards.specs.Seat.{clockwise_from, side_of, same_side}
 use Rattle.bridge_auction.specs.declared.bid.Denomination.{Denomination}
 use Rattle.bridge_auction.specs.declared.contract.Contract.{Contract}
 use Rattle.bridge_auction.specs.Bid.{denomination_number}
@@ -57,8 +56,7 @@ turn_of contract cards = clockwise_from (leader_of contract cards (length cards 
 
 -- whether a seat plays for that side
 abbrev pub plays_for : Side → Seat → Bool
-plays_for NorthSouth seat = seat_number seat % 2 == 0
-plays_for EastWest seat = seat_number seat % 2 == 1
+plays_for side seat = same_side (side_of seat) side
 
 -- how many of the first tricks the side's seats won: the winner of a trick leads to the next
 abbrev pub tricks_won : Contract → List ℕ → Side → ℕ → ℕ

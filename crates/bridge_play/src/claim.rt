@@ -1,5 +1,5 @@
 ghost use Rattle.std.specs.Prelude.{◌≡◌};
-ghost use Rattle.bridge_play.specs.Claims.{same_seat, actor_of, dummy_of, is_asked, has_agreed, is_content, all_agreed, consent_to, with_agreed};
+ghost use Rattle.bridge_play.specs.Claims.{actor_of, dummy_of, is_asked, has_agreed, is_content, all_agreed, consent_to, with_agreed};
 ghost use Rattle.std.specs.Option.{option_map};
 
 use crate::refused::ConsentRefused;
@@ -17,13 +17,6 @@ pub struct Claim {
     pub agreed: [bool; 4],
 }
 
-/// Whether the seats are one.
-pub(crate) fn same_seat(a: Seat, b: Seat) -> bool
-    ensures { result ≡ same_seat a b }
-{
-    a.number() == b.number()
-}
-
 /// Declarer's partner.
 pub(crate) fn dummy(contract: &Contract) -> Seat
     ensures { result ≡ dummy_of contract.now }
@@ -35,7 +28,7 @@ pub(crate) fn dummy(contract: &Contract) -> Seat
 pub(crate) fn actor(contract: &Contract, hand: Seat) -> Seat
     ensures { result ≡ actor_of contract.now hand }
 {
-    if same_seat(hand, dummy(contract)) {
+    if hand == dummy(contract) {
         contract.declarer
     } else {
         hand
@@ -46,10 +39,10 @@ pub(crate) fn actor(contract: &Contract, hand: Seat) -> Seat
 pub(crate) fn is_asked(contract: &Contract, claimer: Seat, seat: Seat) -> bool
     ensures { result ≡ is_asked contract.now claimer seat }
 {
-    if same_seat(claimer, contract.declarer) {
-        seat.number() % 2 != contract.declarer.number() % 2
+    if claimer == contract.declarer {
+        seat.side() != contract.declarer.side()
     } else {
-        same_seat(seat, contract.declarer)
+        seat == contract.declarer
     }
 }
 

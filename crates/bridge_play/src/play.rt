@@ -1,15 +1,14 @@
-ghost use Rattle.std.specs.Prelude.{◌≡◌, ◌≢◌, ℕ, ◌+◌, ◌<◌, ◌≤◌, ◌++◌, ◌∷◌, [], ◌↔◌, length, IsOk, OnOk, OnErr, None};
+ghost use Rattle.std.specs.Prelude.{◌≡◌, ◌≢◌, ℕ, ◌+◌, ◌<◌, ◌≤◌, ◌++◌, ◌∷◌, [], ◌↔◌, length, IsOk, OnOk, OnErr, IfSome, None};
 ghost use Rattle.std.specs.Bool.{OnFalse};
-ghost use Rattle.bridge_play.specs.Play.{with_card, is_over, is_agreed, card_answer, MayBePlayed, claim_answer, with_claim, consent_answer, with_agreement, without_claim, tricks_of, settled_tricks};
+ghost use Rattle.bridge_play.specs.Play.{with_card, is_over, is_agreed, card_answer, MayBePlayed, claim_answer, with_claim, consent_answer, with_agreement, without_claim, tricks_of, settled_tricks, IsClaimIn};
 ghost use Rattle.bridge_play.specs.Claims.{actor_of, dummy_of};
 ghost use Rattle.bridge_play.specs.Trick.{turn_of};
 ghost use Rattle.bridge_play.specs.Legal.{IsLegal, holds};
 ghost use Rattle.bridge_cards.specs.CardSet.{has_card};
 
 use crate::card_play::CardPlay;
-use crate::claim::{Claim, actor, agreed_by, all_agreed, dummy, may_consent, same_seat};
+use crate::claim::{Claim, actor, agreed_by, all_agreed, dummy, may_consent};
 use crate::refused::{CardRefused, ClaimRefused, ConsentRefused};
-use crate::trick::plays_for;
 use bridge_auction::Contract;
 use bridge_cards::{Card, CardSet, Deal, Seat, Side};
 use std::marker::Model;
@@ -23,15 +22,13 @@ pub struct Play {
 }
 
 impl Model for Play {
-    ghost use Rattle.std.specs.Prelude.{◌≡◌, true};
-    ghost use Rattle.bridge_play.specs.Play.{Playing, claim_fits};
-    ghost use Rattle.bridge_play.specs.Legal.{IsLegal};
+    ghost use Rattle.bridge_play.specs.Play.{Playing, with_claims, IsPlay};
 
     ghost Value = { Playing };
 
-    ghost view = { λ p. record { hands = p.card_play.hands; contract = p.card_play.contract; cards = p.card_play.cards; claims = p.claims; claim = p.standing } };
+    ghost view = { λ p. with_claims p.card_play p.claims p.standing };
 
-    ghost invariant = { λ p. IsLegal p.card_play.hands p.card_play.contract p.card_play.cards × (claim_fits p.card_play.cards p.standing ≡ true) };
+    ghost invariant = { λ p. IsPlay (with_claims p.card_play p.claims p.standing) };
 }
 
 impl Play {
@@ -103,7 +100,7 @@ impl Play {
             Err(CardRefused::Over)
         } else if self.standing.is_some() {
             Err(CardRefused::ClaimStands)
-        } else if !same_seat(seat, actor(self.card_play.contract(), hand)) {
+        } else if seat != actor(self.card_play.contract(), hand) {
             Err(CardRefused::NotYourTurn)
         } else if !self.card_play.holds(hand, card) {
             Err(CardRefused::NotHeld)
@@ -132,14 +129,17 @@ impl Play {
 
     /// How many claims were made, 0 to 99.
     pub fn claims(&self) -> u8
-        ensures { result ≡ self.now.claims }
+        ensures claims { result ≡ self.now.claims }
+        ensures most { result ≤ 99 }
     {
         self.claims
     }
 
-    /// The claim that stands or was agreed.
+    /// The claim that stands or was agreed. It was made between tricks, not by dummy, for no more tricks than are left, and
+    /// nobody has agreed to it who is not asked.
     pub fn claim(&self) -> Option<Claim>
-        ensures { result ≡ self.now.claim }
+        ensures claim { result ≡ self.now.claim }
+        ensures regular { IfSome result (IsClaimIn self.now) }
     {
         self.standing
     }
@@ -154,7 +154,7 @@ impl Play {
             Err(ClaimRefused::Over)
         } else if self.standing.is_some() {
             Err(ClaimRefused::ClaimStands)
-        } else if same_seat(seat, dummy(self.card_play.contract())) {
+        } else if seat == dummy(self.card_play.contract()) {
             Err(ClaimRefused::NotYourTurn)
         } else if self.card_play.cards().len() % 4 != 0 {
             Err(ClaimRefused::MidTrick)
@@ -237,7 +237,7 @@ impl Play {
         let played = self.card_play.cards().len() / 4;
         let claimed = match &self.standing {
             Some(claim) if all_agreed(self.card_play.contract(), claim) => {
-                if plays_for(side, claim.claimer) {
+                if claim.claimer.side() == side {
                     claim.tricks
                 } else {
                     13 - played as u8 - claim.tricks

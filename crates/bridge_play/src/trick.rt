@@ -1,7 +1,7 @@
 //! Who wins a trick, and who leads to the next.
 ghost use Rattle.std.specs.Prelude.{◌≡◌, ◌-◌, ◌/◌, ◌<◌, ◌≤◌, length, position};
 ghost use Rattle.bridge_cards.specs.Card.{IsCard};
-ghost use Rattle.bridge_play.specs.Trick.{same_suit, is_trump, beats, is_or_beats, wins, winning_place, leader_of, plays_for, tricks_won};
+ghost use Rattle.bridge_play.specs.Trick.{same_suit, is_trump, beats, is_or_beats, wins, winning_place, leader_of, tricks_won};
 
 use bridge_auction::{Contract, Denomination};
 use bridge_cards::{Card, Seat, Side};
@@ -13,7 +13,7 @@ pub fn same_suit(c: Card, d: Card) -> bool
     // Each is a card of the deck.
     ensures known { IsCard c × IsCard d }
 {
-    c.number() / 13 == d.number() / 13
+    c.suit() == d.suit()
 }
 
 /// Whether the card is a trump.
@@ -66,16 +66,6 @@ fn winning_place(trump: Denomination, trick: &[Card]) -> usize
     winner(trump, trick).unwrap_or(0)
 }
 
-/// Whether the seat plays for that side.
-pub fn plays_for(side: Side, seat: Seat) -> bool
-    ensures { result ≡ plays_for side seat }
-{
-    match side {
-        Side::NorthSouth => seat.number() % 2 == 0,
-        Side::EastWest => seat.number() % 2 == 1,
-    }
-}
-
 /// Who leads to the trick after those cards: after a whole trick its winner, and else the seat that led to the trick of
 /// the last card (Law 44).
 pub fn next_leader(contract: &Contract, cards: &[Card], leader: Seat) -> Seat
@@ -99,7 +89,7 @@ pub fn next_won(contract: &Contract, cards: &[Card], leader: Seat, won: u8) -> u
     requires won { won ≡ tricks_won contract.now cards.now Side.NorthSouth ((length cards.now - 1) / 4) }
     ensures { result ≡ tricks_won contract.now cards.now Side.NorthSouth (length cards.now / 4) }
 {
-    if cards.len() % 4 == 0 && plays_for(Side::NorthSouth, leader) {
+    if cards.len() % 4 == 0 && leader.side() == Side::NorthSouth {
         won + 1
     } else {
         won

@@ -4,8 +4,8 @@ use Rattle.std.specs.Io.BufRead.{strip_last}
 use Rattle.bridge_cards.specs.declared.seat.Seat.{Seat}
 use Rattle.bridge_auction.specs.declared.call.Call.{Call}
 use Rattle.bridge_auction.specs.declared.contract.Contract.{Contract}
-use Rattle.bridge_auction.specs.declared.auction.CallRefused.{CallRefused}
-use Rattle.bridge_auction.specs.declared.auction.CallRefused.TheVariants.{Ended, InsufficientBid, InadmissibleDouble, InadmissibleRedouble}
+use Rattle.bridge_auction.specs.declared.refused.CallRefused.{CallRefused}
+use Rattle.bridge_auction.specs.declared.refused.CallRefused.TheVariants.{Ended, InsufficientBid, InadmissibleDouble, InadmissibleRedouble}
 use Rattle.bridge_auction.specs.Legal.{is_ended, answer_to}
 use Rattle.bridge_auction.specs.Contract.{contract_of}
 use Rattle.table_server.specs.declared.reply.Reply.{Reply}

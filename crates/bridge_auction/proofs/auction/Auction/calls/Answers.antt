@@ -1,4 +1,4 @@
-use Rattle.bridge_auction.proofs.Longest.{legal_length}
+use Rattle.bridge_auction.proofs.LegalLength.{legal_length}
 use Rattle.bridge_auction.proofs.auction.Auction.calls.Goals as goal
 
 pub returns-clause-legal : goal.returns-clause-legal

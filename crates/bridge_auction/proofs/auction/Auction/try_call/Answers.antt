@@ -1,6 +1,6 @@
 use Rattle.std.proofs.Common.{◌≡◌, ◌∷◌, ◌++◌, [], arith, ap, sym, length-append}
 use Rattle.bridge_auction.proofs.Legality.{answers_legal}
-use Rattle.bridge_auction.proofs.Longest.{legal_length}
+use Rattle.bridge_auction.proofs.LegalLength.{legal_length}
 use Rattle.bridge_auction.proofs.auction.Auction.try_call.Goals as goal
 
 pub push-requires : goal.push-requires

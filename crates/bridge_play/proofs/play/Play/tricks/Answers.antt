@@ -1,5 +1,5 @@
-use Rattle.std.proofs.Common.{◌≡◌, ◌≤◌, length, subst, true}
-use Rattle.bridge_play.specs.Play.{Playing, claim_fits}
+use Rattle.std.proofs.Common.{◌≤◌, length, subst}
+use Rattle.bridge_play.specs.Play.{Playing, IsPlay}
 use Rattle.bridge_play.proofs.BothSides.{tricks_of-both}
 use Rattle.bridge_play.proofs.play.Play.tricks.Goals as goal
 
@@ -7,4 +7,4 @@ pub returns-clause-both : goal.returns-clause-both
 returns-clause-both c =
     let few : length c.self.inside.card_play.cards ≤ 52 = rw c.cards.ensures.cards at c.cards.ensures.few in
     tricks_of-both c.args.self.now (subst (λ (p : Playing). length p.cards ≤ 52) c.self.view_is few)
-    (subst (λ (p : Playing). claim_fits p.cards p.claim ≡ true) c.self.view_is c.self.invariant.1)
+    (subst IsPlay c.self.view_is c.self.invariant)

@@ -4,6 +4,7 @@ use Rattle.std.proofs.lemmas.List.{drop-append-le, drop-drop, drop_all}
 use Rattle.std.proofs.lemmas.List.Folds.{list_all-append}
 use Rattle.std.proofs.lemmas.Bool.{cases_lt, leb-true, le-leb}
 use Rattle.std.specs.List.{list_all}
+use Rattle.bridge_cards.specs.EachMayFollow.{may_follow_front}
 use Rattle.bridge_auction.specs.declared.bid.Bid.{Bid as BidType}
 use Rattle.bridge_auction.specs.declared.bid.Denomination.{Denomination}
 use Rattle.bridge_auction.specs.declared.bid.Denomination.TheVariants.{Clubs, Diamonds, Hearts, Spades, NoTrump}
@@ -12,7 +13,6 @@ use Rattle.bridge_auction.specs.declared.call.Call.TheVariants.{Pass, Bid, Doubl
 use Rattle.bridge_auction.specs.Bid.{denomination_number, bid_number, IsBid}
 use Rattle.bridge_auction.specs.Call.{is_pass}
 use Rattle.bridge_auction.specs.Legal.{is_ended, is_below, MayFollow, IsLegal}
-use Rattle.bridge_auction.proofs.Legality.{legal_follows}
 use Rattle.bridge_auction.proofs.LastCall.{last_call, steps_of, last_call-pass, last_call-push, before_double, before_redouble, steps_of_le}
 
 -- What holds of a legal list of calls: `top` is one more than the highest bid's number, or 0 without a bid,
@@ -192,7 +192,7 @@ standing_push calls Redouble s may =
 standing_whole : (front rest : List Call) → Standing front → IsLegal (front ++ rest) → Standing (front ++ rest)
 standing_whole front [] s legal = rw (append-nil front) s
 standing_whole front (call ∷ rest) s legal =
-    let may = legal_follows front call rest legal in
+    let may = may_follow_front MayFollow front call rest legal in
     let joined : front ++ call ∷ rest ≡ (front ++ call ∷ []) ++ rest = sym (append_assoc front (call ∷ []) rest) in
     rw joined (standing_whole (front ++ call ∷ []) rest (standing_push front call s may) (rw joined at legal))
 

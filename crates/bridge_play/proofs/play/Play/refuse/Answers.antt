@@ -1,0 +1,9 @@
+use Rattle.std.proofs.Common.{subst, sym}
+use Rattle.bridge_play.specs.Play.{Playing, IsPlay, without_claim}
+use Rattle.bridge_play.proofs.KeptPlay.{refusal_keeps}
+use Rattle.bridge_play.proofs.play.Play.refuse.Goals as goal
+
+pub invariant_of-self : goal.invariant_of-self
+invariant_of-self c =
+    subst (λ (p : Playing). IsPlay (without_claim p)) (sym c.self.view_is)
+    (refusal_keeps c.args.self.now (subst IsPlay c.self.view_is c.self.invariant))
