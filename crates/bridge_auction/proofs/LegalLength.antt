@@ -2,7 +2,7 @@
 use Rattle.std.proofs.Common.{◌≡◌, ℕ, zero, suc, ◌+◌, ◌-◌, ◌*◌, ◌<◌, ◌≤◌, ◌∙◌, inl, inr, Bool, true, false, ◌&&◌, List, [], ◌∷◌, ◌++◌, length, drop, Some, None, refl, sym, ap, arith, length-append, append_assoc, append-nil}
 use Rattle.std.proofs.lemmas.List.{drop-append-le, drop-drop, drop_all}
 use Rattle.std.proofs.lemmas.List.Folds.{list_all-append}
-use Rattle.std.proofs.lemmas.Bool.{cases_lt, leb-true, le-leb}
+use Rattle.std.proofs.lemmas.Bool.{and_parts, cases_lt, leb-true, le-leb}
 use Rattle.std.specs.List.{list_all}
 use Rattle.bridge_cards.specs.EachMayFollow.{may_follow_front}
 use Rattle.bridge_auction.specs.declared.bid.Bid.{Bid as BidType}
@@ -26,20 +26,11 @@ pub record Standing (calls : List Call) : Type 0 where
   pub begun : top ≡ 0 → (last_call calls ≡ None) × (length calls ≡ passes) × (passes ≤ 4)
   pub going : 0 < top → (passes < length calls) × (passes ≤ 3) × (length calls + 5 ≤ 9 * top + 3 * steps_of (last_call calls) + passes)
 
--- both halves of a test that is true
-and_left : (a b : Bool) → (a && b) ≡ true → a ≡ true
-and_left true b both = refl
-and_left false b both = both
-
-and_right : (a b : Bool) → (a && b) ≡ true → b ≡ true
-and_right true b both = both
-and_right false b both = cc
-
 -- the rest of a list passes where the list does
 list_all-drop : (test : Call → Bool) (n : ℕ) (calls : List Call) → list_all test calls ≡ true → list_all test (drop n calls) ≡ true
 list_all-drop test zero calls all = all
 list_all-drop test (suc n) [] all = refl
-list_all-drop test (suc n) (call ∷ calls) all = list_all-drop test n calls (and_right (test call) (list_all test calls) all)
+list_all-drop test (suc n) (call ∷ calls) all = list_all-drop test n calls (and_parts (test call) (list_all test calls) all).1
 
 -- three passes at the end of four calls end the auction
 three_passes : (calls : List Call) (passes : ℕ) → list_all is_pass (drop (length calls - passes) calls) ≡ true → passes ≤ length calls → 3 ≤ passes → 4 ≤ length calls → is_ended calls ≡ true
@@ -83,8 +74,8 @@ bid_small bid is = omega (arith, is.0, is.1, denomination_small bid.denomination
 all_front : (test : Call → Bool) (calls : List Call) (call : Call) → list_all test (calls ++ call ∷ []) ≡ true → (list_all test calls ≡ true) × (test call ≡ true)
 all_front test calls call all =
     let split : (list_all test calls && (test call && true)) ≡ true = rw (list_all-append test calls (call ∷ [])) at all in (
-      and_left (list_all test calls) (test call && true) split,
-      and_left (test call) true (and_right (list_all test calls) (test call && true) split),
+      (and_parts (list_all test calls) (test call && true) split).0,
+      (and_parts (test call) true (and_parts (list_all test calls) (test call && true) split).1).0,
     )
 
 -- nothing was called yet

@@ -4,7 +4,7 @@ ghost use Rattle.bridge_auction.specs.Bid.{denomination_number, bid_number, IsBi
 use crate::level::Level;
 
 /// What a bid names as trump, from the lowest to the highest (Law 18E).
-#[derive(Clone, Copy, Debug, PartialEq, Eq)]
+#[derive(Clone, Copy, Debug, PartialEq, Eq, PartialOrd, Ord)]
 pub enum Denomination {
     Clubs,
     Diamonds,
@@ -13,8 +13,8 @@ pub enum Denomination {
     NoTrump,
 }
 
-/// A bid: a number of tricks above six, and a denomination (Law 18A).
-#[derive(Clone, Copy, Debug, PartialEq, Eq)]
+/// A bid: a number of tricks above six, and a denomination (Law 18A). Bids are in order by level, then by denomination.
+#[derive(Clone, Copy, Debug, PartialEq, Eq, PartialOrd, Ord)]
 pub struct Bid {
     /// The tricks above six, 1 to 7.
     pub level: Level,

@@ -1,4 +1,4 @@
-//! Looks back over the calls of an auction, from the last one.
+//! What the calls so far say of the next call, and of the contract.
 ghost use Rattle.std.specs.Prelude.{◌≡◌, not, ◌<◌, length, unwrap_or, OnOk};
 ghost use Rattle.std.specs.List.{list_all};
 ghost use Rattle.bridge_auction.specs.Bid.{bid_number, IsBid};
@@ -82,7 +82,7 @@ fn is_sufficient(calls: &[Call], bid: Bid) -> bool
     calls.iter().all(|call| is_below(number, *call))
 }
 
-/// The answer to a call after these, which are a legal list.
+/// The answer to a call after these.
 pub fn answer(calls: &[Call], call: Call) -> Result<(), CallRefused>
     ensures answer { result ≡ answer_to calls.now call }
     ensures known { OnOk result (IsCall call) }

@@ -1,9 +1,8 @@
 -- What follows of the number and the list of a set's cards from which cards it has.
-use Rattle.std.specs.Prelude.{ℕ, ◌≡◌, ◌+◌, ◌<◌, ◌≤◌, Bool, true, false, cond, not, ◌&&◌, ◌||◌, ◌==◌, ◌⊎◌, List, [], ◌∷◌, length, filter, count_by, All, refl}
+use Rattle.std.specs.Prelude.{ℕ, ◌≡◌, ◌+◌, ◌<◌, ◌≤◌, Bool, true, false, cond, not, ◌&&◌, ◌||◌, ◌==◌, ◌⊎◌, List, [], ◌∷◌, length, filter, count_by, refl}
 use Rattle.std.specs.List.{range_with_len}
 use Rattle.std.proofs.Common.{zero, suc, sym, ap, ◌∙◌, arith, inl, inr}
 use Rattle.std.proofs.lemmas.List.Sums.{sum_by-cons, length-filter, count_by-le-length}
-use Rattle.std.proofs.lemmas.List.Elements.{filter_passes}
 use Rattle.std.proofs.lemmas.Bool.{cases_eq, eq-eqb, ne_eqb, and_left, and_right, or_right, cond-true, cond-false}
 use Rattle.bridge_cards.specs.CardSet.{has_card, deck, cards_of, card_count}
 
@@ -51,12 +50,6 @@ count_one card (suc k) a low high = sum_by-cons (λ x. cond (x == card) 1 0) a (
         ∙ ap (λ n. 0 + n) (rest (omega arith) (omega arith))
 
 -- ---- how many cards a set has
-
--- two sets that share no card, together
-pub card_count-union : (a b both : ℕ) → ((card : ℕ) → has_card both card ≡ (has_card a card || has_card b card)) → ((card : ℕ) → (has_card a card && has_card b card) ≡ false)
-    → card_count both ≡ card_count a + card_count b
-unfolding card_count
-card_count-union a b both either apart = count_either (has_card a) (has_card b) (has_card both) either apart deck
 
 -- one card taken from a set
 pub card_count-without : (cards rest card : ℕ) → card < 52 → has_card cards card ≡ true → ((other : ℕ) → has_card rest other ≡ (has_card cards other && not (other == card)))
@@ -139,8 +132,3 @@ pub cards_of-lowest : (cards rest card : ℕ) → card < 52 → has_card cards c
 unfolding cards_of deck
 cards_of-lowest cards rest card inside has lowest without =
     filter_lowest (has_card cards) (has_card rest) card without has lowest 52 0 (omega arith) (omega arith)
-
--- each card of the list is one of the set's
-pub cards_of-has : (cards : ℕ) → All (λ card. has_card cards card ≡ true) (cards_of cards)
-unfolding cards_of
-cards_of-has cards = filter_passes (has_card cards) deck

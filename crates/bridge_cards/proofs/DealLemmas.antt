@@ -65,7 +65,7 @@ agree_in a b suit letters p q card e =
     let same = card_in suit card e in
     ap (has_card a) same ∙ suit_once a b suit letters p q (card % 13 + 2) (omega arith, omega arith) ∙ sym (ap (has_card b) same)
 
--- the four suits of a card
+-- the four numbers below 4
 data Quarter (n : ℕ) : Type 0 where
   first_of : n ≡ 0 → Quarter n
   second_of : n ≡ 1 → Quarter n

@@ -37,7 +37,7 @@ joined_once separator P Q P' Q' text lacks lacks' j k =
       rest' = subst Q' (sym same.1) k.rest;
     }
 
--- what a cut of the text at its first separator gives
+-- what a split of the text at its first separator gives
 pub joined_at : (separator : ℕ) (P Q : List ℕ → Type 0) (text before after : List ℕ) → ((x : List ℕ) → P x → Lacks separator x) → text ≡ before ++ separator ∷ after → Lacks separator before → Joined separator P Q text → P before × Q after
 joined_at separator P Q text before after lacks whole first j =
     let same = parted_once separator j.before j.after before after (lacks j.before j.first) first (sym j.whole ∙ whole) in

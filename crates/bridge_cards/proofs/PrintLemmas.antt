@@ -1,4 +1,4 @@
--- The printed text of a deal: how long it is, and that it states the deal.
+-- The printed text of a suit and of a hand: how long it is, and that it spells them.
 use Rattle.std.proofs.Common.{◌≡◌, ℕ, zero, suc, ◌+◌, ◌≤◌, Bool, true, false, cond, ltb, ◌==◌, ◌⊎◌, inl, inr, List, [], ◌∷◌, ◌++◌, length, refl, sym, ap, ◌∙◌, arith, All, count_by, sum_by, flat_map}
 use Rattle.std.specs.List.{range_with_len}
 use Rattle.std.proofs.lemmas.List.{append_assoc, length-append}

@@ -21,6 +21,10 @@ seat_at places =
 abbrev pub clockwise_from : Seat → ℕ → Seat
 clockwise_from seat places = seat_at (seat_number seat + places)
 
+-- whether two seats are one
+abbrev pub same_seat : Seat → Seat → Bool
+same_seat a b = seat_number a == seat_number b
+
 -- the side that a seat plays for
 abbrev pub side_of : Seat → Side
 side_of North = NorthSouth

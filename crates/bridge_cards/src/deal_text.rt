@@ -11,7 +11,7 @@ use crate::deal::{BadDeal, Deal};
 use crate::rank::Rank;
 use crate::seat::Seat;
 use crate::suit::Suit;
-use crate::text::cut;
+use crate::text::split_once;
 use arrayvec::ArrayString;
 
 #[cfg(test)]
@@ -100,9 +100,9 @@ fn read_four(text: &[u8]) -> Option<[CardSet; 4]>
     ensures sets { IfSome result (All IsCardSet) }
     ensures none { IfNone result ((one two three four : ℕ) → ¬ SpellsFour one two three four text.now) }
 {
-    let (one, rest) = cut(text, b' ')?;
-    let (two, rest) = cut(rest, b' ')?;
-    let (three, four) = cut(rest, b' ')?;
+    let (one, rest) = split_once(text, b' ')?;
+    let (two, rest) = split_once(rest, b' ')?;
+    let (three, four) = split_once(rest, b' ')?;
     Some([
         read_hand(one)?,
         read_hand(two)?,
@@ -117,9 +117,9 @@ fn read_hand(text: &[u8]) -> Option<CardSet>
     ensures set { IfSome result IsCardSet }
     ensures none { IfNone result ((hand : ℕ) → ¬ SpellsHand hand text.now) }
 {
-    let (spades, rest) = cut(text, b'.')?;
-    let (hearts, rest) = cut(rest, b'.')?;
-    let (diamonds, clubs) = cut(rest, b'.')?;
+    let (spades, rest) = split_once(text, b'.')?;
+    let (hearts, rest) = split_once(rest, b'.')?;
+    let (diamonds, clubs) = split_once(rest, b'.')?;
     let spades = read_suit(spades, Suit::Spades)?;
     let hearts = read_suit(hearts, Suit::Hearts)?;
     let diamonds = read_suit(diamonds, Suit::Diamonds)?;

@@ -25,5 +25,5 @@ pub use rank::Rank;
 pub use seat::{Seat, Side};
 pub use shuffle::deal_board;
 pub use suit::Suit;
-pub use text::cut;
+pub use text::split_once;
 pub use vulnerability::Vulnerability;

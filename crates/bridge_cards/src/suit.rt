@@ -3,7 +3,7 @@ ghost use Rattle.bridge_cards.specs.Suit.{suit_number, suit_letter};
 ghost use Rattle.bridge_cards.specs.declared.suit.Suit.{Suit};
 
 /// A suit, from the lowest to the highest (Law 1).
-#[derive(Clone, Copy, Debug, PartialEq, Eq)]
+#[derive(Clone, Copy, Debug, PartialEq, Eq, PartialOrd, Ord)]
 pub enum Suit {
     Clubs,
     Diamonds,

@@ -10,7 +10,7 @@ use crate::limits::{is_between, is_date_form, is_date_within, is_name, stands_in
 use crate::refused::{ConfigFault, ConfigRefused};
 use crate::words::{Five, five_after, inline, is_numeral, value_of, word_after};
 use arrayvec::ArrayString;
-use bridge_cards::cut;
+use bridge_cards::split_once;
 use bridge_movement::{Row, Shape};
 use bridge_score::Scoring;
 
@@ -46,7 +46,7 @@ pub fn has_line(text: &[u8]) -> bool
 fn first_line(text: &[u8]) -> Option<(&[u8], &[u8])>
     ensures { MatchOption result (lines text.now ≡ []) (λ parts. lines text.now ≡ parts.0.now ∷ lines parts.1.now) }
 {
-    match cut(text, b'\n') {
+    match split_once(text, b'\n') {
         Some((line, rest)) => Some((without_return(line), rest)),
         None if text.is_empty() => None,
         None => Some((text, &text[text.len()..])),

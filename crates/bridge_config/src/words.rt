@@ -9,7 +9,7 @@ ghost use Rattle.bridge_config.specs.Words.{view_of_five};
 
 use crate::limits::are_digits;
 use arrayvec::ArrayString;
-use bridge_cards::cut;
+use bridge_cards::split_once;
 
 /// The most bytes that a line may have.
 const LINE_BYTES: usize = 128;
@@ -30,7 +30,7 @@ fn first_word(text: &[u8]) -> Option<(&[u8], &[u8])>
         (spaced_words text.now ≡ text.now ∷ [])
         (λ parts. spaced_words text.now ≡ parts.0.now ∷ spaced_words parts.1.now) }
 {
-    cut(text, b' ')
+    split_once(text, b' ')
 }
 
 /// The text, where it is one word alone.

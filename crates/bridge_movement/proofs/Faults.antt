@@ -1,7 +1,6 @@
 -- Rows of which none has a fault are fair, and rows with one are not.
-use Rattle.std.proofs.Common.{ℕ, ◌≡◌, ◌≢◌, ◌+◌, ◌<◌, ◌≤◌, ◌⊎◌, inl, inr, List, length, slice_index_or, take, subst, sym, ◌∙◌, arith}
+use Rattle.std.proofs.Common.{ℕ, ◌≡◌, ◌+◌, ◌<◌, ◌≤◌, List, length, slice_index_or, take, subst, sym, ◌∙◌, arith}
 use Rattle.std.specs.Prelude.{Any}
-use Rattle.std.proofs.lemmas.Bool.{cases_lt, cases_eq}
 use Rattle.std.proofs.lemmas.List.{get_or_default, get_or-take, length-take-le}
 use Rattle.bridge_movement.specs.declared.refused.MovementRefused.{MovementRefused}
 use Rattle.bridge_movement.specs.declared.refused.MovementRefused.TheVariants.{MissingRow, BadPair, SamePair, BadSet, PairTwice, SetAgain}
@@ -41,13 +40,11 @@ pub fault_is_unfair : (shape : Shape) (rows : List Row) (place : ℕ) (refused :
     IsFirstFault shape rows place refused → IsFair shape rows → ⊥
 fault_is_unfair shape rows place (MissingRow _) fault fair = fault.here nobody
 fault_is_unfair shape rows place (BadPair _) fault fair =
-    let within = fair.pairs place nobody fault.within in
-    elim (fault.here nobody) [ inl above ↦ omega arith | inr above ↦ omega arith ]
+    fault.here nobody (fair.pairs place nobody fault.within)
 fault_is_unfair shape rows place (SamePair _) fault fair =
-    let same = (fault.here nobody).1 in same.1 (fair.opponents place nobody fault.within same.0)
+    (fault.here nobody).1 (fair.opponents place nobody fault.within)
 fault_is_unfair shape rows place (BadSet _) fault fair =
-    let within = fair.sets place nobody fault.within in
-    elim (fault.here nobody).2 [ inl none ↦ omega arith | inr above ↦ omega arith ]
+    (fault.here nobody).2 (fair.sets place nobody fault.within)
 fault_is_unfair shape rows place (PairTwice _) fault fair =
     let within : place < length rows = fault.within in
     let early = some_before _ rows place nobody (omega arith) (fault.here nobody).3 in
@@ -57,30 +54,13 @@ fault_is_unfair shape rows place (SetAgain _) fault fair =
     let early = some_before _ rows place nobody (omega arith) (fault.here nobody).4 in
     fair.new_sets early.0 place nobody early.1 within early.2
 
--- what holds where no bad number is found
-within_from : (a b n : ℕ) → ((n < a) ⊎ (n < b) → ⊥) → (a ≤ n) × (b ≤ n)
-within_from a b n none = (
-  elim (cases_lt n a) [ inl above ↦ absurd (none (inl above)) | inr within ↦ within ],
-  elim (cases_lt n b) [ inl above ↦ absurd (none (inr above)) | inr within ↦ within ],
-)
-
-nobody_from : (a b : ℕ) → ((a ≡ b) × (a ≢ 0) → ⊥) → a ≡ b → a ≡ 0
-nobody_from a b none same =
-    elim (cases_eq a 0) [ inl zero_is ↦ zero_is | inr some ↦ absurd (none (same, some)) ]
-
-set_from : (s n : ℕ) → ((s ≡ 0) ⊎ (n < s) → ⊥) → (1 ≤ s) × (s ≤ n)
-set_from s n none = (
-  elim (cases_eq s 0) [ inl zero_is ↦ absurd (none (inl zero_is)) | inr some ↦ omega arith ],
-  elim (cases_lt n s) [ inl above ↦ absurd (none (inr above)) | inr within ↦ within ],
-)
-
 -- rows of which none has a fault are fair
 pub faultless_is_fair : (shape : Shape) (rows : List Row) →
     ((k : ℕ) → k < length rows → IsFaultlessAt shape rows k) → IsFair shape rows
 faultless_is_fair shape rows none = record {
-  pairs = λ k d h. within_from _ _ _ (none k h d).pairs;
-  opponents = λ k d h. nobody_from _ _ (none k h d).opponents;
-  sets = λ k d h. set_from _ _ (none k h d).set_within;
+  pairs = λ k d h. (none k h d).pairs;
+  opponents = λ k d h. (none k h d).opponents;
+  sets = λ k d h. (none k h d).set_within;
   one_table = λ i j d early h again. (none j h d).one_table (at_before _ rows j i d h early again);
   new_sets = λ i j d early h again. (none j h d).new_set (at_before _ rows j i d h early again);
 }

@@ -20,7 +20,7 @@ mitchell_shape tables = record {
 }
 
 -- how many tables the pairs of East and West have gone on: one after each round, and where the tables are even in
--- number, one more after half of them
+-- number, one more from round T / 2 on
 abbrev pub tables_moved : ℕ → ℕ → ℕ
 tables_moved tables round =
     if tables % 2 == 0 && nat_le (tables / 2) round then round + 1 else round

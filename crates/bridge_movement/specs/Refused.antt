@@ -1,10 +1,10 @@
 -- Why rows are no movement.
-use Rattle.std.specs.Prelude.{ℕ, ◌≡◌, ◌≢◌, ◌⊎◌, ◌+◌, ◌<◌, List, length, slice_index_or, take, Any}
+use Rattle.std.specs.Prelude.{ℕ, ◌≡◌, ◌+◌, ◌<◌, List, length, slice_index_or, take, Any}
 use Rattle.bridge_movement.specs.declared.refused.MovementRefused.{MovementRefused}
 use Rattle.bridge_movement.specs.declared.refused.MovementRefused.TheVariants.{MissingRow, BadPair, SamePair, BadSet, PairTwice, SetAgain}
 use Rattle.bridge_movement.specs.declared.row.Row.{Row}
 use Rattle.bridge_movement.specs.declared.shape.Shape.{Shape}
-use Rattle.bridge_movement.specs.Fair.{IsInPlace, IsComplete}
+use Rattle.bridge_movement.specs.Fair.{IsInPlace, IsComplete, HasPairsWithin, HasTwoPairs, HasSetWithin}
 use Rattle.bridge_movement.specs.Row.{SeatPairTwice, PlaySetAgain}
 
 -- the least place at which the row due does not stand, of rows that are not complete and in order
@@ -12,18 +12,6 @@ pub record IsFirstMisplaced (shape : Shape) (rows : List Row) (place : ℕ) : Ty
   pub incomplete : ¬ IsComplete shape rows
   pub here : ¬ IsInPlace shape rows place
   pub before : (k : ℕ) → k < place → IsInPlace shape rows k
-
--- the number of a pair is above the number of pairs
-abbrev pub HasBadPair : Shape → Row → Type 0
-HasBadPair shape row = (shape.pairs < row.ns) ⊎ (shape.pairs < row.ew)
-
--- a pair meets itself
-abbrev pub HasSamePair : Row → Type 0
-HasSamePair row = (row.ns ≡ row.ew) × (row.ns ≢ 0)
-
--- the set is 0, or above the number of sets
-abbrev pub HasBadSet : Shape → Row → Type 0
-HasBadSet shape row = (row.set ≡ 0) ⊎ (shape.sets < row.set)
 
 -- a pair of the row stands in an earlier row of its round
 abbrev pub HasPairTwice : List Row → Row → Type 0
@@ -35,22 +23,22 @@ HasSetAgain earlier row = Any (λ a. PlaySetAgain a row) earlier
 
 -- a row after the earlier ones has no fault
 pub record IsFaultless (shape : Shape) (earlier : List Row) (row : Row) : Type 0 where
-  pub pairs : ¬ HasBadPair shape row
-  pub opponents : ¬ HasSamePair row
-  pub set_within : ¬ HasBadSet shape row
+  pub pairs : HasPairsWithin shape row
+  pub opponents : HasTwoPairs row
+  pub set_within : HasSetWithin shape row
   pub one_table : ¬ HasPairTwice earlier row
   pub new_set : ¬ HasSetAgain earlier row
 
 -- the fault of a row after the earlier ones: the first that it has
 abbrev pub IsFaultOf : Shape → List Row → Row → MovementRefused → Type 0
 IsFaultOf shape earlier row (MissingRow _) = ⊥
-IsFaultOf shape earlier row (BadPair _) = HasBadPair shape row
-IsFaultOf shape earlier row (SamePair _) = (¬ HasBadPair shape row) × HasSamePair row
-IsFaultOf shape earlier row (BadSet _) = (¬ HasBadPair shape row) × (¬ HasSamePair row) × HasBadSet shape row
+IsFaultOf shape earlier row (BadPair _) = ¬ HasPairsWithin shape row
+IsFaultOf shape earlier row (SamePair _) = HasPairsWithin shape row × (¬ HasTwoPairs row)
+IsFaultOf shape earlier row (BadSet _) = HasPairsWithin shape row × HasTwoPairs row × (¬ HasSetWithin shape row)
 IsFaultOf shape earlier row (PairTwice _) =
-    (¬ HasBadPair shape row) × (¬ HasSamePair row) × (¬ HasBadSet shape row) × HasPairTwice earlier row
+    HasPairsWithin shape row × HasTwoPairs row × HasSetWithin shape row × HasPairTwice earlier row
 IsFaultOf shape earlier row (SetAgain _) =
-    (¬ HasBadPair shape row) × (¬ HasSamePair row) × (¬ HasBadSet shape row) × (¬ HasPairTwice earlier row)
+    HasPairsWithin shape row × HasTwoPairs row × HasSetWithin shape row × (¬ HasPairTwice earlier row)
     × HasSetAgain earlier row
 
 -- the place that a refusal names, from 1

@@ -20,7 +20,8 @@ pub(crate) fn shape_of(tables: u8) -> Shape
 }
 
 /// How many tables the pairs of East and West have gone on by the round, from 0: one after each round, and where the
-/// tables are even in number one more after half of them, since they would meet the sets of the first half again.
+/// tables are even in number one more from round `tables / 2` on, since they would meet the sets of the earlier rounds
+/// again.
 fn tables_moved(tables: u8, round: u8) -> u8
     requires least { 2 ≤ tables }
     requires most { tables ≤ 12 }

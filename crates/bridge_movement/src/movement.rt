@@ -48,7 +48,7 @@ fn inline_rows(rows: &[Row]) -> ArrayVec<Row, 144>
 impl Movement {
     /// The Mitchell movement of 2 to 12 tables. North and South stay, East and West go to the next higher table after
     /// each round, and the sets go to the next lower. Where the tables are even in number, East and West skip a table
-    /// after half of them, and there is one round less.
+    /// after as many rounds as half the tables, and there is one round less.
     pub fn mitchell(tables: u8) -> Movement
         requires least { 2 ≤ tables }
         requires most { tables ≤ 12 }

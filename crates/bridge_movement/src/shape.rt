@@ -29,7 +29,7 @@ impl Shape {
     }
 
     /// The number of rows that a movement of this shape has: one for each table in each round.
-    pub(crate) fn row_count(self) -> usize
+    pub fn row_count(self) -> usize
         requires { IsShape self }
         ensures count { result ≡ row_count self }
         ensures most { result ≤ 144 }

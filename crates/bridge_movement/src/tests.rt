@@ -288,6 +288,7 @@ fn small_movements_are_taken_where_they_are_fair(rt: HostRuntime) {
             taken += 1;
         }
     }
-    // as a program in Python counts them, from the same definition
+    // Counted apart from this crate: of the 14 rows that have no pair against itself, the lists of four in which no pair
+    // is twice in a round and none has a set twice in live rows.
     assert_eq!(rt; taken, 6928);
 }

@@ -1,15 +1,14 @@
 -- The cards that a hand still holds.
 use Rattle.std.proofs.Common.{◌≡◌, ◌<◌, ◌/◌, ℕ, Bool, true, false, not, ◌&&◌, ◌||◌, ◌==◌, cond, List, [], ◌∷◌, ◌++◌, filter, refl, sym, ap, ◌∙◌, arith, zero-add, MatchBool, IsTrue}
 use Rattle.std.specs.List.{list_any, range_with_len}
-use Rattle.std.proofs.lemmas.Bool.{eqb-true}
-use Rattle.std.proofs.lemmas.List.Folds.{list_any-append, list_any_at}
+use Rattle.std.proofs.lemmas.Bool.{eqb-true, and_parts}
+use Rattle.std.proofs.lemmas.List.Folds.{list_any-append, list_any_at, list_any_none}
 use Rattle.std.proofs.lemmas.List.FromFn.{length-range_with_len, get_or-range_with_len}
 use Rattle.bridge_cards.specs.declared.seat.Seat.{Seat}
 use Rattle.bridge_cards.specs.Suit.{suit_number, suit_at}
-use Rattle.bridge_cards.specs.Card.{card_suit}
+use Rattle.bridge_cards.specs.Card.{same_suit, card_suit}
 use Rattle.bridge_cards.specs.CardSet.{has_card, cards_of, deck, is_of_suit}
 use Rattle.bridge_cards.specs.Deal.{hand_at}
-use Rattle.bridge_play.specs.Trick.{same_suit}
 use Rattle.bridge_play.specs.Legal.{was_played, holds, holds_suit}
 
 -- held, and neither played before nor now
@@ -24,11 +23,6 @@ pub holds-push : (hands cards : List ℕ) (seat : Seat) (card other : ℕ) → h
 holds-push hands cards seat card other =
     ap (λ played. has_card (hand_at hands seat) other && not played) (list_any-append (λ c. other == c) cards (card ∷ []))
     ∙ held_still (has_card (hand_at hands seat) other) (was_played cards other) (other == card)
-
--- no element passes a test that nothing passes
-any_none : (p : ℕ → Bool) (xs : List ℕ) → ((x : ℕ) → p x ≡ false) → list_any p xs ≡ false
-any_none p [] none = refl
-any_none p (x ∷ xs) none = rw (none x) (any_none p xs none)
 
 -- one element more, which is kept or not
 any_kept : (p : ℕ → Bool) (keep : Bool) (x : ℕ) (kept : List ℕ) (rest : Bool) → list_any p kept ≡ rest → list_any p (cond keep (x ∷ kept) kept) ≡ ((keep && p x) || rest)
@@ -52,7 +46,7 @@ any_card set p card inside passes =
 no_card : (set : ℕ) (p : ℕ → Bool) → ((card : ℕ) → (has_card set card && p card) ≡ false) → list_any p (cards_of set) ≡ false
 unfolding cards_of deck
 no_card set p none =
-    any-filter p (has_card set) (range_with_len 0 52) ∙ any_none (λ x. has_card set x && p x) (range_with_len 0 52) none
+    any-filter p (has_card set) (range_with_len 0 52) ∙ list_any_none (λ x. has_card set x && p x) (range_with_len 0 52) (λ k d within. none _)
 
 -- the order of three tests
 of_suit_and_held : (dealt played suited : Bool) → (dealt && (suited && not played)) ≡ ((dealt && not played) && suited)
@@ -68,11 +62,6 @@ suit_number-at place inside = grind arith
 
 is_of_suit-card_suit : (led card : ℕ) → led < 52 → is_of_suit (card_suit led) card ≡ same_suit card led
 is_of_suit-card_suit led card inside = ap (λ n. card / 13 == n) (suit_number-at (led / 13) (omega arith))
-
--- of two tests that pass together each passes
-both_pass : (a b : Bool) → (a && b) ≡ true → b ≡ true
-both_pass true b passes = passes
-both_pass false b passes = cc
 
 -- a hand holds a card of a suit where the cards that are left to it have one
 pub holds_suit_by : (hands cards : List ℕ) (seat : Seat) (led left suited : ℕ) (empty : Bool) → led < 52 → ((card : ℕ) → has_card left card ≡ holds hands cards seat card) → ((card : ℕ) → has_card suited card ≡ (has_card left card && is_of_suit (card_suit led) card)) → MatchBool empty ((card : ℕ) → has_card suited card ≡ false) ((card : ℕ) × IsTrue (has_card suited card)) → not empty ≡ holds_suit hands cards seat led
@@ -92,6 +81,6 @@ holds_suit_by hands cards seat led left suited empty inside left_of suit_of case
     by_cases true none =
         sym (no_card (hand_at hands seat) (λ card. same_suit card led && not (was_played cards card)) (λ card. is_wanted card ∙ none card))
     by_cases false some =
-        let same = both_pass (holds hands cards seat some.0) (same_suit some.0 led) (sym (in_suit some.0) ∙ some.1) in
+        let same = (and_parts (holds hands cards seat some.0) (same_suit some.0 led) (sym (in_suit some.0) ∙ some.1)).1 in
         let suits : some.0 / 13 ≡ led / 13 = eqb-true (some.0 / 13) (led / 13) same in
         sym (any_card (hand_at hands seat) (λ card. same_suit card led && not (was_played cards card)) some.0 (omega arith) (is_wanted some.0 ∙ some.1))

@@ -7,13 +7,14 @@ use Rattle.std.proofs.lemmas.Bool.Decides.{nat_tests}
 use Rattle.std.specs.Option.{option_map}
 use Rattle.bridge_cards.specs.declared.seat.Seat.{Seat}
 use Rattle.bridge_cards.specs.declared.seat.Seat.TheVariants.{North, East, South, West}
-use Rattle.bridge_cards.specs.Seat.{seat_number}
+use Rattle.bridge_cards.specs.Seat.{seat_number, same_seat}
 use Rattle.bridge_auction.specs.declared.contract.Contract.{Contract}
 use Rattle.bridge_play.specs.declared.claim.Claim.{Claim}
 use Rattle.bridge_play.specs.declared.refused.ClaimRefused.TheVariants.{Over, ClaimStands, NotYourTurn, MidTrick, TooManyTricks, ClaimsSpent}
 use Rattle.bridge_play.specs.declared.refused.ConsentRefused.{ConsentRefused}
 use Rattle.bridge_play.specs.declared.refused.ConsentRefused.TheVariants.{NoClaim, NotAsked, Stale}
-use Rattle.bridge_play.specs.Claims.{same_seat, dummy_of, is_asked, has_agreed, all_agreed, consent_to, with_agreed}
+use Rattle.bridge_play.specs.Dummy.{dummy_of}
+use Rattle.bridge_play.specs.Claims.{is_asked, has_agreed, all_agreed, consent_to, with_agreed}
 use Rattle.bridge_play.specs.Play.{Playing, IsPlay, IsClaimIn, with_card, with_claim, with_agreement, without_claim, is_over, is_agreed, card_answer, claim_answer, consent_answer, consent_if}
 use Rattle.bridge_play.proofs.Seats.{same_seat-eq, same_seat-self}
 use Rattle.bridge_play.proofs.Legality.{card_legal, card_unclaimed}

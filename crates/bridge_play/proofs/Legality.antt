@@ -6,7 +6,8 @@ use Rattle.bridge_cards.specs.EachMayFollow.{may_follow_front, each_may_follow-p
 use Rattle.bridge_play.specs.declared.refused.CardRefused.{CardRefused}
 use Rattle.bridge_play.specs.declared.refused.CardRefused.TheVariants.{Over, ClaimStands, NotYourTurn, NotHeld, MustFollow}
 use Rattle.bridge_play.specs.Trick.{turn_of}
-use Rattle.bridge_play.specs.Claims.{same_seat, actor_of}
+use Rattle.bridge_cards.specs.Seat.{same_seat}
+use Rattle.bridge_play.specs.Dummy.{actor_of}
 use Rattle.bridge_play.specs.Legal.{holds, follows, MayPlay, IsLegal}
 use Rattle.bridge_play.specs.Play.{Playing, is_over, card_answer, MayBePlayed}
 use Rattle.bridge_play.proofs.Seats.{same_seat-eq, same_seat-self}

@@ -3,9 +3,9 @@ use Rattle.std.proofs.Common.{◌≡◌, ◌≢◌, ◌∙◌, Bool, true, false
 use Rattle.std.proofs.lemmas.Bool.{eqb-true}
 use Rattle.bridge_cards.specs.declared.seat.Seat.{Seat}
 use Rattle.bridge_cards.specs.declared.seat.Seat.TheVariants.{North, East, South, West}
-use Rattle.bridge_cards.specs.Seat.{seat_number, seat_at, clockwise_from}
+use Rattle.bridge_cards.specs.Seat.{same_seat, seat_number, seat_at, clockwise_from}
 use Rattle.bridge_auction.specs.declared.contract.Contract.{Contract}
-use Rattle.bridge_play.specs.Claims.{same_seat, dummy_of, actor_of}
+use Rattle.bridge_play.specs.Dummy.{dummy_of, actor_of}
 
 -- a seat is known by its number
 seat_at-number : (seat : Seat) → seat_at (seat_number seat) ≡ seat

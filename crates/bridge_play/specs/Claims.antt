@@ -1,24 +1,12 @@
 -- Claims (Law 68): who is asked, and when a claim is agreed.
-use Rattle.std.specs.Prelude.{Bool, true, false, not, ◌&&◌, ◌||◌, ◌==◌, if◌then◌else◌, slice_index_or, slice_set, Result, Ok, Err}
+use Rattle.std.specs.Prelude.{Bool, true, false, not, ◌&&◌, ◌||◌, if◌then◌else◌, slice_index_or, slice_set, Result, Ok, Err}
 use Rattle.bridge_cards.specs.declared.seat.Seat.{Seat}
 use Rattle.bridge_cards.specs.declared.seat.Seat.TheVariants.{North, East, South, West}
-use Rattle.bridge_cards.specs.Seat.{seat_number, clockwise_from, side_of, same_side}
+use Rattle.bridge_cards.specs.Seat.{seat_number, same_seat, side_of, same_side}
 use Rattle.bridge_auction.specs.declared.contract.Contract.{Contract}
 use Rattle.bridge_play.specs.declared.claim.Claim.{Claim}
 use Rattle.bridge_play.specs.declared.refused.ConsentRefused.{ConsentRefused}
 use Rattle.bridge_play.specs.declared.refused.ConsentRefused.TheVariants.{NoClaim, NotAsked}
-
--- whether two seats are one
-abbrev pub same_seat : Seat → Seat → Bool
-same_seat a b = seat_number a == seat_number b
-
--- declarer's partner
-abbrev pub dummy_of : Contract → Seat
-dummy_of contract = clockwise_from contract.declarer 2
-
--- who plays the cards of a hand: declarer plays dummy's
-abbrev pub actor_of : Contract → Seat → Seat
-actor_of contract hand = if same_seat hand (dummy_of contract) then contract.declarer else hand
 
 -- declarer's claim asks both defenders, and a defender's claim asks declarer
 abbrev pub is_asked : Contract → Seat → Seat → Bool
@@ -30,19 +18,19 @@ abbrev pub has_agreed : Claim → Seat → Bool
 has_agreed claim seat = slice_index_or claim.agreed (seat_number seat) false
 
 -- whether the seat is not asked, or has agreed
-abbrev pub is_content : Contract → Claim → Seat → Bool
-is_content contract claim seat = not (is_asked contract claim.claimer seat) || has_agreed claim seat
+abbrev pub needs_no_answer : Contract → Claim → Seat → Bool
+needs_no_answer contract claim seat = not (is_asked contract claim.claimer seat) || has_agreed claim seat
 
 -- all who are asked have agreed
 abbrev pub all_agreed : Contract → Claim → Bool
 all_agreed contract claim =
-    is_content contract claim North && (is_content contract claim East
-    && (is_content contract claim South && is_content contract claim West))
+    needs_no_answer contract claim North && (needs_no_answer contract claim East
+    && (needs_no_answer contract claim South && needs_no_answer contract claim West))
 
 -- the answer to a player who agrees to that claim, or refuses it
 abbrev pub consent_to : Contract → Claim → Seat → Result (Unit {0}) ConsentRefused
 consent_to contract claim seat =
-    if all_agreed contract claim then Err NoClaim else if is_content contract claim seat then Err NotAsked else Ok tt
+    if all_agreed contract claim then Err NoClaim else if needs_no_answer contract claim seat then Err NotAsked else Ok tt
 
 -- the claim, to which the seat has agreed too
 abbrev pub with_agreed : Seat → Claim → Claim

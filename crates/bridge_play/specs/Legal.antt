@@ -3,10 +3,11 @@ use Rattle.std.specs.Prelude.{◌≡◌, ℕ, ◌*◌, ◌/◌, ◌%◌, Bool, t
 use Rattle.std.specs.List.{list_any}
 use Rattle.bridge_cards.specs.declared.seat.Seat.{Seat}
 use Rattle.bridge_cards.specs.EachMayFollow.{EachMayFollow}
+use Rattle.bridge_cards.specs.Card.{same_suit}
 use Rattle.bridge_cards.specs.CardSet.{has_card, cards_of}
 use Rattle.bridge_cards.specs.Deal.{hand_at}
 use Rattle.bridge_auction.specs.declared.contract.Contract.{Contract}
-use Rattle.bridge_play.specs.Trick.{same_suit, turn_of}
+use Rattle.bridge_play.specs.Trick.{turn_of}
 
 -- whether the card stands in the list
 abbrev pub was_played : List ℕ → ℕ → Bool

@@ -1,5 +1,6 @@
 pub mod Trick
 pub mod Legal
 pub mod CardPlay
+pub mod Dummy
 pub mod Claims
 pub mod Play

@@ -1,8 +1,9 @@
--- What a contract sees of a play, and the answer to a card.
+-- What a contract sees of a play; the answers to a card, a claim and a player who is asked; and the tricks of each side.
 use Rattle.std.specs.Prelude.{◌≡◌, ◌≢◌, ℕ, ◌+◌, ◌-◌, ◌/◌, ◌%◌, ◌<◌, ◌≤◌, nat_lt, nat_le, Bool, true, false, not, ◌||◌, ◌==◌, if◌then◌else◌, List, [], ◌∷◌, ◌++◌, length, Option, Some, None, IsNone, IfSome, is_some, Result, Ok, Err}
 use Rattle.std.specs.Option.{option_map, option_map_or}
 use Rattle.bridge_cards.specs.declared.seat.Seat.{Seat}
 use Rattle.bridge_cards.specs.declared.seat.Side.{Side}
+use Rattle.bridge_cards.specs.Seat.{same_seat}
 use Rattle.bridge_auction.specs.declared.contract.Contract.{Contract}
 use Rattle.bridge_play.specs.declared.claim.Claim.{Claim}
 use Rattle.bridge_play.specs.declared.refused.CardRefused.{CardRefused}
@@ -14,7 +15,8 @@ use Rattle.bridge_play.specs.declared.refused.ConsentRefused.TheVariants as cons
 use Rattle.bridge_play.specs.Trick.{turn_of, plays_for, tricks_won}
 use Rattle.bridge_play.specs.Legal.{holds, follows, IsLegal}
 use Rattle.bridge_play.specs.CardPlay.{PlayedCards}
-use Rattle.bridge_play.specs.Claims.{same_seat, actor_of, dummy_of, is_asked, has_agreed, all_agreed, consent_to, with_agreed}
+use Rattle.bridge_play.specs.Dummy.{dummy_of, actor_of}
+use Rattle.bridge_play.specs.Claims.{is_asked, has_agreed, all_agreed, consent_to, with_agreed}
 
 -- the dealt hands, the contract, the cards so far, how many claims were made, and the claim that stands or was agreed
 pub record Playing : Type 0 where
@@ -111,7 +113,7 @@ pub record IsClaimIn (play : Playing) (claim : Claim) : Type 0 where
   pub within : length play.cards / 4 + claim.tricks ≤ 13
   pub asked : (seat : Seat) → has_agreed claim seat ≡ true → is_asked play.contract claim.claimer seat ≡ true
 
--- what each play is: its cards are a legal list, and at most 99 claims were made
+-- what each play is: a legal list of cards, at most 99 claims, and a claim that was made by the rules, if there is one
 pub record IsPlay (play : Playing) : Type 0 where
   pub legal : IsLegal play.hands play.contract play.cards
   pub few : play.claims ≤ 99

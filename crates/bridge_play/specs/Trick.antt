@@ -3,18 +3,11 @@ use Rattle.std.specs.Prelude.{ℕ, zero, suc, ◌+◌, ◌*◌, ◌/◌, ◌%◌
 use Rattle.std.specs.List.{list_all}
 use Rattle.bridge_cards.specs.declared.seat.Seat.{Seat}
 use Rattle.bridge_cards.specs.declared.seat.Side.{Side}
+use Rattle.bridge_cards.specs.Card.{suit_number_of, same_suit}
 use Rattle.bridge_cards.specs.Seat.{clockwise_from, side_of, same_side}
 use Rattle.bridge_auction.specs.declared.bid.Denomination.{Denomination}
 use Rattle.bridge_auction.specs.declared.contract.Contract.{Contract}
 use Rattle.bridge_auction.specs.Bid.{denomination_number}
-
--- the place of a card's suit in the order of the suits
-abbrev pub suit_number_of : ℕ → ℕ
-suit_number_of card = card / 13
-
--- whether two cards are of one suit
-abbrev pub same_suit : ℕ → ℕ → Bool
-same_suit c d = suit_number_of c == suit_number_of d
 
 -- whether the card is a trump; no card is where the denomination is no trump
 abbrev pub is_trump : Denomination → ℕ → Bool
@@ -36,7 +29,7 @@ is_or_beats trump led c d = c == d || beats trump led c d
 abbrev pub wins : Denomination → List ℕ → ℕ → Bool
 wins trump trick card = list_all (is_or_beats trump (slice_index trick 0) card) trick
 
--- the place in the trick of the card that beats the others
+-- the place in the trick of the card that beats the others; of different cards one does
 abbrev pub winning_place : Denomination → List ℕ → ℕ
 winning_place trump trick = unwrap_or (position (wins trump trick) trick) 0
 

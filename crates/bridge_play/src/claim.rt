@@ -1,5 +1,5 @@
 ghost use Rattle.std.specs.Prelude.{◌≡◌};
-ghost use Rattle.bridge_play.specs.Claims.{actor_of, dummy_of, is_asked, has_agreed, is_content, all_agreed, consent_to, with_agreed};
+ghost use Rattle.bridge_play.specs.Claims.{is_asked, has_agreed, needs_no_answer, all_agreed, consent_to, with_agreed};
 ghost use Rattle.std.specs.Option.{option_map};
 
 use crate::refused::ConsentRefused;
@@ -15,24 +15,6 @@ pub struct Claim {
     pub tricks: u8,
     /// Who has agreed, by the seat's number.
     pub agreed: [bool; 4],
-}
-
-/// Declarer's partner.
-pub(crate) fn dummy(contract: &Contract) -> Seat
-    ensures { result ≡ dummy_of contract.now }
-{
-    contract.declarer.clockwise(2)
-}
-
-/// Who plays the cards of a hand: declarer plays dummy's (Law 45).
-pub(crate) fn actor(contract: &Contract, hand: Seat) -> Seat
-    ensures { result ≡ actor_of contract.now hand }
-{
-    if hand == dummy(contract) {
-        contract.declarer
-    } else {
-        hand
-    }
 }
 
 /// Whether a claim by that seat asks this one.
@@ -53,11 +35,24 @@ impl Claim {
     {
         self.agreed[usize::from(seat.number())]
     }
+
+    /// The claim, to which the seat has agreed too.
+    fn with_agreed(self, seat: Seat) -> Claim
+        ensures { result ≡ with_agreed seat self }
+    {
+        let mut agreed = self.agreed;
+        agreed[usize::from(seat.number())] = true;
+        Claim {
+            claimer: self.claimer,
+            tricks: self.tricks,
+            agreed,
+        }
+    }
 }
 
 /// Whether the seat is not asked, or has agreed.
-fn is_content(contract: &Contract, claim: &Claim, seat: Seat) -> bool
-    ensures { result ≡ is_content contract.now claim.now seat }
+fn needs_no_answer(contract: &Contract, claim: &Claim, seat: Seat) -> bool
+    ensures { result ≡ needs_no_answer contract.now claim.now seat }
 {
     !is_asked(contract, claim.claimer, seat) || claim.has_agreed(seat)
 }
@@ -66,14 +61,14 @@ fn is_content(contract: &Contract, claim: &Claim, seat: Seat) -> bool
 pub(crate) fn all_agreed(contract: &Contract, claim: &Claim) -> bool
     ensures { result ≡ all_agreed contract.now claim.now }
 {
-    is_content(contract, claim, Seat::North)
-        && is_content(contract, claim, Seat::East)
-        && is_content(contract, claim, Seat::South)
-        && is_content(contract, claim, Seat::West)
+    needs_no_answer(contract, claim, Seat::North)
+        && needs_no_answer(contract, claim, Seat::East)
+        && needs_no_answer(contract, claim, Seat::South)
+        && needs_no_answer(contract, claim, Seat::West)
 }
 
 /// The answer to a player who agrees to that claim, or refuses it.
-pub(crate) fn may_consent(
+pub(crate) fn consent_to(
     contract: &Contract,
     claim: &Claim,
     seat: Seat,
@@ -82,27 +77,16 @@ pub(crate) fn may_consent(
 {
     if all_agreed(contract, claim) {
         Err(ConsentRefused::NoClaim)
-    } else if is_content(contract, claim, seat) {
+    } else if needs_no_answer(contract, claim, seat) {
         Err(ConsentRefused::NotAsked)
     } else {
         Ok(())
     }
 }
 
-/// The claim, to which the seat has agreed too.
+/// The claim, if there is one, to which the seat has agreed too.
 pub(crate) fn agreed_by(claim: Option<Claim>, seat: Seat) -> Option<Claim>
     ensures { result ≡ option_map (with_agreed seat) claim }
 {
-    match claim {
-        Some(claim) => {
-            let mut agreed = claim.agreed;
-            agreed[usize::from(seat.number())] = true;
-            Some(Claim {
-                claimer: claim.claimer,
-                tricks: claim.tricks,
-                agreed,
-            })
-        }
-        None => None,
-    }
+    claim.map(|claim| claim.with_agreed(seat))
 }

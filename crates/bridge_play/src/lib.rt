@@ -9,6 +9,7 @@
 
 mod card_play;
 pub mod claim;
+mod dummy;
 pub mod play;
 pub mod refused;
 #[cfg(test)]

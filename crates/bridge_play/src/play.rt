@@ -1,13 +1,14 @@
 ghost use Rattle.std.specs.Prelude.{◌≡◌, ◌≢◌, ℕ, ◌+◌, ◌<◌, ◌≤◌, ◌++◌, ◌∷◌, [], ◌↔◌, length, IsOk, OnOk, OnErr, IfSome, None};
 ghost use Rattle.std.specs.Bool.{OnFalse};
 ghost use Rattle.bridge_play.specs.Play.{with_card, is_over, is_agreed, card_answer, MayBePlayed, claim_answer, with_claim, consent_answer, with_agreement, without_claim, tricks_of, settled_tricks, IsClaimIn};
-ghost use Rattle.bridge_play.specs.Claims.{actor_of, dummy_of};
+ghost use Rattle.bridge_play.specs.Dummy.{actor_of, dummy_of};
 ghost use Rattle.bridge_play.specs.Trick.{turn_of};
 ghost use Rattle.bridge_play.specs.Legal.{IsLegal, holds};
 ghost use Rattle.bridge_cards.specs.CardSet.{has_card};
 
 use crate::card_play::CardPlay;
-use crate::claim::{Claim, actor, agreed_by, all_agreed, dummy, may_consent};
+use crate::claim::{Claim, agreed_by, all_agreed, consent_to};
+use crate::dummy::{actor, dummy};
 use crate::refused::{CardRefused, ClaimRefused, ConsentRefused};
 use bridge_auction::Contract;
 use bridge_cards::{Card, CardSet, Deal, Seat, Side};
@@ -18,7 +19,7 @@ use std::marker::Model;
 pub struct Play {
     card_play: CardPlay,
     claims: u8,
-    standing: Option<Claim>,
+    claim: Option<Claim>,
 }
 
 impl Model for Play {
@@ -26,9 +27,9 @@ impl Model for Play {
 
     ghost Value = { Playing };
 
-    ghost view = { λ p. with_claims p.card_play p.claims p.standing };
+    ghost view = { λ p. with_claims p.card_play p.claims p.claim };
 
-    ghost invariant = { λ p. IsPlay (with_claims p.card_play p.claims p.standing) };
+    ghost invariant = { λ p. IsPlay (with_claims p.card_play p.claims p.claim) };
 }
 
 impl Play {
@@ -43,7 +44,7 @@ impl Play {
         Play {
             card_play: CardPlay::new(deal, contract),
             claims: 0,
-            standing: None,
+            claim: None,
         }
     }
 
@@ -84,21 +85,21 @@ impl Play {
     fn is_agreed(&self) -> bool
         ensures { result ≡ is_agreed self.now }
     {
-        match &self.standing {
+        match &self.claim {
             Some(claim) => all_agreed(self.card_play.contract(), claim),
             None => false,
         }
     }
 
     /// The answer to a card by a player.
-    fn answer(&self, seat: Seat, card: Card) -> Result<(), CardRefused>
+    fn card_answer(&self, seat: Seat, card: Card) -> Result<(), CardRefused>
         ensures answer { result ≡ card_answer self.now seat card }
         ensures room { OnOk result (length self.now.cards < 52) }
     {
         let hand = self.turn();
         if self.is_over() {
             Err(CardRefused::Over)
-        } else if self.standing.is_some() {
+        } else if self.claim.is_some() {
             Err(CardRefused::ClaimStands)
         } else if seat != actor(self.card_play.contract(), hand) {
             Err(CardRefused::NotYourTurn)
@@ -120,7 +121,7 @@ impl Play {
         ensures refused { OnErr result (self.new ≡ self.old) }
     {
         let played = card;
-        let answer = self.answer(seat, card);
+        let answer = self.card_answer(seat, card);
         if answer.is_ok() {
             self.card_play.push(played);
         }
@@ -141,7 +142,7 @@ impl Play {
         ensures claim { result ≡ self.now.claim }
         ensures regular { IfSome result (IsClaimIn self.now) }
     {
-        self.standing
+        self.claim
     }
 
     /// The answer to a claim of that many of the tricks left by a player.
@@ -152,7 +153,7 @@ impl Play {
         let tricks_played = self.card_play.cards().len() / 4;
         if self.is_over() {
             Err(ClaimRefused::Over)
-        } else if self.standing.is_some() {
+        } else if self.claim.is_some() {
             Err(ClaimRefused::ClaimStands)
         } else if seat == dummy(self.card_play.contract()) {
             Err(ClaimRefused::NotYourTurn)
@@ -177,7 +178,7 @@ impl Play {
         let answer = self.claim_answer(seat, tricks);
         if answer.is_ok() {
             self.claims += 1;
-            self.standing = Some(Claim {
+            self.claim = Some(Claim {
                 claimer: seat,
                 tricks,
                 agreed: [false; 4],
@@ -193,9 +194,9 @@ impl Play {
         if number != self.claims {
             return Err(ConsentRefused::Stale);
         }
-        match &self.standing {
+        match &self.claim {
             None => Err(ConsentRefused::NoClaim),
-            Some(claim) => may_consent(self.card_play.contract(), claim, seat),
+            Some(claim) => consent_to(self.card_play.contract(), claim, seat),
         }
     }
 
@@ -208,7 +209,7 @@ impl Play {
     {
         let answer = self.consent_answer(seat, number);
         if answer.is_ok() {
-            self.standing = agreed_by(self.standing, seat);
+            self.claim = agreed_by(self.claim, seat);
         }
         answer
     }
@@ -221,7 +222,7 @@ impl Play {
     {
         let answer = self.consent_answer(seat, number);
         if answer.is_ok() {
-            self.standing = None;
+            self.claim = None;
         }
         answer
     }
@@ -234,13 +235,13 @@ impl Play {
         ensures both { tricks_of self.now Side.NorthSouth + tricks_of self.now Side.EastWest ≡ settled_tricks self.now }
     {
         let won = self.card_play.tricks_won(side);
-        let played = self.card_play.cards().len() / 4;
-        let claimed = match &self.standing {
+        let tricks_played = self.card_play.cards().len() / 4;
+        let claimed = match &self.claim {
             Some(claim) if all_agreed(self.card_play.contract(), claim) => {
                 if claim.claimer.side() == side {
                     claim.tricks
                 } else {
-                    13 - played as u8 - claim.tricks
+                    13 - tricks_played as u8 - claim.tricks
                 }
             }
             _ => 0,

@@ -1,7 +1,7 @@
 //! Who wins a trick, and who leads to the next.
 ghost use Rattle.std.specs.Prelude.{◌≡◌, ◌-◌, ◌/◌, ◌<◌, ◌≤◌, length, position};
-ghost use Rattle.bridge_cards.specs.Card.{IsCard};
-ghost use Rattle.bridge_play.specs.Trick.{same_suit, is_trump, beats, is_or_beats, wins, winning_place, leader_of, tricks_won};
+ghost use Rattle.bridge_cards.specs.Card.{IsCard, same_suit};
+ghost use Rattle.bridge_play.specs.Trick.{is_trump, beats, is_or_beats, wins, winning_place, leader_of, tricks_won};
 
 use bridge_auction::{Contract, Denomination};
 use bridge_cards::{Card, Seat, Side};
@@ -20,14 +20,14 @@ pub fn same_suit(c: Card, d: Card) -> bool
 fn is_trump(trump: Denomination, card: Card) -> bool
     ensures { result ≡ is_trump trump card }
 {
-    card.number() / 13 == trump.number()
+    card.suit().number() == trump.number()
 }
 
 /// Whether card c beats d in a trick to which `led` was led (Law 44).
 fn beats(trump: Denomination, led: Card, c: Card, d: Card) -> bool
     ensures { result ≡ beats trump led c d }
 {
-    (same_suit(c, d) && d.number() < c.number())
+    (same_suit(c, d) && d < c)
         || (is_trump(trump, c) && !is_trump(trump, d))
         || (same_suit(c, led) && !same_suit(d, led) && !is_trump(trump, d))
 }
@@ -36,7 +36,7 @@ fn beats(trump: Denomination, led: Card, c: Card, d: Card) -> bool
 fn is_or_beats(trump: Denomination, led: Card, c: Card, d: Card) -> bool
     ensures { result ≡ is_or_beats trump led c d }
 {
-    c.number() == d.number() || beats(trump, led, c, d)
+    c == d || beats(trump, led, c, d)
 }
 
 /// Whether the card beats the others of the trick.
@@ -58,8 +58,8 @@ fn winner(trump: Denomination, trick: &[Card]) -> Option<usize>
     trick.iter().position(|card| wins(trump, trick, *card))
 }
 
-/// The same, of a whole trick.
-fn winning_place(trump: Denomination, trick: &[Card]) -> usize
+/// The place of the winner: of different cards one always beats the others.
+pub(crate) fn winning_place(trump: Denomination, trick: &[Card]) -> usize
     requires { 0 < length trick.now }
     ensures { result ≡ winning_place trump trick.now }
 {

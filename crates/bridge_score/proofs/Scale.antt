@@ -1,7 +1,7 @@
 -- A scale: numbers that rise, each of which holds up to the next.
 use Rattle.std.proofs.Common.{ℕ, zero, suc, ◌≡◌, ◌+◌, ◌<◌, ◌≤◌, ◌↔◌, Bool, true, false, ◌&&◌, leb, List, [], ◌∷◌, length, get_or, count_by, inl, inr, ap, ◌∙◌, cond, refl, arith}
 use Rattle.std.proofs.lemmas.Bool.Decides.{leb_tells}
-use Rattle.std.proofs.lemmas.Bool.{leb-true}
+use Rattle.std.proofs.lemmas.Bool.{leb-true, and_parts}
 use Rattle.std.proofs.lemmas.List.Sums.{sum_by-cons}
 
 -- none is below the one before it, and the first not below a given number
@@ -12,10 +12,6 @@ rises least (x ∷ xs) = leb least x && rises x xs
 -- how many a number has reached
 abbrev pub reached : ℕ → List ℕ → ℕ
 reached n xs = count_by (λ x. leb x n) xs
-
-both : (a b : Bool) → (a && b) ≡ true → (a ≡ true) × (b ≡ true)
-both true b h = (refl, h)
-both false b h = cc
 
 reached-cons : (n x : ℕ) (xs : List ℕ) → reached n (x ∷ xs) ≡ cond (leb x n) 1 0 + reached n xs
 reached-cons n x xs = sum_by-cons (λ y. cond (leb y n) 1 0) x xs
@@ -30,7 +26,7 @@ reached-cons_no n x xs h = reached-cons n x xs ∙ ap (λ b. cond b 1 0 + reache
 reached_none : (n least : ℕ) (xs : List ℕ) → n < least → rises least xs ≡ true → reached n xs ≡ 0
 reached_none n least [] short up = refl
 reached_none n least (x ∷ xs) short up =
-    let parts = both (leb least x) (rises x xs) up in
+    let parts = and_parts (leb least x) (rises x xs) up in
     let least_first : least ≤ x = leb-true least x parts.0 in
     let above : n < x = omega arith in
     let rest = reached_none n x xs above parts.1 in
@@ -44,7 +40,7 @@ pub reached_iff : (n least : ℕ) (xs : List ℕ) → rises least xs ≡ true �
     (k < reached n xs) ↔ (get_or xs k 0 ≤ n)
 reached_iff n least [] up k within = absurd (omega arith)
 reached_iff n least (x ∷ xs) up zero within =
-    let parts = both (leb least x) (rises x xs) up in
+    let parts = and_parts (leb least x) (rises x xs) up in
     elim (leb_tells x n) [
       | inl at ↦ let one = reached-cons_yes n x xs at.0 in (λ _. at.1, λ _. omega (arith, one))
       | inr below ↦
@@ -54,7 +50,7 @@ reached_iff n least (x ∷ xs) up zero within =
           (λ (h : 0 < reached n (x ∷ xs)). absurd (omega (arith, none, rest, h)), λ (h : x ≤ n). absurd (omega (arith, h, above)))
     ]
 reached_iff n least (x ∷ xs) up (suc k) within =
-    let parts = both (leb least x) (rises x xs) up in
+    let parts = and_parts (leb least x) (rises x xs) up in
     let later = reached_iff n x xs parts.1 k (omega arith) in
     elim (leb_tells x n) [
       | inl at ↦

@@ -103,6 +103,6 @@ score_of contract vulnerable tricks =
     if nat_le (tricks_bid contract) tricks then pos (points_made contract vulnerable (tricks - tricks_bid contract))
     else neg_ℤ (pos (undertrick_points contract.doubling vulnerable (tricks_bid contract - tricks)))
 
--- a score lies between seven no trump redoubled down thirteen, and its negative
+-- a score lies between that of a grand slam redoubled, vulnerable, down thirteen, and its negative
 abbrev pub IsScore : ℤ → Type 0
 IsScore points = (neg_ℤ (pos 7600) ≤ℤ points) × (points ≤ℤ pos 7600)

@@ -78,7 +78,7 @@ fn refusals_come_by_name(rt: HostRuntime) -> Result<(), Fail> {
 
 #[test]
 fn contracts_have_their_declarer(rt: HostRuntime) -> Result<(), Fail> {
-    // The dealer is North: the calls, then level, denomination, doubling and declarer.
+    // The dealer is North: the calls, then the bid, the doubling and declarer.
     let rows: [(&[&str], &str, Doubling, Seat); 5] = [
         (
             &["1H", "P", "4H", "P", "P", "P"],
@@ -143,9 +143,9 @@ fn no_contract_while_open_or_passed_out(rt: HostRuntime) -> Result<(), Fail> {
 #[test]
 fn the_longest_auction_has_319_calls(rt: HostRuntime) -> Result<(), Fail> {
     let mut auction = auction_of(Seat::North, &["P", "P", "P"])?;
-    for level in ["1", "2", "3", "4", "5", "6", "7"] {
+    for number in 1..=7 {
+        let level = Level::new(number).ok_or("a level")?;
         for denomination in Denomination::ALL {
-            let level = Level::new(level.as_bytes()[0] - b'0').ok_or("a level")?;
             let bid = Call::Bid(Bid {
                 level,
                 denomination,

@@ -5,7 +5,8 @@ ghost use Rattle.bridge_auction.specs.Legal.{is_ended, last_place, opponents_cal
 ghost use Rattle.bridge_auction.specs.Bid.{bid_number};
 ghost use Rattle.std.specs.List.{list_all};
 
-use crate::{Bid, Call};
+use crate::{Bid, Call, Contract, Denomination, Doubling};
+use bridge_cards::{Seat, Side};
 
 /// Whether the last three of at least four calls are passes.
 pub fn is_ended(calls: &[Call]) -> bool
@@ -66,21 +67,61 @@ fn are_lower(calls: &[Call], bid: Bid) -> bool
     calls.iter().all(|call| is_lower(*call, bid))
 }
 
-/// Whether a call is no bid, or a lower one: of a lower level, or of the same level and a lower denomination.
+/// Whether a call is no bid, or a lower one, in the order of bids.
 fn is_lower(call: Call, bid: Bid) -> bool
     ensures { result ≡ is_below (bid_number bid) call }
 {
     match call {
-        Call::Bid(other) => {
-            other.level < bid.level
-                || (other.level == bid.level
-                    && other.denomination.number() < bid.denomination.number())
-        }
+        Call::Bid(other) => other < bid,
         _ => true,
     }
 }
 
-/// Whether the auction is over, and somebody bid.
-pub fn has_contract(calls: &[Call]) -> bool {
-    is_ended(calls) && calls.iter().any(|call| call.is_bid())
+/// Who bid each denomination first, by side: North and South, then East and West.
+#[derive(Drop)]
+struct FirstBids {
+    seats: [[Option<Seat>; 5]; 2],
+}
+
+impl FirstBids {
+    /// The first player of the seat's side to bid the denomination, who is this one where there was none before.
+    fn declarer(&mut self, seat: Seat, denomination: Denomination) -> Seat {
+        let side = match seat.side() {
+            Side::NorthSouth => 0,
+            Side::EastWest => 1,
+        };
+        let place = usize::from(denomination.number());
+        let first = self.seats[side][place].unwrap_or(seat);
+        self.seats[side][place] = Some(first);
+        first
+    }
+}
+
+/// The contract of the calls, found in one way through them from the front.
+pub fn contract(dealer: Seat, calls: &[Call]) -> Option<Contract> {
+    let mut firsts = FirstBids {
+        seats: [[None; 5]; 2],
+    };
+    let mut contract: Option<Contract> = None;
+    for (place, call) in calls.iter().enumerate() {
+        contract = match (*call, contract) {
+            (Call::Bid(bid), _) => Some(Contract {
+                bid,
+                doubling: Doubling::Undoubled,
+                declarer: firsts.declarer(dealer.clockwise(place), bid.denomination),
+            }),
+            (Call::Double, Some(bid)) => Some(Contract {
+                bid: bid.bid,
+                doubling: Doubling::Doubled,
+                declarer: bid.declarer,
+            }),
+            (Call::Redouble, Some(bid)) => Some(Contract {
+                bid: bid.bid,
+                doubling: Doubling::Redoubled,
+                declarer: bid.declarer,
+            }),
+            (_, so_far) => so_far,
+        };
+    }
+    if is_ended(calls) { contract } else { None }
 }

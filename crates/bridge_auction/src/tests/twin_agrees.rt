@@ -32,8 +32,8 @@ pub fn agrees(rt: &impl Abort, calls: &[Call]) {
             "{call:?} in {calls:?}"
         );
         assert_eq!(rt;
-            auction.contract().is_some(),
-            twin::has_contract(auction.calls()),
+            auction.contract(),
+            twin::contract(Seat::North, auction.calls()),
             "{call:?} in {calls:?}"
         );
     }

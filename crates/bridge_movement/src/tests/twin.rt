@@ -42,8 +42,8 @@ pub fn is_fair(shape: Shape, rows: &[Row]) -> bool
 }
 
 /// The rows of the Mitchell movement, made by moving the pairs of East and West one table up and the sets one table
-/// down after each round, and the pairs one more after half of an even number of tables, which then have one round
-/// less.
+/// down after each round, and the pairs one more after as many rounds as half an even number of tables, which then have
+/// one round less.
 pub fn mitchell_rows(tables: u8) -> ArrayVec<Row, 144>
     requires least { 2 ≤ tables }
     requires most { tables ≤ 12 }

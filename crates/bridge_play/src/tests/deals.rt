@@ -10,8 +10,8 @@ pub const ONE_SUIT_EACH: &[u8] =
 pub const CARDS_IN_A_ROW: &[u8] =
     b"N:AKQJ.T98.765.432 T98.765.432.AKQJ 765.432.AKQJ.T98 432.AKQJ.T98.765";
 
-/// Two hands have no card of a suit.
-pub const TWO_VOIDS: &[u8] =
+/// South has no diamond, and North one club.
+pub const DIAMOND_VOID: &[u8] =
     b"N:QT76.KQ843.Q86.A K2.72.J432.T6532 J843.AJT9..KQ874 A95.65.AKT975.J9";
 
 /// West has six spades and one club.

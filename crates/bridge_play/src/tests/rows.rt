@@ -2,6 +2,7 @@ use super::deals::{CARDS_IN_A_ROW, ONE_SUIT_EACH, contract_of, deal_of};
 use crate::{CardRefused, ClaimRefused, ConsentRefused, Play};
 use bridge_auction::Denomination;
 use bridge_cards::{Card, Seat, Side, read_card};
+use std::process::Abort;
 use std::test::Fail;
 
 /// A play of that deal in spades at that level by North.
@@ -70,36 +71,39 @@ fn all_tricks_are_played(rt: HostRuntime) -> Result<(), Fail> {
         assert_eq!(rt; play.turn(), Seat::North, "North's trump wins");
     }
     assert!(rt; play.is_over());
-    assert_eq!(rt;
-        (play.tricks(Side::NorthSouth), play.tricks(Side::EastWest)),
-        (13, 0)
-    );
+    assert_eq!(rt; tricks(&play), (13, 0));
     let first = read_card(b"SA").ok_or("a card")?;
     assert_eq!(rt; play.try_card(Seat::North, first), Err(CardRefused::Over));
     assert_eq!(rt; play.cards().len(), usize::from(Card::COUNT));
     Ok(())
 }
 
-#[test]
-fn claims_are_answered(rt: HostRuntime) -> Result<(), Fail> {
-    let mut play = spades_by_north(CARDS_IN_A_ROW, 1)?;
-    for text in ["H7", "H2", "HA", "H8"] {
+/// Plays these cards, each of which is taken.
+fn take(rt: &impl Abort, play: &mut Play, texts: &[&str]) -> Result<(), Fail> {
+    for text in texts {
         let card = read_card(text.as_bytes()).ok_or("a card")?;
         assert_eq!(rt; play.try_card(play.actor(), card), Ok(()), "{text}");
     }
-    assert_eq!(rt;
-        play.try_claim(Seat::South, 5),
-        Err(ClaimRefused::NotYourTurn)
-    );
-    assert_eq!(rt;
-        play.try_claim(Seat::East, 13),
-        Err(ClaimRefused::TooManyTricks)
-    );
-    assert_eq!(rt; play.try_claim(Seat::East, 12), Ok(()));
-    assert_eq!(rt;
-        play.try_claim(Seat::East, 12),
-        Err(ClaimRefused::ClaimStands)
-    );
+    Ok(())
+}
+
+/// The tricks of both sides.
+fn tricks(play: &Play) -> (u8, u8) {
+    (play.tricks(Side::NorthSouth), play.tricks(Side::EastWest))
+}
+
+#[test]
+fn a_refused_claim_is_dropped(rt: HostRuntime) -> Result<(), Fail> {
+    let mut play = spades_by_north(CARDS_IN_A_ROW, 1)?;
+    take(&rt, &mut play, &["H7", "H2", "HA", "H8"])?;
+    for (seat, tricks, answer) in [
+        (Seat::South, 5, Err(ClaimRefused::NotYourTurn)),
+        (Seat::East, 13, Err(ClaimRefused::TooManyTricks)),
+        (Seat::East, 12, Ok(())),
+        (Seat::East, 12, Err(ClaimRefused::ClaimStands)),
+    ] {
+        assert_eq!(rt; play.try_claim(seat, tricks), answer, "{seat:?} {tricks}");
+    }
     assert_eq!(rt; play.agree(Seat::West, 1), Err(ConsentRefused::NotAsked));
     let king = read_card(b"HK").ok_or("a card")?;
     assert_eq!(rt;
@@ -111,25 +115,47 @@ fn claims_are_answered(rt: HostRuntime) -> Result<(), Fail> {
     assert_eq!(rt; play.agree(Seat::North, 0), Err(ConsentRefused::Stale));
     assert_eq!(rt; play.try_card(Seat::West, king), Ok(()));
     assert_eq!(rt; play.try_claim(Seat::North, 3), Err(ClaimRefused::MidTrick));
-    for text in ["H9", "H6", "H3"] {
-        let card = read_card(text.as_bytes()).ok_or("a card")?;
-        assert_eq!(rt; play.try_card(play.actor(), card), Ok(()), "{text}");
-    }
+    Ok(())
+}
+
+#[test]
+fn an_agreed_claim_ends_the_play(rt: HostRuntime) -> Result<(), Fail> {
+    let mut play = spades_by_north(CARDS_IN_A_ROW, 1)?;
+    take(
+        &rt,
+        &mut play,
+        &["H7", "H2", "HA", "H8", "HK", "H9", "H6", "H3"],
+    )?;
     assert_eq!(rt; play.try_claim(Seat::North, 11), Ok(()));
-    assert_eq!(rt; play.agree(Seat::East, 2), Ok(()));
-    assert_eq!(rt; play.agree(Seat::East, 2), Err(ConsentRefused::NotAsked));
+    assert_eq!(rt; play.agree(Seat::East, 1), Ok(()));
+    assert_eq!(rt; play.agree(Seat::East, 1), Err(ConsentRefused::NotAsked));
     assert!(rt; !play.is_over());
-    assert_eq!(rt; play.agree(Seat::West, 2), Ok(()));
+    assert_eq!(rt; play.agree(Seat::West, 1), Ok(()));
     assert!(rt; play.is_over());
-    assert_eq!(rt; play.refuse(Seat::West, 2), Err(ConsentRefused::NoClaim));
+    assert_eq!(rt; play.refuse(Seat::West, 1), Err(ConsentRefused::NoClaim));
     assert_eq!(rt; play.try_claim(Seat::North, 1), Err(ClaimRefused::Over));
-    assert_eq!(rt;
-        (play.tricks(Side::NorthSouth), play.tricks(Side::EastWest)),
-        (11, 2)
-    );
+    assert_eq!(rt; tricks(&play), (11, 2));
     let six = read_card(b"H6").ok_or("a card")?;
     assert!(rt; !play.remaining(Seat::East).has(six));
     assert_eq!(rt; play.remaining(Seat::East).len(), 11);
+    Ok(())
+}
+
+#[test]
+fn a_defenders_claim_asks_declarer_alone(rt: HostRuntime) -> Result<(), Fail> {
+    let mut play = spades_by_north(CARDS_IN_A_ROW, 1)?;
+    take(&rt, &mut play, &["H7", "H2", "HA", "H8"])?;
+    assert_eq!(rt; play.try_claim(Seat::East, 12), Ok(()));
+    for seat in [Seat::East, Seat::South, Seat::West] {
+        assert_eq!(rt;
+            play.agree(seat, 1),
+            Err(ConsentRefused::NotAsked),
+            "{seat:?}"
+        );
+    }
+    assert_eq!(rt; play.agree(Seat::North, 1), Ok(()));
+    assert!(rt; play.is_over());
+    assert_eq!(rt; tricks(&play), (0, 13));
     Ok(())
 }
 
@@ -158,16 +184,10 @@ fn claims_are_spent_after_99(rt: HostRuntime) -> Result<(), Fail> {
 fn tricks_not_claimed_go_to_the_other_side(rt: HostRuntime) -> Result<(), Fail> {
     let mut play = spades_by_north(ONE_SUIT_EACH, 7)?;
     assert_eq!(rt; play.try_claim(Seat::North, 10), Ok(()));
-    assert_eq!(rt;
-        (play.tricks(Side::NorthSouth), play.tricks(Side::EastWest)),
-        (0, 0)
-    );
+    assert_eq!(rt; tricks(&play), (0, 0));
     assert_eq!(rt; play.agree(Seat::East, 1), Ok(()));
     assert_eq!(rt; play.agree(Seat::West, 1), Ok(()));
-    assert_eq!(rt;
-        (play.tricks(Side::NorthSouth), play.tricks(Side::EastWest)),
-        (10, 3)
-    );
+    assert_eq!(rt; tricks(&play), (10, 3));
     assert!(rt; play.is_over());
     assert_eq!(rt; play.refuse(Seat::West, 1), Err(ConsentRefused::NoClaim));
     Ok(())

@@ -1,61 +1,14 @@
 //! A plain twin of the play: slow functions over the dealt hands and the whole list of cards, whose contracts are the
-//! definitions.
-ghost use Rattle.std.specs.Prelude.{◌≡◌, ℕ, ◌*◌, ◌<◌, ◌≤◌, length, position};
+//! definitions. Who wins a trick is judged apart, by the test of random plays.
+ghost use Rattle.std.specs.Prelude.{◌≡◌, ℕ, ◌*◌, ◌≤◌, length};
 ghost use Rattle.bridge_cards.specs.CardSet.{has_card};
-ghost use Rattle.bridge_play.specs.Trick.{same_suit, is_trump, beats, wins, winning_place, leader_of, turn_of, plays_for, tricks_won};
+ghost use Rattle.bridge_play.specs.Trick.{leader_of, turn_of, tricks_won};
 ghost use Rattle.bridge_play.specs.Legal.{was_played, holds, holds_suit, follows};
-ghost use Rattle.bridge_play.specs.Claims.{actor_of};
+ghost use Rattle.bridge_play.specs.Dummy.{actor_of};
 
-use bridge_auction::{Contract, Denomination};
+use crate::trick::{same_suit, winning_place};
+use bridge_auction::Contract;
 use bridge_cards::{Card, CardSet, Deal, Seat, Side};
-
-/// Whether the cards are of one suit.
-fn same_suit(c: Card, d: Card) -> bool
-    ensures { result ≡ same_suit c d }
-{
-    c.number() / 13 == d.number() / 13
-}
-
-/// Whether the card is a trump.
-fn is_trump(trump: Denomination, card: Card) -> bool
-    ensures { result ≡ is_trump trump card }
-{
-    card.number() / 13 == trump.number()
-}
-
-/// Whether card c beats d in a trick to which `led` was led (Law 44).
-fn beats(trump: Denomination, led: Card, c: Card, d: Card) -> bool
-    ensures { result ≡ beats trump led c d }
-{
-    (same_suit(c, d) && d.number() < c.number())
-        || (is_trump(trump, c) && !is_trump(trump, d))
-        || (same_suit(c, led) && !same_suit(d, led) && !is_trump(trump, d))
-}
-
-/// Whether the card beats the others of the trick.
-fn wins(trump: Denomination, trick: &[Card], card: Card) -> bool
-    requires { 0 < length trick.now }
-    ensures { result ≡ wins trump trick.now card }
-{
-    let led = trick[0];
-    trick.iter().all(|other| card.number() == other.number() || beats(trump, led, card, *other))
-}
-
-/// The place in the trick of the card that beats the others.
-fn winner(trump: Denomination, trick: &[Card]) -> Option<usize>
-    requires { 0 < length trick.now }
-    ensures { result ≡ position (wins trump trick.now) trick.now }
-{
-    trick.iter().position(|card| wins(trump, trick, *card))
-}
-
-/// The same, of a whole trick.
-fn winning_place(trump: Denomination, trick: &[Card]) -> usize
-    requires { 0 < length trick.now }
-    ensures { result ≡ winning_place trump trick.now }
-{
-    winner(trump, trick).unwrap_or(0)
-}
 
 /// The seat that leads to that trick, the tricks counted from 0 (Law 44).
 fn leader(contract: &Contract, cards: &[Card], tricks: usize) -> Seat
@@ -83,20 +36,10 @@ pub fn actor(contract: &Contract, cards: &[Card]) -> Seat
     ensures { result ≡ actor_of contract.now (turn_of contract.now cards.now) }
 {
     let hand = turn(contract, cards);
-    if hand.number() == contract.declarer.clockwise(2).number() {
+    if hand == contract.declarer.clockwise(2) {
         contract.declarer
     } else {
         hand
-    }
-}
-
-/// Whether the seat plays for that side.
-fn plays_for(side: Side, seat: Seat) -> bool
-    ensures { result ≡ plays_for side seat }
-{
-    match side {
-        Side::NorthSouth => seat.number() % 2 == 0,
-        Side::EastWest => seat.number() % 2 == 1,
     }
 }
 
@@ -108,7 +51,7 @@ pub fn tricks_won(contract: &Contract, cards: &[Card], side: Side, tricks: usize
 {
     let mut won = 0;
     for trick in 0..tricks {
-        if plays_for(side, leader(contract, cards, trick + 1)) {
+        if leader(contract, cards, trick + 1).side() == side {
             won += 1;
         }
     }
@@ -119,7 +62,7 @@ pub fn tricks_won(contract: &Contract, cards: &[Card], side: Side, tricks: usize
 fn was_played(cards: &[Card], card: Card) -> bool
     ensures { result ≡ was_played cards.now card }
 {
-    cards.iter().any(|other| card.number() == other.number())
+    cards.iter().any(|other| card == *other)
 }
 
 /// Whether the seat still holds the card after those cards.

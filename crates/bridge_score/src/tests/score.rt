@@ -2,6 +2,7 @@ use super::twin;
 use crate::score;
 use bridge_auction::{Bid, Contract, Denomination, Doubling, Level};
 use bridge_cards::Seat;
+use std::process::Abort;
 use std::test::Fail;
 
 /// The contract of that level by North.
@@ -41,21 +42,32 @@ fn scores_of_the_printed_table(rt: HostRuntime) -> Result<(), Fail> {
     Ok(())
 }
 
+/// The contract scores as the plain table says, vulnerable or not, with each number of tricks.
+fn scores_agree(
+    rt: &impl Abort,
+    level: u8,
+    denomination: Denomination,
+    doubling: Doubling,
+) -> Result<(), Fail> {
+    let contract = contract(level, denomination, doubling)?;
+    for vulnerable in [false, true] {
+        for tricks in 0..14 {
+            assert_eq!(rt;
+                score(&contract, vulnerable, tricks),
+                twin::score(level, denomination, doubling, vulnerable, tricks),
+                "{contract:?}, vulnerable {vulnerable}, with {tricks} tricks"
+            );
+        }
+    }
+    Ok(())
+}
+
 #[test]
 fn every_score_is_the_plain_one(rt: HostRuntime) -> Result<(), Fail> {
     for level in 1..8 {
         for denomination in Denomination::ALL {
             for doubling in [Doubling::Undoubled, Doubling::Doubled, Doubling::Redoubled] {
-                let contract = contract(level, denomination, doubling)?;
-                for vulnerable in [false, true] {
-                    for tricks in 0..14 {
-                        assert_eq!(rt;
-                            score(&contract, vulnerable, tricks),
-                            twin::score(level, denomination, doubling, vulnerable, tricks),
-                            "{contract:?}, vulnerable {vulnerable}, with {tricks} tricks"
-                        );
-                    }
-                }
+                scores_agree(&rt, level, denomination, doubling)?;
             }
         }
     }

@@ -1,6 +1,6 @@
 use Rattle.std.proofs.Common.{◌≡◌, ◌≢◌, ◌∙◌, ap, subst}
 use Rattle.bridge_auction.specs.declared.contract.Contract.{Contract}
-use Rattle.bridge_play.specs.Claims.{actor_of, dummy_of}
+use Rattle.bridge_play.specs.Dummy.{actor_of, dummy_of}
 use Rattle.bridge_play.specs.Play.{Playing}
 use Rattle.bridge_play.proofs.Seats.{actor_not_dummy}
 use Rattle.bridge_play.proofs.play.Play.actor.Goals as goal

@@ -8,23 +8,23 @@ use Rattle.bridge_play.proofs.play.Play.try_card.Goals as goal
 
 pub push-requires : goal.push-requires
 push-requires c =
-    let room = ok_gives c.answer-answer.result (length c.args.self.now.cards < 52) c.answer-answer.ensures.room (sym c.if-is_ok.ensures.value) in
+    let room = ok_gives c.card_answer-answer.result (length c.args.self.now.cards < 52) c.card_answer-answer.ensures.room (sym c.if-is_ok.ensures.value) in
     subst (λ (p : Playing). length p.cards < 52) (sym c.self.view_is) room
 
 pub invariant_of-self : goal.invariant_of-self
 invariant_of-self c =
     let ok : IsOk (card_answer c.args.self.now c.args.seat c.args.card) =
-    rw (← c.answer-answer.ensures.answer) (sym c.if-is_ok.ensures.value) in
+    rw (← c.card_answer-answer.ensures.answer) (sym c.if-is_ok.ensures.value) in
     let longer = card_keeps c.args.self.now c.args.seat c.args.card (subst IsPlay c.self.view_is c.self.invariant) ok in
-    subst (λ (p : PlayedCards). IsPlay (with_claims p c.self.inside.claims c.self.inside.standing)) (sym c.push.ensures)
+    subst (λ (p : PlayedCards). IsPlay (with_claims p c.self.inside.claims c.self.inside.claim)) (sym c.push.ensures)
     (subst (λ (p : Playing). IsPlay (with_card p c.args.card)) (sym c.self.view_is) longer)
 
 pub returns-then-is_ok-clause-accepted : goal.returns-then-is_ok-clause-accepted
 returns-then-is_ok-clause-accepted c =
     let legal = (subst IsPlay c.self.view_is c.self.invariant).legal in
-    answer_accepts c.args.self.now c.args.seat c.args.card c.answer-answer.result legal c.answer-answer.ensures.answer
+    answer_accepts c.args.self.now c.args.seat c.args.card c.card_answer-answer.result legal c.card_answer-answer.ensures.answer
 
 pub returns-else-is_ok-clause-accepted : goal.returns-else-is_ok-clause-accepted
 returns-else-is_ok-clause-accepted c =
     let legal = (subst IsPlay c.self.view_is c.self.invariant).legal in
-    answer_accepts c.args.self.now c.args.seat c.args.card c.answer-answer.result legal c.answer-answer.ensures.answer
+    answer_accepts c.args.self.now c.args.seat c.args.card c.card_answer-answer.result legal c.card_answer-answer.ensures.answer
