@@ -11,7 +11,7 @@ use Rattle.std.proofs.lemmas.List.Folds.{list_all-append, drop_split}
 use Rattle.std.proofs.Math.Seq.{drop-cons}
 use Rattle.std.proofs.lemmas.Str.{IsUtf8-from_ascii}
 use Rattle.bridge_config.specs.Limits.{is_name_byte, is_name, is_date_form}
-use Rattle.bridge_config.specs.Reading.{is_numeral}
+use Rattle.bridge_config.specs.LineReading.{is_numeral}
 
 -- what passes one test passes a weaker one
 pub list_all_weaker : (p q : ℕ → Bool) → ((b : ℕ) → p b ≡ true → q b ≡ true) → (bytes : List ℕ) → list_all p bytes ≡ true → list_all q bytes ≡ true
@@ -20,6 +20,7 @@ list_all_weaker p q weaker (b ∷ bytes) all =
     let parts = and_parts (p b) (list_all p bytes) all in
     and_from (q b) (list_all q bytes) (weaker b parts.0) (list_all_weaker p q weaker bytes parts.1)
 
+-- a test that each byte of a name passes is passed by a name
 pub name_passes : (q : ℕ → Bool) → ((b : ℕ) → is_name_byte b ≡ true → q b ≡ true) → (name : List ℕ) → is_name name ≡ true → list_all q name ≡ true
 name_passes q weaker name named =
     let a = and_parts (list_all is_name_byte name && not (eqb (length name) 0)) (leb (length name) 24) named in
@@ -33,6 +34,7 @@ parts_pass q digit dot year month day of_year of_month of_day =
     list_all-append q month (46 ∷ day) ∙ and_from _ _ (pass month of_month) (and_from _ _ dot (pass day of_day)) in
     list_all-append q year (46 ∷ (month ++ (46 ∷ day))) ∙ and_from _ _ (pass year of_year) (and_from _ _ dot rest)
 
+-- a date is its year, a dot, its month, a dot and its day
 date_parts : (date : List ℕ) → length date ≡ 10 → get_or date 4 0 ≡ 46 → get_or date 7 0 ≡ 46 → date ≡ take 4 date ++ (46 ∷ (slice_range date 5 7 ++ (46 ∷ drop 8 date)))
 date_parts date long first second =
     let at4 : drop 4 date ≡ get_or date 4 0 ∷ drop 5 date = drop-cons date 4 0 (omega arith) in
@@ -43,6 +45,7 @@ date_parts date long first second =
     let front : drop 4 date ≡ 46 ∷ (slice_range date 5 7 ++ (46 ∷ drop 8 date)) = cc in
     sym whole ∙ ap (λ (rest : List ℕ). take 4 date ++ rest) front
 
+-- a test that digits and dots pass is passed by a date
 pub date_passes : (q : ℕ → Bool) → ((b : ℕ) → is_ascii_digit b ≡ true → q b ≡ true) → q 46 ≡ true → (date : List ℕ) → is_date_form date ≡ true → list_all q date ≡ true
 date_passes q digit dot date form =
     let a = and_parts _ _ form in
@@ -60,9 +63,11 @@ pub date_length : (date : List ℕ) → is_date_form date ≡ true → length da
 date_length date form =
     eqb-true (length date) 10 (and_parts _ _ (and_parts _ _ (and_parts _ _ (and_parts _ _ (and_parts _ _ form).0).0).0).0).0
 
+-- a numeral is digits
 pub numeral_digits : (word : List ℕ) → is_numeral word ≡ true → list_all is_ascii_digit word ≡ true
 numeral_digits word numeral = (and_parts _ _ (and_parts _ _ numeral).0).0
 
+-- a numeral has a digit at least
 pub numeral_length : (word : List ℕ) → is_numeral word ≡ true → 0 < length word
 numeral_length word numeral =
     elim word as (λ w. is_numeral w ≡ true → 0 < length w) [ [] ↦ λ none. cc | b ∷ bytes ↦ λ some. omega arith ] numeral
@@ -72,6 +77,7 @@ numeral_length word numeral =
 digit_is_ascii : (b : ℕ) → is_ascii_digit b ≡ true → is_ascii b ≡ true
 digit_is_ascii b digit = lt-ltb b 128 (omega (arith, leb-true b 57 (and_parts (leb 48 b) (leb b 57) digit).1))
 
+-- a byte of a range below 128 is ASCII
 in_range_is_ascii : (low high b : ℕ) → high < 128 → is_in_range low high b ≡ true → is_ascii b ≡ true
 in_range_is_ascii low high b below within =
     lt-ltb b 128 (omega (arith, below, leb-true b high (and_parts (leb low b) (leb b high) within).1))
@@ -108,6 +114,7 @@ date_is_ascii = date_passes is_ascii digit_is_ascii refl
 pub numeral_is_ascii : (word : List ℕ) → is_numeral word ≡ true → list_all is_ascii word ≡ true
 numeral_is_ascii word numeral = list_all_weaker is_ascii_digit is_ascii digit_is_ascii word (numeral_digits word numeral)
 
+-- bytes that pass the test for ASCII are ASCII, place by place
 all_are_ascii : (bytes : List ℕ) → list_all is_ascii bytes ≡ true → IsAscii bytes
 all_are_ascii [] all i = omega arith
 all_are_ascii (b ∷ bytes) all zero = ltb-true b 128 (and_parts _ _ all).0

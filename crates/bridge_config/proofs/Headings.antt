@@ -5,8 +5,10 @@ use Rattle.std.specs.Fmt.{decimal}
 use Rattle.bridge_score.specs.declared.ranking.Scoring.{Scoring}
 use Rattle.bridge_config.specs.declared.refused.ConfigFault.{ConfigFault}
 use Rattle.bridge_config.specs.Limits.{is_name, is_date_form, is_date_within}
-use Rattle.bridge_config.specs.Spelling.{spaced, scoring_word}
-use Rattle.bridge_config.specs.Reading.{name_line, date_line, scoring_line, number_line, Heading, heading_in}
+use Rattle.bridge_config.specs.Spelling.{spaced, scoring_word, heading_lines}
+use Rattle.bridge_config.specs.LineReading.{name_line, date_line, scoring_line, number_line}
+use Rattle.bridge_config.specs.Configuration.{Heading}
+use Rattle.bridge_config.specs.Reading.{heading_in}
 use Rattle.bridge_config.proofs.LineLaws.{name_takes, name_again, date_takes, date_again, scoring_takes, scoring_again, number_takes, number_again}
 use Rattle.bridge_config.proofs.Steps.{ok_is, line_then, line_takes, IsShort, TakesLines, takes_none, takes_line, name_short, date_short, scoring_short, number_short}
 
@@ -28,16 +30,7 @@ after_site event site texts = line_then 3 texts (date_line 3) (after_date event 
 abbrev after_event : List ℕ → List (List ℕ) → Result (Heading × List (List ℕ)) ConfigFault
 after_event event texts = line_then 2 texts (name_line 2 (codes "SITE")) (after_site event)
 
--- the lines of a heading
-abbrev pub lines_of_heading : Heading → List (List ℕ)
-lines_of_heading heading =
-    spaced (codes "EVENT" ∷ heading.event ∷ [])
-    ∷ spaced (codes "SITE" ∷ heading.site ∷ [])
-    ∷ spaced (codes "DATE" ∷ heading.date ∷ [])
-    ∷ spaced (codes "SCORING" ∷ scoring_word heading.scoring ∷ [])
-    ∷ spaced (codes "BOARDS" ∷ decimal heading.boards ∷ [])
-    ∷ []
-
+-- each part of a heading is within its limits
 pub record IsHeading (heading : Heading) : Type 0 where
   pub event : is_name heading.event ≡ true
   pub site : is_name heading.site ≡ true
@@ -47,9 +40,10 @@ pub record IsHeading (heading : Heading) : Type 0 where
 
 -- lines in front were read as a heading, and others are left
 pub record TakesHeading (texts : List (List ℕ)) (heading : Heading) (rest : List (List ℕ)) : Type 0 where
-  pub lines : TakesLines texts (lines_of_heading heading) rest
+  pub lines : TakesLines texts (heading_lines heading) rest
   pub limits : IsHeading heading
 
+-- lines that were read as a heading spell it
 pub heading_takes : (texts : List (List ℕ)) (read : Heading × List (List ℕ)) → heading_in texts ≡ Ok read →
     TakesHeading texts read.0 read.1
 unfolding heading_in
@@ -88,8 +82,9 @@ heading_takes texts read e =
       };
     })
 
-pub heading_again : (heading : Heading) (rest : List (List ℕ)) → All IsShort (lines_of_heading heading) → IsHeading heading →
-    heading_in (lines_of_heading heading ++ rest) ≡ Ok (heading, rest)
+-- lines that spell a heading are read as it
+pub heading_again : (heading : Heading) (rest : List (List ℕ)) → All IsShort (heading_lines heading) → IsHeading heading →
+    heading_in (heading_lines heading ++ rest) ≡ Ok (heading, rest)
 unfolding heading_in
 heading_again heading rest short limits =
     let one : name_line 1 (codes "EVENT") (spaced (codes "EVENT" ∷ heading.event ∷ [])) ≡ Ok heading.event =

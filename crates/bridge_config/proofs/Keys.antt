@@ -5,23 +5,26 @@ use Rattle.std.proofs.lemmas.Bool.{eq-eqb, ne_eqb}
 use Rattle.std.proofs.lemmas.Bool.Decides.{eqb_tells}
 use Rattle.std.specs.List.{list_any}
 use Rattle.bridge_config.specs.declared.fields.Key.{Key}
-use Rattle.std.specs.Prelude.{flat_map}
 use Rattle.std.proofs.lemmas.List.{append-nil, map_push}
 use Rattle.std.proofs.lemmas.Grind.{flat_map-append}
 use Rattle.bridge_config.specs.declared.fields.PairFields.{PairFields}
-use Rattle.bridge_config.specs.Configuration.{Pair, key_number, pair_of}
+use Rattle.bridge_config.specs.Configuration.{Pair, keys_in, key_number, pair_of}
 use Rattle.bridge_config.specs.Limits.{stands_in, are_distinct}
 
+-- a test of the images of a list is a test of the list
 pub list_any-map : {X Y : Type 0} (p : Y → Bool) (f : X → Y) (xs : List X) → list_any p (map f xs) ≡ list_any (λ x. p (f x)) xs
 list_any-map p f [] = refl
 list_any-map p f (x ∷ xs) = ap (λ b. p (f x) || b) (list_any-map p f xs)
 
+-- a number is among the numbers of keys where a key has it
 pub stands_in-map : (keys : List Key) (key : ℕ) → stands_in (map key_number keys) key ≡ list_any (λ other. other.0 == key) keys
 stands_in-map keys key = list_any-map (λ other. other == key) key_number keys
 
+-- a test of equality may be turned round
 eqb-sym : (a b : ℕ) → (a == b) ≡ (b == a)
 eqb-sym a b = elim (eqb_tells a b) [ inl same ↦ same.0 ∙ sym (eq-eqb b a (sym same.1)) | inr other ↦ other.0 ∙ sym (ne_eqb b a (λ e. other.1 (sym e))) ]
 
+-- the two ways to say that a number is among others
 flipped : (key : ℕ) (keys : List ℕ) → list_any (λ other. key == other) keys ≡ stands_in keys key
 flipped key [] = refl
 flipped key (other ∷ keys) = ap (λ b. b || list_any (λ o. key == o) keys) (eqb-sym key other) ∙ ap (λ b. (other == key) || b) (flipped key keys)
@@ -37,8 +40,9 @@ are_distinct-drop keys place d within =
     ap (λ (ks : List Key). are_distinct (map key_number ks)) (drop-cons keys place d within ∙ ap (λ n. get_or keys place d ∷ drop n keys) (sym one))
     ∙ are_distinct-cons (get_or keys place d).0 (map key_number (drop (place + 1) keys))
 
-pub keys_of-push : (front : List PairFields) (pair : PairFields) → flat_map (λ (p : Pair). p.keys) (map pair_of (front ++ pair ∷ [])) ≡ flat_map (λ (p : Pair). p.keys) (map pair_of front) ++ map key_number pair.keys
-keys_of-push front pair =
-    ap (flat_map (λ (p : Pair). p.keys)) (map_push pair_of front pair)
+-- the keys of one pair more
+pub keys_in-push : (front : List PairFields) (pair : PairFields) → keys_in (map pair_of (front ++ pair ∷ [])) ≡ keys_in (map pair_of front) ++ map key_number pair.keys
+keys_in-push front pair =
+    ap keys_in (map_push pair_of front pair)
     ∙ flat_map-append (λ (p : Pair). p.keys) (map pair_of front) (pair_of pair ∷ [])
-    ∙ ap (λ (keys : List ℕ). flat_map (λ (p : Pair). p.keys) (map pair_of front) ++ keys) (append-nil (map key_number pair.keys))
+    ∙ ap (λ (keys : List ℕ). keys_in (map pair_of front) ++ keys) (append-nil (map key_number pair.keys))

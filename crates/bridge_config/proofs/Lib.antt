@@ -1,3 +1,4 @@
+mod Splits
 mod WordReading
 mod FiveWords
 mod Bytes
@@ -10,6 +11,7 @@ mod PlainWords
 mod NumeralLaws
 mod DistinctKeys
 mod LineLaws
+mod FiveWordLaws
 mod Steps
 mod Rows
 mod Pairs

@@ -1,6 +1,7 @@
 -- The movement that is read is spelled so, and the one that is spelled so is read.
-use Rattle.std.proofs.Common.{◌≡◌, ℕ, ◌+◌, inl, inr, List, [], ◌∷◌, ◌++◌, length, Option, Some, None, Result, Ok, Err, refl, sym, ap, ◌∙◌, subst, arith}
+use Rattle.std.proofs.Common.{◌≡◌, ℕ, ◌+◌, Bool, true, false, cond, inl, inr, List, [], ◌∷◌, ◌++◌, length, Option, Some, None, Result, Ok, Err, refl, sym, ap, ◌∙◌, subst, arith}
 use Rattle.std.specs.Prelude.{codes, map, All}
+use Rattle.std.specs.Str.{bytes_eq}
 use Rattle.std.proofs.lemmas.List.Elements.{All-head, All-tail}
 use Rattle.bridge_movement.specs.declared.row.Row.{Row}
 use Rattle.bridge_movement.specs.declared.shape.Shape.{Shape}
@@ -9,8 +10,10 @@ use Rattle.bridge_movement.specs.Schedule.{Schedule}
 use Rattle.bridge_movement.specs.Shape.{IsShape, row_count}
 use Rattle.bridge_config.specs.declared.refused.ConfigFault.{ConfigFault}
 use Rattle.bridge_config.specs.Spelling.{mitchell_line, shape_text, row_text, IsMitchell, SpellsMovement}
-use Rattle.bridge_config.specs.Reading.{form_at, words_of, word_after, five_after, number_in, number_line, shape_in, shape_line, due_line, rows_in, Moved, JudgesRows, ReadsShape, ReadsMitchell, ReadsPlan, ReadsMovement}
-use Rattle.bridge_config.proofs.LineLaws.{number_takes, number_again, shape_takes, shape_again}
+use Rattle.bridge_config.specs.LineReading.{form_at, words_of, word_after, five_after, number_in, number_line, shape_in, shape_line}
+use Rattle.bridge_config.specs.Reading.{due_line, rows_in, Moved, JudgesRows, ReadsShape, ReadsMitchell, ReadsPlan, ReadsMovement}
+use Rattle.bridge_config.proofs.LineLaws.{number_takes, number_again}
+use Rattle.bridge_config.proofs.FiveWordLaws.{shape_takes, shape_again}
 use Rattle.bridge_config.proofs.Steps.{not_ok, IsShort, TakesLines, takes_none, takes_line, number_short, shape_short}
 use Rattle.bridge_config.proofs.Rows.{rows_takes, rows_again}
 use Rattle.bridge_config.proofs.Movements.{movement_in_bytes, one_mitchell, mitchell_shape_within}
@@ -23,6 +26,7 @@ pub record TakesMovement (texts : List (List ℕ)) (movement : Schedule) (rest :
   pub shape : IsShape movement.shape
   pub rows : IsMovement movement.shape movement.rows
 
+-- a line that was read as a Mitchell movement spells it
 mitchell_takes : (line : List ℕ) (rest : List (List ℕ)) (read : Result ℕ ConfigFault) (moved : Moved) →
     number_line 6 (codes "MITCHELL") 2 12 line ≡ read → ReadsMitchell rest read (Ok moved) →
     TakesMovement (line ∷ rest) moved.movement moved.rest
@@ -40,6 +44,7 @@ mitchell_takes line rest (Ok tables) moved is (mitchell, number, left, movement)
       rows = movement;
     }
 
+-- lines that were read as a shape and its rows, which are a movement, spell it
 judged_takes : (line : List ℕ) (rest : List (List ℕ)) (shape : Shape) (read : Result (List Row × List (List ℕ)) ConfigFault) (moved : Moved) →
     shape_line 6 line ≡ Ok shape → rows_in (row_count shape) 7 rest ≡ read → JudgesRows shape read (Ok moved) →
     TakesMovement (line ∷ rest) moved.movement moved.rest
@@ -57,12 +62,14 @@ judged_takes line rest shape (Ok rows) moved is rows_are (movement, same) =
       rows = movement;
     })
 
+-- a line that was read as a shape, and the lines of its rows, spell a movement
 shape_takes_rows : (line : List ℕ) (rest : List (List ℕ)) (read : Result Shape ConfigFault) (moved : Moved) →
     shape_line 6 line ≡ read → ReadsShape rest read (Ok moved) → TakesMovement (line ∷ rest) moved.movement moved.rest
 shape_takes_rows line rest (Err fault) moved is reads = absurd cc
 shape_takes_rows line rest (Ok shape) moved is reads =
     judged_takes line rest shape (rows_in (row_count shape) 7 rest) moved is refl reads
 
+-- the sixth line, in either form, and the lines of its rows spell a movement
 plan_takes : (line : List ℕ) (rest : List (List ℕ)) (word : Option (List ℕ)) (moved : Moved) →
     word_after (codes "MITCHELL") (words_of line) ≡ word → ReadsPlan line rest word (Ok moved) →
     TakesMovement (line ∷ rest) moved.movement moved.rest
@@ -70,6 +77,7 @@ plan_takes line rest None moved is reads = shape_takes_rows line rest (shape_lin
 plan_takes line rest (Some word) moved is reads =
     mitchell_takes line rest (number_in 6 2 12 (Some word)) moved (ap (number_in 6 2 12) is) reads
 
+-- lines that were read as a movement spell it
 pub movement_takes : (texts : List (List ℕ)) (moved : Moved) → ReadsMovement (due_line 6 texts) (Ok moved) →
     TakesMovement texts moved.movement moved.rest
 movement_takes [] moved reads = absurd cc
@@ -81,10 +89,12 @@ abbrev pub Moves : Schedule → List (List ℕ) → Result Moved ConfigFault →
 Moves movement rest moved =
     (number : ℕ) × (moved ≡ Ok (record { movement = movement; number = number; rest = rest }))
 
+-- equal movements with equal lines left are read alike
 same_moved : (movement movement' : Schedule) (number : ℕ) (rest rest' : List (List ℕ)) → movement ≡ movement' → rest ≡ rest' →
     ◌≡◌ {A = Moved} (record { movement = movement; number = number; rest = rest }) (record { movement = movement'; number = number; rest = rest' })
 same_moved movement movement' number rest rest' p q = cc
 
+-- a Mitchell movement of that many tables is read as the one that is spelled
 mitchell_read : (tables : ℕ) (movement : Schedule) (rest : List (List ℕ)) (moved : Result Moved ConfigFault) →
     IsMitchell tables movement → ReadsMitchell rest (Ok tables) moved → Moves movement rest moved
 mitchell_read tables movement rest (Err fault) mitchell reads = absurd reads
@@ -94,6 +104,7 @@ mitchell_read tables movement rest (Ok moved) mitchell (same, number, left, is_m
       (same_moved moved.movement movement moved.number moved.rest rest (one_mitchell tables moved.movement movement same mitchell) left),
 )
 
+-- a number of tables after `MITCHELL` is read as the Mitchell movement
 mitchell_again : (line : List ℕ) (tables : ℕ) (movement : Schedule) (rest : List (List ℕ)) (word : Option (List ℕ)) (moved : Result Moved ConfigFault) →
     IsMitchell tables movement → number_in 6 2 12 word ≡ Ok tables → ReadsPlan line rest word moved → Moves movement rest moved
 mitchell_again line tables movement rest None moved mitchell is reads = not_ok (Moves movement rest moved) (form_at 6) tables is
@@ -101,14 +112,21 @@ mitchell_again line tables movement rest (Some word) moved mitchell is reads =
     mitchell_read tables movement rest moved mitchell
     (subst (λ (read : Result ℕ ConfigFault). ReadsMitchell rest read moved) is reads)
 
+-- nothing, whichever way a test goes
+either_none : {A : Type 0} (b : Bool) → ◌≡◌ {A = Option A} (cond b None None) None
+either_none true = refl
+either_none false = refl
+
 -- a line that is read as a shape has more words than a Mitchell movement's
 more_words : (keyword other : List ℕ) (words : List (List ℕ)) (shape : Shape) → shape_in 6 (five_after keyword words) ≡ Ok shape →
     word_after other words ≡ None
 more_words keyword other [] shape e = refl
-more_words keyword other (a ∷ []) shape e = refl
-more_words keyword other (a ∷ b ∷ []) shape e = absurd cc
-more_words keyword other (a ∷ b ∷ c ∷ words) shape e = refl
+more_words keyword other (a ∷ []) shape e = either_none (bytes_eq a other)
+more_words keyword other (a ∷ b ∷ []) shape e =
+    not_ok (word_after other (a ∷ b ∷ []) ≡ None) (form_at 6) shape (sym (ap (shape_in 6) (either_none (bytes_eq a keyword))) ∙ e)
+more_words keyword other (a ∷ b ∷ c ∷ words) shape e = either_none (bytes_eq a other)
 
+-- rows that are a movement are judged to be one
 rows_read : (movement : Schedule) (rest : List (List ℕ)) (moved : Result Moved ConfigFault) →
     IsMovement movement.shape movement.rows → JudgesRows movement.shape (Ok (movement.rows, rest)) moved →
     Moves movement rest moved
@@ -116,6 +134,7 @@ rows_read movement rest (Err fault) rows (refused, no_movement, refusal, is) = a
 rows_read movement rest (Ok moved) rows (judged, is) =
     (7 + row_count movement.shape, ap (λ (m : Moved). Ok m) is)
 
+-- the lines of a shape and of its rows, which are a movement, are read as it
 shape_again_rows : (movement : Schedule) (rest : List (List ℕ)) (moved : Result Moved ConfigFault) →
     All IsShort (shape_text movement.shape ∷ map row_text movement.rows) → IsShape movement.shape →
     IsMovement movement.shape movement.rows →
@@ -138,6 +157,7 @@ shape_again_rows movement rest moved short limits rows reads =
     rows_read movement rest moved rows
     (subst (λ (read : Result (List Row × List (List ℕ)) ConfigFault). JudgesRows movement.shape read moved) counted judged)
 
+-- lines that spell a movement are read as it
 pub movement_again : (movement : Schedule) (texts rest : List (List ℕ)) (moved : Result Moved ConfigFault) →
     SpellsMovement movement texts → All IsShort texts → IsShape movement.shape → IsMovement movement.shape movement.rows →
     ReadsMovement (due_line 6 (texts ++ rest)) moved → Moves movement rest moved

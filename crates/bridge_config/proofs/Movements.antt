@@ -1,8 +1,7 @@
 -- What follows of a movement: each number of a row fits in a byte, and there is one Mitchell movement of a number of tables.
-use Rattle.std.proofs.Common.{ℕ, ◌≡◌, ◌/◌, ◌%◌, ◌<◌, ◌≤◌, List, length, subst, sym, ap, ◌∙◌, arith}
+use Rattle.std.proofs.Common.{ℕ, ◌≡◌, ◌/◌, ◌%◌, ◌<◌, List, length, subst, sym, ap, ◌∙◌, arith}
 use Rattle.std.specs.Prelude.{All}
 use Rattle.std.proofs.lemmas.List.{same_lists}
-use Rattle.std.proofs.lemmas.Bool.Decides.{nat_tests}
 use Rattle.std.proofs.lemmas.Nat.{div_below, mod_below}
 use Rattle.bridge_movement.specs.Mitchell.{mitchell_within}
 use Rattle.bridge_movement.specs.declared.row.Row.{Row}
@@ -11,7 +10,7 @@ use Rattle.bridge_movement.specs.Fair.{IsMovement}
 use Rattle.bridge_movement.specs.Schedule.{Schedule}
 use Rattle.bridge_movement.specs.Shape.{IsShape, row_count}
 use Rattle.bridge_config.specs.Spelling.{IsMitchell}
-use Rattle.bridge_config.proofs.LineLaws.{IsByteRow}
+use Rattle.bridge_config.proofs.FiveWordLaws.{IsByteRow}
 
 -- each number of a movement's row fits in a byte
 pub movement_in_bytes : (shape : Shape) (rows : List Row) → IsShape shape → IsMovement shape rows → All IsByteRow rows
@@ -29,6 +28,7 @@ movement_in_bytes shape rows limits movement k d within =
       omega (arith, set.1, limits.sets),
     )
 
+-- equal shapes with equal rows are equal movements
 same_schedule : (shape shape' : Shape) (rows rows' : List Row) → shape ≡ shape' → rows ≡ rows' →
     ◌≡◌ {A = Schedule} (record { shape = shape; rows = rows }) (record { shape = shape'; rows = rows' })
 same_schedule shape shape' rows rows' p q = cc

@@ -8,11 +8,12 @@ use Rattle.std.proofs.lemmas.Bool.{and_parts, and_from, or_cases, or_left, or_ri
 use Rattle.std.proofs.lemmas.Fmt.{decimal-digits_value, digits_decimal, digits_value-decimal, decimal_nonempty, first_decimal, decimal_digit}
 use Rattle.bridge_movement.specs.Shape.{IsBetween}
 use Rattle.bridge_config.specs.Limits.{is_between}
-use Rattle.bridge_config.specs.Reading.{is_numeral, within, range_at}
+use Rattle.bridge_config.specs.LineReading.{is_numeral, within, range_at}
 use Rattle.bridge_config.proofs.LineWords.{is_not_space, ok_if}
 use Rattle.bridge_config.proofs.Values.{digits_read}
 use Rattle.bridge_config.proofs.PlainWords.{digits_are_plain}
 
+-- the word is what the number is written as, and the number is within its limits
 pub record IsNumber (low high value : ℕ) (word : List ℕ) : Type 0 where
   pub spelled : word ≡ decimal value
   pub limits : IsBetween low high value
@@ -37,9 +38,11 @@ numeral_takes n low high word value fits form read =
     let back : decimal (digits_value 10 word) ≡ word = decimal-digits_value digits_read word g.0 nonempty lone (omega arith) in
     record { spelled = sym back ∙ ap decimal t.1; limits = subst (λ (v : ℕ). IsBetween low high v) t.1 (least, most) }
 
+-- what a number is written as has no space
 pub decimal_is_plain : (value : ℕ) → value < 2 ^ 64 → list_all is_not_space (decimal value) ≡ true
 decimal_is_plain value fits = digits_are_plain (decimal value) (digits_decimal digits_read value fits)
 
+-- what a number is written as is a numeral
 pub decimal_is_numeral : (value : ℕ) → value < 2 ^ 64 → is_numeral (decimal value) ≡ true
 decimal_is_numeral value fits =
     let some : 0 < length (decimal value) = decimal_nonempty value fits in

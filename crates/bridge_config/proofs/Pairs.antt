@@ -1,17 +1,16 @@
 -- The pairs that are read are spelled so, with no key twice, and those that are spelled so are read.
 use Rattle.std.proofs.Common.{◌≡◌, ℕ, zero, suc, ◌+◌, ◌^◌, ◌≤◌, true, List, [], ◌∷◌, ◌++◌, length, Ok, refl, ap, subst, append_assoc, arith}
-use Rattle.std.specs.Prelude.{flat_map, All}
+use Rattle.std.specs.Prelude.{All}
 use Rattle.std.proofs.lemmas.List.{append-nil}
 use Rattle.std.proofs.lemmas.List.Elements.{All-nil, All-cons, All-head, All-tail, All-append}
-use Rattle.bridge_config.specs.Configuration.{Pair}
+use Rattle.bridge_config.specs.Configuration.{Pair, keys_in}
 use Rattle.bridge_config.specs.Limits.{are_distinct, IsPair}
 use Rattle.bridge_config.specs.Spelling.{pair_text, pair_lines}
-use Rattle.bridge_config.specs.Reading.{◌>>=◌, pair_line, pairs_in}
-use Rattle.bridge_config.proofs.LineLaws.{pair_takes, pair_again, are_distinct-front}
+use Rattle.bridge_config.specs.LineReading.{◌>>=◌, pair_line}
+use Rattle.bridge_config.specs.Reading.{pairs_in}
+use Rattle.bridge_config.proofs.DistinctKeys.{are_distinct-front}
+use Rattle.bridge_config.proofs.FiveWordLaws.{pair_takes, pair_again}
 use Rattle.bridge_config.proofs.Steps.{bind_ok, ok_is, line_takes, All-append_parts, IsShort, TakesLines, takes_none, takes_line, pair_short}
-
-abbrev pub keys_in : List Pair → List ℕ
-keys_in pairs = flat_map (λ (pair : Pair). pair.keys) pairs
 
 -- the key fits in 32 bits
 abbrev pub IsKey : ℕ → Type 0
@@ -25,6 +24,7 @@ pub record TakesPairs (count index : ℕ) (earlier : List ℕ) (texts : List (Li
   pub keys : All IsKey (keys_in pairs)
   pub distinct : are_distinct earlier ≡ true → are_distinct (earlier ++ keys_in pairs) ≡ true
 
+-- lines that were read as pairs spell them
 pub pairs_takes : (count n index : ℕ) (earlier : List ℕ) (texts : List (List ℕ)) (read : List Pair × List (List ℕ)) →
     index + count ≤ 2 ^ 64 → pairs_in count n index earlier texts ≡ Ok read →
     TakesPairs count index earlier texts read.0 read.1
@@ -56,6 +56,7 @@ pairs_takes (suc count) n index earlier texts read fits e =
       distinct = λ before. rw (← append_assoc earlier pair.keys (keys_in pairs)) (others.distinct (one.3 before));
     })
 
+-- lines that spell pairs are read as them, where no key stands twice
 pub pairs_again : (n index : ℕ) (earlier : List ℕ) (pairs : List Pair) (rest : List (List ℕ)) →
     index + length pairs ≤ 2 ^ 64 → All IsShort (pair_lines index pairs) → All IsPair pairs → All IsKey (keys_in pairs) →
     are_distinct (earlier ++ keys_in pairs) ≡ true →

@@ -1,47 +1,39 @@
 -- The director and the pairs that are read are spelled so, and those that are spelled so are read.
-use Rattle.std.proofs.Common.{◌≡◌, ℕ, ◌+◌, ◌^◌, ◌<◌, Bool, true, false, cond, eqb, List, [], ◌∷◌, ◌++◌, length, Result, Ok, Err, refl, sym, ap, ◌∙◌, subst, arith}
+use Rattle.std.proofs.Common.{◌≡◌, ℕ, ◌+◌, ◌^◌, ◌<◌, true, cond, eqb, List, [], ◌∷◌, ◌++◌, length, Result, Ok, Err, refl, sym, ap, ◌∙◌, subst, arith}
 use Rattle.std.specs.Prelude.{codes, All}
 use Rattle.std.specs.Fmt.{decimal}
 use Rattle.std.proofs.lemmas.Bool.{eqb-true}
 use Rattle.std.proofs.lemmas.List.{append-nil, nil_from_length}
 use Rattle.std.proofs.lemmas.List.Elements.{All-cons, All-head, All-tail}
 use Rattle.bridge_config.specs.declared.refused.ConfigFault.{ConfigFault}
-use Rattle.bridge_config.specs.Configuration.{Pair}
+use Rattle.bridge_config.specs.Configuration.{Pair, keys_in, People}
 use Rattle.bridge_config.specs.Limits.{are_distinct, IsPair}
-use Rattle.bridge_config.specs.Spelling.{spaced, pair_lines}
-use Rattle.bridge_config.specs.Reading.{◌>>=◌, form_at, number_line, pairs_in, People, people_in}
+use Rattle.bridge_config.specs.Spelling.{spaced, pair_lines, people_lines}
+use Rattle.bridge_config.specs.LineReading.{◌>>=◌, form_at, number_line}
+use Rattle.bridge_config.specs.Reading.{pairs_in, people_in}
+use Rattle.bridge_config.proofs.LineWords.{ok_if}
 use Rattle.bridge_config.proofs.LineLaws.{number_takes, number_again}
 use Rattle.bridge_config.proofs.Steps.{bind_ok, line_takes, IsShort, TakesLines, takes_line, number_short}
-use Rattle.bridge_config.proofs.Pairs.{keys_in, IsKey, pairs_takes, pairs_again}
+use Rattle.bridge_config.proofs.Pairs.{IsKey, pairs_takes, pairs_again}
 
-guard_ended : {A : Type 0} (b : Bool) (fault : ConfigFault) (x y : A) → cond b (Ok x) (Err fault) ≡ Ok y →
-    (b ≡ true) × (x ≡ y)
-guard_ended true fault x y e = (refl, cc)
-guard_ended false fault x y e = absurd cc
-
--- the lines of the director and of the pairs
-abbrev pub lines_of_people : People → List (List ℕ)
-lines_of_people people = spaced (codes "DIRECTOR" ∷ decimal people.director ∷ []) ∷ pair_lines 1 people.pairs
-
--- the director's key and then those of the pairs' players
-abbrev pub keys_of_people : People → List ℕ
-keys_of_people people = people.director ∷ keys_in people.pairs
-
+-- names and keys are within their limits, and no key stands twice
 pub record ArePeople (people : People) : Type 0 where
   pub limits : All IsPair people.pairs
-  pub keys : All IsKey (keys_of_people people)
-  pub distinct : are_distinct (keys_of_people people) ≡ true
+  pub keys : All IsKey (people.director ∷ keys_in people.pairs)
+  pub distinct : are_distinct (people.director ∷ keys_in people.pairs) ≡ true
 
 -- all the lines were read as those of people
 pub record TakesPeople (count : ℕ) (texts : List (List ℕ)) (people : People) : Type 0 where
   pub count_is : length people.pairs ≡ count
-  pub lines : TakesLines texts (lines_of_people people) []
+  pub lines : TakesLines texts (people_lines people) []
   pub within : ArePeople people
 
+-- what follows once the pairs are read: no line may be left
 abbrev after_pairs : ℕ → ℕ → ℕ → List Pair × List (List ℕ) → Result People ConfigFault
 after_pairs count n director pairs =
     cond (eqb (length pairs.1) 0) (Ok (record { director = director; pairs = pairs.0 })) (Err (form_at (n + 1 + count)))
 
+-- lines that were read as the director's and the pairs' spell them, and are the last
 pub people_takes : (count n : ℕ) (texts : List (List ℕ)) (people : People) → count < 2 ^ 64 →
     people_in count n texts ≡ Ok people → TakesPeople count texts people
 unfolding people_in
@@ -54,17 +46,17 @@ people_takes count n texts people fits e =
     let pairs : List Pair = b.0.0 in
     let left : List (List ℕ) = b.0.1 in
     let made : People = record { director = director; pairs = pairs } in
-    let end = guard_ended (eqb (length left) 0) (form_at (n + 1 + count)) made people b.2 in
+    let end = ok_if (eqb (length left) 0) (form_at (n + 1 + count)) made people b.2 in
     let nothing : left ≡ [] = nil_from_length left (eqb-true _ _ end.0) in
     let one = number_takes n 0 4294967295 (codes "DIRECTOR") line director (omega arith) a.4 in
     let others = pairs_takes count (n + 1) 1 (director ∷ []) rest b.0 (omega arith) b.1 in
-    let lines : TakesLines texts (lines_of_people made) left =
+    let lines : TakesLines texts (people_lines made) left =
     takes_line texts line (spaced (codes "DIRECTOR" ∷ decimal director ∷ [])) rest (pair_lines 1 pairs) left a.3 one.0
     (number_short n 0 4294967295 (codes "DIRECTOR") line director a.4) others.lines in
     subst (λ (x : People). TakesPeople count texts x) end.1
     (record {
       count_is = others.count_is;
-      lines = subst (λ (ts : List (List ℕ)). TakesLines texts (lines_of_people made) ts) nothing lines;
+      lines = subst (λ (ts : List (List ℕ)). TakesLines texts (people_lines made) ts) nothing lines;
       within = record {
         limits = others.limits;
         keys = All-cons IsKey director (keys_in pairs) one.2 others.keys;
@@ -72,8 +64,9 @@ people_takes count n texts people fits e =
       };
     })
 
-pub people_again : (n : ℕ) (people : People) → length people.pairs < 2 ^ 64 → All IsShort (lines_of_people people) →
-    ArePeople people → people_in (length people.pairs) n (lines_of_people people) ≡ Ok people
+-- lines that spell the director and the pairs are read as them
+pub people_again : (n : ℕ) (people : People) → length people.pairs < 2 ^ 64 → All IsShort (people_lines people) →
+    ArePeople people → people_in (length people.pairs) n (people_lines people) ≡ Ok people
 unfolding people_in
 people_again n people fits short within =
     let director : ℕ = people.director in

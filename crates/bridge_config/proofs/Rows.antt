@@ -4,8 +4,9 @@ use Rattle.std.specs.Prelude.{map, All}
 use Rattle.std.proofs.lemmas.List.Elements.{All-head, All-tail}
 use Rattle.bridge_movement.specs.declared.row.Row.{Row}
 use Rattle.bridge_config.specs.Spelling.{row_text}
-use Rattle.bridge_config.specs.Reading.{◌>>=◌, row_line, rows_in}
-use Rattle.bridge_config.proofs.LineLaws.{IsByteRow, row_takes, row_again}
+use Rattle.bridge_config.specs.LineReading.{◌>>=◌, row_line}
+use Rattle.bridge_config.specs.Reading.{rows_in}
+use Rattle.bridge_config.proofs.FiveWordLaws.{IsByteRow, row_takes, row_again}
 use Rattle.bridge_config.proofs.Steps.{bind_ok, ok_is, line_takes, IsShort, TakesLines, takes_none, takes_line, row_short}
 
 -- lines in front were read as rows, and others are left
@@ -13,6 +14,7 @@ pub record TakesRows (count : ℕ) (texts : List (List ℕ)) (rows : List Row) (
   pub count_is : length rows ≡ count
   pub lines : TakesLines texts (map row_text rows) rest
 
+-- lines that were read as rows spell them
 pub rows_takes : (count n : ℕ) (texts : List (List ℕ)) (read : List Row × List (List ℕ)) →
     rows_in count n texts ≡ Ok read → TakesRows count texts read.0 read.1
 unfolding rows_in
@@ -32,6 +34,7 @@ rows_takes (suc count) n texts read e =
       lines = takes_line texts line (row_text row) rest (map row_text b.0.0) b.0.1 a.3 (row_takes n line row a.4) (row_short n line row a.4) others.lines;
     })
 
+-- lines that spell rows are read as them
 pub rows_again : (n : ℕ) (rows : List Row) (rest : List (List ℕ)) → All IsShort (map row_text rows) → All IsByteRow rows →
     rows_in (length rows) n (map row_text rows ++ rest) ≡ Ok (rows, rest)
 unfolding rows_in

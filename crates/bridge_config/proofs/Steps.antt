@@ -2,13 +2,15 @@
 use Rattle.std.proofs.Common.{◌≡◌, ℕ, ◌≤◌, List, [], ◌∷◌, ◌++◌, length, Result, Ok, Err, refl, sym, ap, ◌∙◌, subst, inl, inr}
 use Rattle.std.specs.Prelude.{codes, All}
 use Rattle.std.proofs.lemmas.Bool.{cases_lt, lt-ltb, cond-true}
-use Rattle.std.proofs.lemmas.List.Elements.{All-nil, All-cons, All-head, All-tail}
+use Rattle.std.proofs.lemmas.List.Elements.{All-nil, All-cons, All-take, All-drop}
+use Rattle.std.proofs.Math.Seq.{take-append_seam, drop-append_seam}
 use Rattle.bridge_score.specs.declared.ranking.Scoring.{Scoring}
 use Rattle.bridge_movement.specs.declared.row.Row.{Row}
 use Rattle.bridge_movement.specs.declared.shape.Shape.{Shape}
 use Rattle.bridge_config.specs.declared.refused.ConfigFault.{ConfigFault}
 use Rattle.bridge_config.specs.Configuration.{Pair}
-use Rattle.bridge_config.specs.Reading.{◌>>=◌, form_at, words_of, word_after, five_after, name_in, name_line, date_in, date_line, scoring_in, scoring_line, number_in, number_line, shape_in, shape_line, row_in, row_line, pair_in, pair_line, due_line}
+use Rattle.bridge_config.specs.LineReading.{◌>>=◌, form_at, words_of, word_after, five_after, name_in, name_line, date_in, date_line, scoring_in, scoring_line, number_in, number_line, shape_in, shape_line, row_in, row_line, pair_in, pair_line}
+use Rattle.bridge_config.specs.Reading.{due_line}
 
 -- the value of a step that did not fail
 pub bind_ok : {A B : Type 0} (r : Result A ConfigFault) (f : A → Result B ConfigFault) (y : B) → (r >>= f) ≡ Ok y →
@@ -16,9 +18,11 @@ pub bind_ok : {A B : Type 0} (r : Result A ConfigFault) (f : A → Result B Conf
 bind_ok (Ok x) f y e = (x, refl, e)
 bind_ok (Err fault) f y e = absurd cc
 
+-- a step that gave this value
 abbrev pub done : {A : Type 0} → A → Result A ConfigFault
 done x = Ok x
 
+-- a step gives one value
 pub ok_is : {A : Type 0} (x y : A) → done x ≡ done y → x ≡ y
 ok_is x y e = cc
 
@@ -31,6 +35,7 @@ abbrev pub line_then : {A B : Type 0} → ℕ → List (List ℕ) → (List ℕ 
     (A → List (List ℕ) → Result B ConfigFault) → Result B ConfigFault
 line_then n texts read then_read = due_line n texts >>= λ due. read due.0 >>= λ a. then_read a due.1
 
+-- the line, what it stated and the lines after it, of a step that did not fail
 pub line_takes : {A B : Type 0} (n : ℕ) (texts : List (List ℕ)) (read : List ℕ → Result A ConfigFault) (then_read : A → List (List ℕ) → Result B ConfigFault) (y : B) →
     line_then n texts read then_read ≡ Ok y →
     (line : List ℕ) × (rest : List (List ℕ)) × (a : A) × (texts ≡ line ∷ rest) × (read line ≡ Ok a)
@@ -39,18 +44,12 @@ line_takes n [] read then_read y e = absurd cc
 line_takes n (line ∷ rest) read then_read y e =
     let b = bind_ok (read line) (λ a. then_read a rest) y e in (line, rest, b.0, refl, b.1, b.2)
 
-front : {X : Type 0} (P : X → Type 0) (xs ys : List X) → All P (xs ++ ys) → All P xs
-front P [] ys holds = All-nil P
-front P (x ∷ xs) ys holds =
-    All-cons P x xs (All-head P x (xs ++ ys) holds) (front P xs ys (All-tail P x (xs ++ ys) holds))
-
-back : {X : Type 0} (P : X → Type 0) (xs ys : List X) → All P (xs ++ ys) → All P ys
-back P [] ys holds = holds
-back P (x ∷ xs) ys holds = back P xs ys (All-tail P x (xs ++ ys) holds)
-
 -- what holds of each element of two lists joined holds of each of either
 pub All-append_parts : {X : Type 0} (P : X → Type 0) (xs ys : List X) → All P (xs ++ ys) → All P xs × All P ys
-All-append_parts P xs ys holds = (front P xs ys holds, back P xs ys holds)
+All-append_parts P xs ys holds = (
+  subst (All P) (take-append_seam xs ys) (All-take P (length xs) (xs ++ ys) holds),
+  subst (All P) (drop-append_seam xs ys) (All-drop P (length xs) (xs ++ ys) holds),
+)
 
 -- no more than 128 bytes
 abbrev pub IsShort : List ℕ → Type 0
@@ -61,9 +60,11 @@ pub record TakesLines (texts front rest : List (List ℕ)) : Type 0 where
   pub parts : texts ≡ front ++ rest
   pub short : All IsShort front
 
+-- no line was taken
 pub takes_none : (texts : List (List ℕ)) → TakesLines texts [] texts
 takes_none texts = record { parts = refl; short = All-nil IsShort }
 
+-- one line more was taken in front of others
 pub takes_line : (texts : List (List ℕ)) (line spelled : List ℕ) (rest front left : List (List ℕ)) →
     texts ≡ line ∷ rest → line ≡ spelled → length line ≤ 128 → TakesLines rest front left →
     TakesLines texts (spelled ∷ front) left
@@ -83,6 +84,7 @@ short_from read line fault x none e =
       | inr short ↦ short
     ]
 
+-- a line that was read as a name is not too long; likewise below for each kind of line
 pub name_short : (n : ℕ) (keyword line name : List ℕ) → name_line n keyword line ≡ Ok name → length line ≤ 128
 name_short n keyword line name e =
     short_from (λ words. name_in n (word_after keyword words)) line (form_at n) name refl e

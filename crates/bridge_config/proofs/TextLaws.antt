@@ -7,18 +7,21 @@ use Rattle.std.proofs.lemmas.List.{append-nil}
 use Rattle.std.proofs.lemmas.List.Elements.{All-append}
 use Rattle.bridge_config.specs.declared.refused.ConfigFault.{ConfigFault}
 use Rattle.bridge_config.specs.declared.refused.ConfigRefused.TheVariants.{TooLong}
-use Rattle.bridge_config.specs.Configuration.{Configuration}
+use Rattle.bridge_config.specs.Configuration.{Configuration, heading_of, people_of, Heading, People}
 use Rattle.bridge_config.specs.Limits.{is_between, IsConfiguration}
-use Rattle.bridge_config.specs.Spelling.{Spells}
-use Rattle.bridge_config.specs.Reading.{◌>>=◌, due_line, Heading, heading_in, People, people_in, Moved, ReadsMovement, stated_by, after_movement, ReadsAfterHeading, Reads}
+use Rattle.bridge_config.specs.Spelling.{heading_lines, people_lines, Spells}
+use Rattle.bridge_config.specs.LineReading.{◌>>=◌}
+use Rattle.bridge_config.specs.Reading.{due_line, heading_in, people_in, Moved, ReadsMovement, stated_by, after_movement, ReadsAfterHeading, Reads}
 use Rattle.bridge_config.proofs.Steps.{bind_ok, ok_is, All-append_parts, IsShort, TakesLines}
-use Rattle.bridge_config.proofs.Headings.{lines_of_heading, IsHeading, heading_takes, heading_again}
+use Rattle.bridge_config.proofs.Headings.{IsHeading, heading_takes, heading_again}
 use Rattle.bridge_config.proofs.MovementLaws.{movement_takes, movement_again}
-use Rattle.bridge_config.proofs.People.{lines_of_people, ArePeople, people_takes, people_again}
+use Rattle.bridge_config.proofs.People.{ArePeople, people_takes, people_again}
 
+-- a number from low to high passes the test for it
 between_from : (low high n : ℕ) → low ≤ n → n ≤ high → is_between low high n ≡ true
 between_from low high n least most = and_from (leb low n) (leb n high) (le-leb low n least) (le-leb n high most)
 
+-- a number that passes the test lies from low to high
 between_parts : (low high n : ℕ) → is_between low high n ≡ true → (low ≤ n) × (n ≤ high)
 between_parts low high n e =
     let parts = and_parts (leb low n) (leb n high) e in (leb-true low n parts.0, leb-true n high parts.1)
@@ -35,6 +38,7 @@ joined texts first second third after_first after_second after_third a b c none 
     All-append IsShort first (second ++ third) a.short (All-append IsShort second third b.short c.short) in
     (whole, subst (λ (ts : List (List ℕ)). All IsShort ts) (sym whole) short)
 
+-- heading, movement and people that were read, one after the other, are spelled by the text
 pub people_read_spelled : (text : List ℕ) (heading : Heading × List (List ℕ)) (moved : Moved) (people : People) → length text ≤ 16384 →
     heading_in (lines text) ≡ Ok heading → ReadsMovement (due_line 6 heading.1) (Ok moved) →
     people_in moved.movement.shape.pairs moved.number moved.rest ≡ Ok people →
@@ -43,7 +47,7 @@ people_read_spelled text heading moved people within heading_is movement_is peop
     let first = heading_takes (lines text) heading heading_is in
     let second = movement_takes heading.1 moved movement_is in
     let third = people_takes moved.movement.shape.pairs moved.number moved.rest people (omega (arith, second.shape.pairs)) people_is in
-    let all = joined (lines text) (lines_of_heading heading.0) second.movement_texts (lines_of_people people) heading.1 moved.rest []
+    let all = joined (lines text) (heading_lines heading.0) second.movement_texts (people_lines people) heading.1 moved.rest []
     first.lines second.lines third.lines refl in
     record {
       length_within = within;
@@ -66,6 +70,7 @@ people_read_spelled text heading moved people within heading_is movement_is peop
       keys = third.within.keys;
     }
 
+-- the same, where the heading was read and the lines after it gave a configuration
 heading_read_spelled : (text : List ℕ) (configuration : Configuration) (heading : Result (Heading × List (List ℕ)) ConfigFault) →
     length text ≤ 16384 → heading_in (lines text) ≡ heading → ReadsAfterHeading heading (Ok configuration) →
     Spells text configuration
@@ -79,6 +84,7 @@ heading_read_spelled text configuration (Ok heading) within heading_is (moved, m
     subst (λ (c : Configuration). Spells text c) (ok_is (stated_by heading.0 m.movement b.0) configuration b.2)
     (people_read_spelled text heading m b.0 within heading_is movement_is' b.1)
 
+-- a configuration that was read of a text is spelled by it
 pub read_is_spelled : (text : List ℕ) (configuration : Configuration) → Reads text (Ok configuration) → Spells text configuration
 read_is_spelled text configuration read =
     let long : Type 0 = ◌≡◌ {A = Result Configuration ConfigFault} (Ok configuration) (Err (record { line = 0; cause = TooLong })) in
@@ -89,20 +95,15 @@ read_is_spelled text configuration read =
           (MatchBool-at_false long after (le-ltb 16384 (length text) within) read)
     ]
 
+-- a configuration that a text spells is read of it
 pub spelled_is_read : (text : List ℕ) (configuration : Configuration) (read : Result Configuration ConfigFault) → Spells text configuration → Reads text read → read ≡ Ok configuration
 spelled_is_read text configuration read spelled reads =
     let limits : IsConfiguration configuration = spelled.limits in
-    let heading : Heading = record {
-      event = configuration.event;
-      site = configuration.site;
-      date = configuration.date;
-      scoring = configuration.scoring;
-      boards = configuration.boards;
-    } in
-    let people : People = record { director = configuration.director; pairs = configuration.pairs } in
-    let first : List (List ℕ) = lines_of_heading heading in
+    let heading : Heading = heading_of configuration in
+    let people : People = people_of configuration in
+    let first : List (List ℕ) = heading_lines heading in
     let second : List (List ℕ) = spelled.movement_texts in
-    let third : List (List ℕ) = lines_of_people people in
+    let third : List (List ℕ) = people_lines people in
     let whole : lines text ≡ first ++ (second ++ third) = spelled.whole in
     let short = All-append_parts IsShort first (second ++ third)
     (subst (λ (ts : List (List ℕ)). All IsShort ts) whole spelled.lines_within) in

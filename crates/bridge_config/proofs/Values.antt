@@ -7,12 +7,14 @@ use Rattle.std.specs.Char.{is_ascii_digit}
 use Rattle.std.specs.Str.Parse.{ParsesUnsigned, digits_value}
 use Rattle.std.proofs.lemmas.Bool.{cases_lt}
 use Rattle.std.proofs.lemmas.Str.Parse.{IsNumeralModel, numerals_by_value, parse_digits}
-use Rattle.bridge_config.specs.Reading.{is_numeral}
+use Rattle.bridge_config.specs.LineReading.{is_numeral}
 use Rattle.bridge_config.proofs.Bytes.{numeral_digits, numeral_length}
 
+-- lists of digits are numerals as std's lemmas take them, each with its value
 pub digits_read : IsNumeralModel (λ ds. list_all is_ascii_digit ds ≡ true) (digits_value 10)
 digits_read = numerals_by_value (λ ds. list_all is_ascii_digit ds ≡ true) (search rules)
 
+-- digits are read as their value, or that is above 4,294,967,295
 value_or_more : {E : Type 0} (bs : List ℕ) (r : Result ℕ E) → 0 < length bs → OkIff r ((0 < length bs) × (digits_value 10 bs < 2 ^ 32)) (digits_value 10 bs) → MatchOption (result_ok r) (4294967295 < digits_value 10 bs) (λ value. value ≡ digits_value 10 bs)
 value_or_more bs (Ok value) some reads = reads.1
 value_or_more bs (Err e) some reads = elim (cases_lt (digits_value 10 bs) 4294967296) [

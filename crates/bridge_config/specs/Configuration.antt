@@ -40,6 +40,35 @@ configuration_of fields = record {
   pairs = map pair_of fields.pairs.items;
 }
 
+-- the keys of the players of these pairs, in order
+abbrev pub keys_in : List Pair → List ℕ
+keys_in pairs = flat_map (λ (pair : Pair). pair.keys) pairs
+
 -- the director's key and then those of the pairs' players, in order
 abbrev pub keys_of : Configuration → List ℕ
-keys_of configuration = configuration.director ∷ flat_map (λ (pair : Pair). pair.keys) configuration.pairs
+keys_of configuration = configuration.director ∷ keys_in configuration.pairs
+
+-- what the first five lines of a text state
+pub record Heading : Type 0 where
+  pub event : List ℕ
+  pub site : List ℕ
+  pub date : List ℕ
+  pub scoring : Scoring
+  pub boards : ℕ
+
+abbrev pub heading_of : Configuration → Heading
+heading_of configuration = record {
+  event = configuration.event;
+  site = configuration.site;
+  date = configuration.date;
+  scoring = configuration.scoring;
+  boards = configuration.boards;
+}
+
+-- what the lines after the movement's state
+pub record People : Type 0 where
+  pub director : ℕ
+  pub pairs : List Pair
+
+abbrev pub people_of : Configuration → People
+people_of configuration = record { director = configuration.director; pairs = configuration.pairs }

@@ -1,6 +1,7 @@
 pub mod Configuration
 pub mod Limits
 pub mod Spelling
+pub mod LineReading
 pub mod Reading
 pub mod Words
 pub mod Parts

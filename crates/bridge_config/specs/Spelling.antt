@@ -10,7 +10,7 @@ use Rattle.bridge_movement.specs.declared.shape.Shape.{Shape}
 use Rattle.bridge_movement.specs.Schedule.{Schedule}
 use Rattle.bridge_movement.specs.Shape.{IsBetween, row_count}
 use Rattle.bridge_movement.specs.Mitchell.{mitchell_shape, FollowsMitchell}
-use Rattle.bridge_config.specs.Configuration.{Configuration, Pair, keys_of}
+use Rattle.bridge_config.specs.Configuration.{Configuration, Pair, keys_of, Heading, heading_of, People, people_of}
 use Rattle.bridge_config.specs.Limits.{IsConfiguration}
 
 -- words with one space between each two
@@ -22,13 +22,13 @@ scoring_word MatchPoints = codes "MP"
 scoring_word Imps = codes "IMP"
 
 -- the first five lines
-abbrev pub heading_lines : Configuration → List (List ℕ)
-heading_lines configuration =
-    spaced (codes "EVENT" ∷ configuration.event ∷ [])
-    ∷ spaced (codes "SITE" ∷ configuration.site ∷ [])
-    ∷ spaced (codes "DATE" ∷ configuration.date ∷ [])
-    ∷ spaced (codes "SCORING" ∷ scoring_word configuration.scoring ∷ [])
-    ∷ spaced (codes "BOARDS" ∷ decimal configuration.boards ∷ [])
+abbrev pub heading_lines : Heading → List (List ℕ)
+heading_lines heading =
+    spaced (codes "EVENT" ∷ heading.event ∷ [])
+    ∷ spaced (codes "SITE" ∷ heading.site ∷ [])
+    ∷ spaced (codes "DATE" ∷ heading.date ∷ [])
+    ∷ spaced (codes "SCORING" ∷ scoring_word heading.scoring ∷ [])
+    ∷ spaced (codes "BOARDS" ∷ decimal heading.boards ∷ [])
     ∷ []
 
 abbrev pub mitchell_line : ℕ → List ℕ
@@ -70,9 +70,8 @@ pair_lines index [] = []
 pair_lines index (pair ∷ pairs) = pair_text index pair ∷ pair_lines (index + 1) pairs
 
 -- the lines after the movement's
-abbrev pub people_lines : Configuration → List (List ℕ)
-people_lines configuration =
-    spaced (codes "DIRECTOR" ∷ decimal configuration.director ∷ []) ∷ pair_lines 1 configuration.pairs
+abbrev pub people_lines : People → List (List ℕ)
+people_lines people = spaced (codes "DIRECTOR" ∷ decimal people.director ∷ []) ∷ pair_lines 1 people.pairs
 
 -- The lines of the text are those of the configuration, which is within the limits. No line has more than 128 bytes, and
 -- the text has at most 16,384.
@@ -81,6 +80,7 @@ pub record Spells (text : List ℕ) (configuration : Configuration) : Type 0 whe
   pub lines_within : All (λ line. length line ≤ 128) (lines text)
   pub movement_texts : List (List ℕ)
   pub movement : SpellsMovement configuration.movement movement_texts
-  pub whole : lines text ≡ heading_lines configuration ++ (movement_texts ++ people_lines configuration)
+  pub whole : lines text ≡ heading_lines (heading_of configuration)
+      ++ (movement_texts ++ people_lines (people_of configuration))
   pub limits : IsConfiguration configuration
   pub keys : All (λ key. key ≤ 4294967295) (keys_of configuration)

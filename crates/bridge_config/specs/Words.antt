@@ -1,6 +1,6 @@
 -- What contracts see of the words of a line.
 use Rattle.bridge_config.specs.declared.words.Five.{Five as FiveWords}
-use Rattle.bridge_config.specs.Reading.{Five}
+use Rattle.bridge_config.specs.LineReading.{Five}
 
 abbrev pub view_of_five : FiveWords → Five
 view_of_five words = record {

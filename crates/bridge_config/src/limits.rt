@@ -1,9 +1,9 @@
 //! The limits of names, dates and keys.
-ghost use Rattle.std.specs.Prelude.{◌≡◌, ◌==◌, map, length};
-ghost use Rattle.std.specs.List.{list_all, list_any};
+ghost use Rattle.std.specs.Prelude.{◌≡◌, map, length};
+ghost use Rattle.std.specs.List.{list_all};
 ghost use Rattle.std.specs.Char.{is_ascii_digit};
 ghost use Rattle.bridge_config.specs.Configuration.{key_number};
-ghost use Rattle.bridge_config.specs.Limits.{is_name_byte, is_name, is_between, is_date_form, is_date_within, two_digits, are_distinct, stands_in};
+ghost use Rattle.bridge_config.specs.Limits.{is_name_byte, is_name, is_date_form, is_date_within, two_digits, are_distinct, stands_in};
 
 use crate::fields::Key;
 
@@ -50,8 +50,8 @@ pub fn is_date_within(date: &[u8]) -> bool
     requires { length date.now ≡ 10 }
     ensures { result ≡ is_date_within date.now }
 {
-    is_between(1, 12, two_digits(date[5], date[6]))
-        && is_between(1, 31, two_digits(date[8], date[9]))
+    (1..=12).contains(&two_digits(date[5], date[6]))
+        && (1..=31).contains(&two_digits(date[8], date[9]))
 }
 
 /// The number of two digits.
@@ -59,13 +59,6 @@ fn two_digits(tens: u8, ones: u8) -> u32
     ensures { result ≡ two_digits tens ones }
 {
     10 * u32::from(tens.saturating_sub(b'0')) + u32::from(ones.saturating_sub(b'0'))
-}
-
-/// Whether the number lies from low to high.
-pub fn is_between(low: u32, high: u32, number: u32) -> bool
-    ensures { result ≡ is_between low high number }
-{
-    low <= number && number <= high
 }
 
 /// Whether no key stands twice.
@@ -85,11 +78,5 @@ pub fn are_distinct(keys: &[Key]) -> bool
 pub fn stands_in(keys: &[Key], key: Key) -> bool
     ensures { result ≡ stands_in (map key_number keys.now) (key_number key) }
 {
-    has_key(keys, key)
-}
-
-fn has_key(keys: &[Key], key: Key) -> bool
-    ensures { result ≡ list_any (λ other. other.0 == key.0) keys.now }
-{
-    keys.iter().any(|other| other.0 == key.0)
+    keys.contains(&key)
 }

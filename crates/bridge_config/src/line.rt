@@ -3,10 +3,11 @@ ghost use Rattle.std.specs.Prelude.{◌≡◌, ◌==◌, not, length, is_some, �
 ghost use Rattle.std.specs.Str.Lines.{lines, strip_carriage_return};
 ghost use Rattle.bridge_config.specs.Configuration.{pair_of, key_number};
 ghost use Rattle.bridge_config.specs.Words.{view_of_five};
-ghost use Rattle.bridge_config.specs.Reading.{Gives, word_after, words_of, is_numeral, within, name_in, name_line, date_line, scoring_line, number_in, number_line, are_numerals, shape_within, shape_line, row_within, row_line, is_pair_form, keys_after, pair_within, pair_line, form_at, range_at, due_line};
+ghost use Rattle.bridge_config.specs.LineReading.{Gives, word_after, words_of, is_numeral, within, name_in, name_line, date_line, scoring_line, number_in, number_line, are_numerals, shape_within, shape_line, row_within, row_line, is_pair_form, keys_after, pair_within, pair_line, form_at, range_at};
+ghost use Rattle.bridge_config.specs.Reading.{due_line};
 
 use crate::fields::{Key, PairFields};
-use crate::limits::{is_between, is_date_form, is_date_within, is_name, stands_in};
+use crate::limits::{is_date_form, is_date_within, is_name, stands_in};
 use crate::refused::{ConfigFault, ConfigRefused};
 use crate::words::{Five, five_after, inline, is_numeral, value_of, word_after};
 use arrayvec::ArrayString;
@@ -57,10 +58,7 @@ fn first_line(text: &[u8]) -> Option<(&[u8], &[u8])>
 fn without_return(line: &[u8]) -> &[u8]
     ensures { result.now ≡ strip_carriage_return line.now }
 {
-    match line {
-        [front @ .., b'\r'] => front,
-        _ => line,
-    }
+    line.strip_suffix(b"\r").unwrap_or(line)
 }
 
 impl Line<'_> {
@@ -83,7 +81,7 @@ impl Line<'_> {
     }
 
     /// Whether the line is that keyword and one word.
-    pub fn has_keyword(self, keyword: &[u8]) -> bool
+    pub fn has_word_after(self, keyword: &[u8]) -> bool
         ensures { result ≡ is_some (word_after keyword.now (words_of self.entry.text.now)) }
     {
         word_after(keyword, self.text).is_some()
@@ -133,7 +131,7 @@ impl Line<'_> {
         ensures most { IfOk result (λ n. n ≤ high) }
     {
         match value_of(word) {
-            Some(value) if is_between(low, high, value) => Ok(value),
+            Some(value) if (low..=high).contains(&value) => Ok(value),
             _ => Err(self.range()),
         }
     }
@@ -169,7 +167,7 @@ impl Line<'_> {
         }
     }
 
-    #[tactic(auto, unfolding(crate::specs::Reading::shape_within))]
+    #[tactic(auto, unfolding(crate::specs::LineReading::shape_within))]
     fn shape_of(self, words: &Five<'_>) -> Result<Shape, ConfigFault>
         requires { are_numerals (view_of_five words.now) ≡ true }
         ensures { Gives (λ shape. shape) result (shape_within self.entry.number (view_of_five words.now)) }
@@ -198,7 +196,7 @@ impl Line<'_> {
         }
     }
 
-    #[tactic(auto, unfolding(crate::specs::Reading::row_within))]
+    #[tactic(auto, unfolding(crate::specs::LineReading::row_within))]
     fn row_of(self, words: &Five<'_>) -> Result<Row, ConfigFault>
         requires { are_numerals (view_of_five words.now) ≡ true }
         ensures { Gives (λ row. row) result (row_within self.entry.number (view_of_five words.now)) }
@@ -228,7 +226,7 @@ impl Line<'_> {
         }
     }
 
-    #[tactic(auto, unfolding(crate::specs::Reading::pair_within))]
+    #[tactic(auto, unfolding(crate::specs::LineReading::pair_within))]
     fn pair_of(
         self,
         index: u32,

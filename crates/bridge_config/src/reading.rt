@@ -5,7 +5,8 @@ ghost use Rattle.bridge_movement.specs.Shape.{IsShape, row_count};
 ghost use Rattle.bridge_config.specs.Configuration.{Configuration, pair_of, key_number};
 ghost use Rattle.bridge_config.specs.Spelling.{Spells};
 ghost use Rattle.bridge_config.specs.Limits.{IsConfiguration};
-ghost use Rattle.bridge_config.specs.Reading.{Gives, heading_in, rows_in, pairs_in, people_in, JudgesRows, ReadsMovement, ReadsAfterHeading, Reads, due_line, stated_by};
+ghost use Rattle.bridge_config.specs.LineReading.{Gives};
+ghost use Rattle.bridge_config.specs.Reading.{heading_in, rows_in, pairs_in, people_in, JudgesRows, ReadsMovement, ReadsAfterHeading, Reads, due_line, stated_by};
 ghost use Rattle.bridge_config.specs.Parts.{view_of_heading, view_of_people, moved_of};
 
 use crate::config::Config;
@@ -120,7 +121,7 @@ fn read_movement(text: &[u8]) -> Result<Moved<'_>, ConfigFault>
     ensures number { IfOk result (λ moved. moved.number ≤ 151) }
 {
     let (line, rest) = due_line(6, text)?;
-    if line.has_keyword(b"MITCHELL") {
+    if line.has_word_after(b"MITCHELL") {
         let tables = line.number(b"MITCHELL", 2, 12)?;
         Ok(Moved {
             movement: Movement::mitchell(tables as u8),
@@ -138,7 +139,7 @@ fn read_movement_rows(shape: Shape, text: &[u8]) -> Result<Moved<'_>, ConfigFaul
     ensures movement { JudgesRows shape (rows_in (row_count shape) 7 (lines text.now)) (moved_of result) }
     ensures number { IfOk result (λ moved. moved.number ≤ 151) }
 {
-    let count = u32::from(shape.rounds) * u32::from(shape.tables);
+    let count = shape.row_count() as u32;
     let (rows, rest) = read_rows(count, text)?;
     match Movement::from_rows(shape, &rows) {
         Ok(movement) => Ok(Moved {

@@ -1,10 +1,10 @@
 //! The words of a line, which single spaces separate.
-ghost use Rattle.std.specs.Prelude.{◌≡◌, ◌<◌, ◌≤◌, ◌∷◌, [], ℕ, List, MatchOption, true, length};
+ghost use Rattle.std.specs.Prelude.{◌≡◌, ◌<◌, ◌≤◌, ◌∷◌, [], ℕ, List, MatchOption, None, true, length};
 ghost use Rattle.std.specs.Option.{option_map};
 ghost use Rattle.std.specs.List.{list_all};
 ghost use Rattle.std.specs.Char.{is_ascii};
 ghost use Rattle.std.specs.Str.Parse.{digits_value};
-ghost use Rattle.bridge_config.specs.Reading.{spaced_words, words_of, only_word, five_words, word_after, five_after, is_numeral};
+ghost use Rattle.bridge_config.specs.LineReading.{spaced_words, words_of, only_word, five_words, word_after, five_after, is_numeral};
 ghost use Rattle.bridge_config.specs.Words.{view_of_five};
 
 use crate::limits::are_digits;
@@ -43,9 +43,14 @@ fn only_word(text: &[u8]) -> Option<&[u8]>
     }
 }
 
-/// The word after the keyword, in a line of these two words.
-pub fn word_after<'a>(keyword: &[u8], line: &'a [u8]) -> Option<&'a [u8]>
-    ensures { option_map (λ word. word.now) result ≡ word_after keyword.now (words_of line.now) }
+/// The text after the keyword and a space, in a line that is not too long.
+fn after_keyword<'a>(keyword: &[u8], line: &'a [u8]) -> Option<&'a [u8]>
+    ensures word { MatchOption result
+        (word_after keyword.now (words_of line.now) ≡ None)
+        (λ rest. word_after keyword.now (words_of line.now) ≡ only_word (spaced_words rest.now)) }
+    ensures five { MatchOption result
+        (five_after keyword.now (words_of line.now) ≡ None)
+        (λ rest. five_after keyword.now (words_of line.now) ≡ five_words (spaced_words rest.now)) }
 {
     if line.len() > LINE_BYTES {
         return None;
@@ -54,21 +59,21 @@ pub fn word_after<'a>(keyword: &[u8], line: &'a [u8]) -> Option<&'a [u8]>
     if first != keyword {
         return None;
     }
-    only_word(rest)
+    Some(rest)
+}
+
+/// The word after the keyword, in a line of these two words.
+pub fn word_after<'a>(keyword: &[u8], line: &'a [u8]) -> Option<&'a [u8]>
+    ensures { option_map (λ word. word.now) result ≡ word_after keyword.now (words_of line.now) }
+{
+    only_word(after_keyword(keyword, line)?)
 }
 
 /// The five words after the keyword, in a line of these six words.
 pub fn five_after<'a>(keyword: &[u8], line: &'a [u8]) -> Option<Five<'a>>
     ensures { option_map view_of_five result ≡ five_after keyword.now (words_of line.now) }
 {
-    if line.len() > LINE_BYTES {
-        return None;
-    }
-    let (word, rest) = first_word(line)?;
-    if word != keyword {
-        return None;
-    }
-    five_words(rest)
+    five_words(after_keyword(keyword, line)?)
 }
 
 /// The words of a text of five words.

@@ -24,7 +24,6 @@ fn line_ends(rt: HostRuntime) -> Result<(), Fail> {
     let mut without_last = ROWS.as_bytes().to_vec(alloc)?;
     without_last.pop();
     for (what, text) in [
-        ("as it stands", ROWS.as_bytes()),
         (
             "a carriage return before each line feed",
             with_returns.as_slice(),

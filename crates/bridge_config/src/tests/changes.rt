@@ -74,7 +74,7 @@ fn accepted_bytes(rt: &impl Abort, alloc: Global, text: &str) -> Result<usize, F
     Ok(accepted)
 }
 
-// How many texts are accepted, a reader in Python counts, which was written from the format alone.
+// How many texts are accepted was counted outside this repository, by a reader written from `docs/FORMATS.md` alone.
 
 #[test]
 fn lines_of_rows(rt: HostRuntime) -> Result<(), Fail> {

@@ -1,6 +1,5 @@
-//! The configurations of `examples/`.
-use super::stated::{read, rows_of, stated_by_rows};
-use super::texts::ROWS;
+//! The configuration of a club night of five tables, `examples/mitchell.txt`.
+use super::stated::rows_of;
 use crate::{Key, read_config};
 use bridge_movement::{Row, Shape};
 use bridge_score::Scoring;
@@ -25,13 +24,6 @@ PAIR 8 B.Adeyemi 26751 N.Fischer 60482
 PAIR 9 F.Costa 81927 V.Petrov 43605
 PAIR 10 I.McKay 57138 O.Jensen 12894
 ";
-
-#[test]
-fn rows(rt: HostRuntime) -> Result<(), Fail> {
-    let alloc = rt.alloc();
-    assert_eq!(rt; read(alloc, ROWS.as_bytes()), Ok(stated_by_rows(alloc)?));
-    Ok(())
-}
 
 #[test]
 fn mitchell_of_five_tables(rt: HostRuntime) -> Result<(), Fail> {

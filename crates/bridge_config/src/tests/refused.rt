@@ -1,6 +1,6 @@
-//! Texts that are refused, with the first fault.
+//! Texts with a line that is refused, and the first fault of them.
 use super::stated::{Refused, read};
-use super::texts::{MITCHELL, ROWS, first_lines, followed_by, long_line, with_lines};
+use super::texts::{ROWS, with_lines};
 use crate::{ConfigFault, ConfigRefused};
 use bridge_movement::MovementRefused;
 use std::alloc::Global;
@@ -8,7 +8,7 @@ use std::process::Abort;
 use std::test::Fail;
 
 /// The reader refuses the text, at that line.
-fn is_refused(
+pub fn is_refused(
     rt: &impl Abort,
     alloc: Global,
     text: &[u8],
@@ -20,18 +20,36 @@ fn is_refused(
     assert_eq!(rt; read(alloc, text).err(), Some(due), "{what}");
 }
 
+/// The reader refuses the text of two tables with any one of these lines in place of its own, at that line.
+fn are_refused(
+    rt: &impl Abort,
+    alloc: Global,
+    cause: ConfigRefused,
+    lines: &[(u32, &str)],
+) -> Result<(), Fail> {
+    for (number, line) in lines {
+        let text = with_lines(alloc, ROWS, &[(*number, *line)])?;
+        is_refused(rt, alloc, text.as_slice(), *number, cause, line);
+    }
+    Ok(())
+}
+
 #[test]
-fn lines_out_of_form(rt: HostRuntime) -> Result<(), Fail> {
-    let alloc = rt.alloc();
-    for (number, line) in [
-        // not the line that is due
+fn other_lines_than_are_due(rt: HostRuntime) -> Result<(), Fail> {
+    let lines = [
         (1, ""),
         (1, "SITE Club-Night"),
         (1, "event Club-Night"),
         (2, "EVENT Town-Hall"),
         (9, "PAIR 1 Ann 11 Bob 12"),
         (13, "DIRECTOR 100"),
-        // a word too few, a word too many, and spaces that are not single
+    ];
+    are_refused(&rt, rt.alloc(), ConfigRefused::Form, &lines)
+}
+
+#[test]
+fn words_too_few_or_too_many(rt: HostRuntime) -> Result<(), Fail> {
+    let lines = [
         (1, "EVENT"),
         (1, "EVENT Club Night"),
         (5, "BOARDS"),
@@ -44,12 +62,25 @@ fn lines_out_of_form(rt: HostRuntime) -> Result<(), Fail> {
         (8, "ROW 1 2 2 4 1 1"),
         (11, "PAIR 2 Cat 21 Dan"),
         (11, "PAIR 2 Cat 21 Dan 22 23"),
+    ];
+    are_refused(&rt, rt.alloc(), ConfigRefused::Form, &lines)
+}
+
+#[test]
+fn spaces_that_are_not_single(rt: HostRuntime) -> Result<(), Fail> {
+    let lines = [
         (1, "EVENT  Club-Night"),
         (1, " EVENT Club-Night"),
         (1, "EVENT Club-Night "),
         (1, "EVENT\tClub-Night"),
         (11, "PAIR 2 Cat  21 Dan 22"),
-        // names
+    ];
+    are_refused(&rt, rt.alloc(), ConfigRefused::Form, &lines)
+}
+
+#[test]
+fn names_out_of_form(rt: HostRuntime) -> Result<(), Fail> {
+    let lines = [
         (1, "EVENT "),
         (1, "EVENT abcdefghijklmnopqrstuvwxy"),
         (2, "SITE Town+Hall"),
@@ -57,7 +88,13 @@ fn lines_out_of_form(rt: HostRuntime) -> Result<(), Fail> {
         (10, "PAIR 1 Ann 11 Bob! 12"),
         (10, "PAIR 1  11 Bob 12"),
         (10, "PAIR 1 Ann 11 abcdefghijklmnopqrstuvwxy 12"),
-        // the date and how scores are compared
+    ];
+    are_refused(&rt, rt.alloc(), ConfigRefused::Form, &lines)
+}
+
+#[test]
+fn dates_and_scorings_out_of_form(rt: HostRuntime) -> Result<(), Fail> {
+    let lines = [
         (3, "DATE 2026.3.14"),
         (3, "DATE 2026.03.1"),
         (3, "DATE 026.03.14"),
@@ -71,8 +108,13 @@ fn lines_out_of_form(rt: HostRuntime) -> Result<(), Fail> {
         (4, "SCORING mp"),
         (4, "SCORING MPS"),
         (4, "SCORING "),
-        // numbers
-        (5, "BOARDS 01"),
+    ];
+    are_refused(&rt, rt.alloc(), ConfigRefused::Form, &lines)
+}
+
+#[test]
+fn numbers_out_of_form(rt: HostRuntime) -> Result<(), Fail> {
+    let lines = [
         (5, "BOARDS +1"),
         (5, "BOARDS -1"),
         (5, "BOARDS one"),
@@ -86,24 +128,25 @@ fn lines_out_of_form(rt: HostRuntime) -> Result<(), Fail> {
         (11, "PAIR 02 Cat 21 Dan 22"),
         (11, "PAIR 2 Cat 021 Dan 22"),
         (11, "PAIR 2 Cat 21 Dan 022"),
-    ] {
-        let text = with_lines(alloc, ROWS, &[(number, line)])?;
-        let form = ConfigRefused::Form;
-        is_refused(&rt, alloc, text.as_slice(), number, form, line);
-    }
-    Ok(())
+    ];
+    are_refused(&rt, rt.alloc(), ConfigRefused::Form, &lines)
 }
 
 #[test]
-fn numbers_out_of_range(rt: HostRuntime) -> Result<(), Fail> {
-    let alloc = rt.alloc();
-    for (number, line) in [
+fn dates_and_boards_out_of_range(rt: HostRuntime) -> Result<(), Fail> {
+    let lines = [
         (3, "DATE 2026.00.14"),
-        (3, "DATE 2026.13.14"),
         (3, "DATE 2026.03.00"),
         (3, "DATE 2026.03.32"),
         (5, "BOARDS 0"),
         (5, "BOARDS 4"),
+    ];
+    are_refused(&rt, rt.alloc(), ConfigRefused::Range, &lines)
+}
+
+#[test]
+fn movements_out_of_range(rt: HostRuntime) -> Result<(), Fail> {
+    let lines = [
         (6, "MITCHELL 0"),
         (6, "MITCHELL 1"),
         (6, "MITCHELL 13"),
@@ -123,6 +166,13 @@ fn numbers_out_of_range(rt: HostRuntime) -> Result<(), Fail> {
         (7, "ROW 1 1 256 3 1"),
         (7, "ROW 1 1 1 256 1"),
         (7, "ROW 1 1 1 3 256"),
+    ];
+    are_refused(&rt, rt.alloc(), ConfigRefused::Range, &lines)
+}
+
+#[test]
+fn keys_and_pairs_out_of_range(rt: HostRuntime) -> Result<(), Fail> {
+    let lines = [
         (9, "DIRECTOR 4294967296"),
         (9, "DIRECTOR 18446744073709551616"),
         (11, "PAIR 1 Cat 21 Dan 22"),
@@ -131,20 +181,14 @@ fn numbers_out_of_range(rt: HostRuntime) -> Result<(), Fail> {
         (11, "PAIR 258 Cat 21 Dan 22"),
         (11, "PAIR 2 Cat 4294967296 Dan 22"),
         (11, "PAIR 2 Cat 21 Dan 4294967296"),
-    ] {
-        let text = with_lines(alloc, ROWS, &[(number, line)])?;
-        let range = ConfigRefused::Range;
-        is_refused(&rt, alloc, text.as_slice(), number, range, line);
-    }
-    Ok(())
+    ];
+    are_refused(&rt, rt.alloc(), ConfigRefused::Range, &lines)
 }
 
 #[test]
 fn keys_twice(rt: HostRuntime) -> Result<(), Fail> {
-    let alloc = rt.alloc();
-    for (number, line) in [
+    let lines = [
         // another pair's, of its first player and of its second
-        (11, "PAIR 2 Cat 11 Dan 22"),
         (11, "PAIR 2 Cat 12 Dan 22"),
         (11, "PAIR 2 Cat 21 Dan 11"),
         (13, "PAIR 4 Gus 41 Hal 12"),
@@ -153,195 +197,58 @@ fn keys_twice(rt: HostRuntime) -> Result<(), Fail> {
         // the director's
         (10, "PAIR 1 Ann 100 Bob 12"),
         (13, "PAIR 4 Gus 41 Hal 100"),
-    ] {
-        let text = with_lines(alloc, ROWS, &[(number, line)])?;
-        let twice = ConfigRefused::KeyTwice;
-        is_refused(&rt, alloc, text.as_slice(), number, twice, line);
-    }
-    Ok(())
-}
-
-#[test]
-fn the_first_fault_is_named(rt: HostRuntime) -> Result<(), Fail> {
-    let alloc = rt.alloc();
-    let rows: [(&[(u32, &str)], u32, ConfigRefused); 14] = [
-        // in one line form before range, and range before keys
-        (&[(11, "PAIR 3 Cat! 11 Dan 22")], 11, ConfigRefused::Form),
-        (&[(11, "PAIR 3 Cat 11 Dan 022")], 11, ConfigRefused::Form),
-        (&[(11, "PAIR 3 Cat 11 Dan 22")], 11, ConfigRefused::Range),
-        (
-            &[(11, "PAIR 2 Cat 11 Dan 4294967296")],
-            11,
-            ConfigRefused::Range,
-        ),
-        (&[(6, "MOVEMENT 13 1 1 4 x")], 6, ConfigRefused::Form),
-        (&[(3, "DATE 2026.13.1x")], 3, ConfigRefused::Form),
-        // the earlier line
-        (
-            &[(3, "DATE 2026.13.14"), (5, "BOARDS 01")],
-            3,
-            ConfigRefused::Range,
-        ),
-        (
-            &[(4, "SCORING XX"), (3, "DATE 2026.13.14")],
-            3,
-            ConfigRefused::Range,
-        ),
-        // rows are judged as the last was read: after its own form and range, and before the director's line
-        (
-            &[(8, "ROW 1 2 1 4 1")],
-            8,
-            ConfigRefused::Movement(MovementRefused::PairTwice(2)),
-        ),
-        (
-            &[(7, "ROW 1 1 3 3 1")],
-            7,
-            ConfigRefused::Movement(MovementRefused::SamePair(1)),
-        ),
-        (
-            &[(7, "ROW 1 1 3 3 1"), (8, "ROW 1 2 2 256 1")],
-            8,
-            ConfigRefused::Range,
-        ),
-        (
-            &[(7, "ROW 1 1 3 3 1"), (8, "ROW 1 2 2 4")],
-            8,
-            ConfigRefused::Form,
-        ),
-        (
-            &[(7, "ROW 1 1 3 3 1"), (9, "DIRECTOR x")],
-            7,
-            ConfigRefused::Movement(MovementRefused::SamePair(1)),
-        ),
-        // all places come before what stands in a row
-        (
-            &[(7, "ROW 1 1 3 3 1"), (8, "ROW 255 0 2 4 1")],
-            8,
-            ConfigRefused::Movement(MovementRefused::MissingRow(2)),
-        ),
     ];
-    for (changes, line, cause) in rows {
-        let text = with_lines(alloc, ROWS, changes)?;
-        let what = changes.first().map_or("", |change| change.1);
-        is_refused(&rt, alloc, text.as_slice(), line, cause, what);
-    }
-    Ok(())
+    are_refused(&rt, rt.alloc(), ConfigRefused::KeyTwice, &lines)
+}
+
+/// In one line form comes before range, and range before keys.
+#[test]
+fn the_first_fault_of_a_line(rt: HostRuntime) -> Result<(), Fail> {
+    let alloc = rt.alloc();
+    let forms = [
+        (11, "PAIR 3 Cat! 11 Dan 22"),
+        (11, "PAIR 3 Cat 11 Dan 022"),
+        (6, "MOVEMENT 13 1 1 4 x"),
+        (3, "DATE 2026.13.1x"),
+    ];
+    are_refused(&rt, alloc, ConfigRefused::Form, &forms)?;
+    let ranges = [
+        (11, "PAIR 3 Cat 11 Dan 22"),
+        (11, "PAIR 2 Cat 11 Dan 4294967296"),
+    ];
+    are_refused(&rt, alloc, ConfigRefused::Range, &ranges)
 }
 
 #[test]
-fn texts_that_end_early(rt: HostRuntime) -> Result<(), Fail> {
+fn the_first_of_two_lines(rt: HostRuntime) -> Result<(), Fail> {
     let alloc = rt.alloc();
-    let form = ConfigRefused::Form;
-    for (text, lines) in [(ROWS, 13), (MITCHELL, 11)] {
-        for count in 0..lines {
-            let first = first_lines(alloc, text, count as usize)?;
-            is_refused(&rt, alloc, first.as_slice(), count + 1, form, text);
-        }
-    }
-    // three tables have six pairs, which this text has not
-    let text = with_lines(alloc, MITCHELL, &[(6, "MITCHELL 3")])?;
-    is_refused(&rt, alloc, text.as_slice(), 12, form, "MITCHELL 3");
-    Ok(())
-}
-
-#[test]
-fn lines_after_the_last(rt: HostRuntime) -> Result<(), Fail> {
-    let alloc = rt.alloc();
-    for after in [
-        "PAIR 5 Ivy 51 Jim 52\n",
-        "PAIR 5 Ivy 51 Jim 52",
-        "\n",
-        "\r\n",
-        "\r",
-        " ",
+    for (one, other) in [
+        ((3, "DATE 2026.13.14"), (5, "BOARDS 01")),
+        ((4, "SCORING XX"), (3, "DATE 2026.13.14")),
     ] {
-        for (text, line) in [(ROWS, 14), (MITCHELL, 12)] {
-            let longer = followed_by(alloc, text, after.as_bytes())?;
-            let form = ConfigRefused::Form;
-            is_refused(&rt, alloc, longer.as_slice(), line, form, after);
-        }
+        let text = with_lines(alloc, ROWS, &[one, other])?;
+        is_refused(&rt, alloc, text.as_slice(), 3, ConfigRefused::Range, one.1);
     }
     Ok(())
 }
 
+/// Rows are judged as the last was read: after its own form and range, and before the director's line.
 #[test]
-fn returns_and_bytes_of_no_text(rt: HostRuntime) -> Result<(), Fail> {
+fn rows_that_are_no_movement(rt: HostRuntime) -> Result<(), Fail> {
     let alloc = rt.alloc();
-    for (number, line) in [
-        (1, "EVENT Club-Night\r\r"),
-        (1, "EVENT Club\rNight"),
-        (2, "SITE Town-H\u{e4}ll"),
-        (13, "PAIR 4 Gus 41 Hal 42\r\r"),
+    let same_pair = ConfigRefused::Movement(MovementRefused::SamePair(1));
+    let missing_row = ConfigRefused::Movement(MovementRefused::MissingRow(2));
+    let same = (7, "ROW 1 1 3 3 1");
+    are_refused(&rt, alloc, same_pair, &[same])?;
+    for (other, line, cause) in [
+        ((8, "ROW 1 2 2 256 1"), 8, ConfigRefused::Range),
+        ((8, "ROW 1 2 2 4"), 8, ConfigRefused::Form),
+        ((9, "DIRECTOR x"), 7, same_pair),
+        // all places come before what stands in a row
+        ((8, "ROW 255 0 2 4 1"), 8, missing_row),
     ] {
-        let text = with_lines(alloc, ROWS, &[(number, line)])?;
-        let form = ConfigRefused::Form;
-        is_refused(&rt, alloc, text.as_slice(), number, form, line);
+        let text = with_lines(alloc, ROWS, &[same, other])?;
+        is_refused(&rt, alloc, text.as_slice(), line, cause, other.1);
     }
-    // no line feed after the last line, and so the carriage return is part of it
-    let mut text = with_lines(alloc, ROWS, &[(13, "PAIR 4 Gus 41 Hal 42\r")])?;
-    text.pop();
-    let form = ConfigRefused::Form;
-    is_refused(&rt, alloc, text.as_slice(), 13, form, "a return at the end");
-    for (place, line) in [(0, 1), (6, 1), (17, 2), (48, 4)] {
-        let mut text = ROWS.as_bytes().to_vec(alloc)?;
-        if let Some(byte) = text.get_mut(place) {
-            *byte = 200;
-        }
-        is_refused(&rt, alloc, text.as_slice(), line, form, "a byte 200");
-    }
-    Ok(())
-}
-
-#[test]
-fn long_lines_and_texts(rt: HostRuntime) -> Result<(), Fail> {
-    let alloc = rt.alloc();
-    // `BOARDS `, and digits up to 127, 128 and 129 bytes
-    for (digits, cause) in [
-        (120, ConfigRefused::Range),
-        (121, ConfigRefused::Range),
-        (122, ConfigRefused::Form),
-    ] {
-        let line = long_line(alloc, "BOARDS", digits)?;
-        let text = with_lines(alloc, ROWS, &[(5, line.as_str())])?;
-        is_refused(&rt, alloc, text.as_slice(), 5, cause, line.as_str());
-        // the carriage return that goes with the line feed is not counted
-        let mut returned = line.clone()?;
-        returned.push('\r')?;
-        let text = with_lines(alloc, ROWS, &[(5, returned.as_str())])?;
-        is_refused(&rt, alloc, text.as_slice(), 5, cause, line.as_str());
-    }
-    let mut text = ROWS.as_bytes().to_vec(alloc)?;
-    for _ in text.len()..16384 {
-        text.push(b'\n')?;
-    }
-    is_refused(
-        &rt,
-        alloc,
-        text.as_slice(),
-        14,
-        ConfigRefused::Form,
-        "16,384 bytes",
-    );
-    text.push(b'\n')?;
-    is_refused(
-        &rt,
-        alloc,
-        text.as_slice(),
-        0,
-        ConfigRefused::TooLong,
-        "16,385 bytes",
-    );
-    // the length comes before each line
-    if let Some(byte) = text.get_mut(0) {
-        *byte = b'X';
-    }
-    is_refused(
-        &rt,
-        alloc,
-        text.as_slice(),
-        0,
-        ConfigRefused::TooLong,
-        "another first line",
-    );
     Ok(())
 }

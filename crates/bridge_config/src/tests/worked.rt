@@ -1,22 +1,28 @@
-//! The text of two tables and worked changes of it, each with its answer.
+//! The text of two tables, `examples/rows.txt`, and worked changes of it, each with its answer.
 use super::stated::{Refused, Stated, read, stated_by_rows};
 use super::texts::{ROWS, first_lines, with_lines};
 use crate::{ConfigFault, ConfigRefused};
 use bridge_movement::MovementRefused;
+use std::alloc::Global;
 use std::test::Fail;
 
 fn fault(line: u32, cause: ConfigRefused) -> Result<Stated, Refused> {
     Err(Refused::Fault(ConfigFault { line, cause }))
 }
 
+/// The text, and empty lines up to 16,385 bytes.
+fn too_long(alloc: Global) -> Result<Vec<u8>, Fail> {
+    let mut text = first_lines(alloc, ROWS, 13)?;
+    for _ in text.len()..16385 {
+        text.push(b'\n')?;
+    }
+    Ok(text)
+}
+
 #[test]
 fn worked_changes(rt: HostRuntime) -> Result<(), Fail> {
     let alloc = rt.alloc();
     let all = first_lines(alloc, ROWS, 13)?;
-    let mut too_long = all.clone()?;
-    for _ in too_long.len()..16385 {
-        too_long.push(b'\n')?;
-    }
     let pair_twice = ConfigRefused::Movement(MovementRefused::PairTwice(2));
     for (change, text, answer) in [
         ("none", all, Ok(stated_by_rows(alloc)?)),
@@ -50,7 +56,11 @@ fn worked_changes(rt: HostRuntime) -> Result<(), Fail> {
             first_lines(alloc, ROWS, 0)?,
             fault(1, ConfigRefused::Form),
         ),
-        ("16,385 bytes", too_long, fault(0, ConfigRefused::TooLong)),
+        (
+            "16,385 bytes",
+            too_long(alloc)?,
+            fault(0, ConfigRefused::TooLong),
+        ),
     ] {
         assert_eq!(rt; read(alloc, text.as_slice()), answer, "{change}");
     }

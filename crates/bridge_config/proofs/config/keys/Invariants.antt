@@ -1,11 +1,10 @@
 use Rattle.std.proofs.Common.{◌≡◌, ◌+◌, ◌*◌, ◌∷◌, length, map, take}
-use Rattle.std.specs.Prelude.{flat_map}
-use Rattle.bridge_config.specs.Configuration.{pair_of, key_number, Pair}
+use Rattle.bridge_config.specs.Configuration.{pair_of, key_number, keys_in}
 use Rattle.bridge_config.proofs.config.keys.Given as goal
 
 -- the director's key and those of the pairs so far
 abbrev pub invariant-loop-pair : goal.invariant-loop-pair
 invariant-loop-pair l = record {
-  keys : map key_number l.keys.items ≡ key_number l.fields.director ∷ flat_map (λ (pair : Pair). pair.keys) (map pair_of (take l.pair-index l.pairs));
+  keys : map key_number l.keys.items ≡ key_number l.fields.director ∷ keys_in (map pair_of (take l.pair-index l.pairs));
   count : length l.keys.items ≡ 1 + 2 * l.pair-index;
 }

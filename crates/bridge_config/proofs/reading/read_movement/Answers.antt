@@ -1,4 +1,4 @@
-use Rattle.bridge_config.proofs.LineLaws.{shape_takes}
+use Rattle.bridge_config.proofs.FiveWordLaws.{shape_takes}
 use Rattle.bridge_config.proofs.reading.read_movement.Goals as goal
 
 pub read_movement_rows-requires : goal.read_movement_rows-requires

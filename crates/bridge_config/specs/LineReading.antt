@@ -1,0 +1,182 @@
+-- Reading one line, with the first fault that is met.
+use Rattle.std.specs.Prelude.{◌≡◌, ℕ, Bool, not, ◌&&◌, ◌||◌, ◌==◌, nat_lt, if◌then◌else◌, List, [], ◌∷◌, length, codes, slice_index, Option, Some, None, Result, Ok, Err}
+use Rattle.std.specs.List.{list_all, slice_split}
+use Rattle.std.specs.Str.{bytes_eq}
+use Rattle.std.specs.Str.Parse.{digits_value}
+use Rattle.std.specs.Char.{is_ascii_digit}
+use Rattle.bridge_score.specs.declared.ranking.Scoring.{Scoring}
+use Rattle.bridge_score.specs.declared.ranking.Scoring.TheVariants.{MatchPoints, Imps}
+use Rattle.bridge_movement.specs.declared.row.Row.{Row}
+use Rattle.bridge_movement.specs.declared.shape.Shape.{Shape}
+use Rattle.bridge_config.specs.declared.refused.ConfigFault.{ConfigFault}
+use Rattle.bridge_config.specs.declared.refused.ConfigRefused.TheVariants.{Form, Range, KeyTwice}
+use Rattle.bridge_config.specs.Configuration.{Pair}
+use Rattle.bridge_config.specs.Limits.{is_name, is_date_form, is_date_within, is_between, stands_in}
+
+infixl 10 ◌>>=◌
+abbrev pub ◌>>=◌ : {A B : Type 0} → Result A ConfigFault → (A → Result B ConfigFault) → Result B ConfigFault
+(Ok x) >>= f = f x
+(Err fault) >>= f = Err fault
+
+-- what a function returned, seen by view, is what reading gives
+abbrev pub Gives : {X Y : Type 0} → (X → Y) → Result X ConfigFault → Result Y ConfigFault → Type 0
+Gives view (Ok x) read = read ≡ Ok (view x)
+Gives view (Err fault) read = read ≡ Err fault
+
+abbrev pub form_at : ℕ → ConfigFault
+form_at number = record { line = number; cause = Form }
+
+abbrev pub range_at : ℕ → ConfigFault
+range_at number = record { line = number; cause = Range }
+
+-- what single spaces separate
+abbrev pub spaced_words : List ℕ → List (List ℕ)
+spaced_words line = slice_split (λ byte. byte == 32) line
+
+-- the words of a line; a line of more than 128 bytes has none
+abbrev pub words_of : List ℕ → List (List ℕ)
+words_of line = if nat_lt 128 (length line) then [] else spaced_words line
+
+-- the one word of a line that has no other
+abbrev pub only_word : List (List ℕ) → Option (List ℕ)
+only_word (word ∷ []) = Some word
+only_word _ = None
+
+-- the word of a line that has that word after the keyword
+abbrev pub word_after : List ℕ → List (List ℕ) → Option (List ℕ)
+word_after keyword [] = None
+word_after keyword (first ∷ words) = if bytes_eq first keyword then only_word words else None
+
+pub record Five : Type 0 where
+  pub first : List ℕ
+  pub second : List ℕ
+  pub third : List ℕ
+  pub fourth : List ℕ
+  pub fifth : List ℕ
+
+-- the words where they are five
+abbrev pub five_words : List (List ℕ) → Option Five
+five_words (a ∷ b ∷ c ∷ d ∷ e ∷ []) = Some (record { first = a; second = b; third = c; fourth = d; fifth = e })
+five_words _ = None
+
+-- the five words of a line that has five after the keyword
+abbrev pub five_after : List ℕ → List (List ℕ) → Option Five
+five_after keyword [] = None
+five_after keyword (first ∷ words) = if bytes_eq first keyword then five_words words else None
+
+-- decimal digits without a leading zero; 0 itself is one zero
+abbrev pub is_numeral : List ℕ → Bool
+is_numeral word =
+    list_all is_ascii_digit word && not (length word == 0) && (length word == 1 || not (slice_index word 0 == 48))
+
+-- the number of a numeral, which is to lie between two others
+abbrev pub within : ℕ → ℕ → ℕ → List ℕ → Result ℕ ConfigFault
+within number low high word =
+    if is_between low high (digits_value 10 word) then Ok (digits_value 10 word) else Err (range_at number)
+
+-- What the line of that number states, or its fault: first its form, and then its range.
+abbrev pub name_in : ℕ → Option (List ℕ) → Result (List ℕ) ConfigFault
+name_in number None = Err (form_at number)
+name_in number (Some word) = if is_name word then Ok word else Err (form_at number)
+
+-- a keyword and a name
+abbrev pub name_line : ℕ → List ℕ → List ℕ → Result (List ℕ) ConfigFault
+name_line number keyword line = name_in number (word_after keyword (words_of line))
+
+abbrev pub date_in : ℕ → Option (List ℕ) → Result (List ℕ) ConfigFault
+date_in number None = Err (form_at number)
+date_in number (Some word) =
+    if not (is_date_form word) then Err (form_at number)
+    else if is_date_within word then Ok word
+    else Err (range_at number)
+
+-- `DATE` and a date
+abbrev pub date_line : ℕ → List ℕ → Result (List ℕ) ConfigFault
+date_line number line = date_in number (word_after (codes "DATE") (words_of line))
+
+abbrev pub scoring_in : ℕ → Option (List ℕ) → Result Scoring ConfigFault
+scoring_in number None = Err (form_at number)
+scoring_in number (Some word) =
+    if bytes_eq word (codes "MP") then Ok MatchPoints
+    else if bytes_eq word (codes "IMP") then Ok Imps
+    else Err (form_at number)
+
+-- `SCORING`, and `MP` or `IMP`
+abbrev pub scoring_line : ℕ → List ℕ → Result Scoring ConfigFault
+scoring_line number line = scoring_in number (word_after (codes "SCORING") (words_of line))
+
+abbrev pub number_in : ℕ → ℕ → ℕ → Option (List ℕ) → Result ℕ ConfigFault
+number_in number low high None = Err (form_at number)
+number_in number low high (Some word) = if is_numeral word then within number low high word else Err (form_at number)
+
+-- a keyword and a number
+abbrev pub number_line : ℕ → List ℕ → ℕ → ℕ → List ℕ → Result ℕ ConfigFault
+number_line number keyword low high line = number_in number low high (word_after keyword (words_of line))
+
+abbrev pub are_numerals : Five → Bool
+are_numerals words =
+    is_numeral words.first && is_numeral words.second && is_numeral words.third && is_numeral words.fourth
+    && is_numeral words.fifth
+
+unfoldable pub shape_within : ℕ → Five → Result Shape ConfigFault
+shape_within number words = do
+  tables ← within number 2 12 words.first
+  rounds ← within number 1 12 words.second
+  sets ← within number 1 12 words.third
+  pairs ← within number 2 24 words.fourth
+  split ← within number 1 pairs words.fifth
+  Ok (record { tables = tables; rounds = rounds; sets = sets; pairs = pairs; split = split })
+
+abbrev pub shape_in : ℕ → Option Five → Result Shape ConfigFault
+shape_in number None = Err (form_at number)
+shape_in number (Some words) = if are_numerals words then shape_within number words else Err (form_at number)
+
+-- `MOVEMENT`, and the numbers of tables, rounds, sets and pairs, and the last pair of the first field
+abbrev pub shape_line : ℕ → List ℕ → Result Shape ConfigFault
+shape_line number line = shape_in number (five_after (codes "MOVEMENT") (words_of line))
+
+unfoldable pub row_within : ℕ → Five → Result Row ConfigFault
+row_within number words = do
+  round ← within number 0 255 words.first
+  table ← within number 0 255 words.second
+  ns ← within number 0 255 words.third
+  ew ← within number 0 255 words.fourth
+  set ← within number 0 255 words.fifth
+  Ok (record { round = round; table = table; ns = ns; ew = ew; set = set })
+
+abbrev pub row_in : ℕ → Option Five → Result Row ConfigFault
+row_in number None = Err (form_at number)
+row_in number (Some words) = if are_numerals words then row_within number words else Err (form_at number)
+
+-- `ROW`, and the numbers of round, table, both pairs and the set
+abbrev pub row_line : ℕ → List ℕ → Result Row ConfigFault
+row_line number line = row_in number (five_after (codes "ROW") (words_of line))
+
+-- a number, a name, a number, a name and a number
+abbrev pub is_pair_form : Five → Bool
+is_pair_form words =
+    is_numeral words.first && is_name words.second && is_numeral words.third && is_name words.fourth
+    && is_numeral words.fifth
+
+-- two keys, neither of which stands earlier
+abbrev pub keys_after : ℕ → List ℕ → ℕ → ℕ → Result (List ℕ) ConfigFault
+keys_after number earlier first second =
+    if stands_in earlier first || stands_in earlier second || first == second
+    then Err (record { line = number; cause = KeyTwice }) else Ok (first ∷ second ∷ [])
+
+unfoldable pub pair_within : ℕ → ℕ → List ℕ → Five → Result Pair ConfigFault
+pair_within number index earlier words = do
+  own ← within number index index words.first
+  first ← within number 0 4294967295 words.third
+  second ← within number 0 4294967295 words.fifth
+  keys ← keys_after number earlier first second
+  Ok (record { names = words.second ∷ words.fourth ∷ []; keys = keys })
+
+abbrev pub pair_in : ℕ → ℕ → List ℕ → Option Five → Result Pair ConfigFault
+pair_in number index earlier None = Err (form_at number)
+pair_in number index earlier (Some words) =
+    if is_pair_form words then pair_within number index earlier words else Err (form_at number)
+
+-- `PAIR`, the pair's number, and a name and a key for each player, after the earlier keys
+abbrev pub pair_line : ℕ → ℕ → List ℕ → List ℕ → Result Pair ConfigFault
+pair_line number index earlier line = pair_in number index earlier (five_after (codes "PAIR") (words_of line))
