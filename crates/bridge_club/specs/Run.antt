@@ -1,21 +1,21 @@
 -- What stands on the program's streams once a command was done, and at a fault.
-use Rattle.std.specs.Prelude.{◌≡◌, ℕ, List, codes, Option, IfSome}
-use Rattle.std.specs.Io.KnownBytes.{Appends, Keeps}
+use Rattle.std.specs.Prelude.{◌≡◌, ℕ, List, take, codes, Option, IfSome}
+use Rattle.std.specs.Io.KnownBytes.{Appends, Consumes, Keeps}
 use Rattle.bridge_cards.specs.Board.{dealer_of}
 use Rattle.table_server.specs.declared.fault.ServeFault.{ServeFault}
 use Rattle.table_server.specs.declared.fault.ServeFault.TheVariants.{Read, Write}
 use Rattle.table_server.specs.Heard.{StopsAt}
-use Rattle.table_server.specs.Replies.{auction_output}
+use Rattle.table_server.specs.Replies.{auction_output, byte_limit}
 use Rattle.table_server.specs.Streams.{AppendsFront}
 use Rattle.bridge_club.specs.declared.words.Words.{Words}
 use Rattle.bridge_club.specs.declared.words.Words.TheVariants.{Auction}
 use Rattle.bridge_club.specs.declared.words.WordsFault.{WordsFault}
 use Rattle.bridge_club.specs.declared.words.WordsFault.TheVariants.{Usage, Memory}
 
--- of the bytes given as standard input, and the bytes on standard output before and after
-abbrev pub IsDone : Words → Option (List ℕ) → Option (List ℕ) → Option (List ℕ) → Type 0
-IsDone (Auction board) input before written =
-    IfSome input (λ bytes. Appends before written (auction_output (dealer_of board) bytes))
+-- of the bytes given as standard input and those left there, and the bytes on standard output before and after
+abbrev pub IsDone : Words → Option (List ℕ) → Option (List ℕ) → Option (List ℕ) → Option (List ℕ) → Type 0
+IsDone (Auction board) input rest before written = IfSome input (λ bytes.
+    Appends before written (auction_output (dealer_of board) bytes) × Consumes input rest (take byte_limit bytes))
 
 -- the line on standard error that names a fault
 abbrev pub fault_line : ServeFault → List ℕ
@@ -40,7 +40,8 @@ pub record IsStopped (command : Words) (given rest before written errors errors'
   pub stopped : StopsBy command fault given rest before written
   pub named : AppendsFront errors errors' (fault_line fault)
 
--- memory was refused before any command: nothing was read or written, and standard error took a front of the line for that
+-- where memory is refused before any command: nothing was read or written, and standard error took a front of the line
+-- for that
 pub record IsWithoutMemory (given rest before written errors errors' : Option (List ℕ)) : Type 0 where
   pub input : Keeps given rest
   pub output : Keeps before written

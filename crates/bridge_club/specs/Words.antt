@@ -17,13 +17,15 @@ board_rule = record (new_rule (codes "BOARD")) { required = true; parser = Some 
 abbrev pub auction_app : App
 auction_app = with_rule (new_app (codes "auction")) board_rule
 
--- the program: words without its own name, and one of its commands
+-- the program's name alone
 abbrev pub named_app : App
 named_app = new_app (codes "bridge_club")
 
+-- its words come without its own name, and one of its commands is among them
 abbrev pub bare_app : App
 bare_app = record named_app { top = record named_app.top { no_binary_name = true; subcommand_required = true } }
 
+-- the program: words without its own name, and one of its commands
 abbrev pub club_app : App
 club_app = with_subcommand bare_app auction_app.top
 

@@ -39,6 +39,7 @@ fn asked(matches: &ArgMatches) -> Option<Words>
             let board = BoardNumber::new(found.get_one::<u8>("BOARD")?)?;
             Some(Words::Auction(board))
         }
+        // clap's checks leave no other name. The contract allows want of memory alone here.
         _ => None,
     }
 }

@@ -16,7 +16,7 @@ use table_server::{ServeFault, run_auction, write_text};
 
 /// The command was done.
 pub const DONE: u8 = 0;
-/// The words are no command, or call for help.
+/// The words are no command, or call for help, or one of them is not UTF-8.
 pub const USAGE: u8 = 2;
 /// Reading, writing or memory failed.
 pub const FAULT: u8 = 3;
@@ -38,7 +38,7 @@ pub fn run_words<F: Files, R: Read, W: Write, E: Write>(
     errors: &mut E,
 ) -> u8
     ensures done { result ≡ 0 → (command : Words) × Asks (map (λ word. word.now) words.entry.now) command
-        × IsDone command (R.remaining input.old) (W.contents output.old) (W.contents output.new)
+        × IsDone command (R.remaining input.old) (R.remaining input.new) (W.contents output.old) (W.contents output.new)
         × Keeps (E.contents errors.old) (E.contents errors.new) }
     ensures usage { result ≡ 2 → (fault_of club_app (map (λ word. word.now) words.entry.now) ≢ [])
         × Keeps (R.remaining input.old) (R.remaining input.new) × Keeps (W.contents output.old) (W.contents output.new) }
@@ -75,7 +75,8 @@ fn run_command<R: Read, W: Write, E: Write>(
     output: &mut W,
     errors: &mut E,
 ) -> u8
-    ensures done { result ≡ 0 → IsDone command (R.remaining input.old) (W.contents output.old) (W.contents output.new)
+    ensures done { result ≡ 0 → IsDone command (R.remaining input.old) (R.remaining input.new)
+        (W.contents output.old) (W.contents output.new)
         × Keeps (E.contents errors.old) (E.contents errors.new) }
     ensures fault { result ≡ 3 → IsStopped command (R.remaining input.old) (R.remaining input.new)
         (W.contents output.old) (W.contents output.new) (E.contents errors.old) (E.contents errors.new) }

@@ -201,9 +201,9 @@ fn words_that_cannot_be_had_are_named(rt: HostRuntime) {
 }
 
 /// `rt try --test --fail-alloc N` refuses the Nth allocation: where `run_words` meets that, it is named, and nothing is
-/// read or written.
+/// read or written. The gate refuses none: there this is a plain run.
 #[test]
-fn memory_that_is_refused_is_named(rt: HostRuntime) {
+fn a_run_whose_memory_may_be_refused(rt: HostRuntime) {
     let Ok(mut output) = Vec::with_capacity(rt.alloc(), 64) else {
         return;
     };

@@ -11,6 +11,7 @@ module _ {D : Type 0} (disk : Disk D) (old : D) (end : ℕ) (bytes : List ℕ) w
   abbrev pub Partly : Image → Type 0
   Partly c = (o : Image) × disk.may_leave old o × IsPartly end bytes o c
 
+  -- what holds at each moment of the whole run
   abbrev pub Staged : Image → Type 0
   Staged = IsStaged (disk.may_leave old) end bytes
 
@@ -26,15 +27,18 @@ module _ {D : Type 0} (disk : Disk D) (old : D) (end : ℕ) (bytes : List ℕ) w
   )
 
   module _ {T E : Type 0} (mid new : D) where
+    -- the run goes on over the write of one sector
     pub fills_on : (i : ℕ) (result : Result T E) → i < end → EveryMoment disk old mid Partly → Called disk mid new result → Writes disk mid new i bytes result → EveryMoment disk old new Partly
     fills_on i result within so_far called did = writes_on disk old mid new Partly result so_far called i bytes did (λ c left partly. one_filled i within c partly)
 
+    -- after that write one sector more reads as filled
     pub filled_more : (i : ℕ) (v : T) → Writes {T = T} {E = E} disk mid new i bytes (Ok v) → ((k : ℕ) → k < i → disk.reads mid k ≡ bytes) → (k : ℕ) → k < i + 1 → disk.reads new k ≡ bytes
     filled_more i v did filled k within = elim (cases_eq k i) [
       | inl same ↦ ap (disk.reads new) same ∙ write_here disk mid new i bytes v did
       | inr other ↦ write_elsewhere disk mid new i bytes (Ok v) did k other ∙ filled k (omega arith)
     ]
 
+    -- the run ends with the write of the mark, once a power cut leaves all sectors filled
     pub marks_on : (mark : List ℕ) (result : Result T E) → EveryMoment disk old mid Partly → ((c : Image) → disk.may_leave mid c → AllFilled end bytes c)
         → Called disk mid new result → Writes disk mid new end mark result → EveryMoment disk old new Staged
     marks_on mark result so_far filled called did = goes_on disk old mid new Staged result (weakens disk old mid Partly so_far Staged (λ c partly. inl partly)) called (λ c left.

@@ -19,7 +19,7 @@ pub record Called {D T E : Type 0} (disk : Disk D) (old new : D) (result : Resul
   pub faults_err : OnErr result (disk.faults new ≡ one_more (disk.faults old))
   pub time : disk.honest old → Elapses disk old new
 
--- nothing changed but time and the count of faults
+-- reads give the same, and a power cut leaves nothing that it might not have left before
 pub record IsUntouched {D : Type 0} (disk : Disk D) (old new : D) : Type 0 where
   pub reads : IsSame (disk.reads new) (disk.reads old)
   pub images : (c : Image) → disk.may_leave new c → disk.may_leave old c
@@ -40,17 +40,20 @@ pub record IsSynced {D : Type 0} (disk : Disk D) (old new : D) : Type 0 where
   pub images : (c : Image) → disk.may_leave new c → IsSame c (disk.reads old)
   pub later : disk.moment old < disk.moment new
 
--- a read of sector i gives its bytes, and changes nothing, also where it fails
+-- A read of sector i gives its bytes. Also where it fails, reads then give the same, and a power cut leaves nothing
+-- that it might not have left before.
 pub record Reads {D T E : Type 0} (disk : Disk D) (old new : D) (i : ℕ) (bytes : List ℕ) (result : Result T E) : Type 0 where
   pub given : OnOk result (bytes ≡ disk.reads old i)
   pub untouched : IsUntouched disk old new
 
--- a write of sector i; one that fails did that or nothing
+-- a write of sector i; one that fails was done all the same, or reads give what they gave and a power cut leaves
+-- nothing that it might not have left before
 pub record Writes {D T E : Type 0} (disk : Disk D) (old new : D) (i : ℕ) (bytes : List ℕ) (result : Result T E) : Type 0 where
   pub ok : OnOk result (IsWritten disk old new i bytes)
   pub err : OnErr result (IsWritten disk old new i bytes ⊎ IsUntouched disk old new)
 
--- a sync; one that fails did that or nothing
+-- a sync; one that fails was done all the same, or reads give what they gave and a power cut leaves nothing that it
+-- might not have left before
 pub record Syncs {D T E : Type 0} (disk : Disk D) (old new : D) (result : Result T E) : Type 0 where
   pub ok : OnOk result (IsSynced disk old new)
   pub err : OnErr result (IsSynced disk old new ⊎ IsUntouched disk old new)

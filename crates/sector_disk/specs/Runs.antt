@@ -87,7 +87,8 @@ joins disk old mid new P first second = record {
   keeps = λ t c le left. second.keeps t c (omega (arith, le, first.later)) (first.keeps t c le left);
 }
 
--- after any run of reads: nothing changed but time and the count of faults
+-- after any run of reads: reads give the same, and a power cut at any moment of it left nothing that it might not have
+-- left before
 pub record OnlyRead {D : Type 0} (disk : Disk D) (old new : D) : Type 0 where
   pub reads : IsSame (disk.reads new) (disk.reads old)
   pub moments : EveryMoment disk old new (disk.may_leave old)

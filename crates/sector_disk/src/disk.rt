@@ -29,7 +29,8 @@ pub trait SectorDisk {
         ensures count { result ≡ disk.count self.now }
         ensures fits { result < 2 ^ 32 };
 
-    /// Reads sector `i` into `bytes`. It changes nothing, also where it fails; `bytes` may be anything then.
+    /// Reads sector `i` into `bytes`, which may be anything where the read fails. Also then, later reads give the
+    /// same as before, and a power cut leaves nothing that it might not have left before.
     fn read(&mut self, i: u32, bytes: &mut [u8; 512]) -> Result<(), DiskFault>
         requires { i < disk.count self.old }
         ensures called { Called disk self.old self.new result }
@@ -37,7 +38,7 @@ pub trait SectorDisk {
         ensures fault { IfErr result (λ fault. fault ≡ DiskFault.Read) };
 
     /// Writes `bytes` to sector `i`. Until the next sync a power cut may leave them or what was possible before.
-    /// A write that fails did that or nothing.
+    /// A write that fails was done all the same, or reads give what they gave and a power cut leaves nothing new.
     fn write(&mut self, i: u32, bytes: &[u8; 512]) -> Result<(), DiskFault>
         requires { i < disk.count self.old }
         ensures called { Called disk self.old self.new result }
@@ -45,7 +46,7 @@ pub trait SectorDisk {
         ensures fault { IfErr result (λ fault. fault ≡ DiskFault.Write) };
 
     /// Brings all that was written to the device: a power cut then leaves what reads give.
-    /// A sync that fails did that or nothing.
+    /// A sync that fails was done all the same, or reads give what they gave and a power cut leaves nothing new.
     fn sync(&mut self) -> Result<(), DiskFault>
         ensures called { Called disk self.old self.new result }
         ensures syncs { disk.honest self.old → Syncs disk self.old self.new result }

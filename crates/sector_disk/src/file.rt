@@ -105,10 +105,7 @@ fn fill_with_zeros<F: OpenFile + FileExt>(file: &F) -> Result<(), DiskFault>
             return Err(DiskFault::Write);
         }
     }
-    match file.sync_all() {
-        Ok(()) => Ok(()),
-        Err(_) => Err(DiskFault::Write),
-    }
+    file.sync_all().map_err(|_| DiskFault::Write)
 }
 
 impl<F: OpenFile + FileExt> SectorDisk for FileDisk<F> {
@@ -122,26 +119,17 @@ impl<F: OpenFile + FileExt> SectorDisk for FileDisk<F> {
     }
 
     fn read(&mut self, i: u32, bytes: &mut [u8; 512]) -> Result<(), DiskFault> {
-        let outcome = match self.file.read_exact_at(bytes, u64::from(i) * SECTOR_BYTES) {
-            Ok(()) => Ok(()),
-            Err(_) => Err(DiskFault::Read),
-        };
-        counted(&mut self.faults, outcome)
+        let outcome = self.file.read_exact_at(bytes, u64::from(i) * SECTOR_BYTES);
+        counted(&mut self.faults, outcome.map_err(|_| DiskFault::Read))
     }
 
     fn write(&mut self, i: u32, bytes: &[u8; 512]) -> Result<(), DiskFault> {
-        let outcome = match self.file.write_all_at(bytes, u64::from(i) * SECTOR_BYTES) {
-            Ok(()) => Ok(()),
-            Err(_) => Err(DiskFault::Write),
-        };
-        counted(&mut self.faults, outcome)
+        let outcome = self.file.write_all_at(bytes, u64::from(i) * SECTOR_BYTES);
+        counted(&mut self.faults, outcome.map_err(|_| DiskFault::Write))
     }
 
     fn sync(&mut self) -> Result<(), DiskFault> {
-        let outcome = match self.file.sync_data() {
-            Ok(()) => Ok(()),
-            Err(_) => Err(DiskFault::Sync),
-        };
-        counted(&mut self.faults, outcome)
+        let outcome = self.file.sync_data();
+        counted(&mut self.faults, outcome.map_err(|_| DiskFault::Sync))
     }
 }

@@ -1,5 +1,5 @@
 //! Runs of calls over any disk.
-ghost use Rattle.std.specs.Prelude.{◌<◌, ◌≤◌, ◌-◌, OnErr};
+ghost use Rattle.std.specs.Prelude.{◌≡◌, ◌<◌, ◌≤◌, ◌-◌, OnErr};
 ghost use Rattle.sector_disk.specs.Disk.{Rose};
 ghost use Rattle.sector_disk.specs.Runs.{EveryMoment, OnlyRead};
 ghost use Rattle.sector_disk.specs.Staged.{IsStaged};
@@ -19,6 +19,7 @@ fn fill_then_mark<D: SectorDisk>(
     ensures any_moment { D.disk.honest disk.old
         → EveryMoment D.disk disk.old disk.new (IsStaged (D.disk.may_leave disk.old) end bytes.now) }
     ensures cause { OnErr result (Rose (D.disk.faults disk.old) (D.disk.faults disk.new)) }
+    ensures count { D.disk.count disk.new ≡ D.disk.count disk.old }
 {
     for i in 0..end {
         disk.write(i, bytes)?;
@@ -27,7 +28,8 @@ fn fill_then_mark<D: SectorDisk>(
     disk.write(end, mark)
 }
 
-// Reads the sectors below `end`, which changes nothing.
+// Reads the sectors below `end`. Reads then give the same, and a power cut leaves nothing that it might not have left
+// before.
 fn read_all<D: SectorDisk>(disk: &mut D, end: u32) -> Result<(), DiskFault>
     requires { end ≤ D.disk.count disk.old }
     ensures same { D.disk.honest disk.old → OnlyRead D.disk disk.old disk.new }
@@ -39,6 +41,7 @@ fn read_all<D: SectorDisk>(disk: &mut D, end: u32) -> Result<(), DiskFault>
     Ok(())
 }
 
+// One call fails: one of the fill's, or else the first read.
 #[test]
 fn a_run_over_a_disk_in_memory(rt: HostRuntime) -> Result<(), Failure> {
     for (passes, whole) in [(0, false), (3, false), (5, false), (6, true)] {
@@ -46,6 +49,11 @@ fn a_run_over_a_disk_in_memory(rt: HostRuntime) -> Result<(), Failure> {
         let mut fuse = Fuse::new(disk, passes, Fail::Once, false);
         let outcome = fill_then_mark(&mut fuse, 4, &[7; 512], &[9; 512]);
         assert_eq!(rt; outcome.is_ok(), whole, "after {passes} calls");
+        assert_eq!(rt;
+            read_all(&mut fuse, 5).is_err(),
+            whole,
+            "after {passes} calls"
+        );
     }
     Ok(())
 }

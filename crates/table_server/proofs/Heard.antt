@@ -15,12 +15,14 @@ use Rattle.table_server.specs.Desk.{Desk, is_within_line, replies_from, calls_fr
 use Rattle.table_server.specs.Streams.{AppendsFront, Written}
 use Rattle.table_server.specs.Heard.{Heard, StopsAt}
 use Rattle.table_server.proofs.LineLemmas.{lines_none}
-use Rattle.table_server.proofs.Streams.{appends_join, appends_front, front_longer, consumes_join, consumes_keeps}
+use Rattle.std.proofs.KnownBytes.{Appends-nil, Appends-trans, Consumes-nil, Consumes-trans, Consumes-kept}
+use Rattle.table_server.proofs.Streams.{appends_front, front_longer}
 
 -- nothing is written for a line that has begun
 pub begun_replies : (desk : Desk) → list_all is_within_line desk.line ≡ true → replies_from desk [] ≡ []
 begun_replies desk within = rw (append-nil desk.line, lines_none desk.line within) refl
 
+-- and it adds no call
 pub begun_calls : (desk : Desk) → list_all is_within_line desk.line ≡ true → calls_from desk [] ≡ desk.calls
 begun_calls desk within = rw (append-nil desk.line, lines_none desk.line within) refl
 
@@ -46,29 +48,21 @@ heard_piece dealer given rest rest' before written written' old new left left' h
     record {
       bytes = h.bytes ++ piece;
       count = omega (arith, h.count, count, length-append h.bytes piece);
-      consumed = consumes_join given rest rest' h.bytes piece h.consumed consumed;
-      appended = rw replied (appends_join before written written' (replies_to [] (complete_lines h.bytes)) text h.appended appended);
+      consumed = Consumes-trans given rest rest' h.bytes piece h.consumed consumed;
+      appended = rw replied (Appends-trans before written written' (replies_to [] (complete_lines h.bytes)) text h.appended appended);
       replies = more_replies dealer given rest before written old new left h piece text answers;
       calls = λ more. rw (append_assoc h.bytes piece more) (h.calls (piece ++ more) ∙ answers.calls more);
       dealt = answers.dealer ∙ h.dealt;
       within = answers.within;
     }
 
-consumes_none : (given : Option (List ℕ)) → Consumes given given []
-consumes_none None = tt
-consumes_none (Some bytes) = refl
-
-appends_none : (written : Option (List ℕ)) → Appends written written []
-appends_none None = tt
-appends_none (Some bytes) = sym (append-nil bytes)
-
 -- nothing was heard yet
 pub heard_none : (dealer : Seat) (given before : Option (List ℕ)) (desk : Desk) → desk.dealer ≡ dealer → desk.calls ≡ [] → desk.line ≡ [] → Heard dealer given given before before desk 65536
 heard_none dealer given before desk dealt no_calls no_line = record {
   bytes = [];
   count = refl;
-  consumed = consumes_none given;
-  appended = appends_none before;
+  consumed = Consumes-nil given;
+  appended = Appends-nil before;
   replies = λ more. rw (no_calls, no_line) refl;
   calls = λ more. rw (no_calls, no_line) refl;
   dealt = dealt;
@@ -78,7 +72,7 @@ heard_none dealer given before desk dealt no_calls no_line = record {
 -- a read fault after what was heard
 pub stops_reading : (dealer : Seat) (given rest rest' before written : Option (List ℕ)) (desk : Desk) (left : ℕ) → Heard dealer given rest before written desk left → 0 < left → Keeps rest rest' → StopsAt dealer given rest' before written Read
 stops_reading dealer given rest rest' before written desk left h some kept =
-    (h.bytes, omega (arith, h.count), consumes_keeps given rest rest' h.bytes h.consumed kept, h.appended)
+    (h.bytes, omega (arith, h.count), Consumes-kept given rest rest' h.bytes h.consumed kept, h.appended)
 
 -- a front of the replies to the bytes read is a front of the whole output, where the bytes given are known
 front_of_whole : (dealer : Seat) (given rest before written : Option (List ℕ)) (desk : Desk) (bytes : List ℕ) → length bytes ≤ byte_limit → Consumes given rest bytes → ((more : List ℕ) → replies_to [] (complete_lines (bytes ++ more)) ≡ replies_to [] (complete_lines bytes) ++ replies_from desk more) → AppendsFront before written (replies_to [] (complete_lines bytes)) → IfSome given (λ input. AppendsFront before written (auction_output dealer input))
@@ -100,7 +94,7 @@ stops_at_piece dealer given rest rest' before written written' old new left h pi
     let bytes : List ℕ = h.bytes ++ piece in
     let last : List ℕ = limit_notice (nat_le byte_limit (length bytes)) ++ ending dealer (calls_after [] (complete_lines bytes)) in
     let few : length bytes ≤ byte_limit = omega (arith, h.count, room, length-append h.bytes piece) in
-    let all_consumed = consumes_join given rest rest' h.bytes piece h.consumed consumed in
+    let all_consumed = Consumes-trans given rest rest' h.bytes piece h.consumed consumed in
     let replied : AppendsFront before written' (replies_to [] (complete_lines bytes)) =
     rw (piece_replies dealer given rest before written old new left h piece text answers)
     (appends_front before written written' (replies_to [] (complete_lines h.bytes)) text h.appended front) in (
@@ -160,7 +154,7 @@ ends_well dealer None rest before written written' desk left h end appended = tt
 ends_well dealer (Some input) rest before written written' desk left h end appended =
     let heard = heard_all dealer input rest before written desk left h end in (
       rw (heard, output_heard dealer (Some input) rest before written desk left h)
-          (appends_join before written written' (replies_to [] (complete_lines h.bytes)) (limit_notice (nat_eq left 0) ++ ending desk.dealer desk.calls) h.appended appended),
+          (Appends-trans before written written' (replies_to [] (complete_lines h.bytes)) (limit_notice (nat_eq left 0) ++ ending desk.dealer desk.calls) h.appended appended),
       rw heard h.consumed,
     )
 

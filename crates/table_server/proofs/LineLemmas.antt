@@ -5,7 +5,7 @@ use Rattle.std.specs.Prelude.{nat_eq}
 use Rattle.std.specs.List.{list_all}
 use Rattle.bridge_auction.specs.declared.call.Call.{Call}
 use Rattle.table_server.specs.declared.reply.Reply.{Reply}
-use Rattle.table_server.specs.Lines.{onto_first, complete_lines}
+use Rattle.table_server.specs.Lines.{onto_first_line, complete_lines}
 use Rattle.table_server.specs.Replies.{is_long, line_call, line_reply, calls_with, calls_after, replies_to, reply_text}
 use Rattle.table_server.specs.Desk.{is_within_line}
 
@@ -14,14 +14,17 @@ abbrev pub joined_first : List ℕ → List (List ℕ) → List (List ℕ)
 joined_first begun [] = []
 joined_first begun (line ∷ lines) = (begun ++ line) ∷ lines
 
+-- the first byte of a line, and the rest of it
 not_line_feed : (same rest : Bool) → (not same && rest) ≡ true → (same ≡ false) × (rest ≡ true)
 not_line_feed true rest both = cc
 not_line_feed false rest both = (refl, both)
 
-joined_one : (byte : ℕ) (begun : List ℕ) (lines : List (List ℕ)) → onto_first byte (joined_first begun lines) ≡ joined_first (byte ∷ begun) lines
+-- a byte, and then what had begun after it
+joined_one : (byte : ℕ) (begun : List ℕ) (lines : List (List ℕ)) → onto_first_line byte (joined_first begun lines) ≡ joined_first (byte ∷ begun) lines
 joined_one byte begun [] = refl
 joined_one byte begun (line ∷ lines) = refl
 
+-- where nothing had begun, the lines stay
 joined_none : (lines : List (List ℕ)) → lines ≡ joined_first [] lines
 joined_none [] = refl
 joined_none (line ∷ lines) = refl
@@ -53,21 +56,24 @@ long_front : (begun line : List ℕ) → 128 < length begun → is_long (begun +
 long_front begun line long = le-leb 129 (length (begun ++ line)) (omega (arith, length-append begun line))
 
 -- what is long already gets the same replies without a further byte
-long_replies : (calls : List Call) (begun : List ℕ) (byte : ℕ) (lines : List (List ℕ)) → 128 < length begun → replies_to calls (joined_first begun (onto_first byte lines)) ≡ replies_to calls (joined_first begun lines)
+long_replies : (calls : List Call) (begun : List ℕ) (byte : ℕ) (lines : List (List ℕ)) → 128 < length begun → replies_to calls (joined_first begun (onto_first_line byte lines)) ≡ replies_to calls (joined_first begun lines)
 long_replies calls begun byte [] long = refl
 long_replies calls begun byte (line ∷ lines) long = rw (long_front begun (byte ∷ line) long, long_front begun line long) refl
 
-long_calls : (calls : List Call) (begun : List ℕ) (byte : ℕ) (lines : List (List ℕ)) → 128 < length begun → calls_after calls (joined_first begun (onto_first byte lines)) ≡ calls_after calls (joined_first begun lines)
+-- and it makes the same calls
+long_calls : (calls : List Call) (begun : List ℕ) (byte : ℕ) (lines : List (List ℕ)) → 128 < length begun → calls_after calls (joined_first begun (onto_first_line byte lines)) ≡ calls_after calls (joined_first begun lines)
 long_calls calls begun byte [] long = refl
 long_calls calls begun byte (line ∷ lines) long =
     let e : line_call (begun ++ byte ∷ line) ≡ line_call (begun ++ line) =
     rw (long_front begun (byte ∷ line) long, long_front begun line long) refl in
     ap (λ call. calls_after (calls_with calls call) lines) e
 
+-- so a further byte of a long line changes no reply
 pub long_replies_same : (calls : List Call) (begun : List ℕ) (byte : ℕ) (bytes : List ℕ) → list_all is_within_line begun ≡ true → 128 < length begun → nat_eq byte 10 ≡ false → replies_to calls (complete_lines (begun ++ byte ∷ bytes)) ≡ replies_to calls (complete_lines (begun ++ bytes))
 long_replies_same calls begun byte bytes within long other =
     rw (lines_begun begun (byte ∷ bytes) within, lines_begun begun bytes within, other) (long_replies calls begun byte (complete_lines bytes) long)
 
+-- and no call
 pub long_calls_same : (calls : List Call) (begun : List ℕ) (byte : ℕ) (bytes : List ℕ) → list_all is_within_line begun ≡ true → 128 < length begun → nat_eq byte 10 ≡ false → calls_after calls (complete_lines (begun ++ byte ∷ bytes)) ≡ calls_after calls (complete_lines (begun ++ bytes))
 long_calls_same calls begun byte bytes within long other =
     rw (lines_begun begun (byte ∷ bytes) within, lines_begun begun bytes within, other) (long_calls calls begun byte (complete_lines bytes) long)
@@ -78,6 +84,7 @@ replies_fed calls calls' line line' slice rest out out' text byte reply within f
     rw (written, spelled, cleared, called, replied, same, feed, lines_seam line rest within)
     (sym (append_assoc out (reply_text (line_reply calls line)) (replies_to (calls_with calls (line_call line)) (complete_lines rest))))
 
+-- and its call is made
 pub calls_fed : (calls calls' : List Call) (line line' slice rest : List ℕ) (byte : ℕ) → list_all is_within_line line ≡ true → byte ≡ 10 → slice ≡ line → calls' ≡ calls_with calls (line_call slice) → line' ≡ [] → calls_after calls (complete_lines (line ++ byte ∷ rest)) ≡ calls_after calls' (complete_lines (line' ++ rest))
 calls_fed calls calls' line line' slice rest byte within feed same called cleared =
     rw (cleared, called, same, feed, lines_seam line rest within) refl

@@ -6,7 +6,7 @@ ghost use Rattle.table_server.specs.Desk.{is_within_line, replies_from, calls_fr
 ghost use Rattle.std.specs.List.{list_all};
 
 use crate::reply::Reply;
-use crate::spelling::{denomination_text, doubling_text, level_text, read_call, seat_text};
+use crate::spelling::{denomination_text, doubling_text, read_call};
 use arrayvec::{ArrayString, ArrayVec};
 use bridge_auction::{Auction, Contract};
 use bridge_cards::Seat;
@@ -114,11 +114,11 @@ fn push_contract(contract: &Contract, out: &mut ArrayString<REPLIES_BYTES>)
     ensures { out.new.bytes ≡ out.old.bytes ++ contract_line (Some contract.now) }
 {
     out.push_str("CONTRACT ");
-    out.push_str(level_text(contract.bid.level));
+    out.push(char::from(b'0' + contract.bid.level.number()));
     out.push_str(denomination_text(contract.bid.denomination));
     out.push_str(doubling_text(contract.doubling));
     out.push_str(" ");
-    out.push_str(seat_text(contract.declarer));
+    out.push(char::from(contract.declarer.letter()));
     out.push_str("\n");
 }
 
@@ -144,8 +144,5 @@ fn answer(auction: &mut Auction, line: &[u8]) -> Reply
 fn without_return(line: &[u8]) -> &[u8]
     ensures { result.now ≡ strip_last 13 line.now }
 {
-    match line.split_last() {
-        Some((b'\r', front)) => front,
-        _ => line,
-    }
+    line.strip_suffix(b"\r").unwrap_or(line)
 }

@@ -1,4 +1,4 @@
-//! The text protocol of the tables: lines of bytes in, replies out.
+//! The auction command: lines of calls in, replies and the contract out.
 #![tactic(auto)]
 
 mod desk;

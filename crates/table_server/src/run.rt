@@ -61,16 +61,12 @@ fn answer_lines<R: Read, W: Write>(
     let mut piece = [0; PIECE_BYTES];
     let mut left = MOST_BYTES;
     while left > 0 {
-        match read_piece(reader, &mut piece, left) {
-            Err(fault) => return Err(fault),
-            Ok(0) => return Ok(left),
-            Ok(taken) => {
-                left -= taken;
-                if let Err(fault) = answer_piece(desk, &piece[..taken], writer) {
-                    return Err(fault);
-                }
-            }
+        let taken = read_piece(reader, &mut piece, left)?;
+        if taken == 0 {
+            return Ok(left);
         }
+        left -= taken;
+        answer_piece(desk, &piece[..taken], writer)?;
     }
     Ok(0)
 }
@@ -86,10 +82,9 @@ fn read_piece<R: Read>(reader: &mut R, piece: &mut [u8], most: usize) -> Result<
     ensures fault { IfErr result (λ fault. fault ≡ ReadFault) }
 {
     let room = piece.len().min(most);
-    match reader.read(&mut piece[..room]) {
-        Ok(taken) => Ok(taken),
-        Err(_) => Err(ServeFault::Read),
-    }
+    reader
+        .read(&mut piece[..room])
+        .map_err(|_| ServeFault::Read)
 }
 
 /// Writes the replies to the lines that the piece completes.

@@ -1,12 +1,10 @@
 //! How calls and contracts are spelled.
-ghost use Rattle.std.specs.Prelude.{◌≡◌, ◌≢◌, ◌≤◌, length, ◌∷◌, [], IfSome, IfNone};
-ghost use Rattle.bridge_cards.specs.Seat.{seat_letter};
+ghost use Rattle.std.specs.Prelude.{◌≡◌, ◌≢◌, ◌≤◌, length, IfSome, IfNone};
 ghost use Rattle.bridge_auction.specs.declared.call.Call.{Call};
 ghost use Rattle.bridge_auction.specs.Call.{IsCall};
-ghost use Rattle.table_server.specs.Spelling.{denomination_text, level_text, doubling_text, call_text, denomination_of, bid_of, call_of};
+ghost use Rattle.table_server.specs.Spelling.{denomination_text, doubling_text, call_text, denomination_of, bid_of, call_of};
 
 use bridge_auction::{Bid, Call, Denomination, Doubling, Level};
-use bridge_cards::Seat;
 
 /// Reads a call: `PASS`, `X`, `XX`, or a bid from `1C` to `7NT`.
 pub fn read_call(text: &[u8]) -> Option<Call>
@@ -73,22 +71,6 @@ pub fn denomination_text(denomination: Denomination) -> &'static str
     }
 }
 
-/// The level's digit.
-pub fn level_text(level: Level) -> &'static str
-    ensures text { result.now ≡ level_text level }
-    ensures short { length result.now ≡ 1 }
-{
-    match level.number() {
-        1 => "1",
-        2 => "2",
-        3 => "3",
-        4 => "4",
-        5 => "5",
-        6 => "6",
-        _ => "7",
-    }
-}
-
 /// Nothing, `X` or `XX`.
 pub fn doubling_text(doubling: Doubling) -> &'static str
     ensures text { result.now ≡ doubling_text doubling }
@@ -98,18 +80,5 @@ pub fn doubling_text(doubling: Doubling) -> &'static str
         Doubling::Undoubled => "",
         Doubling::Doubled => "X",
         Doubling::Redoubled => "XX",
-    }
-}
-
-/// The seat's letter.
-pub fn seat_text(seat: Seat) -> &'static str
-    ensures text { result.now ≡ seat_letter seat ∷ [] }
-    ensures short { length result.now ≡ 1 }
-{
-    match seat {
-        Seat::North => "N",
-        Seat::East => "E",
-        Seat::South => "S",
-        Seat::West => "W",
     }
 }

@@ -18,8 +18,5 @@ pub fn write_text<W: Write>(writer: &mut W, text: &[u8]) -> Result<(), ServeFaul
             Ok(taken) => written += taken,
         }
     }
-    match writer.flush() {
-        Ok(()) => Ok(()),
-        Err(_) => Err(ServeFault::Write),
-    }
+    writer.flush().map_err(|_| ServeFault::Write)
 }

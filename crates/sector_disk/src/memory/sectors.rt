@@ -5,7 +5,8 @@ ghost use Rattle.sector_disk.specs.Held.{newest, picked, written, settled, cut_t
 use std::alloc::{AllocError, Global};
 use std::marker::Model;
 
-/// The values that a sector had since the disk was made or last lost power.
+/// What a sector held when the disk was made or last lost power, what it held at the last sync since then, or else
+/// the same, and each value written since.
 #[derive(Drop)]
 pub(crate) struct Sector {
     first: [u8; 512],

@@ -1,27 +1,29 @@
 use Rattle.std.proofs.Common.{◌-◌, take, arith, rules}
 use Rattle.std.proofs.lemmas.List.{length-take-le}
+use Rattle.std.proofs.lemmas.Result.{err_from_is_err_and}
 use Rattle.table_server.proofs.Heard.{heard_piece, stops_at_piece}
 use Rattle.table_server.proofs.run.answer_lines.Goals as goal
 
-pub returns-in-Err-answer_piece-clause-fault : goal.returns-in-Err-answer_piece-clause-fault
-returns-in-Err-answer_piece-clause-fault g c =
-    let e = c.in-Err-answer_piece.ensures in
-    let taken = length-take-le c.in-Ok.taken c.read_piece.new.piece c.in-Ok.ensures.bound.1 in
-    rw e.2.1
+pub returns-in_err-answer_piece-clause-fault : goal.returns-in_err-answer_piece-clause-fault
+returns-in_err-answer_piece-clause-fault g c =
+    let e = c.in_err-answer_piece.ensures in
+    let taken = length-take-le c.in_ok-taken.taken c.read_piece.new.piece c.in_ok-taken.ensures.bound.1 in
+    let p = err_from_is_err_and c.from_residual-in_err-answer_piece.result c.from_residual-in_err-answer_piece.ensures.1 in
+    rw (p.1, p.2, e.2.1)
     (stops_at_piece c.args.desk.now.dealer (g.R.Read.remaining c.args.reader.now) (g.R.Read.remaining c.loop-left.reader)
     (g.R.Read.remaining c.read_piece.new.reader) (g.W.Write.contents c.args.writer.now) (g.W.Write.contents c.loop-left.writer)
     (g.W.Write.contents c.answer_piece.new.writer) c.loop-left.desk c.answer_piece.new.desk c.loop-left.left c.loop-left.invariant.heard
-    (take c.in-Ok.taken c.read_piece.new.piece) e.0 (omega (arith, taken, c.in-Ok.ensures.bound.0)) c.in-Ok.ensures.ok e.1 e.2.0)
+    (take c.in_ok-taken.taken c.read_piece.new.piece) e.0 (omega (arith, taken, c.in_ok-taken.ensures.bound.0)) c.in_ok-taken.ensures.ok e.1 e.2.0)
 
 pub loop-left-preserved : goal.loop-left-preserved
 loop-left-preserved g c =
-    let e = c.in_default.ensures in
-    let taken = length-take-le c.in-Ok.taken c.read_piece.new.piece c.in-Ok.ensures.bound.1 in
+    let e = c.in_ok-answer_piece.ensures in
+    let taken = length-take-le c.in_ok-taken.taken c.read_piece.new.piece c.in_ok-taken.ensures.bound.1 in
     record {
       heard = heard_piece c.args.desk.now.dealer (g.R.Read.remaining c.args.reader.now) (g.R.Read.remaining c.loop-left.reader)
           (g.R.Read.remaining c.read_piece.new.reader) (g.W.Write.contents c.args.writer.now) (g.W.Write.contents c.loop-left.writer)
           (g.W.Write.contents c.answer_piece.new.writer) c.loop-left.desk c.answer_piece.new.desk c.loop-left.left
-          (c.loop-left.left - c.in-Ok.taken) c.loop-left.invariant.heard (take c.in-Ok.taken c.read_piece.new.piece) e.0
-          (omega (arith, taken, c.in-Ok.ensures.bound.0)) c.in-Ok.ensures.ok e.1 e.2;
+          (c.loop-left.left - c.in_ok-taken.taken) c.loop-left.invariant.heard (take c.in_ok-taken.taken c.read_piece.new.piece) e.0
+          (omega (arith, taken, c.in_ok-taken.ensures.bound.0)) c.in_ok-taken.ensures.ok e.1 e.2;
       room = search rules;
     }

@@ -1,14 +1,14 @@
 use Rattle.std.proofs.Common.{[], take, drop, refl, sym, arith, append-nil}
 use Rattle.std.proofs.lemmas.List.{take-append-drop}
 use Rattle.std.proofs.Math.Seq.{take-add}
-use Rattle.table_server.proofs.Streams.{appends_join, appends_keeps}
+use Rattle.std.proofs.KnownBytes.{Appends-trans, Appends-kept}
 use Rattle.table_server.proofs.write.write_text.Goals as goal
 
 pub loop-written-preserved : goal.loop-written-preserved
 loop-written-preserved g c = (
   omega (arith, c.in-Ok.ensures.bound, c.split_at.ensures.back_len),
   rw (take-add c.loop-written.written c.in-Ok.taken c.args.text.now)
-      (appends_join (g.W.Write.contents c.args.writer.now) (g.W.Write.contents c.loop-written.writer) (g.W.Write.contents c.write.new.self)
+      (Appends-trans (g.W.Write.contents c.args.writer.now) (g.W.Write.contents c.loop-written.writer) (g.W.Write.contents c.write.new.self)
       (take c.loop-written.written c.args.text.now) (take c.in-Ok.taken (drop c.loop-written.written c.args.text.now))
       c.loop-written.invariant.1 (rw (← c.split_at.ensures.back) c.in-Ok.ensures.bytes)),
 )
@@ -19,7 +19,7 @@ returns-in-Err g c = (
     take c.loop-written.written c.args.text.now,
     drop c.loop-written.written c.args.text.now,
     sym (take-append-drop c.loop-written.written c.args.text.now),
-    appends_keeps (g.W.Write.contents c.args.writer.now) (g.W.Write.contents c.loop-written.writer) (g.W.Write.contents c.write.new.self)
+    Appends-kept (g.W.Write.contents c.args.writer.now) (g.W.Write.contents c.loop-written.writer) (g.W.Write.contents c.write.new.self)
         (take c.loop-written.written c.args.text.now) c.loop-written.invariant.1 c.in-Err.ensures.bytes,
   ),
   refl,
@@ -32,7 +32,7 @@ returns-in-Ok-eq0 g c =
         take c.loop-written.written c.args.text.now,
         drop c.loop-written.written c.args.text.now,
         sym (take-append-drop c.loop-written.written c.args.text.now),
-        rw append-nil at (appends_join (g.W.Write.contents c.args.writer.now) (g.W.Write.contents c.loop-written.writer)
+        rw append-nil at (Appends-trans (g.W.Write.contents c.args.writer.now) (g.W.Write.contents c.loop-written.writer)
             (g.W.Write.contents c.write.new.self) (take c.loop-written.written c.args.text.now) [] c.loop-written.invariant.1 nothing),
       ),
       refl,
