@@ -88,28 +88,31 @@ impl FileExt for Noted<'_> {
     }
 }
 
+const WRITE_5: Call = Call::Write {
+    offset: 2560,
+    length: 512,
+    zeros: 0,
+};
+
+const READ_2047: Call = Call::Read {
+    offset: 1_048_064,
+    length: 512,
+};
+
+const WRITE_0: Call = Call::Write {
+    offset: 0,
+    length: 512,
+    zeros: 0,
+};
+
 // Sector 5 is written and synced, sector 2047 is read, and sector 0 is written and synced. The file refuses one
 // call; a write that is refused is not followed by its sync.
 #[test]
 fn each_call_reaches_the_file_once(rt: HostRuntime) -> Result<(), Fail> {
-    let write_5 = Call::Write {
-        offset: 2560,
-        length: 512,
-        zeros: 0,
-    };
-    let read_2047 = Call::Read {
-        offset: 1_048_064,
-        length: 512,
-    };
-    let write_0 = Call::Write {
-        offset: 0,
-        length: 512,
-        zeros: 0,
-    };
     let sync = Call::SyncData;
-    let all = [write_5, sync, read_2047, write_0, sync];
-    let but_first_sync = [write_5, read_2047, write_0, sync];
-    let but_last_sync = [write_5, sync, read_2047, write_0];
+    let all = [WRITE_5, sync, READ_2047, WRITE_0, sync];
+    let but_first_sync = [WRITE_5, READ_2047, WRITE_0, sync];
+    let but_last_sync = [WRITE_5, sync, READ_2047, WRITE_0];
     let rows = [
         (
             0,
