@@ -24,6 +24,7 @@ none_claimed : (claim : Option Claim) (P : Claim → Type 0) → is_some claim �
 none_claimed None P none = tt
 none_claimed (Some claim) P none = cc
 
+-- a card that is taken
 pub card_keeps : (play : Playing) (seat : Seat) (card : ℕ) → IsPlay play → IsOk (card_answer play seat card) → IsPlay (with_card play card)
 card_keeps play seat card is ok = record {
   legal = card_legal play seat card is.legal ok;
@@ -39,6 +40,7 @@ record Claims (over claimed dummy whole many spent : Bool) : Type 0 where
   within : many ≡ false
   left : spent ≡ false
 
+-- Ok comes only where no refusal does
 ok_claims : (over claimed dummy whole many spent : Bool) →
     IsOk {T = Unit {0}} (if over then Err Over else if claimed then Err ClaimStands else if dummy then Err NotYourTurn
     else if not whole then Err MidTrick else if many then Err TooManyTricks else if spent then Err ClaimsSpent else Ok tt) →
@@ -67,6 +69,7 @@ none_agreed West claimer tricks = refl
 some_left : (n : ℕ) (agreed : Bool) (tricks : ℕ) → (n == 52 || agreed) ≡ false → n % 4 ≡ 0 → n / 4 + tricks ≤ 13 → n < 52
 some_left n agreed tricks over whole within = grind (arith, nat_tests)
 
+-- a claim that is taken
 pub claim_keeps : (play : Playing) (seat : Seat) (tricks : ℕ) → IsPlay play → IsOk (claim_answer play seat tricks) → IsPlay (with_claim play seat tricks)
 claim_keeps play seat tricks is ok =
     let n : ℕ = length play.cards in
@@ -105,6 +108,7 @@ asked_by contract claim seat other false is asked before agreed =
     (eqb-false (seat_number other) (seat_number seat) is) in
     before (sym unchanged ∙ agreed)
 
+-- a claim to which one player more agrees
 claim_agreed : (play : Playing) (claim : Claim) (seat : Seat) → IsClaimIn play claim → IsOk (consent_to play.contract claim seat) → IsClaimIn (with_agreement play seat) (with_agreed seat claim)
 claim_agreed play claim seat is ok =
     let asked = ok_asked (all_agreed play.contract claim) (is_asked play.contract claim.claimer seat) (has_agreed claim seat) ok in
@@ -117,6 +121,7 @@ claim_agreed play claim seat is ok =
       asked = λ other. asked_by play.contract claim seat other (same_seat other seat) refl asked (is.asked other);
     }
 
+-- the same of the claim that a play has, if there is one
 claimed_agreed : (play : Playing) (seat : Seat) (claim : Option Claim) → IfSome claim (IsClaimIn play) → IsOk (consent_if play.contract claim seat)
     → IfSome (option_map (with_agreed seat) claim) (IsClaimIn (with_agreement play seat))
 claimed_agreed play seat None is ok = cc
@@ -127,6 +132,7 @@ ok_current : (stale : Bool) (answer : Result (Unit {0}) ConsentRefused) → IsOk
 ok_current true answer ok = cc
 ok_current false answer ok = ok
 
+-- an agreement that is taken
 pub agreement_keeps : (play : Playing) (seat : Seat) (number : ℕ) → IsPlay play → IsOk (consent_answer play seat number) → IsPlay (with_agreement play seat)
 agreement_keeps play seat number is ok = record {
   legal = is.legal;
@@ -135,5 +141,6 @@ agreement_keeps play seat number is ok = record {
       (ok_current (not (number == play.claims)) (consent_if play.contract play.claim seat) ok);
 }
 
+-- a claim that is dropped
 pub refusal_keeps : (play : Playing) → IsPlay play → IsPlay (without_claim play)
 refusal_keeps play is = record { legal = is.legal; few = is.few; claimed = tt }
