@@ -1,5 +1,17 @@
 use crate::{BoardNumber, Seat, Side, Suit, Vulnerability, dealer, vulnerability_of, vulnerable};
+use std::fmt::Debug;
+use std::process::Abort;
 use std::test::Fail;
+
+/// Fails with the row where a value is not the one that is due.
+pub fn expect_eq<T: PartialEq + Debug + Drop>(
+    rt: &impl Abort,
+    found: T,
+    due: T,
+    row: impl Debug + Drop,
+) {
+    assert_eq!(rt; found, due, "{row:?}");
+}
 
 /// The table of Law 2, for boards 1 to 16, after which it repeats.
 const BOARDS: [(u8, Seat, Vulnerability); 16] = [
@@ -24,10 +36,10 @@ const BOARDS: [(u8, Seat, Vulnerability); 16] = [
 #[test]
 fn lists_of_all_stand_in_order(rt: HostRuntime) {
     for (number, suit) in (0..4).zip(Suit::ALL) {
-        assert_eq!(rt; suit.number(), number, "{suit:?}");
+        expect_eq(&rt, suit.number(), number, suit);
     }
     for (number, seat) in (0..4).zip(Seat::ALL) {
-        assert_eq!(rt; seat.number(), number, "{seat:?}");
+        expect_eq(&rt, seat.number(), number, seat);
     }
 }
 
@@ -37,11 +49,12 @@ fn boards_follow_the_table(rt: HostRuntime) -> Result<(), Fail> {
         for repeat in [0, 16, 32] {
             if number <= BoardNumber::MAX - repeat {
                 let board = BoardNumber::new(number + repeat).ok_or("a board from 1 to 36")?;
-                assert_eq!(rt; dealer(board), seat, "dealer of {number} + {repeat}");
-                assert_eq!(rt;
+                expect_eq(&rt, dealer(board), seat, (number, repeat));
+                expect_eq(
+                    &rt,
                     vulnerability_of(board),
                     vulnerability,
-                    "board {number} + {repeat}"
+                    (number, repeat),
                 );
             }
         }
@@ -52,7 +65,7 @@ fn boards_follow_the_table(rt: HostRuntime) -> Result<(), Fail> {
 #[test]
 fn numbers_outside_1_to_36_are_no_boards(rt: HostRuntime) {
     for number in [0, 37, 255] {
-        assert_eq!(rt; BoardNumber::new(number), None, "board {number}");
+        expect_eq(&rt, BoardNumber::new(number), None, number);
     }
 }
 
@@ -65,16 +78,13 @@ fn sides_are_vulnerable_as_the_board_says(rt: HostRuntime) -> Result<(), Fail> {
         (4, true, true),
     ] {
         let board = BoardNumber::new(number).ok_or("a board from 1 to 36")?;
-        assert_eq!(rt;
+        expect_eq(
+            &rt,
             vulnerable(board, Side::NorthSouth),
             north_south,
-            "board {number}"
+            number,
         );
-        assert_eq!(rt;
-            vulnerable(board, Side::EastWest),
-            east_west,
-            "board {number}"
-        );
+        expect_eq(&rt, vulnerable(board, Side::EastWest), east_west, number);
     }
     Ok(())
 }
@@ -89,8 +99,8 @@ fn seats_go_clockwise(rt: HostRuntime) {
         (318, Seat::West, b'W'),
     ] {
         let there = Seat::East.clockwise(places);
-        assert_eq!(rt; there, seat, "{places} places from East");
-        assert_eq!(rt; there.letter(), letter, "{places} places from East");
+        expect_eq(&rt, there, seat, places);
+        expect_eq(&rt, there.letter(), letter, places);
     }
     assert_eq!(rt; Seat::East.side(), Side::EastWest);
     assert_eq!(rt; Seat::South.side().other(), Side::EastWest);

@@ -2,8 +2,20 @@ use crate::read::read_words;
 use crate::run::{refuse, run_words, words_fail};
 use crate::words::{Words, WordsFault};
 use bridge_cards::BoardNumber;
+use std::fmt::Debug;
 use std::io::{Error, ErrorKind, Read, Result, Write};
+use std::process::Abort;
 use std::test::Fail;
+
+/// Fails with the row where a value is not the one that is due.
+pub fn expect_eq<T: PartialEq + Debug + Drop>(
+    rt: &impl Abort,
+    found: T,
+    due: T,
+    row: impl Debug + Drop,
+) {
+    assert_eq!(rt; found, due, "{row:?}");
+}
 
 /// Gives `first`, fails once, and would then give `second`. Written to, it fails once and would then take all.
 #[derive(Drop)]
@@ -70,7 +82,7 @@ fn boards_are_read(rt: HostRuntime) -> std::result::Result<(), Fail> {
         let words = ["auction", text];
         let board = BoardNumber::new(number).ok_or("a board")?;
         let command = read_words(rt.alloc(), words.as_slice()).ok();
-        assert_eq!(rt; command, Some(Words::Auction(board)), "auction {text}");
+        expect_eq(&rt, command, Some(Words::Auction(board)), text);
     }
     Ok(())
 }
@@ -99,7 +111,7 @@ fn other_words_are_usage(rt: HostRuntime) {
         let mut errors = Vec::new(rt.alloc());
         let mut input: &[u8] = b"1C\n";
         let status = run_words(&rt, rt.alloc(), words, &mut input, &mut output, &mut errors);
-        assert_eq!(rt; status, 2, "{words:?}");
+        expect_eq(&rt, status, 2, words);
         assert!(rt; output.is_empty(), "{words:?}");
         assert!(rt; !errors.is_empty(), "{words:?}");
     }
@@ -123,8 +135,8 @@ fn an_auction_is_run(rt: HostRuntime) {
             &mut output,
             &mut errors,
         );
-        assert_eq!(rt; status, 0, "{text:?}");
-        assert_eq!(rt; output.as_slice(), expected.as_bytes(), "{text:?}");
+        expect_eq(&rt, status, 0, text);
+        expect_eq(&rt, output.as_slice(), expected.as_bytes(), text);
         assert!(rt; errors.is_empty(), "{text:?}");
     }
 }
@@ -192,8 +204,8 @@ fn words_that_cannot_be_had_are_named(rt: HostRuntime) {
         ),
     ] {
         let mut errors = Vec::new(rt.alloc());
-        assert_eq!(rt; words_fail(kind, &mut errors), status, "{line:?}");
-        assert_eq!(rt; errors.as_slice(), line.as_bytes(), "{line:?}");
+        expect_eq(&rt, words_fail(kind, &mut errors), status, line);
+        expect_eq(&rt, errors.as_slice(), line.as_bytes(), line);
     }
     let mut errors = Vec::new(rt.alloc());
     assert_eq!(rt; refuse(WordsFault::Memory, &mut errors), 3);

@@ -2,7 +2,19 @@ mod twin;
 
 use crate::{Movement, MovementRefused, Place, Row, Shape};
 use bridge_cards::Side;
+use std::fmt::Debug;
+use std::process::Abort;
 use twin::{is_fair, mitchell_rows};
+
+/// Fails with the row where a value is not the one that is due.
+pub fn expect_eq<T: PartialEq + Debug + Drop>(
+    rt: &impl Abort,
+    found: T,
+    due: T,
+    row: impl Debug + Drop,
+) {
+    assert_eq!(rt; found, due, "{row:?}");
+}
 
 /// A fair movement of two tables: round, table, North and South, East and West, and set of each row.
 const GOOD: [[u8; 5]; 4] = [
@@ -133,7 +145,7 @@ fn shapes_have_limits(rt: HostRuntime) {
             pairs,
             split,
         };
-        assert_eq!(rt; shape.is_within_limits(), within, "{shape:?}");
+        expect_eq(&rt, shape.is_within_limits(), within, shape);
     }
 }
 
@@ -147,10 +159,10 @@ fn mitchell_of_four_tables(rt: HostRuntime) {
             side: Side::EastWest,
             set,
         };
-        assert_eq!(rt; movement.place(round, 5), Some(place), "round {round}");
+        expect_eq(&rt, movement.place(round, 5), Some(place), round);
     }
-    assert_eq!(rt; movement.place(1, 9), None, "there is no pair 9");
-    assert_eq!(rt; movement.place(4, 5), None, "there is no round 4");
+    expect_eq(&rt, movement.place(1, 9), None, "there is no pair 9");
+    expect_eq(&rt, movement.place(4, 5), None, "there is no round 4");
 }
 
 #[test]
@@ -162,7 +174,7 @@ fn mitchell_moves_pairs_and_sets(rt: HostRuntime) {
         assert_eq!(rt; rows.len(), usize::from(shape.rounds) * usize::from(tables));
         for due in &rows {
             if (1..=shape.rounds).contains(&due.round) && (1..=shape.tables).contains(&due.table) {
-                assert_eq!(rt; movement.row(due.round, due.table), *due, "{tables} tables");
+                expect_eq(&rt, movement.row(due.round, due.table), *due, tables);
             }
         }
         assert!(rt; is_fair(shape, &rows), "{tables} tables");
@@ -177,10 +189,11 @@ fn mitchell_moves_pairs_and_sets(rt: HostRuntime) {
 fn rows_at_fault_are_refused(rt: HostRuntime) {
     for (changes, refused) in REFUSED {
         let rows = changed(changes);
-        assert_eq!(rt;
+        expect_eq(
+            &rt,
             Movement::from_rows(TWO_TABLES, &rows).err(),
             Some(refused),
-            "{rows:?}"
+            rows,
         );
     }
     let one_set = Shape {
@@ -239,18 +252,19 @@ fn howell_of_three_tables(rt: HostRuntime) -> Result<(), MovementRefused> {
         } = row(numbers);
         for (pair, side) in [(ns, Side::NorthSouth), (ew, Side::EastWest)] {
             let place = Place { table, side, set };
-            assert_eq!(rt; howell.place(round, pair), Some(place), "{numbers:?}");
+            expect_eq(&rt, howell.place(round, pair), Some(place), numbers);
             let place = (ns != 6).then_some(place);
-            assert_eq!(rt; sitting_out.place(round, pair), place, "{numbers:?}");
+            expect_eq(&rt, sitting_out.place(round, pair), place, numbers);
         }
         assert!(rt; row(numbers).is_live(), "{numbers:?}");
-        assert_eq!(rt;
+        expect_eq(
+            &rt,
             row([round, table, ns % 6, ew, set]).is_live(),
             ns != 6,
-            "{numbers:?}"
+            numbers,
         );
     }
-    assert_eq!(rt; sitting_out.place(1, 0), None, "0 is nobody");
+    expect_eq(&rt, sitting_out.place(1, 0), None, "0 is nobody");
     Ok(())
 }
 
@@ -283,7 +297,7 @@ fn small_movements_are_taken_where_they_are_fair(rt: HostRuntime) {
             small_row(n / 18 / 18 / 18, 2, 2),
         ];
         let fair = is_fair(shape, &rows);
-        assert_eq!(rt; Movement::from_rows(shape, &rows).is_ok(), fair, "{rows:?}");
+        expect_eq(&rt, Movement::from_rows(shape, &rows).is_ok(), fair, rows);
         if fair {
             taken += 1;
         }

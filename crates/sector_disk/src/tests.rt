@@ -5,7 +5,19 @@ ghost use Rattle.sector_disk.specs.Runs.{EveryMoment, OnlyRead};
 ghost use Rattle.sector_disk.specs.Staged.{IsStaged};
 
 use super::*;
+use std::fmt::Debug;
+use std::process::Abort;
 use std::test::Fail as Failure;
+
+/// Fails with the row where a value is not the one that is due.
+pub fn expect_eq<T: PartialEq + Debug + Drop>(
+    rt: &impl Abort,
+    found: T,
+    due: T,
+    row: impl Debug + Drop,
+) {
+    assert_eq!(rt; found, due, "{row:?}");
+}
 
 // Fills the sectors below `end`, syncs, and marks sector `end`. A power cut at any moment leaves an image from
 // before with some of them filled, or one where all are: so the mark is never there without them.
@@ -48,12 +60,8 @@ fn a_run_over_a_disk_in_memory(rt: HostRuntime) -> Result<(), Failure> {
         let disk = MemoryDisk::new(rt.alloc(), 5)?;
         let mut fuse = Fuse::new(disk, passes, Fail::Once, false);
         let outcome = fill_then_mark(&mut fuse, 4, &[7; 512], &[9; 512]);
-        assert_eq!(rt; outcome.is_ok(), whole, "after {passes} calls");
-        assert_eq!(rt;
-            read_all(&mut fuse, 5).is_err(),
-            whole,
-            "after {passes} calls"
-        );
+        expect_eq(&rt, outcome.is_ok(), whole, passes);
+        expect_eq(&rt, read_all(&mut fuse, 5).is_err(), whole, passes);
     }
     Ok(())
 }

@@ -1,5 +1,6 @@
 use super::twin;
 use super::twin_agrees::agrees;
+use crate::tests::expect_eq;
 use crate::{
     Auction, Bid, Call, CallRefused, Contract, Denomination, Doubling, Level, MOST_CALLS,
     longest_auction,
@@ -62,15 +63,17 @@ fn refusals_come_by_name(rt: HostRuntime) -> Result<(), Fail> {
         let by_twin = twin::is_ended(auction.calls())
             || !twin::is_admissible(auction.calls(), call(refused)?);
         assert!(rt; by_twin, "{refused} after {calls:?}");
-        assert_eq!(rt;
+        expect_eq(
+            &rt,
             auction.try_call(call(refused)?),
             Err(name),
-            "{refused} after {calls:?}"
+            (refused, calls),
         );
-        assert_eq!(rt;
+        expect_eq(
+            &rt,
             auction.calls().len(),
             calls.len(),
-            "a refused call is not kept"
+            "a refused call is not kept",
         );
     }
     Ok(())
@@ -115,9 +118,9 @@ fn contracts_have_their_declarer(rt: HostRuntime) -> Result<(), Fail> {
         let auction = auction_of(Seat::North, calls)?;
         agrees(&rt, auction.calls());
         let contract = auction.contract().ok_or("a contract")?;
-        assert_eq!(rt; Call::Bid(contract.bid), call(bid)?, "{calls:?}");
-        assert_eq!(rt; contract.doubling, doubling, "{calls:?}");
-        assert_eq!(rt; contract.declarer, declarer, "{calls:?}");
+        expect_eq(&rt, Call::Bid(contract.bid), call(bid)?, calls);
+        expect_eq(&rt, contract.doubling, doubling, calls);
+        expect_eq(&rt, contract.declarer, declarer, calls);
     }
     Ok(())
 }
@@ -132,10 +135,10 @@ fn no_contract_while_open_or_passed_out(rt: HostRuntime) -> Result<(), Fail> {
     ];
     for (calls, ended, turn) in rows {
         let auction = auction_of(Seat::West, calls)?;
-        assert_eq!(rt; auction.contract(), None, "{calls:?}");
-        assert_eq!(rt; auction.is_ended(), ended, "{calls:?}");
-        assert_eq!(rt; auction.turn(), turn, "{calls:?}");
-        assert_eq!(rt; auction.dealer(), Seat::West, "{calls:?}");
+        expect_eq(&rt, auction.contract(), None, calls);
+        expect_eq(&rt, auction.is_ended(), ended, calls);
+        expect_eq(&rt, auction.turn(), turn, calls);
+        expect_eq(&rt, auction.dealer(), Seat::West, calls);
     }
     Ok(())
 }
@@ -161,12 +164,7 @@ fn the_longest_auction_has_319_calls(rt: HostRuntime) -> Result<(), Fail> {
                 Call::Pass,
                 Call::Pass,
             ] {
-                assert_eq!(rt;
-                    auction.try_call(made),
-                    Ok(()),
-                    "after {} calls",
-                    auction.calls().len()
-                );
+                expect_eq(&rt, auction.try_call(made), Ok(()), auction.calls().len());
             }
         }
     }
@@ -186,6 +184,6 @@ fn the_longest_auction_has_319_calls(rt: HostRuntime) -> Result<(), Fail> {
 #[test]
 fn levels_are_1_to_7(rt: HostRuntime) {
     for (number, valid) in [(0, false), (1, true), (7, true), (8, false), (255, false)] {
-        assert_eq!(rt; Level::new(number).is_some(), valid, "level {number}");
+        expect_eq(&rt, Level::new(number).is_some(), valid, number);
     }
 }

@@ -1,4 +1,5 @@
 use super::twin;
+use crate::tests::expect_eq;
 use crate::{Auction, Bid, Call, Denomination, Level};
 use arrayvec::ArrayVec;
 use bridge_cards::Seat;
@@ -21,20 +22,18 @@ pub fn agrees(rt: &impl Abort, calls: &[Call]) {
     let mut auction = Auction::new(Seat::North);
     for call in calls {
         let legal = !twin::is_ended(auction.calls()) && twin::is_admissible(auction.calls(), *call);
-        assert_eq!(rt;
-            auction.try_call(*call).is_ok(),
-            legal,
-            "{call:?} in {calls:?}"
-        );
-        assert_eq!(rt;
+        expect_eq(rt, auction.try_call(*call).is_ok(), legal, (call, calls));
+        expect_eq(
+            rt,
             auction.is_ended(),
             twin::is_ended(auction.calls()),
-            "{call:?} in {calls:?}"
+            (call, calls),
         );
-        assert_eq!(rt;
+        expect_eq(
+            rt,
             auction.contract(),
             twin::contract(Seat::North, auction.calls()),
-            "{call:?} in {calls:?}"
+            (call, calls),
         );
     }
 }

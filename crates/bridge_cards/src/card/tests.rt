@@ -1,3 +1,4 @@
+use crate::tests::expect_eq;
 use crate::{Card, Rank, Suit, read_card};
 use std::test::Fail;
 
@@ -11,17 +12,18 @@ fn the_texts_of_cards_are_52_pairs(rt: HostRuntime) -> Result<(), Fail> {
         for rank in 0..13 {
             let text = [SUITS[suit], RANKS[rank]];
             let card = read_card(&text).ok_or("a suit and a rank")?;
-            assert_eq!(rt; usize::from(card.number()), 13 * suit + rank, "{text:?}");
+            expect_eq(&rt, usize::from(card.number()), 13 * suit + rank, text);
             assert_eq!(rt; card.text(), text);
-            assert_eq!(rt; Card::of(card.suit(), card.rank()), card, "{text:?}");
+            expect_eq(&rt, Card::of(card.suit(), card.rank()), card, text);
         }
     }
     for first in 0..=255 {
         for second in 0..=255 {
-            assert_eq!(rt;
+            expect_eq(
+                &rt,
                 read_card(&[first, second]).is_some(),
                 SUITS.contains(&first) && RANKS.contains(&second),
-                "{first} {second}"
+                (first, second),
             );
         }
     }
@@ -40,7 +42,7 @@ fn other_texts_are_no_cards(rt: HostRuntime) {
         b"S1",
         b" SA",
     ] {
-        assert_eq!(rt; read_card(text), None, "{text:?}");
+        expect_eq(&rt, read_card(text), None, text);
     }
 }
 

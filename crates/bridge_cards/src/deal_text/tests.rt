@@ -1,3 +1,4 @@
+use crate::tests::expect_eq;
 use crate::{BadDeal, Deal, Seat, print_deal, read_deal, read_hands};
 use arrayvec::ArrayString;
 use std::alloc::{AllocError, Global};
@@ -73,11 +74,11 @@ fn texts_are_read_where_they_are_in_form(rt: HostRuntime) -> Result<(), Fail> {
         for (place, old) in deal.iter().enumerate() {
             for new in 0..=255 {
                 let text = with_bytes(rt.alloc(), deal, place, &[new])?;
-                assert_eq!(rt; bits_read(&text), hands_of(&text), "{new} at {place}");
+                expect_eq(&rt, bits_read(&text), hands_of(&text), (new, place));
             }
             for bytes in [[].as_slice(), &[*old, *old]] {
                 let text = with_bytes(rt.alloc(), deal, place, bytes)?;
-                assert_eq!(rt; bits_read(&text), hands_of(&text), "{bytes:?} at {place}");
+                expect_eq(&rt, bits_read(&text), hands_of(&text), (bytes, place));
             }
         }
     }
@@ -94,10 +95,11 @@ fn deals_are_printed_and_read_again(rt: HostRuntime) -> Result<(), Fail> {
             print_deal(&deal, seat, &mut printed);
             assert_eq!(rt; printed.len(), 69);
             assert_eq!(rt; printed.as_str().as_bytes().first(), Some(&seat.letter()));
-            assert_eq!(rt;
+            expect_eq(
+                &rt,
                 read_deal(printed.as_str().as_bytes()),
                 Ok(deal),
-                "{printed}"
+                printed,
             );
             if seat == Seat::North {
                 assert_eq!(rt; printed.as_str().as_bytes(), text);
@@ -107,10 +109,11 @@ fn deals_are_printed_and_read_again(rt: HostRuntime) -> Result<(), Fail> {
     let deal = read_deal(DEALS[0]).map_err(|_| "a deal")?;
     assert_eq!(rt; deal.hand(Seat::North).bits(), 0x000f_ff80_0000_0000);
     let other = b"S:..48AKJ76T9Q532. ...AKQJT98765432 23456789TJQKA... .AKQJT98765432..";
-    assert_eq!(rt;
+    expect_eq(
+        &rt,
         read_deal(other),
         Ok(deal),
-        "ranks in another order, South first"
+        "ranks in another order, South first",
     );
     let hands = read_hands(DEALS[0]).ok_or("four hands")?;
     assert_eq!(rt; Deal::from_hands(hands), Ok(deal));
@@ -146,6 +149,6 @@ fn faults_of_texts_are_named(rt: HostRuntime) {
             BadDeal::Form,
         ),
     ] {
-        assert_eq!(rt; read_deal(text), Err(fault), "{text:?}");
+        expect_eq(&rt, read_deal(text), Err(fault), text);
     }
 }

@@ -1,3 +1,4 @@
+use crate::tests::expect_eq;
 use crate::{BoardNumber, Seat, deal_board};
 use std::test::Fail;
 
@@ -193,10 +194,11 @@ fn the_block_is_that_of_the_rfc(rt: HostRuntime) {
         0xe883_d0cb,
         0x4e3c_50a2,
     ];
-    assert_eq!(rt;
+    expect_eq(
+        &rt,
         block(first_state(&key, [1, 0x0900_0000, 0x4a00_0000, 0])),
         expected,
-        "RFC 8439, section 2.3.2"
+        "RFC 8439, section 2.3.2",
     );
 }
 
@@ -206,7 +208,7 @@ fn deals_are_those_of_the_shuffle_and_differ(rt: HostRuntime) -> Result<(), Fail
     for board in 1..=BoardNumber::MAX {
         let seed = seed_of(None);
         let hands = hands_dealt(&seed, board).ok_or("a board from 1 to 36")?;
-        assert_eq!(rt; Some(hands), expected_hands(&seed, board), "board {board}");
+        expect_eq(&rt, Some(hands), expected_hands(&seed, board), board);
         assert!(rt; !seen.contains(&hands), "board {board} is dealt as another");
         seen.push(hands)?;
     }
@@ -214,11 +216,7 @@ fn deals_are_those_of_the_shuffle_and_differ(rt: HostRuntime) -> Result<(), Fail
         let seed = seed_of(Some(bit));
         for board in [1, BoardNumber::MAX] {
             let hands = hands_dealt(&seed, board).ok_or("a board from 1 to 36")?;
-            assert_eq!(rt;
-                Some(hands),
-                expected_hands(&seed, board),
-                "bit {bit}, board {board}"
-            );
+            expect_eq(&rt, Some(hands), expected_hands(&seed, board), (bit, board));
             assert!(rt;
                 !seen.contains(&hands),
                 "bit {bit}, board {board} is dealt as another"

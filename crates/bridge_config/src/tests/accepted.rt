@@ -1,6 +1,7 @@
 //! Texts that are read, with what they state.
 use super::stated::{Refused, read, stated_by_rows};
 use super::texts::{MITCHELL, ROWS, with_lines};
+use crate::tests::expect_eq;
 use bridge_movement::{Row, Shape};
 use bridge_score::Scoring;
 use std::alloc::Global;
@@ -30,7 +31,7 @@ fn line_ends(rt: HostRuntime) -> Result<(), Fail> {
         ),
         ("no line feed after the last line", without_last.as_slice()),
     ] {
-        assert_eq!(rt; read(alloc, text), Ok(stated_by_rows(alloc)?), "{what}");
+        expect_eq(&rt, read(alloc, text), Ok(stated_by_rows(alloc)?), what);
     }
     Ok(())
 }
@@ -46,7 +47,7 @@ fn dates(rt: HostRuntime) -> Result<(), Fail> {
         let mut due = stated_by_rows(alloc)?;
         due.date = date.to_vec(alloc)?;
         let text = with_line(alloc, 3, line)?;
-        assert_eq!(rt; read(alloc, text.as_slice()), Ok(due), "{line}");
+        expect_eq(&rt, read(alloc, text.as_slice()), Ok(due), line);
     }
     Ok(())
 }
@@ -63,7 +64,7 @@ fn names(rt: HostRuntime) -> Result<(), Fail> {
         let mut due = stated_by_rows(alloc)?;
         due.event = name.as_bytes().to_vec(alloc)?;
         let text = with_line(alloc, 1, line)?;
-        assert_eq!(rt; read(alloc, text.as_slice()), Ok(due), "{line}");
+        expect_eq(&rt, read(alloc, text.as_slice()), Ok(due), line);
     }
     Ok(())
 }
@@ -96,7 +97,7 @@ fn other_fields(rt: HostRuntime) -> Result<(), Fail> {
         (13, "PAIR 4 Gus 41 Hal 0", least),
     ] {
         let text = with_line(alloc, number, line)?;
-        assert_eq!(rt; read(alloc, text.as_slice()), Ok(due), "{line}");
+        expect_eq(&rt, read(alloc, text.as_slice()), Ok(due), line);
     }
     Ok(())
 }

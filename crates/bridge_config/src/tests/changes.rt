@@ -2,6 +2,7 @@
 use super::stated::read;
 use super::texts::{MITCHELL, ROWS};
 use super::twin;
+use crate::tests::expect_eq;
 use std::alloc::{AllocError, Global};
 use std::process::Abort;
 use std::test::Fail;
@@ -12,8 +13,9 @@ const BYTES: [u8; 8] = [b' ', b'0', b'9', b'A', b'.', b'\n', b'\r', 200];
 /// The reader and the twin say the same of the text. Returns whether they accept it.
 fn agree(rt: &impl Abort, alloc: Global, text: &[u8], what: &str, place: usize) -> bool {
     let said = read(alloc, text);
-    assert_eq!(rt; said, twin::read(alloc, text), "{what} at {place}");
-    said.is_ok()
+    let accepted = said.is_ok();
+    expect_eq(rt, said, twin::read(alloc, text), (what, place));
+    accepted
 }
 
 /// The text of these lines.

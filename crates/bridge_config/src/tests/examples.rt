@@ -1,5 +1,6 @@
 //! The configuration of a club night of five tables, `examples/mitchell.txt`.
 use super::stated::rows_of;
+use crate::tests::expect_eq;
 use crate::{Key, read_config};
 use bridge_movement::{Row, Shape};
 use bridge_score::Scoring;
@@ -60,9 +61,9 @@ fn mitchell_of_five_tables(rt: HostRuntime) -> Result<(), Fail> {
         (9, ["I.McKay", "O.Jensen"], [57138, 12894]),
     ] {
         let pair = fields.pairs.get(place).copied().unwrap_or_default();
-        assert_eq!(rt; pair.names[0].as_str(), names[0], "pair {place}, from 0");
-        assert_eq!(rt; pair.names[1].as_str(), names[1], "pair {place}, from 0");
-        assert_eq!(rt; pair.keys, keys.map(Key), "pair {place}, from 0");
+        expect_eq(&rt, pair.names[0].as_str(), names[0], place);
+        expect_eq(&rt, pair.names[1].as_str(), names[1], place);
+        expect_eq(&rt, pair.keys, keys.map(Key), place);
     }
     Ok(())
 }

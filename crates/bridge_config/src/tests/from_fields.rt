@@ -1,6 +1,7 @@
 //! Fields within the limits and outside them.
 use super::stated::{rows_of, stated_by, stated_by_rows};
 use super::texts::ROWS;
+use crate::tests::expect_eq;
 use crate::{Config, ConfigFields, Key, PairFields, read_config};
 use arrayvec::{ArrayString, ArrayVec};
 use bridge_movement::Movement;
@@ -105,7 +106,7 @@ fn boards(rt: HostRuntime) -> Result<(), Fail> {
         let mut fields = fields(rt.alloc())?;
         fields.boards = boards;
         let taken = Config::from_fields(fields).is_some();
-        assert_eq!(rt; taken, within, "{boards} boards");
+        expect_eq(&rt, taken, within, boards);
     }
     Ok(())
 }
@@ -136,7 +137,7 @@ fn keys(rt: HostRuntime) -> Result<(), Fail> {
             pair.keys = keys.map(Key);
         }
         let taken = Config::from_fields(fields).is_some();
-        assert_eq!(rt; taken, within, "{keys:?} at {place}");
+        expect_eq(&rt, taken, within, (keys, place));
     }
     Ok(())
 }

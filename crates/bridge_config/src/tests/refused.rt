@@ -1,6 +1,7 @@
 //! Texts with a line that is refused, and the first fault of them.
 use super::stated::{Refused, read};
 use super::texts::{ROWS, with_lines};
+use crate::tests::expect_eq;
 use crate::{ConfigFault, ConfigRefused};
 use bridge_movement::MovementRefused;
 use std::alloc::Global;
@@ -17,7 +18,7 @@ pub fn is_refused(
     what: &str,
 ) {
     let due = Refused::Fault(ConfigFault { line, cause });
-    assert_eq!(rt; read(alloc, text).err(), Some(due), "{what}");
+    expect_eq(rt, read(alloc, text).err(), Some(due), what);
 }
 
 /// The reader refuses the text of two tables with any one of these lines in place of its own, at that line.

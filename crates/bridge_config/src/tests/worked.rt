@@ -1,6 +1,7 @@
 //! The text of two tables, `examples/rows.txt`, and worked changes of it, each with its answer.
 use super::stated::{Refused, Stated, read, stated_by_rows};
 use super::texts::{ROWS, first_lines, with_lines};
+use crate::tests::expect_eq;
 use crate::{ConfigFault, ConfigRefused};
 use bridge_movement::MovementRefused;
 use std::alloc::Global;
@@ -62,7 +63,7 @@ fn worked_changes(rt: HostRuntime) -> Result<(), Fail> {
             fault(0, ConfigRefused::TooLong),
         ),
     ] {
-        assert_eq!(rt; read(alloc, text.as_slice()), answer, "{change}");
+        expect_eq(&rt, read(alloc, text.as_slice()), answer, change);
     }
     Ok(())
 }

@@ -2,6 +2,7 @@ use super::deals::{
     CARDS_IN_A_ROW, DIAMOND_VOID, LONG_DIAMONDS, LONG_SPADES, ONE_SUIT_EACH, contract_of, deal_of,
 };
 use super::twin;
+use crate::tests::expect_eq;
 use crate::{CardRefused, Play};
 use arrayvec::ArrayVec;
 use bridge_auction::{Contract, Denomination};
@@ -53,24 +54,16 @@ impl Board {
         let cards = self.cards.as_slice();
         let play = &self.play;
         assert_eq!(rt; play.cards(), cards);
-        assert_eq!(rt; play.turn(), twin::turn(&self.contract, cards), "{cards:?}");
-        assert_eq!(rt;
-            play.actor(),
-            twin::actor(&self.contract, cards),
-            "{cards:?}"
-        );
-        assert_eq!(rt; play.is_over(), cards.len() == 52, "{cards:?}");
+        expect_eq(rt, play.turn(), twin::turn(&self.contract, cards), cards);
+        expect_eq(rt, play.actor(), twin::actor(&self.contract, cards), cards);
+        expect_eq(rt, play.is_over(), cards.len() == 52, cards);
         for side in [Side::NorthSouth, Side::EastWest] {
             let won = twin::tricks_won(&self.contract, cards, side, cards.len() / 4);
-            assert_eq!(rt;
-                usize::from(play.tricks(side)),
-                won,
-                "{side:?} in {cards:?}"
-            );
+            expect_eq(rt, usize::from(play.tricks(side)), won, (side, cards));
         }
         for seat in Seat::ALL {
             let left = twin::remaining(&self.deal, cards, seat);
-            assert_eq!(rt; play.remaining(seat), left, "{seat:?} in {cards:?}");
+            expect_eq(rt, play.remaining(seat), left, (seat, cards));
         }
     }
 
@@ -93,12 +86,12 @@ impl Board {
         let mut second = Play::new(&self.deal, self.contract);
         for earlier in self.cards.as_slice() {
             let answer = second.try_card(second.actor(), *earlier);
-            assert_eq!(rt; answer, Ok(()), "{earlier:?}");
+            expect_eq(rt, answer, Ok(()), earlier);
         }
-        assert_eq!(rt; second.try_card(actor, card), Ok(()), "{card:?}");
+        expect_eq(rt, second.try_card(actor, card), Ok(()), card);
         for places in 1..4 {
             let answer = self.play.try_card(actor.clockwise(places), card);
-            assert_eq!(rt; answer, Err(CardRefused::NotYourTurn), "{card:?}");
+            expect_eq(rt, answer, Err(CardRefused::NotYourTurn), card);
         }
     }
 
@@ -117,9 +110,9 @@ impl Board {
                 self.takes(rt, actor, card);
                 let _ = legal.try_push(card);
             } else {
-                assert_eq!(rt; self.play.try_card(actor, card), answer, "{card:?}");
+                expect_eq(rt, self.play.try_card(actor, card), answer, card);
             }
-            assert_eq!(rt; self.play.cards().len(), self.cards.len(), "{card:?}");
+            expect_eq(rt, self.play.cards().len(), self.cards.len(), card);
         }
         legal
     }
@@ -131,7 +124,7 @@ impl Board {
         assert_ne!(rt; legal.len(), 0, "a card may be played");
         let card = legal.as_slice()[next(state) as usize % legal.len()];
         let actor = self.play.actor();
-        assert_eq!(rt; self.play.try_card(actor, card), Ok(()), "{card:?}");
+        expect_eq(rt, self.play.try_card(actor, card), Ok(()), card);
         let _ = self.cards.try_push(card);
         card
     }
@@ -159,17 +152,17 @@ impl Board {
         for _ in 0..13 {
             let winner = self.play_a_trick(rt, state);
             let play = &self.play;
-            assert_eq!(rt; play.turn(), winner, "{:?}", play.cards());
+            expect_eq(rt, play.turn(), winner, play.cards());
             let side = match winner.side() {
                 Side::NorthSouth => 0,
                 Side::EastWest => 1,
             };
             won[side] = won[side].wrapping_add(1);
             let tricks = [play.tricks(Side::NorthSouth), play.tricks(Side::EastWest)];
-            assert_eq!(rt; tricks, won, "{:?}", play.cards());
+            expect_eq(rt, tricks, won, play.cards());
         }
         self.state_agrees(rt);
-        assert_eq!(rt; self.legal_cards(rt).len(), 0, "no card after the last");
+        expect_eq(rt, self.legal_cards(rt).len(), 0, "no card after the last");
     }
 }
 

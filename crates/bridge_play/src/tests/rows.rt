@@ -1,4 +1,5 @@
 use super::deals::{CARDS_IN_A_ROW, ONE_SUIT_EACH, contract_of, deal_of};
+use crate::tests::expect_eq;
 use crate::{CardRefused, ClaimRefused, ConsentRefused, Play};
 use bridge_auction::Denomination;
 use bridge_cards::{Card, Seat, Side, read_card};
@@ -30,13 +31,13 @@ fn cards_are_taken_or_refused_by_name(rt: HostRuntime) -> Result<(), Fail> {
     ] {
         let card = read_card(text.as_bytes()).ok_or("a card")?;
         let before = play.cards().len();
-        assert_eq!(rt; play.try_card(seat, card), answer, "{text}");
+        expect_eq(&rt, play.try_card(seat, card), answer, text);
         let kept = if answer.is_ok() {
             before.wrapping_add(1)
         } else {
             before
         };
-        assert_eq!(rt; play.cards().len(), kept, "{text}");
+        expect_eq(&rt, play.cards().len(), kept, text);
     }
     assert_eq!(rt; play.turn(), Seat::West);
     assert_eq!(rt; play.claims(), 0);
@@ -47,10 +48,11 @@ fn cards_are_taken_or_refused_by_name(rt: HostRuntime) -> Result<(), Fail> {
 #[test]
 fn all_tricks_are_played(rt: HostRuntime) -> Result<(), Fail> {
     let mut play = spades_by_north(ONE_SUIT_EACH, 7)?;
-    assert_eq!(rt;
+    expect_eq(
+        &rt,
         play.turn(),
         Seat::East,
-        "declarer's left-hand opponent leads"
+        "declarer's left-hand opponent leads",
     );
     for rank in [
         "A", "K", "Q", "J", "T", "9", "8", "7", "6", "5", "4", "3", "2",
@@ -66,9 +68,9 @@ fn all_tricks_are_played(rt: HostRuntime) -> Result<(), Fail> {
             };
             let text = [suit.as_bytes()[0], rank.as_bytes()[0]];
             let card = read_card(text.as_slice()).ok_or("a card")?;
-            assert_eq!(rt; play.try_card(play.actor(), card), Ok(()), "{suit}{rank}");
+            expect_eq(&rt, play.try_card(play.actor(), card), Ok(()), (suit, rank));
         }
-        assert_eq!(rt; play.turn(), Seat::North, "North's trump wins");
+        expect_eq(&rt, play.turn(), Seat::North, "North's trump wins");
     }
     assert!(rt; play.is_over());
     assert_eq!(rt; tricks(&play), (13, 0));
@@ -82,7 +84,7 @@ fn all_tricks_are_played(rt: HostRuntime) -> Result<(), Fail> {
 fn take(rt: &impl Abort, play: &mut Play, texts: &[&str]) -> Result<(), Fail> {
     for text in texts {
         let card = read_card(text.as_bytes()).ok_or("a card")?;
-        assert_eq!(rt; play.try_card(play.actor(), card), Ok(()), "{text}");
+        expect_eq(rt, play.try_card(play.actor(), card), Ok(()), text);
     }
     Ok(())
 }
@@ -102,7 +104,7 @@ fn a_refused_claim_is_dropped(rt: HostRuntime) -> Result<(), Fail> {
         (Seat::East, 12, Ok(())),
         (Seat::East, 12, Err(ClaimRefused::ClaimStands)),
     ] {
-        assert_eq!(rt; play.try_claim(seat, tricks), answer, "{seat:?} {tricks}");
+        expect_eq(&rt, play.try_claim(seat, tricks), answer, (seat, tricks));
     }
     assert_eq!(rt; play.agree(Seat::West, 1), Err(ConsentRefused::NotAsked));
     let king = read_card(b"HK").ok_or("a card")?;
@@ -147,10 +149,11 @@ fn a_defenders_claim_asks_declarer_alone(rt: HostRuntime) -> Result<(), Fail> {
     take(&rt, &mut play, &["H7", "H2", "HA", "H8"])?;
     assert_eq!(rt; play.try_claim(Seat::East, 12), Ok(()));
     for seat in [Seat::East, Seat::South, Seat::West] {
-        assert_eq!(rt;
+        expect_eq(
+            &rt,
             play.agree(seat, 1),
             Err(ConsentRefused::NotAsked),
-            "{seat:?}"
+            seat,
         );
     }
     assert_eq!(rt; play.agree(Seat::North, 1), Ok(()));
@@ -165,8 +168,8 @@ fn claims_are_spent_after_99(rt: HostRuntime) -> Result<(), Fail> {
     assert_eq!(rt; play.agree(Seat::East, 0), Err(ConsentRefused::NoClaim));
     assert_eq!(rt; play.agree(Seat::East, 1), Err(ConsentRefused::Stale));
     for number in 1..=99 {
-        assert_eq!(rt; play.try_claim(Seat::North, 13), Ok(()), "claim {number}");
-        assert_eq!(rt; play.refuse(Seat::East, number), Ok(()), "claim {number}");
+        expect_eq(&rt, play.try_claim(Seat::North, 13), Ok(()), number);
+        expect_eq(&rt, play.refuse(Seat::East, number), Ok(()), number);
     }
     assert_eq!(rt; play.claims(), 99);
     assert_eq!(rt;

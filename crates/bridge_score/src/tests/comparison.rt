@@ -1,3 +1,4 @@
+use crate::tests::expect_eq;
 use crate::{
     cross_imps, cross_imps_shared, imps, matchpoints, matchpoints_shared, percent_hundredths,
 };
@@ -17,7 +18,7 @@ fn imps_begin_where_the_scale_says(rt: HostRuntime) {
             (*beginning, before + 1),
             (*beginning + 1, before + 1),
         ] {
-            assert_eq!(rt; imps(difference), expected, "{difference} points");
+            expect_eq(&rt, imps(difference), expected, difference);
         }
     }
     for (difference, expected) in [
@@ -28,7 +29,7 @@ fn imps_begin_where_the_scale_says(rt: HostRuntime) {
         (15_200, 24),
         (u32::MAX, 24),
     ] {
-        assert_eq!(rt; imps(difference), expected, "{difference} points");
+        expect_eq(&rt, imps(difference), expected, difference);
     }
 }
 
@@ -40,8 +41,8 @@ fn a_board_of_four_scores(rt: HostRuntime) {
         .enumerate()
     {
         if i < scores.len() {
-            assert_eq!(rt; matchpoints(&scores, i), matchpoints_due, "score {i}");
-            assert_eq!(rt; cross_imps(&scores, i), imps_due, "score {i}");
+            expect_eq(&rt, matchpoints(&scores, i), matchpoints_due, i);
+            expect_eq(&rt, cross_imps(&scores, i), imps_due, i);
         }
     }
     assert_eq!(rt; matchpoints(&[7600], 0), 0);
@@ -51,7 +52,7 @@ fn a_board_of_four_scores(rt: HostRuntime) {
 #[test]
 fn boards_share_out(rt: HostRuntime) {
     for (count, shared) in [(0, 0), (1, 0), (2, 2), (4, 12), (144, 20_592)] {
-        assert_eq!(rt; matchpoints_shared(count), shared, "{count} scores");
+        expect_eq(&rt, matchpoints_shared(count), shared, count);
     }
     assert_eq!(rt; cross_imps_shared(), 0);
 }
@@ -68,10 +69,11 @@ fn percentages_are_rounded(rt: HostRuntime) {
         (10_000_000, 10_000_000, Some(10_000)),
         (9_999_999, 10_000_000, Some(10_000)),
     ] {
-        assert_eq!(rt;
+        expect_eq(
+            &rt,
             percent_hundredths(earned, available),
             expected,
-            "{earned} of {available}"
+            (earned, available),
         );
     }
 }

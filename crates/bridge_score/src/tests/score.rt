@@ -1,5 +1,6 @@
 use super::twin;
 use crate::score;
+use crate::tests::expect_eq;
 use bridge_auction::{Bid, Contract, Denomination, Doubling, Level};
 use bridge_cards::Seat;
 use std::process::Abort;
@@ -33,10 +34,11 @@ fn scores_of_the_printed_table(rt: HostRuntime) -> Result<(), Fail> {
         (1, Spades, Undoubled, false, 11, 200),
     ] {
         let contract = contract(level, denomination, doubling)?;
-        assert_eq!(rt;
+        expect_eq(
+            &rt,
             score(&contract, vulnerable, tricks),
             points,
-            "{contract:?} with {tricks} tricks"
+            (contract, tricks),
         );
     }
     Ok(())
@@ -52,10 +54,11 @@ fn scores_agree(
     let contract = contract(level, denomination, doubling)?;
     for vulnerable in [false, true] {
         for tricks in 0..14 {
-            assert_eq!(rt;
+            expect_eq(
+                rt,
                 score(&contract, vulnerable, tricks),
                 twin::score(level, denomination, doubling, vulnerable, tricks),
-                "{contract:?}, vulnerable {vulnerable}, with {tricks} tricks"
+                (contract, vulnerable, tricks),
             );
         }
     }

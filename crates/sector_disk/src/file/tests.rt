@@ -3,6 +3,7 @@
 mod calls;
 
 use super::*;
+use crate::tests::expect_eq;
 use std::fs;
 use std::test::Fail;
 
@@ -30,10 +31,11 @@ fn ends_of<D: SectorDisk>(disk: &mut D, i: u32) -> Result<(u8, u8), DiskFault> {
 fn a_file_keeps_sectors(rt: HostRuntime) -> Result<(), Fail> {
     let name = "sector_disk_test.disk";
     let _ = fs::remove_file(&rt, name);
-    assert_eq!(rt;
+    expect_eq(
+        &rt,
         FileDisk::open(&rt, name).err(),
         Some(DiskFault::Read),
-        "a missing file"
+        "a missing file",
     );
     let mut disk = FileDisk::create(&rt, name)?;
     assert_eq!(rt; disk.count(), 2048);
@@ -46,13 +48,18 @@ fn a_file_keeps_sectors(rt: HostRuntime) -> Result<(), Fail> {
         (2046, (0, 0)),
         (2047, (5, 6)),
     ] {
-        assert_eq!(rt; ends_of(&mut disk, i)?, want, "sector {i} as written");
+        expect_eq(&rt, ends_of(&mut disk, i)?, want, i);
     }
     drop(disk);
 
     let mut disk = FileDisk::open(&rt, name)?;
     assert_eq!(rt; disk.count(), 2048);
-    assert_eq!(rt; put(&mut disk, 2, 8, 9), Ok(()), "a write after opening");
+    expect_eq(
+        &rt,
+        put(&mut disk, 2, 8, 9),
+        Ok(()),
+        "a write after opening",
+    );
     drop(disk);
 
     let mut disk = FileDisk::open(&rt, name)?;
@@ -63,7 +70,7 @@ fn a_file_keeps_sectors(rt: HostRuntime) -> Result<(), Fail> {
         (2046, (0, 0)),
         (2047, (5, 6)),
     ] {
-        assert_eq!(rt; ends_of(&mut disk, i)?, want, "sector {i} opened again");
+        expect_eq(&rt, ends_of(&mut disk, i)?, want, i);
     }
     drop(disk);
     fs::remove_file(&rt, name)?;
@@ -88,7 +95,7 @@ fn a_sector_stands_at_its_place_in_the_file(rt: HostRuntime) -> Result<(), Fail>
             513..=1022 | 1_048_065..=1_048_574 => 7,
             _ => 0,
         };
-        assert_eq!(rt; *byte, want, "byte {place}");
+        expect_eq(&rt, *byte, want, place);
     }
     fs::remove_file(&rt, name)?;
     Ok(())
@@ -122,7 +129,7 @@ fn a_part_of_a_sector_does_not_count(rt: HostRuntime) -> Result<(), Fail> {
         file.set_len(bytes)?;
         drop(file);
         let disk = FileDisk::open(&rt, name)?;
-        assert_eq!(rt; disk.count(), want, "{bytes} bytes");
+        expect_eq(&rt, disk.count(), want, bytes);
     }
     fs::remove_file(&rt, name)?;
     assert_eq!(rt;

@@ -3,6 +3,7 @@ ghost use Rattle.std.specs.Prelude.{◌≡◌, ◌<◌};
 
 use super::*;
 use crate::MemoryDisk;
+use crate::tests::expect_eq;
 use std::test::Fail as Failure;
 
 fn put<D: SectorDisk>(disk: &mut D, value: u8) -> Result<(), DiskFault>
@@ -31,7 +32,7 @@ fn a_failed_write_did_it_or_nothing(rt: HostRuntime) -> Result<(), Failure> {
         disk.crash(&[pick]);
         let mut bytes = [0; 512];
         disk.read(0, &mut bytes)?;
-        assert_eq!(rt; bytes[511], want, "effect {effect}, pick {pick}");
+        expect_eq(&rt, bytes[511], want, (effect, pick));
     }
     Ok(())
 }
@@ -47,7 +48,7 @@ fn a_failed_sync_did_it_or_nothing(rt: HostRuntime) -> Result<(), Failure> {
         disk.crash(&[pick]);
         let mut bytes = [0; 512];
         disk.read(0, &mut bytes)?;
-        assert_eq!(rt; bytes[0], want, "effect {effect}, pick {pick}");
+        expect_eq(&rt, bytes[0], want, (effect, pick));
     }
     Ok(())
 }
@@ -77,8 +78,8 @@ fn a_fuse_fails_the_chosen_calls(rt: HostRuntime) -> Result<(), Failure> {
             third == Err(DiskFault::Sync),
             fourth == Err(DiskFault::Write),
         ];
-        assert_eq!(rt; failed, want, "{fail:?} after {passes}");
-        assert_eq!(rt; fuse.faults, faults, "{fail:?} after {passes}");
+        expect_eq(&rt, failed, want, (fail, passes));
+        expect_eq(&rt, fuse.faults, faults, (fail, passes));
         assert_eq!(rt; fuse.count(), 1);
     }
     Ok(())

@@ -2,6 +2,7 @@
 ghost use Rattle.std.specs.Prelude.{◌≡◌, ◌<◌};
 
 use super::*;
+use crate::tests::expect_eq;
 use std::test::Fail;
 
 fn put<D: SectorDisk>(disk: &mut D, i: u32, value: u8) -> Result<(), DiskFault>
@@ -40,24 +41,17 @@ fn a_power_cut_takes_any_value_of_each_sector(rt: HostRuntime) -> Result<(), Fai
         put(&mut disk, 0, 1)?;
         put(&mut disk, 0, 2)?;
         put(&mut disk, 1, 3)?;
-        assert_eq!(rt;
+        expect_eq(
+            &rt,
             first_byte(&mut disk, 0)?,
             2,
-            "a read gives the last written"
+            "a read gives the last written",
         );
         // A second power cut finds one value of each.
         for again in [picks, &[1, 1]] {
             disk.crash(again);
-            assert_eq!(rt;
-                first_byte(&mut disk, 0)?,
-                first,
-                "sector 0, picks {picks:?}"
-            );
-            assert_eq!(rt;
-                first_byte(&mut disk, 1)?,
-                second,
-                "sector 1, picks {picks:?}"
-            );
+            expect_eq(&rt, first_byte(&mut disk, 0)?, first, picks);
+            expect_eq(&rt, first_byte(&mut disk, 1)?, second, picks);
         }
     }
     Ok(())
@@ -86,7 +80,7 @@ fn a_sync_leaves_one_value(rt: HostRuntime) -> Result<(), Fail> {
             put(&mut disk, 0, 2)?;
         }
         disk.crash(&[pick]);
-        assert_eq!(rt; first_byte(&mut disk, 0)?, want, "{sync} {write} {pick}");
+        expect_eq(&rt, first_byte(&mut disk, 0)?, want, (sync, write, pick));
     }
     Ok(())
 }

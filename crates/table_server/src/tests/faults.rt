@@ -1,4 +1,5 @@
 use super::streams::{Pieces, Room};
+use crate::tests::expect_eq;
 use crate::{ServeFault, run_auction};
 use bridge_cards::BoardNumber;
 use std::test::Fail;
@@ -18,16 +19,13 @@ fn a_read_fault_ends_with_the_replies_so_far(rt: HostRuntime) -> Result<(), Fail
                 fails: true,
             };
             let mut written = Vec::new(rt.alloc());
-            assert_eq!(rt;
+            expect_eq(
+                &rt,
                 run_auction(board, &mut reader, &mut written),
                 Err(ServeFault::Read),
-                "{input:?}"
+                input,
             );
-            assert_eq!(rt;
-                written.as_slice(),
-                output.as_bytes(),
-                "{input:?} by {step}"
-            );
+            expect_eq(&rt, written.as_slice(), output.as_bytes(), (input, step));
         }
     }
     Ok(())
@@ -56,12 +54,8 @@ fn a_write_fault_leaves_a_front_of_the_text(rt: HostRuntime) -> Result<(), Fail>
             } else {
                 Ok(())
             };
-            assert_eq!(rt; fault, expected, "room for {room} bytes");
-            assert_eq!(rt;
-                writer.bytes.as_slice(),
-                &whole[..room],
-                "room for {room} bytes"
-            );
+            expect_eq(&rt, fault, expected, room);
+            expect_eq(&rt, writer.bytes.as_slice(), &whole[..room], room);
         }
     }
     Ok(())

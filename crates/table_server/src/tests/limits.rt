@@ -1,3 +1,4 @@
+use crate::tests::expect_eq;
 use crate::{MOST_BYTES, run_auction};
 use bridge_cards::BoardNumber;
 use std::alloc::{AllocError, Global};
@@ -61,10 +62,11 @@ fn long_lines(rt: HostRuntime) -> Result<(), Fail> {
     ] {
         let mut input = repeated(rt.alloc(), b"A", length)?;
         input.extend_from_slice(end.as_bytes())?;
-        assert_eq!(rt;
+        expect_eq(
+            &rt,
             output(rt.alloc(), input.as_slice())?.as_slice(),
             reply.as_bytes(),
-            "{length} bytes"
+            length,
         );
     }
     Ok(())
@@ -81,10 +83,11 @@ fn the_limit_of_bytes(rt: HostRuntime) -> Result<(), Fail> {
         let mut expected = repeated(rt.alloc(), b"ERR 30 BadLine\n", bytes.min(MOST_BYTES))?;
         expected.extend_from_slice(notice.as_bytes())?;
         expected.extend_from_slice(b"UNFINISHED\n")?;
-        assert_eq!(rt;
+        expect_eq(
+            &rt,
             output(rt.alloc(), input.as_slice())?.as_slice(),
             expected.as_slice(),
-            "{bytes} bytes"
+            bytes,
         );
     }
     // A line that the limit cuts is not answered.

@@ -1,4 +1,5 @@
 //! Streams that fail once and would then go on: the run ends at the first fault, also one that calls for a further try.
+use crate::tests::expect_eq;
 use crate::{ServeFault, run_auction};
 use bridge_cards::BoardNumber;
 use std::io::{Error, ErrorKind, Read, Result, Write};
@@ -117,16 +118,13 @@ fn no_byte_is_written_after_a_write_fault(rt: HostRuntime) -> std::result::Resul
                 fails,
                 refused: false,
             };
-            assert_eq!(rt;
+            expect_eq(
+                &rt,
                 run_auction(board, &mut reader, &mut writer),
                 Err(ServeFault::Write),
-                "room for {room} bytes"
+                room,
             );
-            assert_eq!(rt;
-                writer.bytes.as_slice(),
-                &whole[..room],
-                "room for {room} bytes"
-            );
+            expect_eq(&rt, writer.bytes.as_slice(), &whole[..room], room);
         }
     }
     Ok(())
@@ -145,16 +143,13 @@ fn bytes_that_are_not_passed_on_are_a_write_fault(
             room,
             failed: false,
         };
-        assert_eq!(rt;
+        expect_eq(
+            &rt,
             run_auction(board, &mut reader, &mut writer),
             Err(ServeFault::Write),
-            "{room} bytes passed on"
+            room,
         );
-        assert_eq!(rt;
-            writer.bytes.as_slice(),
-            written.as_bytes(),
-            "{room} bytes passed on"
-        );
+        expect_eq(&rt, writer.bytes.as_slice(), written.as_bytes(), room);
     }
     Ok(())
 }

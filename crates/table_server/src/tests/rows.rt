@@ -1,5 +1,6 @@
 use super::streams::Pieces;
 use crate::run_auction;
+use crate::tests::expect_eq;
 use bridge_cards::BoardNumber;
 use std::test::Fail;
 
@@ -80,16 +81,13 @@ fn each_row_in_pieces_of_any_length(rt: HostRuntime) -> Result<(), Fail> {
                 fails: false,
             };
             let mut written = Vec::new(rt.alloc());
-            assert_eq!(rt;
+            expect_eq(
+                &rt,
                 run_auction(board, &mut reader, &mut written),
                 Ok(()),
-                "{input:?} by {step}"
+                (input, step),
             );
-            assert_eq!(rt;
-                written.as_slice(),
-                output.as_bytes(),
-                "{input:?} by {step}"
-            );
+            expect_eq(&rt, written.as_slice(), output.as_bytes(), (input, step));
         }
     }
     Ok(())

@@ -1,6 +1,7 @@
 //! Which calls reach the file, and what a refused one leads to.
 
 use super::*;
+use crate::tests::expect_eq;
 use std::cell::RefCell;
 use std::fs::Metadata;
 use std::io;
@@ -131,18 +132,18 @@ fn each_call_reaches_the_file_once(rt: HostRuntime) -> Result<(), Fail> {
         let first = put(&mut disk, 5, 1, 2);
         let second = match ends_of(&mut disk, 2047) {
             Ok(ends) => {
-                assert_eq!(rt; ends, (5, 5), "what the file gives");
+                expect_eq(&rt, ends, (5, 5), "what the file gives");
                 Ok(())
             }
             Err(fault) => Err(fault),
         };
         let third = put(&mut disk, 0, 3, 4);
-        assert_eq!(rt; [first, second, third], want, "call {refused} refused");
+        expect_eq(&rt, [first, second, third], want, refused);
         let faults = if refused < 5 { 1 } else { 0 };
-        assert_eq!(rt; disk.faults, faults, "call {refused} refused");
+        expect_eq(&rt, disk.faults, faults, refused);
         drop(disk);
         let calls = calls.into_inner();
-        assert_eq!(rt; calls.as_slice(), want_calls, "call {refused} refused");
+        expect_eq(&rt, calls.as_slice(), want_calls, refused);
     }
     Ok(())
 }
@@ -164,11 +165,11 @@ fn a_file_that_is_made_gets_1048576_zeros_and_a_sync(rt: HostRuntime) -> Result<
                 length,
                 zeros,
             } => {
-                assert_eq!(rt; (offset, zeros), (end, length), "call {i}");
+                expect_eq(&rt, (offset, zeros), (end, length), i);
                 end = end.wrapping_add(length as u64);
             }
             Call::SyncAll => {
-                assert_eq!(rt; end, 1_048_576, "synced after the last write");
+                expect_eq(&rt, end, 1_048_576, "synced after the last write");
                 syncs = syncs.wrapping_add(1);
             }
             other => panic!(rt; "call {i}: {other:?}"),
@@ -181,11 +182,7 @@ fn a_file_that_is_made_gets_1048576_zeros_and_a_sync(rt: HostRuntime) -> Result<
     for refused in [0, last / 2, last.saturating_sub(1), last] {
         let calls = RefCell::new(Vec::new(rt.alloc()));
         let made = FileDisk::filled(Noted::new(&calls, refused));
-        assert_eq!(rt;
-            made.err(),
-            Some(DiskFault::Write),
-            "call {refused} refused"
-        );
+        expect_eq(&rt, made.err(), Some(DiskFault::Write), refused);
         assert_eq!(rt; calls.into_inner().len(), refused.wrapping_add(1));
     }
     Ok(())
@@ -196,7 +193,7 @@ fn an_opened_file_is_asked_for_its_length(rt: HostRuntime) -> Result<(), Fail> {
     for (refused, fault) in [(0, Some(DiskFault::Read)), (1, None)] {
         let calls = RefCell::new(Vec::new(rt.alloc()));
         let opened = FileDisk::found(Noted::new(&calls, refused));
-        assert_eq!(rt; opened.err(), fault, "call {refused} refused");
+        expect_eq(&rt, opened.err(), fault, refused);
         let calls = calls.into_inner();
         assert_eq!(rt; calls.as_slice(), [Call::Metadata].as_slice());
     }
@@ -214,6 +211,6 @@ fn whole_sectors_are_counted_up_to_a_limit(rt: HostRuntime) {
     ] {
         let calls = RefCell::new(Vec::new(rt.alloc()));
         let disk = FileDisk::of_length(Noted::new(&calls, 0), bytes);
-        assert_eq!(rt; disk.count(), want, "{bytes} bytes");
+        expect_eq(&rt, disk.count(), want, bytes);
     }
 }
