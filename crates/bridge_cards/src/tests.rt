@@ -102,6 +102,11 @@ fn seats_go_clockwise(rt: HostRuntime) {
         expect_eq(&rt, there, seat, places);
         expect_eq(&rt, there.letter(), letter, places);
     }
-    assert_eq!(rt; Seat::East.side(), Side::EastWest);
-    assert_eq!(rt; Seat::South.side().other(), Side::EastWest);
+    expect_eq(&rt, Seat::East.side(), Side::EastWest, "the side of East");
+    expect_eq(
+        &rt,
+        Seat::South.side().other(),
+        Side::EastWest,
+        "the side that is not South's",
+    );
 }

@@ -155,10 +155,15 @@ fn a_read_fault_is_named_and_ends_the_run(rt: HostRuntime) {
         &mut output,
         &mut errors,
     );
-    assert_eq!(rt; status, 3);
-    assert_eq!(rt; errors.as_slice(), b"cannot read input\n".as_slice());
-    assert_eq!(rt; output.as_slice(), b"OK\n".as_slice());
-    assert_eq!(rt; input.second, b"1D\n".as_slice());
+    expect_eq(&rt, status, 3, "status");
+    expect_eq(
+        &rt,
+        errors.as_slice(),
+        b"cannot read input\n".as_slice(),
+        "errors",
+    );
+    expect_eq(&rt, output.as_slice(), b"OK\n".as_slice(), "output");
+    expect_eq(&rt, input.second, b"1D\n".as_slice(), "not read");
 }
 
 #[test]
@@ -175,9 +180,14 @@ fn a_write_fault_is_named_and_ends_the_run(rt: HostRuntime) {
         &mut output,
         &mut errors,
     );
-    assert_eq!(rt; status, 3);
-    assert_eq!(rt; errors.as_slice(), b"cannot write output\n".as_slice());
-    assert_eq!(rt; output.taken, 0);
+    expect_eq(&rt, status, 3, "status");
+    expect_eq(
+        &rt,
+        errors.as_slice(),
+        b"cannot write output\n".as_slice(),
+        "errors",
+    );
+    expect_eq(&rt, output.taken, 0, "bytes taken");
 
     // The status is the same where standard error fails too.
     let mut errors = failing_once();
@@ -189,8 +199,8 @@ fn a_write_fault_is_named_and_ends_the_run(rt: HostRuntime) {
         &mut failing_once(),
         &mut errors,
     );
-    assert_eq!(rt; status, 3);
-    assert_eq!(rt; errors.taken, 0);
+    expect_eq(&rt, status, 3, "status");
+    expect_eq(&rt, errors.taken, 0, "bytes taken");
 }
 
 #[test]
@@ -208,8 +218,13 @@ fn words_that_cannot_be_had_are_named(rt: HostRuntime) {
         expect_eq(&rt, errors.as_slice(), line.as_bytes(), line);
     }
     let mut errors = Vec::new(rt.alloc());
-    assert_eq!(rt; refuse(WordsFault::Memory, &mut errors), 3);
-    assert_eq!(rt; errors.as_slice(), b"no memory\n".as_slice());
+    expect_eq(
+        &rt,
+        refuse(WordsFault::Memory, &mut errors),
+        3,
+        "status of no memory",
+    );
+    expect_eq(&rt, errors.as_slice(), b"no memory\n".as_slice(), "errors");
 }
 
 /// `rt try --test --fail-alloc N` refuses the Nth allocation: where `run_words` meets that, it is named, and nothing is
@@ -233,12 +248,17 @@ fn a_run_whose_memory_may_be_refused(rt: HostRuntime) {
         &mut errors,
     );
     if status == 3 {
-        assert_eq!(rt; errors.as_slice(), b"no memory\n".as_slice());
+        expect_eq(&rt, errors.as_slice(), b"no memory\n".as_slice(), "errors");
         assert!(rt; output.is_empty());
-        assert_eq!(rt; input, b"1C\n".as_slice());
+        expect_eq(&rt, input, b"1C\n".as_slice(), "input");
     } else {
-        assert_eq!(rt; status, 0);
-        assert_eq!(rt; output.as_slice(), b"OK\nUNFINISHED\n".as_slice());
+        expect_eq(&rt, status, 0, "status");
+        expect_eq(
+            &rt,
+            output.as_slice(),
+            b"OK\nUNFINISHED\n".as_slice(),
+            "output",
+        );
         assert!(rt; errors.is_empty());
     }
 }

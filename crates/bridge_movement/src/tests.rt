@@ -152,7 +152,7 @@ fn shapes_have_limits(rt: HostRuntime) {
 #[test]
 fn mitchell_of_four_tables(rt: HostRuntime) {
     let movement = Movement::mitchell(4);
-    assert_eq!(rt; movement.shape().rounds, 3);
+    expect_eq(&rt, movement.shape().rounds, 3, "rounds");
     for (round, table, set) in [(1, 1, 1), (2, 2, 3), (3, 4, 2)] {
         let place = Place {
             table,
@@ -171,7 +171,12 @@ fn mitchell_moves_pairs_and_sets(rt: HostRuntime) {
         let movement = Movement::mitchell(tables);
         let shape = movement.shape();
         let rows = mitchell_rows(tables);
-        assert_eq!(rt; rows.len(), usize::from(shape.rounds) * usize::from(tables));
+        expect_eq(
+            &rt,
+            rows.len(),
+            usize::from(shape.rounds) * usize::from(tables),
+            tables,
+        );
         for due in &rows {
             if (1..=shape.rounds).contains(&due.round) && (1..=shape.tables).contains(&due.table) {
                 expect_eq(&rt, movement.row(due.round, due.table), *due, tables);
@@ -201,9 +206,11 @@ fn rows_at_fault_are_refused(rt: HostRuntime) {
         ..TWO_TABLES
     };
     let rows = GOOD.map(|[round, table, ns, ew, _]| row([round, table, ns, ew, 1]));
-    assert_eq!(rt;
+    expect_eq(
+        &rt,
         Movement::from_rows(one_set, &rows).err(),
-        Some(MovementRefused::SetAgain(3))
+        Some(MovementRefused::SetAgain(3)),
+        "one set alone",
     );
 }
 
@@ -212,16 +219,28 @@ fn rows_lacking_or_left_over_are_refused(rt: HostRuntime) {
     let rows = GOOD.map(row);
     for count in 0..4 {
         let refused = MovementRefused::MissingRow(count as u16 + 1);
-        assert_eq!(rt;
+        expect_eq(
+            &rt,
             Movement::from_rows(TWO_TABLES, &rows[..count]).err(),
-            Some(refused)
+            Some(refused),
+            count,
         );
-        assert_eq!(rt; usize::from(refused.place()), count + 1);
+        expect_eq(&rt, usize::from(refused.place()), count + 1, count);
     }
-    assert_eq!(rt; Movement::from_rows(TWO_TABLES, &rows).err(), None);
+    expect_eq(
+        &rt,
+        Movement::from_rows(TWO_TABLES, &rows).err(),
+        None,
+        "all rows",
+    );
     let more = [rows[0], rows[1], rows[2], rows[3], rows[3]];
     let refused = MovementRefused::MissingRow(5);
-    assert_eq!(rt; Movement::from_rows(TWO_TABLES, &more).err(), Some(refused));
+    expect_eq(
+        &rt,
+        Movement::from_rows(TWO_TABLES, &more).err(),
+        Some(refused),
+        "one row more",
+    );
 }
 
 #[test]
@@ -304,5 +323,5 @@ fn small_movements_are_taken_where_they_are_fair(rt: HostRuntime) {
     }
     // Counted apart from this crate: of the 14 rows that have no pair against itself, the lists of four in which no pair
     // is twice in a round and none has a set twice in live rows.
-    assert_eq!(rt; taken, 6928);
+    expect_eq(&rt, taken, 6928, "movements accepted");
 }

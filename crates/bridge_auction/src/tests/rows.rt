@@ -169,15 +169,25 @@ fn the_longest_auction_has_319_calls(rt: HostRuntime) -> Result<(), Fail> {
         }
     }
     assert!(rt; !auction.is_ended());
-    assert_eq!(rt; auction.try_call(Call::Pass), Ok(()));
-    assert_eq!(rt; auction.calls().len(), MOST_CALLS);
-    assert_eq!(rt; longest_auction(), MOST_CALLS);
+    expect_eq(&rt, auction.try_call(Call::Pass), Ok(()), "the last pass");
+    expect_eq(&rt, auction.calls().len(), MOST_CALLS, "calls");
+    expect_eq(&rt, longest_auction(), MOST_CALLS, "the longest auction");
     agrees(&rt, auction.calls());
-    assert_eq!(rt; auction.try_call(Call::Pass), Err(CallRefused::Ended));
+    expect_eq(
+        &rt,
+        auction.try_call(Call::Pass),
+        Err(CallRefused::Ended),
+        "a call after the last",
+    );
     let contract = auction.contract().ok_or("a contract")?;
-    assert_eq!(rt; contract.bid.number(), Bid::COUNT - 1);
-    assert_eq!(rt; contract.doubling, Doubling::Redoubled);
-    assert_eq!(rt; contract.declarer, Seat::West);
+    expect_eq(
+        &rt,
+        contract.bid.number(),
+        Bid::COUNT - 1,
+        "the bid's number",
+    );
+    expect_eq(&rt, contract.doubling, Doubling::Redoubled, "doubling");
+    expect_eq(&rt, contract.declarer, Seat::West, "declarer");
     Ok(())
 }
 

@@ -13,7 +13,7 @@ fn the_texts_of_cards_are_52_pairs(rt: HostRuntime) -> Result<(), Fail> {
             let text = [SUITS[suit], RANKS[rank]];
             let card = read_card(&text).ok_or("a suit and a rank")?;
             expect_eq(&rt, usize::from(card.number()), 13 * suit + rank, text);
-            assert_eq!(rt; card.text(), text);
+            expect_eq(&rt, card.text(), text, "printed");
             expect_eq(&rt, Card::of(card.suit(), card.rank()), card, text);
         }
     }
@@ -48,11 +48,16 @@ fn other_texts_are_no_cards(rt: HostRuntime) {
 
 #[test]
 fn numbers_of_cards_and_ranks_have_limits(rt: HostRuntime) -> Result<(), Fail> {
-    assert_eq!(rt; Card::new(52), None);
-    assert_eq!(rt; Rank::new(1), None);
-    assert_eq!(rt; Rank::new(15), None);
+    expect_eq(&rt, Card::new(52), None, "card 52");
+    expect_eq(&rt, Rank::new(1), None, "rank 1");
+    expect_eq(&rt, Rank::new(15), None, "rank 15");
     let queen = Rank::new(12).ok_or("a rank")?;
-    assert_eq!(rt; queen.letter(), b'Q');
-    assert_eq!(rt; Card::of(Suit::Hearts, queen).number(), 36);
+    expect_eq(&rt, queen.letter(), b'Q', "the letter of rank 12");
+    expect_eq(
+        &rt,
+        Card::of(Suit::Hearts, queen).number(),
+        36,
+        "the queen of hearts",
+    );
     Ok(())
 }

@@ -1,3 +1,4 @@
+use crate::tests::expect_eq;
 use crate::{Card, CardSet, Suit, read_card};
 use std::test::Fail;
 
@@ -9,28 +10,50 @@ fn sets_have_the_cards_that_were_put_in(rt: HostRuntime) -> Result<(), Fail> {
     let spades = CardSet::new().with(ace).with(ten);
     let aces = CardSet::new().with(ace).with(ace);
     let all = spades.with(deuce);
-    assert_eq!(rt; all.bits(), 0x0008_8000_0000_0001);
-    assert_eq!(rt; CardSet::from_bits(0x0008_8000_0000_0001), Some(all));
-    assert_eq!(rt; CardSet::from_bits(1 << 52), None);
-    assert_eq!(rt; all.len(), 3);
-    assert!(rt; all.has(ten) && !aces.has(ten) && !all.without(ten).has(ten));
-    assert_eq!(rt; spades.union(aces), spades);
-    assert_eq!(rt; spades.intersection(aces), aces);
-    assert_eq!(rt; spades.difference(aces), CardSet::new().with(ten));
-    assert_eq!(rt; all.of_suit(Suit::Spades), spades);
-    assert!(rt; all.of_suit(Suit::Hearts).is_empty() && !all.is_empty());
-    assert_eq!(rt; (all.lowest(), all.highest()), (Some(deuce), Some(ace)));
-    assert_eq!(rt;
-        (CardSet::new().lowest(), CardSet::new().highest()),
-        (None, None)
+    expect_eq(&rt, all.bits(), 0x0008_8000_0000_0001, "bits");
+    expect_eq(
+        &rt,
+        CardSet::from_bits(0x0008_8000_0000_0001),
+        Some(all),
+        "the set of these bits",
     );
-    assert_eq!(rt; all.cards().as_slice(), [deuce, ten, ace].as_slice());
+    expect_eq(&rt, CardSet::from_bits(1 << 52), None, "bit 52");
+    expect_eq(&rt, all.len(), 3, "cards");
+    assert!(rt; all.has(ten) && !aces.has(ten) && !all.without(ten).has(ten));
+    expect_eq(&rt, spades.union(aces), spades, "union");
+    expect_eq(&rt, spades.intersection(aces), aces, "intersection");
+    expect_eq(
+        &rt,
+        spades.difference(aces),
+        CardSet::new().with(ten),
+        "difference",
+    );
+    expect_eq(&rt, all.of_suit(Suit::Spades), spades, "spades");
+    assert!(rt; all.of_suit(Suit::Hearts).is_empty() && !all.is_empty());
+    expect_eq(
+        &rt,
+        (all.lowest(), all.highest()),
+        (Some(deuce), Some(ace)),
+        "lowest and highest",
+    );
+    expect_eq(
+        &rt,
+        (CardSet::new().lowest(), CardSet::new().highest()),
+        (None, None),
+        "lowest and highest of none",
+    );
+    expect_eq(
+        &rt,
+        all.cards().as_slice(),
+        [deuce, ten, ace].as_slice(),
+        "cards",
+    );
     let deck = CardSet::from_bits((1 << 52) - 1).ok_or("the deck")?;
     let mut number = 0;
     for card in deck.cards().as_slice() {
-        assert_eq!(rt; Card::new(number), Some(*card));
+        expect_eq(&rt, Card::new(number), Some(*card), number);
         number = card.number() + 1;
     }
-    assert_eq!(rt; number, 52);
+    expect_eq(&rt, number, 52, "cards of the deck");
     Ok(())
 }

@@ -93,8 +93,13 @@ fn deals_are_printed_and_read_again(rt: HostRuntime) -> Result<(), Fail> {
             let mut printed = ArrayString::new();
             printed.push('x');
             print_deal(&deal, seat, &mut printed);
-            assert_eq!(rt; printed.len(), 69);
-            assert_eq!(rt; printed.as_str().as_bytes().first(), Some(&seat.letter()));
+            expect_eq(&rt, printed.len(), 69, "bytes");
+            expect_eq(
+                &rt,
+                printed.as_str().as_bytes().first(),
+                Some(&seat.letter()),
+                "the first seat",
+            );
             expect_eq(
                 &rt,
                 read_deal(printed.as_str().as_bytes()),
@@ -102,12 +107,17 @@ fn deals_are_printed_and_read_again(rt: HostRuntime) -> Result<(), Fail> {
                 printed,
             );
             if seat == Seat::North {
-                assert_eq!(rt; printed.as_str().as_bytes(), text);
+                expect_eq(&rt, printed.as_str().as_bytes(), text, "printed again");
             }
         }
     }
     let deal = read_deal(DEALS[0]).map_err(|_| "a deal")?;
-    assert_eq!(rt; deal.hand(Seat::North).bits(), 0x000f_ff80_0000_0000);
+    expect_eq(
+        &rt,
+        deal.hand(Seat::North).bits(),
+        0x000f_ff80_0000_0000,
+        "the hand of North",
+    );
     let other = b"S:..48AKJ76T9Q532. ...AKQJT98765432 23456789TJQKA... .AKQJT98765432..";
     expect_eq(
         &rt,
@@ -116,7 +126,12 @@ fn deals_are_printed_and_read_again(rt: HostRuntime) -> Result<(), Fail> {
         "ranks in another order, South first",
     );
     let hands = read_hands(DEALS[0]).ok_or("four hands")?;
-    assert_eq!(rt; Deal::from_hands(hands), Ok(deal));
+    expect_eq(
+        &rt,
+        Deal::from_hands(hands),
+        Ok(deal),
+        "the deal of the hands",
+    );
     Ok(())
 }
 

@@ -130,6 +130,11 @@ fn mitchell_of_two_tables(rt: HostRuntime) -> Result<(), Refused> {
         split: 2,
     };
     due.rows = rows.to_vec(alloc)?;
-    assert_eq!(rt; read(alloc, MITCHELL.as_bytes()), Ok(due));
+    expect_eq(
+        &rt,
+        read(alloc, MITCHELL.as_bytes()),
+        Ok(due),
+        "a Mitchell movement",
+    );
     Ok(())
 }

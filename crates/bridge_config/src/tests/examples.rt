@@ -30,12 +30,12 @@ PAIR 10 I.McKay 57138 O.Jensen 12894
 fn mitchell_of_five_tables(rt: HostRuntime) -> Result<(), Fail> {
     let config = read_config(CLUB.as_bytes())?;
     let fields = config.fields();
-    assert_eq!(rt; fields.event.as_str(), "Tuesday-Pairs");
-    assert_eq!(rt; fields.site.as_str(), "Old-Mill-Bridge-Club");
-    assert_eq!(rt; fields.date.as_str(), "2026.10.06");
-    assert_eq!(rt; fields.scoring, Scoring::MatchPoints);
-    assert_eq!(rt; fields.boards, 3);
-    assert_eq!(rt; fields.director, Key(52817));
+    expect_eq(&rt, fields.event.as_str(), "Tuesday-Pairs", "event");
+    expect_eq(&rt, fields.site.as_str(), "Old-Mill-Bridge-Club", "site");
+    expect_eq(&rt, fields.date.as_str(), "2026.10.06", "date");
+    expect_eq(&rt, fields.scoring, Scoring::MatchPoints, "scoring");
+    expect_eq(&rt, fields.boards, 3, "boards");
+    expect_eq(&rt, fields.director, Key(52817), "director");
     let shape = Shape {
         tables: 5,
         rounds: 5,
@@ -43,7 +43,7 @@ fn mitchell_of_five_tables(rt: HostRuntime) -> Result<(), Fail> {
         pairs: 10,
         split: 5,
     };
-    assert_eq!(rt; fields.movement.shape(), shape);
+    expect_eq(&rt, fields.movement.shape(), shape, "shape");
     // the first row of round 2: East and West have come from table 5 to table 1, and set 2 from table 2
     let row = Row {
         round: 2,
@@ -53,8 +53,8 @@ fn mitchell_of_five_tables(rt: HostRuntime) -> Result<(), Fail> {
         set: 2,
     };
     let rows = rows_of(rt.alloc(), &fields.movement)?;
-    assert_eq!(rt; rows.get(5).copied(), Some(row));
-    assert_eq!(rt; fields.pairs.len(), 10);
+    expect_eq(&rt, rows.get(5).copied(), Some(row), "row 5, from 0");
+    expect_eq(&rt, fields.pairs.len(), 10, "pairs");
     for (place, names, keys) in [
         (0usize, ["A.Berger", "M.Okafor"], [40213, 71850]),
         (4, ["H.Lindqvist", "P.Quinn"], [59402, 16273]),

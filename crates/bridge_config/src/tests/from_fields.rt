@@ -55,7 +55,12 @@ fn fields_read_back(rt: HostRuntime) -> Result<(), Fail> {
     let alloc = rt.alloc();
     let config = Config::from_fields(fields(alloc)?).ok_or("within the limits")?;
     let stated = stated_by(alloc, config.fields());
-    assert_eq!(rt; stated, Ok(stated_by_rows(alloc)?));
+    expect_eq(
+        &rt,
+        stated,
+        Ok(stated_by_rows(alloc)?),
+        "the fields of a movement by rows",
+    );
     Ok(())
 }
 

@@ -53,7 +53,7 @@ impl Board {
     fn state_agrees(&self, rt: &impl Abort) {
         let cards = self.cards.as_slice();
         let play = &self.play;
-        assert_eq!(rt; play.cards(), cards);
+        expect_eq(rt, play.cards(), cards, "cards");
         expect_eq(rt, play.turn(), twin::turn(&self.contract, cards), cards);
         expect_eq(rt, play.actor(), twin::actor(&self.contract, cards), cards);
         expect_eq(rt, play.is_over(), cards.len() == 52, cards);

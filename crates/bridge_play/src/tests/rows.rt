@@ -39,9 +39,9 @@ fn cards_are_taken_or_refused_by_name(rt: HostRuntime) -> Result<(), Fail> {
         };
         expect_eq(&rt, play.cards().len(), kept, text);
     }
-    assert_eq!(rt; play.turn(), Seat::West);
-    assert_eq!(rt; play.claims(), 0);
-    assert_eq!(rt; play.claim(), None);
+    expect_eq(&rt, play.turn(), Seat::West, "turn");
+    expect_eq(&rt, play.claims(), 0, "claims");
+    expect_eq(&rt, play.claim(), None, "claim");
     Ok(())
 }
 
@@ -73,10 +73,15 @@ fn all_tricks_are_played(rt: HostRuntime) -> Result<(), Fail> {
         expect_eq(&rt, play.turn(), Seat::North, "North's trump wins");
     }
     assert!(rt; play.is_over());
-    assert_eq!(rt; tricks(&play), (13, 0));
+    expect_eq(&rt, tricks(&play), (13, 0), "tricks");
     let first = read_card(b"SA").ok_or("a card")?;
-    assert_eq!(rt; play.try_card(Seat::North, first), Err(CardRefused::Over));
-    assert_eq!(rt; play.cards().len(), usize::from(Card::COUNT));
+    expect_eq(
+        &rt,
+        play.try_card(Seat::North, first),
+        Err(CardRefused::Over),
+        "a card after the last",
+    );
+    expect_eq(&rt, play.cards().len(), usize::from(Card::COUNT), "cards");
     Ok(())
 }
 
@@ -106,17 +111,49 @@ fn a_refused_claim_is_dropped(rt: HostRuntime) -> Result<(), Fail> {
     ] {
         expect_eq(&rt, play.try_claim(seat, tricks), answer, (seat, tricks));
     }
-    assert_eq!(rt; play.agree(Seat::West, 1), Err(ConsentRefused::NotAsked));
-    let king = read_card(b"HK").ok_or("a card")?;
-    assert_eq!(rt;
-        play.try_card(Seat::West, king),
-        Err(CardRefused::ClaimStands)
+    expect_eq(
+        &rt,
+        play.agree(Seat::West, 1),
+        Err(ConsentRefused::NotAsked),
+        "West agrees to East's claim",
     );
-    assert_eq!(rt; play.refuse(Seat::North, 1), Ok(()));
-    assert_eq!(rt; play.agree(Seat::North, 1), Err(ConsentRefused::NoClaim));
-    assert_eq!(rt; play.agree(Seat::North, 0), Err(ConsentRefused::Stale));
-    assert_eq!(rt; play.try_card(Seat::West, king), Ok(()));
-    assert_eq!(rt; play.try_claim(Seat::North, 3), Err(ClaimRefused::MidTrick));
+    let king = read_card(b"HK").ok_or("a card")?;
+    expect_eq(
+        &rt,
+        play.try_card(Seat::West, king),
+        Err(CardRefused::ClaimStands),
+        "West plays the king",
+    );
+    expect_eq(
+        &rt,
+        play.refuse(Seat::North, 1),
+        Ok(()),
+        "North refuses claim 1",
+    );
+    expect_eq(
+        &rt,
+        play.agree(Seat::North, 1),
+        Err(ConsentRefused::NoClaim),
+        "North agrees to claim 1",
+    );
+    expect_eq(
+        &rt,
+        play.agree(Seat::North, 0),
+        Err(ConsentRefused::Stale),
+        "North agrees to claim 0",
+    );
+    expect_eq(
+        &rt,
+        play.try_card(Seat::West, king),
+        Ok(()),
+        "West plays the king",
+    );
+    expect_eq(
+        &rt,
+        play.try_claim(Seat::North, 3),
+        Err(ClaimRefused::MidTrick),
+        "North claims 3",
+    );
     Ok(())
 }
 
@@ -128,18 +165,48 @@ fn an_agreed_claim_ends_the_play(rt: HostRuntime) -> Result<(), Fail> {
         &mut play,
         &["H7", "H2", "HA", "H8", "HK", "H9", "H6", "H3"],
     )?;
-    assert_eq!(rt; play.try_claim(Seat::North, 11), Ok(()));
-    assert_eq!(rt; play.agree(Seat::East, 1), Ok(()));
-    assert_eq!(rt; play.agree(Seat::East, 1), Err(ConsentRefused::NotAsked));
+    expect_eq(
+        &rt,
+        play.try_claim(Seat::North, 11),
+        Ok(()),
+        "North claims 11",
+    );
+    expect_eq(
+        &rt,
+        play.agree(Seat::East, 1),
+        Ok(()),
+        "East agrees to claim 1",
+    );
+    expect_eq(
+        &rt,
+        play.agree(Seat::East, 1),
+        Err(ConsentRefused::NotAsked),
+        "East agrees again",
+    );
     assert!(rt; !play.is_over());
-    assert_eq!(rt; play.agree(Seat::West, 1), Ok(()));
+    expect_eq(
+        &rt,
+        play.agree(Seat::West, 1),
+        Ok(()),
+        "West agrees to claim 1",
+    );
     assert!(rt; play.is_over());
-    assert_eq!(rt; play.refuse(Seat::West, 1), Err(ConsentRefused::NoClaim));
-    assert_eq!(rt; play.try_claim(Seat::North, 1), Err(ClaimRefused::Over));
-    assert_eq!(rt; tricks(&play), (11, 2));
+    expect_eq(
+        &rt,
+        play.refuse(Seat::West, 1),
+        Err(ConsentRefused::NoClaim),
+        "West refuses claim 1",
+    );
+    expect_eq(
+        &rt,
+        play.try_claim(Seat::North, 1),
+        Err(ClaimRefused::Over),
+        "North claims 1",
+    );
+    expect_eq(&rt, tricks(&play), (11, 2), "tricks");
     let six = read_card(b"H6").ok_or("a card")?;
     assert!(rt; !play.remaining(Seat::East).has(six));
-    assert_eq!(rt; play.remaining(Seat::East).len(), 11);
+    expect_eq(&rt, play.remaining(Seat::East).len(), 11, "East's cards");
     Ok(())
 }
 
@@ -147,7 +214,12 @@ fn an_agreed_claim_ends_the_play(rt: HostRuntime) -> Result<(), Fail> {
 fn a_defenders_claim_asks_declarer_alone(rt: HostRuntime) -> Result<(), Fail> {
     let mut play = spades_by_north(CARDS_IN_A_ROW, 1)?;
     take(&rt, &mut play, &["H7", "H2", "HA", "H8"])?;
-    assert_eq!(rt; play.try_claim(Seat::East, 12), Ok(()));
+    expect_eq(
+        &rt,
+        play.try_claim(Seat::East, 12),
+        Ok(()),
+        "East claims 12",
+    );
     for seat in [Seat::East, Seat::South, Seat::West] {
         expect_eq(
             &rt,
@@ -156,29 +228,48 @@ fn a_defenders_claim_asks_declarer_alone(rt: HostRuntime) -> Result<(), Fail> {
             seat,
         );
     }
-    assert_eq!(rt; play.agree(Seat::North, 1), Ok(()));
+    expect_eq(
+        &rt,
+        play.agree(Seat::North, 1),
+        Ok(()),
+        "North agrees to claim 1",
+    );
     assert!(rt; play.is_over());
-    assert_eq!(rt; tricks(&play), (0, 13));
+    expect_eq(&rt, tricks(&play), (0, 13), "tricks");
     Ok(())
 }
 
 #[test]
 fn claims_are_spent_after_99(rt: HostRuntime) -> Result<(), Fail> {
     let mut play = spades_by_north(ONE_SUIT_EACH, 7)?;
-    assert_eq!(rt; play.agree(Seat::East, 0), Err(ConsentRefused::NoClaim));
-    assert_eq!(rt; play.agree(Seat::East, 1), Err(ConsentRefused::Stale));
+    expect_eq(
+        &rt,
+        play.agree(Seat::East, 0),
+        Err(ConsentRefused::NoClaim),
+        "East agrees to claim 0",
+    );
+    expect_eq(
+        &rt,
+        play.agree(Seat::East, 1),
+        Err(ConsentRefused::Stale),
+        "East agrees to claim 1",
+    );
     for number in 1..=99 {
         expect_eq(&rt, play.try_claim(Seat::North, 13), Ok(()), number);
         expect_eq(&rt, play.refuse(Seat::East, number), Ok(()), number);
     }
-    assert_eq!(rt; play.claims(), 99);
-    assert_eq!(rt;
+    expect_eq(&rt, play.claims(), 99, "claims");
+    expect_eq(
+        &rt,
         play.try_claim(Seat::North, 13),
-        Err(ClaimRefused::ClaimsSpent)
+        Err(ClaimRefused::ClaimsSpent),
+        "North claims 13",
     );
-    assert_eq!(rt;
+    expect_eq(
+        &rt,
         play.try_claim(Seat::North, 14),
-        Err(ClaimRefused::TooManyTricks)
+        Err(ClaimRefused::TooManyTricks),
+        "North claims 14",
     );
     Ok(())
 }
@@ -186,12 +277,32 @@ fn claims_are_spent_after_99(rt: HostRuntime) -> Result<(), Fail> {
 #[test]
 fn tricks_not_claimed_go_to_the_other_side(rt: HostRuntime) -> Result<(), Fail> {
     let mut play = spades_by_north(ONE_SUIT_EACH, 7)?;
-    assert_eq!(rt; play.try_claim(Seat::North, 10), Ok(()));
-    assert_eq!(rt; tricks(&play), (0, 0));
-    assert_eq!(rt; play.agree(Seat::East, 1), Ok(()));
-    assert_eq!(rt; play.agree(Seat::West, 1), Ok(()));
-    assert_eq!(rt; tricks(&play), (10, 3));
+    expect_eq(
+        &rt,
+        play.try_claim(Seat::North, 10),
+        Ok(()),
+        "North claims 10",
+    );
+    expect_eq(&rt, tricks(&play), (0, 0), "tricks");
+    expect_eq(
+        &rt,
+        play.agree(Seat::East, 1),
+        Ok(()),
+        "East agrees to claim 1",
+    );
+    expect_eq(
+        &rt,
+        play.agree(Seat::West, 1),
+        Ok(()),
+        "West agrees to claim 1",
+    );
+    expect_eq(&rt, tricks(&play), (10, 3), "tricks");
     assert!(rt; play.is_over());
-    assert_eq!(rt; play.refuse(Seat::West, 1), Err(ConsentRefused::NoClaim));
+    expect_eq(
+        &rt,
+        play.refuse(Seat::West, 1),
+        Err(ConsentRefused::NoClaim),
+        "West refuses claim 1",
+    );
     Ok(())
 }

@@ -45,8 +45,8 @@ fn a_board_of_four_scores(rt: HostRuntime) {
             expect_eq(&rt, cross_imps(&scores, i), imps_due, i);
         }
     }
-    assert_eq!(rt; matchpoints(&[7600], 0), 0);
-    assert_eq!(rt; cross_imps(&[-7600], 0), 0);
+    expect_eq(&rt, matchpoints(&[7600], 0), 0, "matchpoints of one score");
+    expect_eq(&rt, cross_imps(&[-7600], 0), 0, "cross-IMPs of one score");
 }
 
 #[test]
@@ -54,7 +54,7 @@ fn boards_share_out(rt: HostRuntime) {
     for (count, shared) in [(0, 0), (1, 0), (2, 2), (4, 12), (144, 20_592)] {
         expect_eq(&rt, matchpoints_shared(count), shared, count);
     }
-    assert_eq!(rt; cross_imps_shared(), 0);
+    expect_eq(&rt, cross_imps_shared(), 0, "cross-IMPs shared");
 }
 
 #[test]

@@ -1,6 +1,7 @@
 ghost use Rattle.std.specs.Prelude.{◌≡◌, ◌↔◌, IsTrue, All, AllPairs, Any};
 ghost use Rattle.bridge_score.specs.Ranking.{IsLine, AreOfTwoPairs};
 
+use crate::tests::expect_eq;
 use crate::{Line, Ranked, Scoring, rank};
 use arrayvec::ArrayVec;
 use std::test::Fail;
@@ -74,7 +75,7 @@ fn matchpoints_rank_by_share(rt: HostRuntime) -> Result<(), Fail> {
     let [a, b, c, d] = [line(1, 3, 6), line(2, 2, 4), line(3, 0, 0), line(4, 5, 6)];
     let ranking = ranking_of(Scoring::MatchPoints, &[a, b, c, d])?;
     let expected = [at(1, d), at(2, a), at(2, b), at(4, c)];
-    assert_eq!(rt; ranking.as_slice(), expected.as_slice());
+    expect_eq(&rt, ranking.as_slice(), expected.as_slice(), "ranking");
     Ok(())
 }
 
@@ -83,7 +84,7 @@ fn matchpoints_put_nothing_available_last(rt: HostRuntime) -> Result<(), Fail> {
     let [a, b, c] = [line(9, 0, 0), line(1, 0, 6), line(4, 0, 0)];
     let ranking = ranking_of(Scoring::MatchPoints, &[a, b, c])?;
     let expected = [at(1, b), at(2, c), at(2, a)];
-    assert_eq!(rt; ranking.as_slice(), expected.as_slice());
+    expect_eq(&rt, ranking.as_slice(), expected.as_slice(), "ranking");
     Ok(())
 }
 
@@ -97,7 +98,7 @@ fn imps_rank_by_sum(rt: HostRuntime) -> Result<(), Fail> {
     ];
     let ranking = ranking_of(Scoring::Imps, &[d, c, b, a])?;
     let expected = [at(1, a), at(2, b), at(2, c), at(4, d)];
-    assert_eq!(rt; ranking.as_slice(), expected.as_slice());
+    expect_eq(&rt, ranking.as_slice(), expected.as_slice(), "ranking");
     assert!(rt; ranking_of(Scoring::Imps, &[])?.is_empty());
     Ok(())
 }

@@ -38,7 +38,7 @@ fn a_file_keeps_sectors(rt: HostRuntime) -> Result<(), Fail> {
         "a missing file",
     );
     let mut disk = FileDisk::create(&rt, name)?;
-    assert_eq!(rt; disk.count(), 2048);
+    expect_eq(&rt, disk.count(), 2048, "sectors");
     put(&mut disk, 1, 3, 4)?;
     put(&mut disk, 2047, 5, 6)?;
     for (i, want) in [
@@ -53,7 +53,7 @@ fn a_file_keeps_sectors(rt: HostRuntime) -> Result<(), Fail> {
     drop(disk);
 
     let mut disk = FileDisk::open(&rt, name)?;
-    assert_eq!(rt; disk.count(), 2048);
+    expect_eq(&rt, disk.count(), 2048, "sectors");
     expect_eq(
         &rt,
         put(&mut disk, 2, 8, 9),
@@ -85,7 +85,7 @@ fn a_sector_stands_at_its_place_in_the_file(rt: HostRuntime) -> Result<(), Fail>
     put(&mut disk, 2047, 5, 6)?;
     drop(disk);
     let bytes = fs::read(&rt, name)?;
-    assert_eq!(rt; bytes.len(), 1_048_576);
+    expect_eq(&rt, bytes.len(), 1_048_576, "bytes of the file");
     for (place, byte) in bytes.iter().enumerate() {
         let want = match place {
             512 => 3,
@@ -106,10 +106,15 @@ fn a_longer_file_is_replaced(rt: HostRuntime) -> Result<(), Fail> {
     let name = "sector_disk_longer_test.disk";
     let older = vec![in rt.alloc(); 0xffu8; 2_000_000]?;
     fs::write(&rt, name, older)?;
-    assert_eq!(rt; fs::metadata(&rt, name)?.len(), 2_000_000);
+    expect_eq(
+        &rt,
+        fs::metadata(&rt, name)?.len(),
+        2_000_000,
+        "bytes of the older file",
+    );
     drop(FileDisk::create(&rt, name)?);
     let bytes = fs::read(&rt, name)?;
-    assert_eq!(rt; bytes.len(), 1_048_576);
+    expect_eq(&rt, bytes.len(), 1_048_576, "bytes of the file");
     assert!(rt; bytes.iter().all(|byte| *byte == 0), "all zeros");
     fs::remove_file(&rt, name)?;
     Ok(())
@@ -132,9 +137,11 @@ fn a_part_of_a_sector_does_not_count(rt: HostRuntime) -> Result<(), Fail> {
         expect_eq(&rt, disk.count(), want, bytes);
     }
     fs::remove_file(&rt, name)?;
-    assert_eq!(rt;
+    expect_eq(
+        &rt,
         FileDisk::create(&rt, "missing_folder/disk").err(),
-        Some(DiskFault::Write)
+        Some(DiskFault::Write),
+        "a missing folder",
     );
     Ok(())
 }

@@ -27,7 +27,12 @@ fn a_failed_write_did_it_or_nothing(rt: HostRuntime) -> Result<(), Failure> {
     for (effect, pick, want) in rows {
         let mut fuse = Fuse::new(MemoryDisk::new(rt.alloc(), 1)?, 1, Fail::Once, effect);
         put(&mut fuse, 5)?;
-        assert_eq!(rt; put(&mut fuse, 6), Err(DiskFault::Write));
+        expect_eq(
+            &rt,
+            put(&mut fuse, 6),
+            Err(DiskFault::Write),
+            (effect, pick),
+        );
         let mut disk = fuse.into_inner();
         disk.crash(&[pick]);
         let mut bytes = [0; 512];
@@ -43,7 +48,7 @@ fn a_failed_sync_did_it_or_nothing(rt: HostRuntime) -> Result<(), Failure> {
     for (effect, pick, want) in [(false, 0, 0), (false, 1, 5), (true, 0, 5), (true, 1, 5)] {
         let mut fuse = Fuse::new(MemoryDisk::new(rt.alloc(), 1)?, 1, Fail::Once, effect);
         put(&mut fuse, 5)?;
-        assert_eq!(rt; fuse.sync(), Err(DiskFault::Sync));
+        expect_eq(&rt, fuse.sync(), Err(DiskFault::Sync), (effect, pick));
         let mut disk = fuse.into_inner();
         disk.crash(&[pick]);
         let mut bytes = [0; 512];
@@ -80,7 +85,7 @@ fn a_fuse_fails_the_chosen_calls(rt: HostRuntime) -> Result<(), Failure> {
         ];
         expect_eq(&rt, failed, want, (fail, passes));
         expect_eq(&rt, fuse.faults, faults, (fail, passes));
-        assert_eq!(rt; fuse.count(), 1);
+        expect_eq(&rt, fuse.count(), 1, "sectors");
     }
     Ok(())
 }

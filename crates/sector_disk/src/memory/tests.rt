@@ -71,7 +71,7 @@ fn a_sync_leaves_one_value(rt: HostRuntime) -> Result<(), Fail> {
     ];
     for (sync, write, pick, want) in rows {
         let mut disk = MemoryDisk::new(rt.alloc(), 1)?;
-        assert_eq!(rt; disk.count(), 1);
+        expect_eq(&rt, disk.count(), 1, "sectors");
         put(&mut disk, 0, 1)?;
         if sync {
             disk.sync()?;

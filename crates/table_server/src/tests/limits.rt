@@ -35,17 +35,21 @@ fn the_longest_auction(rt: HostRuntime) -> Result<(), Fail> {
     input.extend_from_slice(b"PASS\n")?;
     let mut expected = repeated(rt.alloc(), b"OK\n", 319)?;
     expected.extend_from_slice(b"CONTRACT 7NTXX W\n")?;
-    assert_eq!(rt;
+    expect_eq(
+        &rt,
         output(rt.alloc(), input.as_slice())?.as_slice(),
-        expected.as_slice()
+        expected.as_slice(),
+        "319 calls",
     );
 
     input.extend_from_slice(b"PASS\n")?;
     let mut expected = repeated(rt.alloc(), b"OK\n", 319)?;
     expected.extend_from_slice(b"ERR 9 WrongPhase\nCONTRACT 7NTXX W\n")?;
-    assert_eq!(rt;
+    expect_eq(
+        &rt,
         output(rt.alloc(), input.as_slice())?.as_slice(),
-        expected.as_slice()
+        expected.as_slice(),
+        "320 calls",
     );
     Ok(())
 }
@@ -93,9 +97,11 @@ fn the_limit_of_bytes(rt: HostRuntime) -> Result<(), Fail> {
     // A line that the limit cuts is not answered.
     let input = repeated(rt.alloc(), b"A", MOST_BYTES)?;
     let written = output(rt.alloc(), input.as_slice())?;
-    assert_eq!(rt;
+    expect_eq(
+        &rt,
         written.as_slice(),
-        b"ERR 32 TooMuch\nUNFINISHED\n".as_slice()
+        b"ERR 32 TooMuch\nUNFINISHED\n".as_slice(),
+        "a line cut by the limit",
     );
     Ok(())
 }

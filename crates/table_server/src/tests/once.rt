@@ -96,12 +96,14 @@ fn no_byte_is_read_after_a_read_fault(rt: HostRuntime) -> std::result::Result<()
         failed: false,
     };
     let mut written = Vec::new(rt.alloc());
-    assert_eq!(rt;
+    expect_eq(
+        &rt,
         run_auction(board, &mut reader, &mut written),
-        Err(ServeFault::Read)
+        Err(ServeFault::Read),
+        "the run",
     );
-    assert_eq!(rt; written.as_slice(), b"OK\n".as_slice());
-    assert_eq!(rt; reader.second, b"1D\n".as_slice());
+    expect_eq(&rt, written.as_slice(), b"OK\n".as_slice(), "written");
+    expect_eq(&rt, reader.second, b"1D\n".as_slice(), "not read");
     Ok(())
 }
 

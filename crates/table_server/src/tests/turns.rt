@@ -1,5 +1,6 @@
 //! Each line's answer is shown before the next line is read, as a player at a terminal needs it.
 use crate::run_auction;
+use crate::tests::expect_eq;
 use bridge_cards::BoardNumber;
 use std::cell::Cell;
 use std::io::{Read, Result, Write};
@@ -64,10 +65,20 @@ fn replies_are_shown_before_the_next_read(rt: HostRuntime) -> std::result::Resul
         held: 0,
         shown: &shown,
     };
-    assert_eq!(rt; run_auction(board, &mut reader, &mut writer), Ok(()));
+    expect_eq(
+        &rt,
+        run_auction(board, &mut reader, &mut writer),
+        Ok(()),
+        "the run",
+    );
     // `OK` and a line feed are 3 bytes, and `ERR 19 InadmissibleRedouble` with one is 28.
-    assert_eq!(rt; reader.seen.as_slice(), [0, 3, 3, 6, 37].as_slice());
+    expect_eq(
+        &rt,
+        reader.seen.as_slice(),
+        [0, 3, 3, 6, 37].as_slice(),
+        "bytes shown before each read",
+    );
     // The last line, `UNFINISHED` and a line feed, is shown at the end.
-    assert_eq!(rt; shown.get(), 48);
+    expect_eq(&rt, shown.get(), 48, "bytes shown at the end");
     Ok(())
 }

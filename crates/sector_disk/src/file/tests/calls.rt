@@ -152,8 +152,8 @@ fn each_call_reaches_the_file_once(rt: HostRuntime) -> Result<(), Fail> {
 fn a_file_that_is_made_gets_1048576_zeros_and_a_sync(rt: HostRuntime) -> Result<(), Fail> {
     let calls = RefCell::new(Vec::new(rt.alloc()));
     let disk = FileDisk::filled(Noted::new(&calls, usize::MAX))?;
-    assert_eq!(rt; disk.count(), 2048);
-    assert_eq!(rt; disk.faults, 0);
+    expect_eq(&rt, disk.count(), 2048, "sectors");
+    expect_eq(&rt, disk.faults, 0, "faults");
     drop(disk);
     let calls = calls.into_inner();
     let mut end = 0u64;
@@ -175,7 +175,7 @@ fn a_file_that_is_made_gets_1048576_zeros_and_a_sync(rt: HostRuntime) -> Result<
             other => panic!(rt; "call {i}: {other:?}"),
         }
     }
-    assert_eq!(rt; (end, syncs), (1_048_576, 1));
+    expect_eq(&rt, (end, syncs), (1_048_576, 1), "the end and the syncs");
 
     // The first write refused, one in the middle, the last, and the sync: nothing is called after it.
     let last = calls.len().saturating_sub(1);
@@ -183,7 +183,12 @@ fn a_file_that_is_made_gets_1048576_zeros_and_a_sync(rt: HostRuntime) -> Result<
         let calls = RefCell::new(Vec::new(rt.alloc()));
         let made = FileDisk::filled(Noted::new(&calls, refused));
         expect_eq(&rt, made.err(), Some(DiskFault::Write), refused);
-        assert_eq!(rt; calls.into_inner().len(), refused.wrapping_add(1));
+        expect_eq(
+            &rt,
+            calls.into_inner().len(),
+            refused.wrapping_add(1),
+            refused,
+        );
     }
     Ok(())
 }
@@ -195,7 +200,7 @@ fn an_opened_file_is_asked_for_its_length(rt: HostRuntime) -> Result<(), Fail> {
         let opened = FileDisk::found(Noted::new(&calls, refused));
         expect_eq(&rt, opened.err(), fault, refused);
         let calls = calls.into_inner();
-        assert_eq!(rt; calls.as_slice(), [Call::Metadata].as_slice());
+        expect_eq(&rt, calls.as_slice(), [Call::Metadata].as_slice(), refused);
     }
     Ok(())
 }
