@@ -153,18 +153,10 @@ fn the_longest_auction_has_319_calls(rt: HostRuntime) -> Result<(), Fail> {
                 level,
                 denomination,
             });
-            for made in [
-                bid,
-                Call::Pass,
-                Call::Pass,
-                Call::Double,
-                Call::Pass,
-                Call::Pass,
-                Call::Redouble,
-                Call::Pass,
-                Call::Pass,
-            ] {
-                expect_eq(&rt, auction.try_call(made), Ok(()), auction.calls().len());
+            for made in [bid, Call::Double, Call::Redouble] {
+                for made in [made, Call::Pass, Call::Pass] {
+                    expect_eq(&rt, auction.try_call(made), Ok(()), auction.calls().len());
+                }
             }
         }
     }
@@ -173,19 +165,10 @@ fn the_longest_auction_has_319_calls(rt: HostRuntime) -> Result<(), Fail> {
     expect_eq(&rt, auction.calls().len(), MOST_CALLS, "calls");
     expect_eq(&rt, longest_auction(), MOST_CALLS, "the longest auction");
     agrees(&rt, auction.calls());
-    expect_eq(
-        &rt,
-        auction.try_call(Call::Pass),
-        Err(CallRefused::Ended),
-        "a call after the last",
-    );
+    let ended = Err(CallRefused::Ended);
+    expect_eq(&rt, auction.try_call(Call::Pass), ended, "one call more");
     let contract = auction.contract().ok_or("a contract")?;
-    expect_eq(
-        &rt,
-        contract.bid.number(),
-        Bid::COUNT - 1,
-        "the bid's number",
-    );
+    expect_eq(&rt, contract.bid.number(), Bid::COUNT - 1, "the bid");
     expect_eq(&rt, contract.doubling, Doubling::Redoubled, "doubling");
     expect_eq(&rt, contract.declarer, Seat::West, "declarer");
     Ok(())

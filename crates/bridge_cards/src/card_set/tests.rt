@@ -10,44 +10,32 @@ fn sets_have_the_cards_that_were_put_in(rt: HostRuntime) -> Result<(), Fail> {
     let spades = CardSet::new().with(ace).with(ten);
     let aces = CardSet::new().with(ace).with(ace);
     let all = spades.with(deuce);
-    expect_eq(&rt, all.bits(), 0x0008_8000_0000_0001, "bits");
-    expect_eq(
-        &rt,
-        CardSet::from_bits(0x0008_8000_0000_0001),
-        Some(all),
-        "the set of these bits",
-    );
+    let bits = 0x0008_8000_0000_0001;
+    expect_eq(&rt, all.bits(), bits, "bits");
+    expect_eq(&rt, CardSet::from_bits(bits), Some(all), "from bits");
     expect_eq(&rt, CardSet::from_bits(1 << 52), None, "bit 52");
     expect_eq(&rt, all.len(), 3, "cards");
     assert!(rt; all.has(ten) && !aces.has(ten) && !all.without(ten).has(ten));
-    expect_eq(&rt, spades.union(aces), spades, "union");
-    expect_eq(&rt, spades.intersection(aces), aces, "intersection");
-    expect_eq(
-        &rt,
-        spades.difference(aces),
-        CardSet::new().with(ten),
-        "difference",
-    );
-    expect_eq(&rt, all.of_suit(Suit::Spades), spades, "spades");
-    assert!(rt; all.of_suit(Suit::Hearts).is_empty() && !all.is_empty());
-    expect_eq(
-        &rt,
-        (all.lowest(), all.highest()),
-        (Some(deuce), Some(ace)),
-        "lowest and highest",
-    );
-    expect_eq(
-        &rt,
-        (CardSet::new().lowest(), CardSet::new().highest()),
-        (None, None),
-        "lowest and highest of none",
-    );
-    expect_eq(
-        &rt,
-        all.cards().as_slice(),
-        [deuce, ten, ace].as_slice(),
-        "cards",
-    );
+    for (found, due, row) in [
+        (spades.union(aces), spades, "union"),
+        (spades.intersection(aces), aces, "intersection"),
+        (
+            spades.difference(aces),
+            CardSet::new().with(ten),
+            "difference",
+        ),
+        (all.of_suit(Suit::Spades), spades, "spades"),
+        (all.of_suit(Suit::Hearts), CardSet::new(), "hearts"),
+    ] {
+        expect_eq(&rt, found, due, row);
+    }
+    for (set, lowest, highest) in [(all, Some(deuce), Some(ace)), (CardSet::new(), None, None)] {
+        expect_eq(&rt, set.is_empty(), lowest.is_none(), set);
+        expect_eq(&rt, set.lowest(), lowest, set);
+        expect_eq(&rt, set.highest(), highest, set);
+    }
+    let cards = all.cards();
+    expect_eq(&rt, cards.as_slice(), [deuce, ten, ace].as_slice(), "cards");
     let deck = CardSet::from_bits((1 << 52) - 1).ok_or("the deck")?;
     let mut number = 0;
     for card in deck.cards().as_slice() {

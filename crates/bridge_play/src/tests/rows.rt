@@ -75,12 +75,8 @@ fn all_tricks_are_played(rt: HostRuntime) -> Result<(), Fail> {
     assert!(rt; play.is_over());
     expect_eq(&rt, tricks(&play), (13, 0), "tricks");
     let first = read_card(b"SA").ok_or("a card")?;
-    expect_eq(
-        &rt,
-        play.try_card(Seat::North, first),
-        Err(CardRefused::Over),
-        "a card after the last",
-    );
+    let over = Err(CardRefused::Over);
+    expect_eq(&rt, play.try_card(Seat::North, first), over, "one more");
     expect_eq(&rt, play.cards().len(), usize::from(Card::COUNT), "cards");
     Ok(())
 }
@@ -92,6 +88,23 @@ fn take(rt: &impl Abort, play: &mut Play, texts: &[&str]) -> Result<(), Fail> {
         expect_eq(rt, play.try_card(play.actor(), card), Ok(()), text);
     }
     Ok(())
+}
+
+type Consent = Result<(), ConsentRefused>;
+
+/// The seat claims so many tricks, and that answer is due.
+fn claim(rt: &impl Abort, play: &mut Play, seat: Seat, tricks: u8, due: Result<(), ClaimRefused>) {
+    expect_eq(rt, play.try_claim(seat, tricks), due, (seat, tricks));
+}
+
+/// The seat agrees to the claim of that number, and that answer is due.
+fn agree(rt: &impl Abort, play: &mut Play, seat: Seat, number: u8, due: Consent) {
+    expect_eq(rt, play.agree(seat, number), due, (seat, number));
+}
+
+/// The seat refuses the claim of that number, and that answer is due.
+fn refuse(rt: &impl Abort, play: &mut Play, seat: Seat, number: u8, due: Consent) {
+    expect_eq(rt, play.refuse(seat, number), due, (seat, number));
 }
 
 /// The tricks of both sides.
@@ -109,51 +122,17 @@ fn a_refused_claim_is_dropped(rt: HostRuntime) -> Result<(), Fail> {
         (Seat::East, 12, Ok(())),
         (Seat::East, 12, Err(ClaimRefused::ClaimStands)),
     ] {
-        expect_eq(&rt, play.try_claim(seat, tricks), answer, (seat, tricks));
+        claim(&rt, &mut play, seat, tricks, answer);
     }
-    expect_eq(
-        &rt,
-        play.agree(Seat::West, 1),
-        Err(ConsentRefused::NotAsked),
-        "West agrees to East's claim",
-    );
+    agree(&rt, &mut play, Seat::West, 1, Err(ConsentRefused::NotAsked));
     let king = read_card(b"HK").ok_or("a card")?;
-    expect_eq(
-        &rt,
-        play.try_card(Seat::West, king),
-        Err(CardRefused::ClaimStands),
-        "West plays the king",
-    );
-    expect_eq(
-        &rt,
-        play.refuse(Seat::North, 1),
-        Ok(()),
-        "North refuses claim 1",
-    );
-    expect_eq(
-        &rt,
-        play.agree(Seat::North, 1),
-        Err(ConsentRefused::NoClaim),
-        "North agrees to claim 1",
-    );
-    expect_eq(
-        &rt,
-        play.agree(Seat::North, 0),
-        Err(ConsentRefused::Stale),
-        "North agrees to claim 0",
-    );
-    expect_eq(
-        &rt,
-        play.try_card(Seat::West, king),
-        Ok(()),
-        "West plays the king",
-    );
-    expect_eq(
-        &rt,
-        play.try_claim(Seat::North, 3),
-        Err(ClaimRefused::MidTrick),
-        "North claims 3",
-    );
+    let stands = Err(CardRefused::ClaimStands);
+    expect_eq(&rt, play.try_card(Seat::West, king), stands, "the king");
+    refuse(&rt, &mut play, Seat::North, 1, Ok(()));
+    agree(&rt, &mut play, Seat::North, 1, Err(ConsentRefused::NoClaim));
+    agree(&rt, &mut play, Seat::North, 0, Err(ConsentRefused::Stale));
+    expect_eq(&rt, play.try_card(Seat::West, king), Ok(()), "the king");
+    claim(&rt, &mut play, Seat::North, 3, Err(ClaimRefused::MidTrick));
     Ok(())
 }
 
@@ -165,44 +144,14 @@ fn an_agreed_claim_ends_the_play(rt: HostRuntime) -> Result<(), Fail> {
         &mut play,
         &["H7", "H2", "HA", "H8", "HK", "H9", "H6", "H3"],
     )?;
-    expect_eq(
-        &rt,
-        play.try_claim(Seat::North, 11),
-        Ok(()),
-        "North claims 11",
-    );
-    expect_eq(
-        &rt,
-        play.agree(Seat::East, 1),
-        Ok(()),
-        "East agrees to claim 1",
-    );
-    expect_eq(
-        &rt,
-        play.agree(Seat::East, 1),
-        Err(ConsentRefused::NotAsked),
-        "East agrees again",
-    );
+    claim(&rt, &mut play, Seat::North, 11, Ok(()));
+    agree(&rt, &mut play, Seat::East, 1, Ok(()));
+    agree(&rt, &mut play, Seat::East, 1, Err(ConsentRefused::NotAsked));
     assert!(rt; !play.is_over());
-    expect_eq(
-        &rt,
-        play.agree(Seat::West, 1),
-        Ok(()),
-        "West agrees to claim 1",
-    );
+    agree(&rt, &mut play, Seat::West, 1, Ok(()));
     assert!(rt; play.is_over());
-    expect_eq(
-        &rt,
-        play.refuse(Seat::West, 1),
-        Err(ConsentRefused::NoClaim),
-        "West refuses claim 1",
-    );
-    expect_eq(
-        &rt,
-        play.try_claim(Seat::North, 1),
-        Err(ClaimRefused::Over),
-        "North claims 1",
-    );
+    refuse(&rt, &mut play, Seat::West, 1, Err(ConsentRefused::NoClaim));
+    claim(&rt, &mut play, Seat::North, 1, Err(ClaimRefused::Over));
     expect_eq(&rt, tricks(&play), (11, 2), "tricks");
     let six = read_card(b"H6").ok_or("a card")?;
     assert!(rt; !play.remaining(Seat::East).has(six));
@@ -214,26 +163,11 @@ fn an_agreed_claim_ends_the_play(rt: HostRuntime) -> Result<(), Fail> {
 fn a_defenders_claim_asks_declarer_alone(rt: HostRuntime) -> Result<(), Fail> {
     let mut play = spades_by_north(CARDS_IN_A_ROW, 1)?;
     take(&rt, &mut play, &["H7", "H2", "HA", "H8"])?;
-    expect_eq(
-        &rt,
-        play.try_claim(Seat::East, 12),
-        Ok(()),
-        "East claims 12",
-    );
+    claim(&rt, &mut play, Seat::East, 12, Ok(()));
     for seat in [Seat::East, Seat::South, Seat::West] {
-        expect_eq(
-            &rt,
-            play.agree(seat, 1),
-            Err(ConsentRefused::NotAsked),
-            seat,
-        );
+        agree(&rt, &mut play, seat, 1, Err(ConsentRefused::NotAsked));
     }
-    expect_eq(
-        &rt,
-        play.agree(Seat::North, 1),
-        Ok(()),
-        "North agrees to claim 1",
-    );
+    agree(&rt, &mut play, Seat::North, 1, Ok(()));
     assert!(rt; play.is_over());
     expect_eq(&rt, tricks(&play), (0, 13), "tricks");
     Ok(())
@@ -242,34 +176,26 @@ fn a_defenders_claim_asks_declarer_alone(rt: HostRuntime) -> Result<(), Fail> {
 #[test]
 fn claims_are_spent_after_99(rt: HostRuntime) -> Result<(), Fail> {
     let mut play = spades_by_north(ONE_SUIT_EACH, 7)?;
-    expect_eq(
-        &rt,
-        play.agree(Seat::East, 0),
-        Err(ConsentRefused::NoClaim),
-        "East agrees to claim 0",
-    );
-    expect_eq(
-        &rt,
-        play.agree(Seat::East, 1),
-        Err(ConsentRefused::Stale),
-        "East agrees to claim 1",
-    );
+    agree(&rt, &mut play, Seat::East, 0, Err(ConsentRefused::NoClaim));
+    agree(&rt, &mut play, Seat::East, 1, Err(ConsentRefused::Stale));
     for number in 1..=99 {
-        expect_eq(&rt, play.try_claim(Seat::North, 13), Ok(()), number);
-        expect_eq(&rt, play.refuse(Seat::East, number), Ok(()), number);
+        claim(&rt, &mut play, Seat::North, 13, Ok(()));
+        refuse(&rt, &mut play, Seat::East, number, Ok(()));
     }
     expect_eq(&rt, play.claims(), 99, "claims");
-    expect_eq(
+    claim(
         &rt,
-        play.try_claim(Seat::North, 13),
+        &mut play,
+        Seat::North,
+        13,
         Err(ClaimRefused::ClaimsSpent),
-        "North claims 13",
     );
-    expect_eq(
+    claim(
         &rt,
-        play.try_claim(Seat::North, 14),
+        &mut play,
+        Seat::North,
+        14,
         Err(ClaimRefused::TooManyTricks),
-        "North claims 14",
     );
     Ok(())
 }
@@ -277,32 +203,12 @@ fn claims_are_spent_after_99(rt: HostRuntime) -> Result<(), Fail> {
 #[test]
 fn tricks_not_claimed_go_to_the_other_side(rt: HostRuntime) -> Result<(), Fail> {
     let mut play = spades_by_north(ONE_SUIT_EACH, 7)?;
-    expect_eq(
-        &rt,
-        play.try_claim(Seat::North, 10),
-        Ok(()),
-        "North claims 10",
-    );
+    claim(&rt, &mut play, Seat::North, 10, Ok(()));
     expect_eq(&rt, tricks(&play), (0, 0), "tricks");
-    expect_eq(
-        &rt,
-        play.agree(Seat::East, 1),
-        Ok(()),
-        "East agrees to claim 1",
-    );
-    expect_eq(
-        &rt,
-        play.agree(Seat::West, 1),
-        Ok(()),
-        "West agrees to claim 1",
-    );
+    agree(&rt, &mut play, Seat::East, 1, Ok(()));
+    agree(&rt, &mut play, Seat::West, 1, Ok(()));
     expect_eq(&rt, tricks(&play), (10, 3), "tricks");
     assert!(rt; play.is_over());
-    expect_eq(
-        &rt,
-        play.refuse(Seat::West, 1),
-        Err(ConsentRefused::NoClaim),
-        "West refuses claim 1",
-    );
+    refuse(&rt, &mut play, Seat::West, 1, Err(ConsentRefused::NoClaim));
     Ok(())
 }

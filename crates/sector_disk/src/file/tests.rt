@@ -5,6 +5,7 @@ mod calls;
 use super::*;
 use crate::tests::expect_eq;
 use std::fs;
+use std::process::Abort;
 use std::test::Fail;
 
 // Writes a sector of 7s with these ends, if there is such a sector, and syncs.
@@ -27,51 +28,44 @@ fn ends_of<D: SectorDisk>(disk: &mut D, i: u32) -> Result<(u8, u8), DiskFault> {
     Ok((bytes[0], bytes[511]))
 }
 
+// Sector 1 has the ends 3 and 4, sector 2047 has 5 and 6, sector 2 has these, and two others are zeros.
+fn sectors_are<D: SectorDisk>(
+    rt: &impl Abort,
+    disk: &mut D,
+    second: (u8, u8),
+) -> Result<(), DiskFault> {
+    for (i, want) in [
+        (0, (0, 0)),
+        (1, (3, 4)),
+        (2, second),
+        (2046, (0, 0)),
+        (2047, (5, 6)),
+    ] {
+        expect_eq(rt, ends_of(disk, i)?, want, i);
+    }
+    Ok(())
+}
+
 #[test]
 fn a_file_keeps_sectors(rt: HostRuntime) -> Result<(), Fail> {
     let name = "sector_disk_test.disk";
     let _ = fs::remove_file(&rt, name);
-    expect_eq(
-        &rt,
-        FileDisk::open(&rt, name).err(),
-        Some(DiskFault::Read),
-        "a missing file",
-    );
+    let missing = FileDisk::open(&rt, name).err();
+    expect_eq(&rt, missing, Some(DiskFault::Read), "a missing file");
     let mut disk = FileDisk::create(&rt, name)?;
     expect_eq(&rt, disk.count(), 2048, "sectors");
     put(&mut disk, 1, 3, 4)?;
     put(&mut disk, 2047, 5, 6)?;
-    for (i, want) in [
-        (0, (0, 0)),
-        (1, (3, 4)),
-        (2, (0, 0)),
-        (2046, (0, 0)),
-        (2047, (5, 6)),
-    ] {
-        expect_eq(&rt, ends_of(&mut disk, i)?, want, i);
-    }
+    sectors_are(&rt, &mut disk, (0, 0))?;
     drop(disk);
 
     let mut disk = FileDisk::open(&rt, name)?;
     expect_eq(&rt, disk.count(), 2048, "sectors");
-    expect_eq(
-        &rt,
-        put(&mut disk, 2, 8, 9),
-        Ok(()),
-        "a write after opening",
-    );
+    put(&mut disk, 2, 8, 9)?;
     drop(disk);
 
     let mut disk = FileDisk::open(&rt, name)?;
-    for (i, want) in [
-        (0, (0, 0)),
-        (1, (3, 4)),
-        (2, (8, 9)),
-        (2046, (0, 0)),
-        (2047, (5, 6)),
-    ] {
-        expect_eq(&rt, ends_of(&mut disk, i)?, want, i);
-    }
+    sectors_are(&rt, &mut disk, (8, 9))?;
     drop(disk);
     fs::remove_file(&rt, name)?;
     Ok(())

@@ -176,19 +176,21 @@ fn a_file_that_is_made_gets_1048576_zeros_and_a_sync(rt: HostRuntime) -> Result<
         }
     }
     expect_eq(&rt, (end, syncs), (1_048_576, 1), "the end and the syncs");
+    Ok(())
+}
 
-    // The first write refused, one in the middle, the last, and the sync: nothing is called after it.
-    let last = calls.len().saturating_sub(1);
+// The first write refused, one in the middle, the last, and the sync.
+#[test]
+fn nothing_is_called_after_a_refused_call(rt: HostRuntime) -> Result<(), Fail> {
+    let calls = RefCell::new(Vec::new(rt.alloc()));
+    drop(FileDisk::filled(Noted::new(&calls, usize::MAX))?);
+    let last = calls.into_inner().len().saturating_sub(1);
     for refused in [0, last / 2, last.saturating_sub(1), last] {
         let calls = RefCell::new(Vec::new(rt.alloc()));
         let made = FileDisk::filled(Noted::new(&calls, refused));
         expect_eq(&rt, made.err(), Some(DiskFault::Write), refused);
-        expect_eq(
-            &rt,
-            calls.into_inner().len(),
-            refused.wrapping_add(1),
-            refused,
-        );
+        let count = calls.into_inner().len();
+        expect_eq(&rt, count, refused.wrapping_add(1), refused);
     }
     Ok(())
 }
