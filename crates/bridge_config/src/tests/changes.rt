@@ -80,44 +80,28 @@ fn accepted_bytes(rt: &impl Abort, alloc: Global, text: &str) -> Result<usize, F
 
 #[test]
 fn lines_of_rows(rt: HostRuntime) -> Result<(), Fail> {
-    expect_eq(
-        &rt,
-        accepted_lines(&rt, rt.alloc(), ROWS)?,
-        0,
-        "texts accepted",
-    );
+    let accepted = accepted_lines(&rt, rt.alloc(), ROWS)?;
+    expect_eq(&rt, accepted, 0, "texts accepted");
     Ok(())
 }
 
 #[test]
 fn lines_of_a_mitchell(rt: HostRuntime) -> Result<(), Fail> {
-    expect_eq(
-        &rt,
-        accepted_lines(&rt, rt.alloc(), MITCHELL)?,
-        0,
-        "texts accepted",
-    );
+    let accepted = accepted_lines(&rt, rt.alloc(), MITCHELL)?;
+    expect_eq(&rt, accepted, 0, "texts accepted");
     Ok(())
 }
 
 #[test]
 fn bytes_of_rows(rt: HostRuntime) -> Result<(), Fail> {
-    expect_eq(
-        &rt,
-        accepted_bytes(&rt, rt.alloc(), ROWS)?,
-        352,
-        "texts accepted",
-    );
+    let accepted = accepted_bytes(&rt, rt.alloc(), ROWS)?;
+    expect_eq(&rt, accepted, 352, "texts accepted");
     Ok(())
 }
 
 #[test]
 fn bytes_of_a_mitchell(rt: HostRuntime) -> Result<(), Fail> {
-    expect_eq(
-        &rt,
-        accepted_bytes(&rt, rt.alloc(), MITCHELL)?,
-        329,
-        "texts accepted",
-    );
+    let accepted = accepted_bytes(&rt, rt.alloc(), MITCHELL)?;
+    expect_eq(&rt, accepted, 329, "texts accepted");
     Ok(())
 }
