@@ -1,3 +1,5 @@
+ghost use Rattle.bridge_movement.specs.Shape.{IsShape};
+
 mod twin;
 
 use crate::{Movement, MovementRefused, Place, Row, Shape};
@@ -122,7 +124,9 @@ fn changed(changes: &[(usize, [u8; 5])]) -> [Row; 4] {
 }
 
 /// Why these rows are refused, if they are.
-fn refusal(shape: Shape, rows: &[Row]) -> Option<MovementRefused> {
+fn refusal(shape: Shape, rows: &[Row]) -> Option<MovementRefused>
+    requires { IsShape shape }
+{
     Movement::from_rows(shape, rows).err()
 }
 
