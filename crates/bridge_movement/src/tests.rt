@@ -1,5 +1,6 @@
 ghost use Rattle.bridge_movement.specs.Shape.{IsShape};
 
+mod small;
 mod twin;
 
 use crate::{Movement, MovementRefused, Place, Row, Shape};
@@ -260,43 +261,4 @@ fn howell_of_three_tables(rt: HostRuntime) -> Result<(), MovementRefused> {
     }
     expect_eq(&rt, sitting_out.place(1, 0), None, "0 is nobody");
     Ok(())
-}
-
-/// The row whose two pairs, 0 to 2, and set, 1 or 2, are the digits of `n`.
-fn small_row(n: u32, round: u8, table: u8) -> Row {
-    row([
-        round,
-        table,
-        (n % 3) as u8,
-        (n / 3 % 3) as u8,
-        (n / 9 % 2) as u8 + 1,
-    ])
-}
-
-#[test]
-fn small_movements_are_taken_where_they_are_fair(rt: HostRuntime) {
-    let shape = Shape {
-        tables: 2,
-        rounds: 2,
-        sets: 2,
-        pairs: 2,
-        split: 2,
-    };
-    let mut taken = 0u32;
-    for n in 0..18 * 18 * 18 * 18 {
-        let rows = [
-            small_row(n, 1, 1),
-            small_row(n / 18, 1, 2),
-            small_row(n / 18 / 18, 2, 1),
-            small_row(n / 18 / 18 / 18, 2, 2),
-        ];
-        let fair = is_fair(shape, &rows);
-        expect_eq(&rt, refusal(shape, &rows).is_none(), fair, rows);
-        if fair {
-            taken += 1;
-        }
-    }
-    // Counted apart from this crate: of the 14 rows that have no pair against itself, the lists of four in which no pair
-    // is twice in a round and none has a set twice in live rows.
-    expect_eq(&rt, taken, 6928, "movements accepted");
 }

@@ -1,38 +1,43 @@
 //! Texts that are read, with what they state.
-use super::stated::{Refused, read, stated_by_rows};
+use super::stated::{Refused, Stated, read, stated_by_rows};
 use super::texts::{MITCHELL, ROWS, with_lines};
 use crate::tests::expect_eq;
 use bridge_movement::{Row, Shape};
 use bridge_score::Scoring;
 use std::alloc::Global;
+use std::process::Abort;
 use std::test::Fail;
 
-/// The text of two tables with one line changed.
-fn with_line(alloc: Global, number: u32, line: &str) -> Result<Vec<u8>, Fail> {
-    Ok(with_lines(alloc, ROWS, &[(number, line)])?)
+/// The text of two tables with this line in place of its own states what is due.
+fn is_read(
+    rt: &impl Abort,
+    alloc: Global,
+    number: u32,
+    line: &str,
+    due: Stated,
+) -> Result<(), Fail> {
+    let text = with_lines(alloc, ROWS, &[(number, line)])?;
+    expect_eq(rt, read(alloc, text.as_slice()), Ok(due), line);
+    Ok(())
 }
 
 #[test]
-fn line_ends(rt: HostRuntime) -> Result<(), Fail> {
-    let alloc = rt.alloc();
-    let mut with_returns = Vec::new(alloc);
-    for byte in ROWS.as_bytes() {
-        if *byte == b'\n' {
-            with_returns.push(b'\r')?;
-        }
-        with_returns.push(*byte)?;
+fn a_return_before_each_line_feed(rt: HostRuntime) -> Result<(), Fail> {
+    let mut text = Vec::new(rt.alloc());
+    for line in ROWS.lines() {
+        text.extend_from_slice(line.as_bytes())?;
+        text.extend_from_slice(b"\r\n")?;
     }
-    let mut without_last = ROWS.as_bytes().to_vec(alloc)?;
-    without_last.pop();
-    for (what, text) in [
-        (
-            "a carriage return before each line feed",
-            with_returns.as_slice(),
-        ),
-        ("no line feed after the last line", without_last.as_slice()),
-    ] {
-        expect_eq(&rt, read(alloc, text), Ok(stated_by_rows(alloc)?), what);
-    }
+    let due = stated_by_rows(rt.alloc())?;
+    expect_eq(&rt, read(rt.alloc(), text.as_slice()), Ok(due), "returns");
+    Ok(())
+}
+
+#[test]
+fn no_line_feed_after_the_last_line(rt: HostRuntime) -> Result<(), Fail> {
+    let text = ROWS.trim_end().as_bytes();
+    let due = stated_by_rows(rt.alloc())?;
+    expect_eq(&rt, read(rt.alloc(), text), Ok(due), "no line feed");
     Ok(())
 }
 
@@ -46,8 +51,7 @@ fn dates(rt: HostRuntime) -> Result<(), Fail> {
     ] {
         let mut due = stated_by_rows(alloc)?;
         due.date = date.to_vec(alloc)?;
-        let text = with_line(alloc, 3, line)?;
-        expect_eq(&rt, read(alloc, text.as_slice()), Ok(due), line);
+        is_read(&rt, alloc, 3, line, due)?;
     }
     Ok(())
 }
@@ -63,8 +67,7 @@ fn names(rt: HostRuntime) -> Result<(), Fail> {
     ] {
         let mut due = stated_by_rows(alloc)?;
         due.event = name.as_bytes().to_vec(alloc)?;
-        let text = with_line(alloc, 1, line)?;
-        expect_eq(&rt, read(alloc, text.as_slice()), Ok(due), line);
+        is_read(&rt, alloc, 1, line, due)?;
     }
     Ok(())
 }
@@ -72,34 +75,33 @@ fn names(rt: HostRuntime) -> Result<(), Fail> {
 #[test]
 fn other_fields(rt: HostRuntime) -> Result<(), Fail> {
     let alloc = rt.alloc();
-    let mut imps = stated_by_rows(alloc)?;
-    imps.scoring = Scoring::Imps;
-    let mut three_boards = stated_by_rows(alloc)?;
-    three_boards.boards = 3;
-    let mut one_field = stated_by_rows(alloc)?;
-    one_field.shape.split = 4;
+    let mut due = stated_by_rows(alloc)?;
+    due.scoring = Scoring::Imps;
+    is_read(&rt, alloc, 4, "SCORING IMP", due)?;
+    let mut due = stated_by_rows(alloc)?;
+    due.boards = 3;
+    is_read(&rt, alloc, 5, "BOARDS 3", due)?;
+    let mut due = stated_by_rows(alloc)?;
+    due.shape.split = 4;
+    is_read(&rt, alloc, 6, "MOVEMENT 2 1 1 4 4", due)?;
+    let mut due = stated_by_rows(alloc)?;
+    due.director = 4294967295;
+    is_read(&rt, alloc, 9, "DIRECTOR 4294967295", due)
+}
+
+#[test]
+fn other_rows_and_pairs(rt: HostRuntime) -> Result<(), Fail> {
+    let alloc = rt.alloc();
     let mut sits_out = stated_by_rows(alloc)?;
     if let Some(row) = sits_out.rows.get_mut(1) {
         row.ew = 0;
     }
-    let mut greatest = stated_by_rows(alloc)?;
-    greatest.director = 4294967295;
+    is_read(&rt, alloc, 8, "ROW 1 2 2 0 1", sits_out)?;
     let mut least = stated_by_rows(alloc)?;
     if let Some(player) = least.players.get_mut(7) {
         player.key = 0;
     }
-    for (number, line, due) in [
-        (4, "SCORING IMP", imps),
-        (5, "BOARDS 3", three_boards),
-        (6, "MOVEMENT 2 1 1 4 4", one_field),
-        (8, "ROW 1 2 2 0 1", sits_out),
-        (9, "DIRECTOR 4294967295", greatest),
-        (13, "PAIR 4 Gus 41 Hal 0", least),
-    ] {
-        let text = with_line(alloc, number, line)?;
-        expect_eq(&rt, read(alloc, text.as_slice()), Ok(due), line);
-    }
-    Ok(())
+    is_read(&rt, alloc, 13, "PAIR 4 Gus 41 Hal 0", least)
 }
 
 #[test]
