@@ -1,5 +1,7 @@
 -- The last place of a list that passes a test.
-use Rattle.std.proofs.Common.{◌≡◌, ℕ, zero, suc, ◌-◌, ◌<◌, ◌≤◌, ◌∙◌, sub-one, Bool, true, false, List, [], ◌∷◌, length, take, get_or, Some, refl, sym, ap, arith}
+use Rattle.std.proofs.Common.{◌≡◌, ℕ, zero, suc, ◌<◌, Bool, true, false, List, [], ◌∷◌, length, take, get_or, Option, Some, None, refl, sym, ap, arith}
+use Rattle.std.specs.Prelude.{MatchOption}
+use Rattle.std.specs.List.{HoldsAt, AllWithin}
 use Rattle.bridge_auction.specs.declared.call.Call.{Call}
 use Rattle.bridge_auction.specs.Legal.{later_or_here, last_place}
 
@@ -17,13 +19,24 @@ last_place_hit test (call ∷ calls) zero x within here passes = rw (← here, p
 last_place_hit test (call ∷ calls) (suc n) x within here passes =
     ap (λ place. later_or_here place (test call)) (last_place_hit test calls n x (omega arith) here passes)
 
--- the same, from the end of the calls that are still to be looked at
-pub last_place_skips : (test : Call → Bool) (calls : List Call) (end : ℕ) (x : Call) → 0 < end → end ≤ length calls → x ≡ get_or calls (end - 1) x → test x ≡ false → last_place test calls ≡ last_place test (take end calls) → last_place test calls ≡ last_place test (take (end - 1) calls)
-last_place_skips test calls zero x some within here fails so_far = absurd (omega arith)
-last_place_skips test calls (suc end) x some within here fails so_far =
-    rw sub-one (so_far ∙ last_place_miss test calls end x (omega arith) (rw sub-one at here) fails)
+-- no call passes the test
+last_place_none : (test : Call → Bool) (calls : List Call) → AllWithin (λ call. test call ≡ false) calls 0 (length calls) → last_place test calls ≡ None
+last_place_none test [] none = refl
+last_place_none test (call ∷ calls) none =
+    let rest = last_place_none test calls (λ k d least most. none (suc k) d (omega arith) (omega (arith, most))) in
+    rw (rest, none 0 call (omega arith) (omega arith)) refl
 
-pub last_place_found : (test : Call → Bool) (calls : List Call) (end : ℕ) (x : Call) → 0 < end → end ≤ length calls → x ≡ get_or calls (end - 1) x → test x ≡ true → last_place test calls ≡ last_place test (take end calls) → Some (end - 1) ≡ last_place test calls
-last_place_found test calls zero x some within here passes so_far = absurd (omega arith)
-last_place_found test calls (suc end) x some within here passes so_far =
-    rw sub-one (sym (so_far ∙ last_place_hit test calls end x (omega arith) (rw sub-one at here) passes))
+-- the call at that place passes the test, and none after it
+last_place_at : (test : Call → Bool) (calls : List Call) (i : ℕ) → i < length calls → HoldsAt (λ call. test call ≡ true) calls i → AllWithin (λ call. test call ≡ false) calls (suc i) (length calls) → last_place test calls ≡ Some i
+last_place_at test [] i within here after = absurd (omega (arith, within))
+last_place_at test (call ∷ calls) zero within here after =
+    let none = last_place_none test calls (λ k d least most. after (suc k) d (omega arith) (omega (arith, most))) in
+    rw (none, here call) refl
+last_place_at test (call ∷ calls) (suc i) within here after =
+    ap (λ place. later_or_here place (test call))
+    (last_place_at test calls i (omega (arith, within)) here (λ k d least most. after (suc k) d (omega (arith, least)) (omega (arith, most))))
+
+-- what a search from the end finds
+pub last_place_is : (test : Call → Bool) (calls : List Call) (found : Option ℕ) → MatchOption found (AllWithin (λ call. test call ≡ false) calls 0 (length calls)) (λ i. (i < length calls) × HoldsAt (λ call. test call ≡ true) calls i × AllWithin (λ call. test call ≡ false) calls (suc i) (length calls)) → found ≡ last_place test calls
+last_place_is test calls None is = sym (last_place_none test calls is)
+last_place_is test calls (Some i) is = sym (last_place_at test calls i is.0 is.1 is.2)

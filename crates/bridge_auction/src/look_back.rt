@@ -29,28 +29,14 @@ pub fn ended(calls: &[Call]) -> bool
 pub fn last_but_passes(calls: &[Call]) -> Option<usize>
     ensures { result ≡ last_place (λ call. not (is_pass call)) calls.now }
 {
-    let mut end = calls.len();
-    while end > 0 {
-        end -= 1;
-        if !calls[end].is_pass() {
-            return Some(end);
-        }
-    }
-    None
+    calls.iter().rposition(|call| !call.is_pass())
 }
 
 /// The place of the last bid.
 pub fn last_bid(calls: &[Call]) -> Option<usize>
     ensures { result ≡ last_place is_bid calls.now }
 {
-    let mut end = calls.len();
-    while end > 0 {
-        end -= 1;
-        if calls[end].is_bid() {
-            return Some(end);
-        }
-    }
-    None
+    calls.iter().rposition(|call| call.is_bid())
 }
 
 /// The last call that is no pass, if an opponent of the player who calls next made it.

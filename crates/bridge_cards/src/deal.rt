@@ -84,10 +84,5 @@ fn are_disjoint(hands: &[CardSet]) -> bool
 fn have_thirteen_each(hands: &[CardSet]) -> bool
     ensures { MatchBool result (All IsHand hands.now) (SomeNotThirteen hands.now) }
 {
-    for hand in hands {
-        if hand.len() != 13 {
-            return false;
-        }
-    }
-    true
+    hands.iter().all(|hand| hand.len() == 13)
 }

@@ -68,12 +68,7 @@ fn is_within_limits(fields: &ConfigFields) -> bool
 fn have_names(pairs: &[PairFields]) -> bool
     ensures { IsTrue result ↔ All IsPair (map pair_of pairs.now) }
 {
-    for pair in pairs {
-        if !has_names(pair) {
-            return false;
-        }
-    }
-    true
+    pairs.iter().all(has_names)
 }
 
 /// Whether both players have names.
