@@ -50,7 +50,7 @@ fn dates(rt: HostRuntime) -> Result<(), Fail> {
         ("DATE 2026.02.31", b"2026.02.31"),
     ] {
         let mut due = stated_by_rows(alloc)?;
-        due.date = date.to_vec(alloc)?;
+        due.heading.date = date.to_vec(alloc)?;
         is_read(&rt, alloc, 3, line, due)?;
     }
     Ok(())
@@ -66,7 +66,7 @@ fn names(rt: HostRuntime) -> Result<(), Fail> {
         ("EVENT abcdefghijklmnopqrstuvwx", "abcdefghijklmnopqrstuvwx"),
     ] {
         let mut due = stated_by_rows(alloc)?;
-        due.event = name.as_bytes().to_vec(alloc)?;
+        due.heading.event = name.as_bytes().to_vec(alloc)?;
         is_read(&rt, alloc, 1, line, due)?;
     }
     Ok(())
@@ -76,10 +76,10 @@ fn names(rt: HostRuntime) -> Result<(), Fail> {
 fn other_fields(rt: HostRuntime) -> Result<(), Fail> {
     let alloc = rt.alloc();
     let mut due = stated_by_rows(alloc)?;
-    due.scoring = Scoring::Imps;
+    due.heading.scoring = Scoring::Imps;
     is_read(&rt, alloc, 4, "SCORING IMP", due)?;
     let mut due = stated_by_rows(alloc)?;
-    due.boards = 3;
+    due.heading.boards = 3;
     is_read(&rt, alloc, 5, "BOARDS 3", due)?;
     let mut due = stated_by_rows(alloc)?;
     due.shape.split = 4;

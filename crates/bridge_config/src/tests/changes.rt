@@ -4,6 +4,7 @@ use super::texts::{MITCHELL, ROWS};
 use super::twin;
 use crate::tests::expect_eq;
 use std::alloc::{AllocError, Global};
+use std::fmt::Debug;
 use std::process::Abort;
 use std::test::Fail;
 
@@ -11,7 +12,13 @@ use std::test::Fail;
 const BYTES: [u8; 8] = [b' ', b'0', b'9', b'A', b'.', b'\n', b'\r', 200];
 
 /// The reader and the twin say the same of the text. Returns whether they accept it.
-fn agree(rt: &impl Abort, alloc: Global, text: &[u8], what: &str, place: usize) -> bool {
+fn agree(
+    rt: &impl Abort,
+    alloc: Global,
+    text: &[u8],
+    what: impl Debug + Drop,
+    place: usize,
+) -> bool {
     let said = read(alloc, text);
     let accepted = said.is_ok();
     expect_eq(rt, said, twin::read(alloc, text), (what, place));
@@ -28,27 +35,39 @@ fn joined(alloc: Global, lines: &[&str]) -> Result<Vec<u8>, AllocError> {
     Ok(text)
 }
 
+/// What is done to a line.
+#[derive(Clone, Copy, Debug)]
+enum Change {
+    Dropped,
+    Doubled,
+    /// Swapped with the next. The last line, which has none, is dropped.
+    Swapped,
+}
+
+/// The text of these lines with the one at the place, from 0, changed.
+fn changed(alloc: Global, lines: &[&str], place: usize, change: Change) -> Result<Vec<u8>, Fail> {
+    let line = lines.get(place).copied().ok_or("a line")?;
+    let mut changed = lines.to_vec(alloc)?;
+    changed.remove(place);
+    match change {
+        Change::Doubled => {
+            changed.insert(place, line)?;
+            changed.insert(place, line)?;
+        }
+        Change::Swapped if place < changed.len() => changed.insert(place + 1, line)?,
+        Change::Dropped | Change::Swapped => {}
+    }
+    Ok(joined(alloc, changed.as_slice())?)
+}
+
 /// How many of the texts are accepted in which one line is dropped, doubled or swapped with the next.
 fn accepted_lines(rt: &impl Abort, alloc: Global, text: &str) -> Result<usize, Fail> {
     let lines: Vec<&str> = text.lines().collect(alloc)?;
     let mut accepted = 0usize;
     for place in 0..lines.len() {
-        let line = lines.get(place).copied().ok_or("a line")?;
-        let mut dropped = lines.clone()?;
-        dropped.remove(place);
-        let mut doubled = lines.clone()?;
-        doubled.insert(place, line)?;
-        let mut swapped = dropped.clone()?;
-        if place < swapped.len() {
-            swapped.insert(place + 1, line)?;
-        }
-        for (what, changed) in [
-            ("a line dropped", dropped),
-            ("a line doubled", doubled),
-            ("a line swapped", swapped),
-        ] {
-            let changed = joined(alloc, changed.as_slice())?;
-            if agree(rt, alloc, changed.as_slice(), what, place) {
+        for change in [Change::Dropped, Change::Doubled, Change::Swapped] {
+            let text = changed(alloc, lines.as_slice(), place, change)?;
+            if agree(rt, alloc, text.as_slice(), change, place) {
                 accepted = accepted.saturating_add(1);
             }
         }

@@ -27,7 +27,7 @@ PAIR 10 I.McKay 57138 O.Jensen 12894
 ";
 
 #[test]
-fn mitchell_of_five_tables(rt: HostRuntime) -> Result<(), Fail> {
+fn heading_of_the_club_night(rt: HostRuntime) -> Result<(), Fail> {
     let config = read_config(CLUB.as_bytes())?;
     let fields = config.fields();
     expect_eq(&rt, fields.event.as_str(), "Tuesday-Pairs", "event");
@@ -36,6 +36,13 @@ fn mitchell_of_five_tables(rt: HostRuntime) -> Result<(), Fail> {
     expect_eq(&rt, fields.scoring, Scoring::MatchPoints, "scoring");
     expect_eq(&rt, fields.boards, 3, "boards");
     expect_eq(&rt, fields.director, Key(52817), "director");
+    Ok(())
+}
+
+#[test]
+fn movement_of_the_club_night(rt: HostRuntime) -> Result<(), Fail> {
+    let config = read_config(CLUB.as_bytes())?;
+    let movement = &config.fields().movement;
     let shape = Shape {
         tables: 5,
         rounds: 5,
@@ -43,7 +50,7 @@ fn mitchell_of_five_tables(rt: HostRuntime) -> Result<(), Fail> {
         pairs: 10,
         split: 5,
     };
-    expect_eq(&rt, fields.movement.shape(), shape, "shape");
+    expect_eq(&rt, movement.shape(), shape, "shape");
     // the first row of round 2: East and West have come from table 5 to table 1, and set 2 from table 2
     let row = Row {
         round: 2,
@@ -52,15 +59,22 @@ fn mitchell_of_five_tables(rt: HostRuntime) -> Result<(), Fail> {
         ew: 10,
         set: 2,
     };
-    let rows = rows_of(rt.alloc(), &fields.movement)?;
+    let rows = rows_of(rt.alloc(), movement)?;
     expect_eq(&rt, rows.get(5).copied(), Some(row), "row 5, from 0");
-    expect_eq(&rt, fields.pairs.len(), 10, "pairs");
+    Ok(())
+}
+
+#[test]
+fn players_of_the_club_night(rt: HostRuntime) -> Result<(), Fail> {
+    let config = read_config(CLUB.as_bytes())?;
+    let pairs = &config.fields().pairs;
+    expect_eq(&rt, pairs.len(), 10, "pairs");
     for (place, names, keys) in [
         (0usize, ["A.Berger", "M.Okafor"], [40213, 71850]),
         (4, ["H.Lindqvist", "P.Quinn"], [59402, 16273]),
         (9, ["I.McKay", "O.Jensen"], [57138, 12894]),
     ] {
-        let pair = fields.pairs.get(place).copied().unwrap_or_default();
+        let pair = pairs.get(place).copied().unwrap_or_default();
         expect_eq(&rt, pair.names[0].as_str(), names[0], place);
         expect_eq(&rt, pair.names[1].as_str(), names[1], place);
         expect_eq(&rt, pair.keys, keys.map(Key), place);

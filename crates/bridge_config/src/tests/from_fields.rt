@@ -54,28 +54,32 @@ fn is_none(rt: &impl Abort, fields: ConfigFields, what: &str) {
 fn fields_read_back(rt: HostRuntime) -> Result<(), Fail> {
     let alloc = rt.alloc();
     let config = Config::from_fields(fields(alloc)?).ok_or("within the limits")?;
-    let stated = stated_by(alloc, config.fields());
-    expect_eq(
-        &rt,
-        stated,
-        Ok(stated_by_rows(alloc)?),
-        "the fields of a movement by rows",
-    );
+    let stated = stated_by(alloc, config.fields())?;
+    let due = stated_by_rows(alloc)?;
+    expect_eq(&rt, stated, due, "the fields of a movement by rows");
+    Ok(())
+}
+
+const NO_NAMES: [&str; 4] = ["", "Ann!", "Ann Lee", "Ann\n"];
+
+#[test]
+fn names_of_the_event_and_the_site(rt: HostRuntime) -> Result<(), Fail> {
+    for name in NO_NAMES {
+        let mut event = fields(rt.alloc())?;
+        event.event = text(name)?;
+        is_none(&rt, event, name);
+        let mut site = fields(rt.alloc())?;
+        site.site = text(name)?;
+        is_none(&rt, site, name);
+    }
     Ok(())
 }
 
 #[test]
-fn names(rt: HostRuntime) -> Result<(), Fail> {
-    let alloc = rt.alloc();
-    for name in ["", "Ann!", "Ann Lee", "Ann\n"] {
-        let mut event = fields(alloc)?;
-        event.event = text(name)?;
-        is_none(&rt, event, name);
-        let mut site = fields(alloc)?;
-        site.site = text(name)?;
-        is_none(&rt, site, name);
+fn names_of_players(rt: HostRuntime) -> Result<(), Fail> {
+    for name in NO_NAMES {
         for (place, names) in [(0, [name, "Bob"]), (0, ["Ann", name]), (3, ["Gus", name])] {
-            let mut player = fields(alloc)?;
+            let mut player = fields(rt.alloc())?;
             if let Some(changed) = player.pairs.get_mut(place) {
                 let [Key(first), Key(second)] = changed.keys;
                 *changed = pair(names, [first, second])?;

@@ -1,5 +1,5 @@
 //! What a configuration states, in plain lists.
-use crate::fields::ConfigFields;
+use crate::fields::{ConfigFields, PairFields};
 use crate::{ConfigFault, read_config};
 use bridge_movement::{Movement, Row, Shape};
 use bridge_score::Scoring;
@@ -11,13 +11,19 @@ pub struct Player {
     pub key: u64,
 }
 
+/// What the first five lines state.
 #[derive(Debug, Drop, PartialEq, Eq)]
-pub struct Stated {
+pub struct Heading {
     pub event: Vec<u8>,
     pub site: Vec<u8>,
     pub date: Vec<u8>,
     pub scoring: Scoring,
     pub boards: u64,
+}
+
+#[derive(Debug, Drop, PartialEq, Eq)]
+pub struct Stated {
+    pub heading: Heading,
     pub shape: Shape,
     pub rows: Vec<Row>,
     pub director: u64,
@@ -56,6 +62,17 @@ pub fn players_of(alloc: Global, players: &[(&str, u64)]) -> Result<Vec<Player>,
     Ok(list)
 }
 
+/// What the first five lines of `examples/rows.txt` state.
+fn heading_of_rows(alloc: Global) -> Result<Heading, AllocError> {
+    Ok(Heading {
+        event: b"Club-Night".to_vec(alloc)?,
+        site: b"Town-Hall".to_vec(alloc)?,
+        date: b"2026.03.14".to_vec(alloc)?,
+        scoring: Scoring::MatchPoints,
+        boards: 1,
+    })
+}
+
 /// What the text of `examples/rows.txt` states.
 pub fn stated_by_rows(alloc: Global) -> Result<Stated, AllocError> {
     let rows = [
@@ -75,11 +92,7 @@ pub fn stated_by_rows(alloc: Global) -> Result<Stated, AllocError> {
         },
     ];
     Ok(Stated {
-        event: b"Club-Night".to_vec(alloc)?,
-        site: b"Town-Hall".to_vec(alloc)?,
-        date: b"2026.03.14".to_vec(alloc)?,
-        scoring: Scoring::MatchPoints,
-        boards: 1,
+        heading: heading_of_rows(alloc)?,
         shape: Shape {
             tables: 2,
             rounds: 1,
@@ -117,10 +130,10 @@ pub fn rows_of(alloc: Global, movement: &Movement) -> Result<Vec<Row>, AllocErro
     Ok(rows)
 }
 
-/// What the fields state.
-pub fn stated_by(alloc: Global, fields: &ConfigFields) -> Result<Stated, Refused> {
+/// The players of the pairs, in order.
+fn players_in(alloc: Global, pairs: &[PairFields]) -> Result<Vec<Player>, AllocError> {
     let mut players = Vec::new(alloc);
-    for pair in &fields.pairs {
+    for pair in pairs {
         for (name, key) in pair.names.iter().zip(pair.keys.iter()) {
             players.push(Player {
                 name: name.as_str().as_bytes().to_vec(alloc)?,
@@ -128,23 +141,35 @@ pub fn stated_by(alloc: Global, fields: &ConfigFields) -> Result<Stated, Refused
             })?;
         }
     }
-    Ok(Stated {
+    Ok(players)
+}
+
+/// What the fields of the first five lines state.
+fn heading_of(alloc: Global, fields: &ConfigFields) -> Result<Heading, AllocError> {
+    Ok(Heading {
         event: fields.event.as_str().as_bytes().to_vec(alloc)?,
         site: fields.site.as_str().as_bytes().to_vec(alloc)?,
         date: fields.date.as_str().as_bytes().to_vec(alloc)?,
         scoring: fields.scoring,
         boards: u64::from(fields.boards),
+    })
+}
+
+/// What the fields state.
+pub fn stated_by(alloc: Global, fields: &ConfigFields) -> Result<Stated, AllocError> {
+    Ok(Stated {
+        heading: heading_of(alloc, fields)?,
         shape: fields.movement.shape(),
         rows: rows_of(alloc, &fields.movement)?,
         director: u64::from(fields.director.0),
-        players,
+        players: players_in(alloc, &fields.pairs)?,
     })
 }
 
 /// What the reader says of the text.
 pub fn read(alloc: Global, text: &[u8]) -> Result<Stated, Refused> {
     match read_config(text) {
-        Ok(config) => stated_by(alloc, config.fields()),
+        Ok(config) => Ok(stated_by(alloc, config.fields())?),
         Err(fault) => Err(Refused::Fault(fault)),
     }
 }

@@ -1,5 +1,5 @@
 //! A plain twin of the reader: what each kind of line has, word by word, and a slow reader of such lines.
-use super::stated::{Player, Refused, Stated, rows_of};
+use super::stated::{Heading, Player, Refused, Stated, rows_of};
 use crate::{ConfigFault, ConfigRefused};
 use bridge_movement::{Movement, Row, Shape};
 use bridge_score::Scoring;
@@ -87,6 +87,22 @@ fn is_within(word: &[u8], kind: Kind) -> bool {
     }
 }
 
+/// Whether each word has the form of its kind.
+fn have_form(words: &[&[u8]], kinds: &[Kind]) -> bool {
+    words
+        .iter()
+        .zip(kinds.iter())
+        .all(|(word, kind)| has_form(word, *kind))
+}
+
+/// Whether each word, in the form of its kind, is within its limits.
+fn are_within(words: &[&[u8]], kinds: &[Kind]) -> bool {
+    words
+        .iter()
+        .zip(kinds.iter())
+        .all(|(word, kind)| is_within(word, *kind))
+}
+
 /// The words of a line after the keyword.
 fn words<'a>(
     alloc: Global,
@@ -105,17 +121,25 @@ fn words<'a>(
     if words.remove(0) != keyword {
         return fault(number, ConfigRefused::Form);
     }
-    for (word, kind) in words.iter().zip(kinds.iter()) {
-        if !has_form(word, *kind) {
-            return fault(number, ConfigRefused::Form);
-        }
+    if !have_form(words.as_slice(), kinds) {
+        return fault(number, ConfigRefused::Form);
     }
-    for (word, kind) in words.iter().zip(kinds.iter()) {
-        if !is_within(word, *kind) {
-            return fault(number, ConfigRefused::Range);
-        }
+    if !are_within(words.as_slice(), kinds) {
+        return fault(number, ConfigRefused::Range);
     }
     Ok(words)
+}
+
+/// The word of a line that has one after the keyword.
+fn only_word<'a>(
+    alloc: Global,
+    lines: &[&'a [u8]],
+    number: usize,
+    keyword: &[u8],
+    kind: Kind,
+) -> Result<&'a [u8], Refused> {
+    let words = words(alloc, lines, number, keyword, &[kind])?;
+    Ok(word(words.as_slice(), 0))
 }
 
 fn fault<T>(number: usize, cause: ConfigRefused) -> Result<T, Refused> {
@@ -138,16 +162,8 @@ fn byte(words: &[&[u8]], place: usize) -> u8 {
     u8::try_from(number(words, place)).unwrap_or(u8::MAX)
 }
 
-/// The movement of the lines from the sixth on.
-fn movement(alloc: Global, lines: &[&[u8]]) -> Result<(Movement, usize), Refused> {
-    if lines
-        .get(5)
-        .is_some_and(|line| line.starts_with(b"MITCHELL"))
-    {
-        let tables = words(alloc, lines, 6, b"MITCHELL", &[Kind::Number(2, 12)])?;
-        let tables = byte(tables.as_slice(), 0).clamp(2, 12);
-        return Ok((Movement::mitchell(tables), 0));
-    }
+/// The shape of a line MOVEMENT, within its limits or not.
+fn shape(alloc: Global, lines: &[&[u8]]) -> Result<Shape, Refused> {
     let kinds = [
         Kind::Number(2, 12),
         Kind::Number(1, 12),
@@ -156,35 +172,59 @@ fn movement(alloc: Global, lines: &[&[u8]]) -> Result<(Movement, usize), Refused
         Kind::Number(1, 24),
     ];
     let numbers = words(alloc, lines, 6, b"MOVEMENT", &kinds)?;
-    let shape = Shape {
+    Ok(Shape {
         tables: byte(numbers.as_slice(), 0),
         rounds: byte(numbers.as_slice(), 1),
         sets: byte(numbers.as_slice(), 2),
         pairs: byte(numbers.as_slice(), 3),
         split: byte(numbers.as_slice(), 4),
-    };
+    })
+}
+
+/// The row of the line of that number.
+fn row(alloc: Global, lines: &[&[u8]], number: usize) -> Result<Row, Refused> {
+    let numbers = words(alloc, lines, number, b"ROW", &[BYTE; 5])?;
+    Ok(Row {
+        round: byte(numbers.as_slice(), 0),
+        table: byte(numbers.as_slice(), 1),
+        ns: byte(numbers.as_slice(), 2),
+        ew: byte(numbers.as_slice(), 3),
+        set: byte(numbers.as_slice(), 4),
+    })
+}
+
+/// The movement of the shape and of the rows from the seventh line on.
+fn movement_of(alloc: Global, lines: &[&[u8]], shape: Shape) -> Result<Movement, Refused> {
     if !shape.is_within_limits() {
         return fault(6, ConfigRefused::Range);
     }
-    let count = usize::from(shape.tables) * usize::from(shape.rounds);
     let mut rows = Vec::new(alloc);
-    for place in 0..count {
-        let numbers = words(alloc, lines, 7 + place, b"ROW", &[BYTE; 5])?;
-        rows.push(Row {
-            round: byte(numbers.as_slice(), 0),
-            table: byte(numbers.as_slice(), 1),
-            ns: byte(numbers.as_slice(), 2),
-            ew: byte(numbers.as_slice(), 3),
-            set: byte(numbers.as_slice(), 4),
-        })?;
+    for place in 0..usize::from(shape.tables) * usize::from(shape.rounds) {
+        rows.push(row(alloc, lines, 7 + place)?)?;
     }
     match Movement::from_rows(shape, rows.as_slice()) {
-        Ok(movement) => Ok((movement, count)),
+        Ok(movement) => Ok(movement),
         Err(refused) => fault(
             usize::from(refused.place()).saturating_add(6),
             ConfigRefused::Movement(refused),
         ),
     }
+}
+
+/// The movement of the lines from the sixth on, and how many lines ROW it has.
+fn movement(alloc: Global, lines: &[&[u8]]) -> Result<(Movement, usize), Refused> {
+    if lines
+        .get(5)
+        .is_some_and(|line| line.starts_with(b"MITCHELL"))
+    {
+        let tables = only_word(alloc, lines, 6, b"MITCHELL", Kind::Number(2, 12))?;
+        let tables = u8::try_from(number_of(tables)).unwrap_or(12).clamp(2, 12);
+        return Ok((Movement::mitchell(tables), 0));
+    }
+    let shape = shape(alloc, lines)?;
+    let movement = movement_of(alloc, lines, shape)?;
+    let count = usize::from(shape.tables) * usize::from(shape.rounds);
+    Ok((movement, count))
 }
 
 /// The players of the lines from that number on, none of whom has a key that stands earlier.
@@ -217,23 +257,42 @@ fn players(
     Ok(players)
 }
 
+/// What the first five lines state.
+fn heading(alloc: Global, lines: &[&[u8]]) -> Result<Heading, Refused> {
+    let event = only_word(alloc, lines, 1, b"EVENT", Kind::Name)?;
+    let site = only_word(alloc, lines, 2, b"SITE", Kind::Name)?;
+    let date = only_word(alloc, lines, 3, b"DATE", Kind::Date)?;
+    let scoring = only_word(alloc, lines, 4, b"SCORING", Kind::Comparison)?;
+    let boards = only_word(alloc, lines, 5, b"BOARDS", Kind::Number(1, 3))?;
+    Ok(Heading {
+        event: event.to_vec(alloc)?,
+        site: site.to_vec(alloc)?,
+        date: date.to_vec(alloc)?,
+        scoring: match scoring {
+            b"IMP" => Scoring::Imps,
+            _ => Scoring::MatchPoints,
+        },
+        boards: number_of(boards),
+    })
+}
+
 /// What the text states, or its first fault.
 pub fn read(alloc: Global, text: &[u8]) -> Result<Stated, Refused> {
     if text.len() > 16384 {
         return fault(0, ConfigRefused::TooLong);
     }
     let lines = lines(alloc, text)?;
-    let lines = lines.as_slice();
-    let event = words(alloc, lines, 1, b"EVENT", &[Kind::Name])?;
-    let site = words(alloc, lines, 2, b"SITE", &[Kind::Name])?;
-    let date = words(alloc, lines, 3, b"DATE", &[Kind::Date])?;
-    let scoring = words(alloc, lines, 4, b"SCORING", &[Kind::Comparison])?;
-    let boards = words(alloc, lines, 5, b"BOARDS", &[Kind::Number(1, 3)])?;
+    read_lines(alloc, lines.as_slice())
+}
+
+/// What the lines state, or their first fault.
+fn read_lines(alloc: Global, lines: &[&[u8]]) -> Result<Stated, Refused> {
+    let heading = heading(alloc, lines)?;
     let (movement, rows) = movement(alloc, lines)?;
     let shape = movement.shape();
     let after_rows = rows.saturating_add(7);
-    let director = words(alloc, lines, after_rows, b"DIRECTOR", &[KEY])?;
-    let director = number(director.as_slice(), 0);
+    let director = only_word(alloc, lines, after_rows, b"DIRECTOR", KEY)?;
+    let director = number_of(director);
     let first = after_rows.saturating_add(1);
     let players = players(alloc, lines, first, shape.pairs, director)?;
     let end = first.saturating_add(usize::from(shape.pairs));
@@ -241,14 +300,7 @@ pub fn read(alloc: Global, text: &[u8]) -> Result<Stated, Refused> {
         return fault(end, ConfigRefused::Form);
     }
     Ok(Stated {
-        event: word(event.as_slice(), 0).to_vec(alloc)?,
-        site: word(site.as_slice(), 0).to_vec(alloc)?,
-        date: word(date.as_slice(), 0).to_vec(alloc)?,
-        scoring: match word(scoring.as_slice(), 0) {
-            b"IMP" => Scoring::Imps,
-            _ => Scoring::MatchPoints,
-        },
-        boards: number(boards.as_slice(), 0),
+        heading,
         shape,
         rows: rows_of(alloc, &movement)?,
         director,
