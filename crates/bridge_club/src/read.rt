@@ -2,7 +2,7 @@
 ghost use Rattle.std.specs.Prelude.{◌≡◌, IfOk, IfErr, IfSome, false, map};
 ghost use Rattle.clap.specs.Words.{app_of, shape_of, rule_of, subcommand_rows_of};
 ghost use Rattle.clap.specs.declared.builder.command.Command.TheViews.{out-Command as fields_of};
-ghost use Rattle.bridge_club.specs.Words.{board_rule, auction_app, club_app, IsCommand, Asks, Faults};
+ghost use Rattle.bridge_club.specs.Words.{board_rule, auction_app, bare_app, club_app, IsCommand, Asks, Faults};
 
 use crate::words::{Words, WordsFault};
 use bridge_cards::BoardNumber;
@@ -48,12 +48,18 @@ fn asked(matches: &ArgMatches) -> Option<Words>
 fn club_command<'a>(alloc: Global) -> Result<Command<'a>, AllocError>
     ensures { IfOk result (λ command. app_of command ≡ club_app) }
 {
-    let club = Command::new(alloc, "bridge_club")
+    bare_command(alloc)?.subcommand(auction_command(alloc)?)
+}
+
+/// The program's command line without its commands.
+fn bare_command<'a>(alloc: Global) -> Result<Command<'a>, AllocError>
+    ensures { IfOk result (λ command. app_of command ≡ bare_app) }
+{
+    Command::new(alloc, "bridge_club")
         .about("The server of a duplicate bridge club")
         .no_binary_name(true)
         .subcommand_required(true)
-        .bin_name("bridge_club")?;
-    club.subcommand(auction_command(alloc)?)
+        .bin_name("bridge_club")
 }
 
 /// The command `auction BOARD`.

@@ -1,5 +1,5 @@
 //! Texts that end early or go on after the last line, returns and bytes that no line has, and long lines and texts.
-use super::refused::is_refused;
+use super::refused::{are_refused, is_refused};
 use super::texts::{MITCHELL, ROWS, first_lines, followed_by, long_line, with_lines};
 use crate::ConfigRefused;
 use std::test::Fail;
@@ -44,14 +44,12 @@ fn lines_after_the_last(rt: HostRuntime) -> Result<(), Fail> {
 fn returns_in_lines(rt: HostRuntime) -> Result<(), Fail> {
     let alloc = rt.alloc();
     let form = ConfigRefused::Form;
-    for (number, line) in [
+    let lines = [
         (1, "EVENT Club-Night\r\r"),
         (1, "EVENT Club\rNight"),
         (13, "PAIR 4 Gus 41 Hal 42\r\r"),
-    ] {
-        let text = with_lines(alloc, ROWS, &[(number, line)])?;
-        is_refused(&rt, alloc, text.as_slice(), number, form, line);
-    }
+    ];
+    are_refused(&rt, alloc, form, &lines)?;
     // no line feed after the last line, and so the carriage return is part of it
     let mut text = with_lines(alloc, ROWS, &[(13, "PAIR 4 Gus 41 Hal 42\r")])?;
     text.pop();
@@ -63,9 +61,7 @@ fn returns_in_lines(rt: HostRuntime) -> Result<(), Fail> {
 fn bytes_that_are_not_ascii(rt: HostRuntime) -> Result<(), Fail> {
     let alloc = rt.alloc();
     let form = ConfigRefused::Form;
-    let line = "SITE Town-H\u{e4}ll";
-    let text = with_lines(alloc, ROWS, &[(2, line)])?;
-    is_refused(&rt, alloc, text.as_slice(), 2, form, line);
+    are_refused(&rt, alloc, form, &[(2, "SITE Town-H\u{e4}ll")])?;
     for (place, line) in [(0, 1), (6, 1), (17, 2), (48, 4)] {
         let mut text = ROWS.as_bytes().to_vec(alloc)?;
         if let Some(byte) = text.get_mut(place) {
@@ -85,14 +81,11 @@ fn long_lines(rt: HostRuntime) -> Result<(), Fail> {
         (121, ConfigRefused::Range),
         (122, ConfigRefused::Form),
     ] {
-        let line = long_line(alloc, "BOARDS", digits)?;
-        let text = with_lines(alloc, ROWS, &[(5, line.as_str())])?;
-        is_refused(&rt, alloc, text.as_slice(), 5, cause, line.as_str());
+        let mut line = long_line(alloc, "BOARDS", digits)?;
+        are_refused(&rt, alloc, cause, &[(5, line.as_str())])?;
         // the carriage return that goes with the line feed is not counted
-        let mut returned = line.clone()?;
-        returned.push('\r')?;
-        let text = with_lines(alloc, ROWS, &[(5, returned.as_str())])?;
-        is_refused(&rt, alloc, text.as_slice(), 5, cause, line.as_str());
+        line.push('\r')?;
+        are_refused(&rt, alloc, cause, &[(5, line.as_str())])?;
     }
     Ok(())
 }

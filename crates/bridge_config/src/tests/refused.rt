@@ -22,7 +22,7 @@ pub fn is_refused(
 }
 
 /// The reader refuses the text of two tables with any one of these lines in place of its own, at that line.
-fn are_refused(
+pub fn are_refused(
     rt: &impl Abort,
     alloc: Global,
     cause: ConfigRefused,
