@@ -122,12 +122,11 @@ output_heard dealer given rest before written desk left h =
 heard_all : (dealer : Seat) (input : List ℕ) (rest before written : Option (List ℕ)) (desk : Desk) (left : ℕ) (h : Heard dealer (Some input) rest before written desk left) → (0 < left → IsAtEnd rest) → take byte_limit input ≡ h.bytes
 heard_all dealer input None before written desk left h end = absurd h.consumed
 heard_all dealer input (Some bytes) before written desk zero h end =
-    let whole : length h.bytes ≡ 65536 = omega (arith, h.count) in
-    rw h.consumed (take_at h.bytes bytes 65536 whole)
+    let whole : length h.bytes ≡ byte_limit = omega (arith, h.count) in
+    ap (take byte_limit) h.consumed ∙ take_at h.bytes bytes byte_limit whole
 heard_all dealer input (Some bytes) before written desk (suc left) h end =
-    let none : bytes ≡ [] = end (omega arith) in
-    let all : input ≡ h.bytes = rw (none, append-nil) at h.consumed in
-    rw all (take_all 65536 h.bytes (omega (arith, h.count)))
+    let all : input ≡ h.bytes = h.consumed ∙ ap (λ more. h.bytes ++ more) (end (omega arith)) ∙ append-nil h.bytes in
+    ap (take byte_limit) all ∙ take_all byte_limit h.bytes (omega (arith, h.count))
 
 -- a front of the output for what was heard is a front of the whole output, where all that is read was heard
 front_at_end : (dealer : Seat) (given rest before written written' : Option (List ℕ)) (desk : Desk) (left : ℕ) (h : Heard dealer given rest before written desk left) → (0 < left → IsAtEnd rest) → AppendsFront before written' (output_for dealer h.bytes) → IfSome given (λ input. AppendsFront before written' (auction_output dealer input))
