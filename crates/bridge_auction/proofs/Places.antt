@@ -19,14 +19,14 @@ last_place_hit test (call ∷ calls) zero x within here passes = rw (← here, p
 last_place_hit test (call ∷ calls) (suc n) x within here passes =
     ap (λ place. later_or_here place (test call)) (last_place_hit test calls n x (omega arith) here passes)
 
--- no call passes the test
+-- where no call passes the test, there is no last place
 last_place_none : (test : Call → Bool) (calls : List Call) → AllWithin (λ call. test call ≡ false) calls 0 (length calls) → last_place test calls ≡ None
 last_place_none test [] none = refl
 last_place_none test (call ∷ calls) none =
     let rest = last_place_none test calls (λ k d least most. none (suc k) d (omega arith) (omega (arith, most))) in
     rw (rest, none 0 call (omega arith) (omega arith)) refl
 
--- the call at that place passes the test, and none after it
+-- where the call at that place passes the test, and none after it does, that is the last place
 last_place_at : (test : Call → Bool) (calls : List Call) (i : ℕ) → i < length calls → HoldsAt (λ call. test call ≡ true) calls i → AllWithin (λ call. test call ≡ false) calls (suc i) (length calls) → last_place test calls ≡ Some i
 last_place_at test [] i within here after = absurd (omega (arith, within))
 last_place_at test (call ∷ calls) zero within here after =
@@ -36,7 +36,7 @@ last_place_at test (call ∷ calls) (suc i) within here after =
     ap (λ place. later_or_here place (test call))
     (last_place_at test calls i (omega (arith, within)) here (λ k d least most. after (suc k) d (omega (arith, least)) (omega (arith, most))))
 
--- what a search from the end finds
+-- what a search from the end finds is the last place
 pub last_place_is : (test : Call → Bool) (calls : List Call) (found : Option ℕ) → MatchOption found (AllWithin (λ call. test call ≡ false) calls 0 (length calls)) (λ i. (i < length calls) × HoldsAt (λ call. test call ≡ true) calls i × AllWithin (λ call. test call ≡ false) calls (suc i) (length calls)) → found ≡ last_place test calls
 last_place_is test calls None is = sym (last_place_none test calls is)
 last_place_is test calls (Some i) is = sym (last_place_at test calls i is.0 is.1 is.2)

@@ -32,14 +32,14 @@ fn sets_have_the_cards_that_were_put_in(rt: HostRuntime) -> Result<(), Fail> {
 
 #[test]
 fn sets_are_joined_and_parted(rt: HostRuntime) -> Result<(), Fail> {
-    let ace = CardSet::new().with(card(b"SA")?);
-    let ten = CardSet::new().with(card(b"ST")?);
-    let spades = ace.with(card(b"ST")?);
+    let aces = CardSet::new().with(card(b"SA")?);
+    let tens = CardSet::new().with(card(b"ST")?);
+    let spades = aces.with(card(b"ST")?);
     let all = spades.with(card(b"C2")?);
     for (found, due, row) in [
-        (spades.union(ace), spades, "union"),
-        (spades.intersection(ace), ace, "intersection"),
-        (spades.difference(ace), ten, "difference"),
+        (spades.union(aces), spades, "union"),
+        (spades.intersection(aces), aces, "intersection"),
+        (spades.difference(aces), tens, "difference"),
         (all.of_suit(Suit::Spades), spades, "spades"),
         (all.of_suit(Suit::Hearts), CardSet::new(), "hearts"),
     ] {
@@ -50,15 +50,15 @@ fn sets_are_joined_and_parted(rt: HostRuntime) -> Result<(), Fail> {
 
 #[test]
 fn cards_stand_in_order(rt: HostRuntime) -> Result<(), Fail> {
-    let deck = [card(b"C2")?, card(b"ST")?, card(b"SA")?];
-    let [deuce, ten, ace] = deck;
+    let cards = [card(b"C2")?, card(b"ST")?, card(b"SA")?];
+    let [deuce, ten, ace] = cards;
     let all = CardSet::new().with(ten).with(ace).with(deuce);
     for (set, lowest, highest) in [(all, Some(deuce), Some(ace)), (CardSet::new(), None, None)] {
         expect_eq(&rt, set.is_empty(), lowest.is_none(), set);
         expect_eq(&rt, set.lowest(), lowest, set);
         expect_eq(&rt, set.highest(), highest, set);
     }
-    expect_eq(&rt, all.cards().as_slice(), deck.as_slice(), "cards");
+    expect_eq(&rt, all.cards().as_slice(), cards.as_slice(), "cards");
     Ok(())
 }
 

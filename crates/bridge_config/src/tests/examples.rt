@@ -27,7 +27,7 @@ PAIR 10 I.McKay 57138 O.Jensen 12894
 ";
 
 #[test]
-fn heading_of_the_club_night(rt: HostRuntime) -> Result<(), Fail> {
+fn heading_and_director_of_the_club_night(rt: HostRuntime) -> Result<(), Fail> {
     let config = read_config(CLUB.as_bytes())?;
     let fields = config.fields();
     expect_eq(&rt, fields.event.as_str(), "Tuesday-Pairs", "event");

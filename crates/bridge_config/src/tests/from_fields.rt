@@ -60,11 +60,12 @@ fn fields_read_back(rt: HostRuntime) -> Result<(), Fail> {
     Ok(())
 }
 
-const NO_NAMES: [&str; 4] = ["", "Ann!", "Ann Lee", "Ann\n"];
+/// Texts that are no names.
+const NOT_NAMES: [&str; 4] = ["", "Ann!", "Ann Lee", "Ann\n"];
 
 #[test]
 fn names_of_the_event_and_the_site(rt: HostRuntime) -> Result<(), Fail> {
-    for name in NO_NAMES {
+    for name in NOT_NAMES {
         let mut event = fields(rt.alloc())?;
         event.event = text(name)?;
         is_none(&rt, event, name);
@@ -77,7 +78,7 @@ fn names_of_the_event_and_the_site(rt: HostRuntime) -> Result<(), Fail> {
 
 #[test]
 fn names_of_players(rt: HostRuntime) -> Result<(), Fail> {
-    for name in NO_NAMES {
+    for name in NOT_NAMES {
         for (place, names) in [(0, [name, "Bob"]), (0, ["Ann", name]), (3, ["Gus", name])] {
             let mut player = fields(rt.alloc())?;
             if let Some(changed) = player.pairs.get_mut(place) {

@@ -162,7 +162,7 @@ fn byte(words: &[&[u8]], place: usize) -> u8 {
     u8::try_from(number(words, place)).unwrap_or(u8::MAX)
 }
 
-/// The shape of a line MOVEMENT, within its limits or not.
+/// The shape of a line MOVEMENT, of which the split may still be above the number of pairs.
 fn shape(alloc: Global, lines: &[&[u8]]) -> Result<Shape, Refused> {
     let kinds = [
         Kind::Number(2, 12),

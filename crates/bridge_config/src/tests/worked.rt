@@ -14,7 +14,7 @@ enum Change {
     Line(u32, &'static str),
     /// The first lines alone, that many.
     First(usize),
-    /// Empty lines after it, up to that many bytes.
+    /// Empty lines after the text, up to that many bytes.
     Filled(usize),
 }
 
@@ -36,7 +36,12 @@ fn changed(alloc: Global, change: Change) -> Result<Vec<u8>, Fail> {
 #[test]
 fn no_change(rt: HostRuntime) -> Result<(), Fail> {
     let stated = stated_by_rows(rt.alloc())?;
-    expect_eq(&rt, read(rt.alloc(), ROWS.as_bytes()), Ok(stated), "none");
+    expect_eq(
+        &rt,
+        read(rt.alloc(), ROWS.as_bytes()),
+        Ok(stated),
+        "the text as it is",
+    );
     Ok(())
 }
 

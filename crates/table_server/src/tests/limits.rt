@@ -32,7 +32,7 @@ fn gives(
 }
 
 /// The lines of the 319 calls of the longest auction.
-fn longest_auction(alloc: Global) -> Result<Vec<u8>, AllocError> {
+fn longest_input(alloc: Global) -> Result<Vec<u8>, AllocError> {
     let mut input = repeated(alloc, b"PASS\n", 3)?;
     for level in ["1", "2", "3", "4", "5", "6", "7"] {
         for denomination in ["C", "D", "H", "S", "NT"] {
@@ -54,7 +54,7 @@ fn takes_319_calls(rt: &impl Abort, alloc: Global, input: &[u8], ending: &str) -
 
 #[test]
 fn the_longest_auction(rt: HostRuntime) -> Result<(), Fail> {
-    let mut input = longest_auction(rt.alloc())?;
+    let mut input = longest_input(rt.alloc())?;
     takes_319_calls(&rt, rt.alloc(), input.as_slice(), "CONTRACT 7NTXX W\n")?;
     // and one call more
     input.extend_from_slice(b"PASS\n")?;

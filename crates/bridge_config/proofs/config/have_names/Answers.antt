@@ -12,9 +12,10 @@ one_lacks : (pairs : List PairFields) → Any (λ pair. ¬ IsPair (pair_of pair)
 one_lacks pairs (k, pair, within, is, lacks) all =
     lacks (subst IsPair (get_or-map pair_of pairs k pair (pair_of pair) within ∙ ap pair_of is) (all k (pair_of pair) (omega (arith, within, length-map pairs pair_of))))
 
-judged : (pairs : List PairFields) (r : Bool) → MatchBool r (All (λ pair. IsPair (pair_of pair)) pairs) (Any (λ pair. ¬ IsPair (pair_of pair)) pairs) → IsTrue r ↔ All IsPair (map pair_of pairs)
-judged pairs true is = (λ _. All-map IsPair pair_of pairs is, λ _. refl)
-judged pairs false is = (λ e. absurd cc, λ all. absurd (one_lacks pairs is all))
+-- the answer of `all` says whether each pair has its names
+all_named : (pairs : List PairFields) (r : Bool) → MatchBool r (All (λ pair. IsPair (pair_of pair)) pairs) (Any (λ pair. ¬ IsPair (pair_of pair)) pairs) → IsTrue r ↔ All IsPair (map pair_of pairs)
+all_named pairs true is = (λ _. All-map IsPair pair_of pairs is, λ _. refl)
+all_named pairs false is = (λ e. absurd cc, λ all. absurd (one_lacks pairs is all))
 
 pub returns : goal.returns
-returns c = judged c.args.pairs.now c.all.result (search rules)
+returns c = all_named c.args.pairs.now c.all.result (search rules)
