@@ -4,3 +4,5 @@ pub mod Call
 pub mod Legal
 pub mod Contract
 pub mod Auction
+pub mod Spelling
+pub mod Refused

@@ -15,6 +15,7 @@ pub mod level;
 pub mod longest;
 mod look_back;
 pub mod refused;
+pub mod spelling;
 #[cfg(test)]
 mod tests;
 
@@ -25,3 +26,4 @@ pub use contract::{Contract, Doubling};
 pub use level::Level;
 pub use longest::{MOST_CALLS, longest_auction};
 pub use refused::CallRefused;
+pub use spelling::{denomination_text, doubling_text, read_call};

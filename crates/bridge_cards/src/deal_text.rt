@@ -11,8 +11,8 @@ use crate::deal::{BadDeal, Deal};
 use crate::rank::Rank;
 use crate::seat::Seat;
 use crate::suit::Suit;
-use crate::text::split_once;
 use arrayvec::ArrayString;
+use line_text::split_once;
 
 #[cfg(test)]
 mod tests;

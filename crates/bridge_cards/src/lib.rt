@@ -13,7 +13,6 @@ pub mod shuffle;
 pub mod suit;
 #[cfg(test)]
 mod tests;
-pub mod text;
 pub mod vulnerability;
 
 pub use board::{BoardNumber, dealer, vulnerability_of, vulnerable};
@@ -25,5 +24,4 @@ pub use rank::Rank;
 pub use seat::{Seat, Side};
 pub use shuffle::deal_board;
 pub use suit::Suit;
-pub use text::split_once;
 pub use vulnerability::Vulnerability;

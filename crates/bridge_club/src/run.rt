@@ -1,18 +1,18 @@
 //! Runs the command that the words ask for.
 ghost use Rattle.std.specs.Prelude.{◌≡◌, ◌≢◌, ◌⊎◌, [], map};
-ghost use Rattle.std.specs.Io.KnownBytes.{Keeps};
 ghost use Rattle.clap.specs.Words.{fault_of};
 ghost use Rattle.bridge_club.specs.Words.{club_app, Asks};
-ghost use Rattle.table_server.specs.Streams.{AppendsFront};
+ghost use Rattle.line_text.specs.Streams.{stream, TakesPrefix, IsUntouched};
 ghost use Rattle.bridge_club.specs.Run.{IsDone, IsStopped, IsWithoutMemory, Refuses, fault_line, memory_line, text_line};
 ghost use Rattle.bridge_club.specs.declared.words.Words.{Words};
 
 use crate::read::read_words;
 use crate::words::{Words, WordsFault};
+use line_text::write_text;
 use std::alloc::Global;
 use std::io::{ErrorKind, Read, Write};
 use std::rt::Files;
-use table_server::{ServeFault, run_auction, write_text};
+use table_server::{ServeFault, run_auction};
 
 /// The command was done.
 pub const DONE: u8 = 0;
@@ -38,15 +38,16 @@ pub fn run_words<F: Files, R: Read, W: Write, E: Write>(
     errors: &mut E,
 ) -> u8
     ensures done { result ≡ 0 → (command : Words) × Asks (map (λ word. word.now) words.entry.now) command
-        × IsDone command (R.remaining input.old) (R.remaining input.new) (W.contents output.old) (W.contents output.new)
-        × Keeps (E.contents errors.old) (E.contents errors.new) }
+        × IsDone command (stream R.remaining input.old input.new)
+        (stream W.contents output.old output.new) (stream E.contents errors.old errors.new) }
     ensures usage { result ≡ 2 → (fault_of club_app (map (λ word. word.now) words.entry.now) ≢ [])
-        × Keeps (R.remaining input.old) (R.remaining input.new) × Keeps (W.contents output.old) (W.contents output.new) }
-    ensures fault { result ≡ 3 → IsWithoutMemory (R.remaining input.old) (R.remaining input.new)
-        (W.contents output.old) (W.contents output.new) (E.contents errors.old) (E.contents errors.new)
+        × IsUntouched (stream R.remaining input.old input.new)
+        × IsUntouched (stream W.contents output.old output.new) }
+    ensures fault { result ≡ 3 → IsWithoutMemory (stream R.remaining input.old input.new)
+        (stream W.contents output.old output.new) (stream E.contents errors.old errors.new)
         ⊎ ((command : Words) × Asks (map (λ word. word.now) words.entry.now) command
-        × IsStopped command (R.remaining input.old) (R.remaining input.new)
-        (W.contents output.old) (W.contents output.new) (E.contents errors.old) (E.contents errors.new)) }
+        × IsStopped command (stream R.remaining input.old input.new)
+        (stream W.contents output.old output.new) (stream E.contents errors.old errors.new)) }
     ensures status { (result ≡ 0) ⊎ ((result ≡ 2) ⊎ (result ≡ 3)) }
 {
     match read_words(alloc, words) {
@@ -57,7 +58,7 @@ pub fn run_words<F: Files, R: Read, W: Write, E: Write>(
 
 /// Says on `errors` why the words are no command, and answers the exit status.
 pub fn refuse<E: Write>(fault: WordsFault, errors: &mut E) -> u8
-    ensures { Refuses fault result (E.contents errors.old) (E.contents errors.new) }
+    ensures { Refuses fault result (stream E.contents errors.old errors.new) }
 {
     match fault {
         WordsFault::Usage(error) => {
@@ -75,11 +76,10 @@ fn run_command<R: Read, W: Write, E: Write>(
     output: &mut W,
     errors: &mut E,
 ) -> u8
-    ensures done { result ≡ 0 → IsDone command (R.remaining input.old) (R.remaining input.new)
-        (W.contents output.old) (W.contents output.new)
-        × Keeps (E.contents errors.old) (E.contents errors.new) }
-    ensures fault { result ≡ 3 → IsStopped command (R.remaining input.old) (R.remaining input.new)
-        (W.contents output.old) (W.contents output.new) (E.contents errors.old) (E.contents errors.new) }
+    ensures done { result ≡ 0 → IsDone command (stream R.remaining input.old input.new)
+        (stream W.contents output.old output.new) (stream E.contents errors.old errors.new) }
+    ensures fault { result ≡ 3 → IsStopped command (stream R.remaining input.old input.new)
+        (stream W.contents output.old output.new) (stream E.contents errors.old errors.new) }
     ensures status { (result ≡ 0) ⊎ (result ≡ 3) }
 {
     let Words::Auction(board) = command;
@@ -94,9 +94,9 @@ fn run_command<R: Read, W: Write, E: Write>(
 /// 3 where memory is refused. 2 at any other error, which is that a word is not UTF-8.
 pub fn words_fail<E: Write>(kind: ErrorKind, errors: &mut E) -> u8
     ensures memory { kind ≡ ErrorKind.OutOfMemory → (result ≡ 3)
-        × AppendsFront (E.contents errors.old) (E.contents errors.new) memory_line }
+        × TakesPrefix (stream E.contents errors.old errors.new) memory_line }
     ensures text { kind ≢ ErrorKind.OutOfMemory → (result ≡ 2)
-        × AppendsFront (E.contents errors.old) (E.contents errors.new) text_line }
+        × TakesPrefix (stream E.contents errors.old errors.new) text_line }
 {
     match kind {
         ErrorKind::OutOfMemory => fails(NO_MEMORY, errors),
@@ -110,7 +110,7 @@ pub fn words_fail<E: Write>(kind: ErrorKind, errors: &mut E) -> u8
 /// Writes the line of a fault.
 fn fails<E: Write>(text: &str, errors: &mut E) -> u8
     ensures status { result ≡ 3 }
-    ensures line { AppendsFront (E.contents errors.old) (E.contents errors.new) text.now }
+    ensures line { TakesPrefix (stream E.contents errors.old errors.new) text.now }
 {
     let _ = write_text(errors, text.as_bytes());
     FAULT

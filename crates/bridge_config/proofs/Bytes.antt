@@ -1,24 +1,14 @@
--- A test that each letter, digit and dot passes is passed by the bytes of names, dates and numerals.
+-- A test that each letter, digit and dot passes is passed by the bytes of names and dates.
 use Rattle.std.proofs.Common.{◌≡◌, ℕ, zero, suc, ◌<◌, ◌≤◌, Bool, true, not, leb, eqb, ◌&&◌, ◌||◌, ◌==◌, List, [], ◌∷◌, ◌++◌, length, get_or, take, drop, slice_range, refl, sym, ap, ◌∙◌, arith, inl, inr}
-use Rattle.std.specs.Prelude.{IsOk, Result, Ok, Err, MatchResult}
 use Rattle.std.specs.List.{list_all}
 use Rattle.std.specs.Char.{is_ascii, is_ascii_digit, is_ascii_alphanumeric}
 use Rattle.std.specs.Int.{is_in_range}
-use Rattle.std.specs.Str.{IsAscii, IsUtf8}
 use Rattle.std.proofs.lemmas.Bool.{and_parts, and_from, eqb-true, leb-true, lt-ltb, ltb-true, or_cases}
 use Rattle.std.proofs.lemmas.List.{take-append-drop}
 use Rattle.std.proofs.lemmas.List.Folds.{list_all-append, drop_split}
 use Rattle.std.proofs.Math.Seq.{drop-cons}
-use Rattle.std.proofs.lemmas.Str.{IsUtf8-from_ascii}
 use Rattle.bridge_config.specs.Limits.{is_name_byte, is_name, is_date_form}
-use Rattle.bridge_config.specs.LineReading.{is_numeral}
-
--- what passes one test passes a weaker one
-pub list_all_weaker : (p q : ℕ → Bool) → ((b : ℕ) → p b ≡ true → q b ≡ true) → (bytes : List ℕ) → list_all p bytes ≡ true → list_all q bytes ≡ true
-list_all_weaker p q weaker [] all = refl
-list_all_weaker p q weaker (b ∷ bytes) all =
-    let parts = and_parts (p b) (list_all p bytes) all in
-    and_from (q b) (list_all q bytes) (weaker b parts.0) (list_all_weaker p q weaker bytes parts.1)
+use Rattle.line_text.proofs.Ascii.{list_all_weaker, digit_is_ascii}
 
 -- a test that each byte of a name passes is passed by a name
 pub name_passes : (q : ℕ → Bool) → ((b : ℕ) → is_name_byte b ≡ true → q b ≡ true) → (name : List ℕ) → is_name name ≡ true → list_all q name ≡ true
@@ -63,19 +53,7 @@ pub date_length : (date : List ℕ) → is_date_form date ≡ true → length da
 date_length date form =
     eqb-true (length date) 10 (and_parts _ _ (and_parts _ _ (and_parts _ _ (and_parts _ _ (and_parts _ _ form).0).0).0).0).0
 
--- a numeral is digits
-pub numeral_digits : (word : List ℕ) → is_numeral word ≡ true → list_all is_ascii_digit word ≡ true
-numeral_digits word numeral = (and_parts _ _ (and_parts _ _ numeral).0).0
-
--- a numeral has a digit at least
-pub numeral_length : (word : List ℕ) → is_numeral word ≡ true → 0 < length word
-numeral_length word numeral =
-    elim word as (λ w. is_numeral w ≡ true → 0 < length w) [ [] ↦ λ none. cc | b ∷ bytes ↦ λ some. omega arith ] numeral
-
 -- ---- ASCII
-
-digit_is_ascii : (b : ℕ) → is_ascii_digit b ≡ true → is_ascii b ≡ true
-digit_is_ascii b digit = lt-ltb b 128 (omega (arith, leb-true b 57 (and_parts (leb 48 b) (leb b 57) digit).1))
 
 -- a byte of a range below 128 is ASCII
 in_range_is_ascii : (low high b : ℕ) → high < 128 → is_in_range low high b ≡ true → is_ascii b ≡ true
@@ -110,17 +88,3 @@ name_is_ascii = name_passes is_ascii name_byte_is_ascii
 
 pub date_is_ascii : (date : List ℕ) → is_date_form date ≡ true → list_all is_ascii date ≡ true
 date_is_ascii = date_passes is_ascii digit_is_ascii refl
-
-pub numeral_is_ascii : (word : List ℕ) → is_numeral word ≡ true → list_all is_ascii word ≡ true
-numeral_is_ascii word numeral = list_all_weaker is_ascii_digit is_ascii digit_is_ascii word (numeral_digits word numeral)
-
--- bytes that pass the test for ASCII are ASCII, place by place
-all_are_ascii : (bytes : List ℕ) → list_all is_ascii bytes ≡ true → IsAscii bytes
-all_are_ascii [] all i = omega arith
-all_are_ascii (b ∷ bytes) all zero = ltb-true b 128 (and_parts _ _ all).0
-all_are_ascii (b ∷ bytes) all (suc i) = all_are_ascii bytes (and_parts _ _ all).1 i
-
--- a text of ASCII bytes is UTF-8, so reading it as one succeeds
-pub ascii_is_text : {T E : Type 0} (bytes : List ℕ) (r : Result T E) (P : T → Type 0) (Q : E → Type 0) → MatchResult r P (λ e. (¬ (IsUtf8 bytes)) × Q e) → list_all is_ascii bytes ≡ true → IsOk r
-ascii_is_text bytes (Ok text) P Q read all = refl
-ascii_is_text bytes (Err e) P Q read all = absurd (read.0 (IsUtf8-from_ascii bytes (all_are_ascii bytes all)))

@@ -12,12 +12,15 @@ use Rattle.bridge_config.specs.declared.refused.ConfigFault.{ConfigFault}
 use Rattle.bridge_config.specs.declared.refused.ConfigRefused.TheVariants.{KeyTwice}
 use Rattle.bridge_config.specs.Configuration.{Pair}
 use Rattle.bridge_config.specs.Limits.{is_name, are_distinct, stands_in, IsPair}
-use Rattle.bridge_config.specs.Spelling.{spaced, shape_text, row_text, pair_text, player_words}
-use Rattle.bridge_config.specs.LineReading.{Five, form_at, words_of, five_after, within, are_numerals, is_pair_form, keys_after, shape_in, shape_within, row_in, row_within, pair_in, pair_within, shape_line, row_line, pair_line}
+use Rattle.line_text.specs.Words.{spaced, Five, words_of, five_after}
+use Rattle.bridge_config.specs.Spelling.{shape_text, row_text, pair_text, player_words}
+use Rattle.bridge_config.specs.LineReading.{form_at, within, are_numerals, is_pair_form, keys_after, shape_in, shape_within, row_in, row_within, pair_in, pair_within, shape_line, row_line, pair_line}
 use Rattle.bridge_config.proofs.Steps.{bind_ok, ok_is}
-use Rattle.bridge_config.proofs.LineWords.{after_test, unless, is_not_space, are_plain, words_of_five, five_takes, five_again}
+use Rattle.bridge_config.proofs.Tests.{after_test, unless}
+use Rattle.line_text.proofs.WordLaws.{is_not_space, are_plain, words_of_five, five_takes, five_again}
 use Rattle.bridge_config.proofs.PlainWords.{name_is_plain}
-use Rattle.bridge_config.proofs.NumeralLaws.{numeral_takes, numeral_again, decimal_is_plain, decimal_is_numeral}
+use Rattle.bridge_config.proofs.NumeralLaws.{numeral_takes, numeral_again}
+use Rattle.line_text.proofs.NumeralLaws.{decimal_is_plain, decimal_is_numeral}
 use Rattle.bridge_config.proofs.FiveWords.{each_numeral, pair_form}
 use Rattle.bridge_config.proofs.DistinctKeys.{AreNew, are_distinct_more, are_new}
 

@@ -2,7 +2,9 @@
 use Rattle.std.proofs.Common.{◌≡◌, Bool, true, ◌&&◌}
 use Rattle.std.proofs.lemmas.Bool.{and_parts}
 use Rattle.bridge_config.specs.Limits.{is_name}
-use Rattle.bridge_config.specs.LineReading.{Five, is_numeral, are_numerals, is_pair_form}
+use Rattle.line_text.specs.Words.{Five}
+use Rattle.line_text.specs.Numeral.{is_numeral}
+use Rattle.bridge_config.specs.LineReading.{are_numerals, is_pair_form}
 
 -- each of five tests passes
 pub record AllFive (a b c d e : Bool) : Type 0 where

@@ -5,7 +5,8 @@ use Rattle.std.specs.Fmt.{decimal}
 use Rattle.bridge_score.specs.declared.ranking.Scoring.{Scoring}
 use Rattle.bridge_config.specs.declared.refused.ConfigFault.{ConfigFault}
 use Rattle.bridge_config.specs.Limits.{is_name, is_date_form, is_date_within}
-use Rattle.bridge_config.specs.Spelling.{spaced, scoring_word, heading_lines}
+use Rattle.line_text.specs.Words.{spaced}
+use Rattle.bridge_config.specs.Spelling.{scoring_word, heading_lines}
 use Rattle.bridge_config.specs.LineReading.{name_line, date_line, scoring_line, number_line}
 use Rattle.bridge_config.specs.Configuration.{Heading}
 use Rattle.bridge_config.specs.Reading.{heading_in}

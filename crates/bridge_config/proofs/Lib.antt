@@ -1,12 +1,8 @@
-mod Splits
-mod WordReading
 mod FiveWords
 mod Bytes
-mod Values
-mod Texts
 mod Keys
 mod Loops
-mod LineWords
+mod Tests
 mod PlainWords
 mod NumeralLaws
 mod DistinctKeys

@@ -9,11 +9,15 @@ use Rattle.bridge_score.specs.declared.ranking.Scoring.{Scoring}
 use Rattle.bridge_score.specs.declared.ranking.Scoring.TheVariants.{MatchPoints, Imps}
 use Rattle.bridge_config.specs.declared.refused.ConfigFault.{ConfigFault}
 use Rattle.bridge_config.specs.Limits.{is_name, is_date_form, is_date_within}
-use Rattle.bridge_config.specs.Spelling.{spaced, scoring_word}
-use Rattle.bridge_config.specs.LineReading.{form_at, range_at, words_of, word_after, is_numeral, within, name_in, date_in, scoring_in, number_in, name_line, date_line, scoring_line, number_line}
-use Rattle.bridge_config.proofs.LineWords.{ok_if, after_test, unless, same_word, is_not_space, word_takes, word_again}
+use Rattle.line_text.specs.Words.{spaced, words_of, word_after}
+use Rattle.bridge_config.specs.Spelling.{scoring_word}
+use Rattle.bridge_config.specs.LineReading.{form_at, range_at, within, name_in, date_in, scoring_in, number_in, name_line, date_line, scoring_line, number_line}
+use Rattle.line_text.specs.Numeral.{is_numeral}
+use Rattle.bridge_config.proofs.Tests.{ok_if, after_test, unless}
+use Rattle.line_text.proofs.WordLaws.{same_word, is_not_space, word_takes, word_again}
 use Rattle.bridge_config.proofs.PlainWords.{name_is_plain, date_is_plain}
-use Rattle.bridge_config.proofs.NumeralLaws.{IsNumber, numeral_takes, numeral_again, decimal_is_plain, decimal_is_numeral}
+use Rattle.bridge_config.proofs.NumeralLaws.{IsNumber, numeral_takes, numeral_again}
+use Rattle.line_text.proofs.NumeralLaws.{decimal_is_plain, decimal_is_numeral}
 
 -- a word that was read as a name is that name
 name_word : (n : ℕ) (o : Option (List ℕ)) (name : List ℕ) → name_in n o ≡ Ok name → (o ≡ Some name) × (is_name name ≡ true)

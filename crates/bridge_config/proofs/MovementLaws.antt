@@ -10,7 +10,8 @@ use Rattle.bridge_movement.specs.Schedule.{Schedule}
 use Rattle.bridge_movement.specs.Shape.{IsShape, row_count}
 use Rattle.bridge_config.specs.declared.refused.ConfigFault.{ConfigFault}
 use Rattle.bridge_config.specs.Spelling.{mitchell_line, shape_text, row_text, IsMitchell, SpellsMovement}
-use Rattle.bridge_config.specs.LineReading.{form_at, words_of, word_after, five_after, number_in, number_line, shape_in, shape_line}
+use Rattle.bridge_config.specs.LineReading.{form_at, number_in, number_line, shape_in, shape_line}
+use Rattle.line_text.specs.Words.{words_of, word_after, five_after}
 use Rattle.bridge_config.specs.Reading.{due_line, rows_in, Moved, JudgesRows, ReadsShape, ReadsMitchell, ReadsPlan, ReadsMovement}
 use Rattle.bridge_config.proofs.LineLaws.{number_takes, number_again}
 use Rattle.bridge_config.proofs.FiveWordLaws.{shape_takes, shape_again}

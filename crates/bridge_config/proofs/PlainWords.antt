@@ -1,22 +1,14 @@
--- Names, dates and digits have no space.
-use Rattle.std.proofs.Common.{◌≡◌, ℕ, Bool, true, false, eqb, List, refl, sym, subst, ◌∙◌}
+-- Names and dates have no space.
+use Rattle.std.proofs.Common.{◌≡◌, ℕ, true, List, refl}
 use Rattle.std.specs.List.{list_all}
 use Rattle.std.specs.Char.{is_ascii_digit}
-use Rattle.std.proofs.lemmas.Bool.{not_from_false, false≢true, ne_eqb}
 use Rattle.bridge_config.specs.Limits.{is_name_byte, is_name, is_date_form}
-use Rattle.bridge_config.proofs.Bytes.{list_all_weaker, name_passes, date_passes}
-use Rattle.bridge_config.proofs.LineWords.{is_not_space}
-
--- a test that a space does not pass
-not_space : (p : ℕ → Bool) → p 32 ≡ false → (b : ℕ) → p b ≡ true → is_not_space b ≡ true
-not_space p fails b passes =
-    not_from_false (eqb b 32) (ne_eqb b 32 (λ same. false≢true (sym fails ∙ subst (λ (x : ℕ). p x ≡ true) same passes)))
+use Rattle.bridge_config.proofs.Bytes.{name_passes, date_passes}
+use Rattle.line_text.proofs.WordLaws.{is_not_space}
+use Rattle.line_text.proofs.PlainWords.{not_space}
 
 pub name_is_plain : (name : List ℕ) → is_name name ≡ true → list_all is_not_space name ≡ true
 name_is_plain = name_passes is_not_space (not_space is_name_byte refl)
-
-pub digits_are_plain : (digits : List ℕ) → list_all is_ascii_digit digits ≡ true → list_all is_not_space digits ≡ true
-digits_are_plain digits all = list_all_weaker is_ascii_digit is_not_space (not_space is_ascii_digit refl) digits all
 
 pub date_is_plain : (date : List ℕ) → is_date_form date ≡ true → list_all is_not_space date ≡ true
 date_is_plain = date_passes is_not_space (not_space is_ascii_digit refl) refl

@@ -3,5 +3,4 @@ pub mod Limits
 pub mod Spelling
 pub mod LineReading
 pub mod Reading
-pub mod Words
 pub mod Parts

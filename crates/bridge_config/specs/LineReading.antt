@@ -1,9 +1,9 @@
 -- Reading one line, with the first fault that is met.
-use Rattle.std.specs.Prelude.{◌≡◌, ℕ, Bool, not, ◌&&◌, ◌||◌, ◌==◌, nat_lt, if◌then◌else◌, List, [], ◌∷◌, length, codes, slice_index, Option, Some, None, Result, Ok, Err}
-use Rattle.std.specs.List.{list_all, slice_split}
+use Rattle.std.specs.Prelude.{◌≡◌, ℕ, Bool, not, ◌&&◌, ◌||◌, ◌==◌, if◌then◌else◌, List, [], ◌∷◌, codes, Option, Some, None, Result, Ok, Err}
 use Rattle.std.specs.Str.{bytes_eq}
 use Rattle.std.specs.Str.Parse.{digits_value}
-use Rattle.std.specs.Char.{is_ascii_digit}
+use Rattle.line_text.specs.Words.{Five, words_of, word_after, five_after}
+use Rattle.line_text.specs.Numeral.{is_numeral}
 use Rattle.bridge_score.specs.declared.ranking.Scoring.{Scoring}
 use Rattle.bridge_score.specs.declared.ranking.Scoring.TheVariants.{MatchPoints, Imps}
 use Rattle.bridge_movement.specs.declared.row.Row.{Row}
@@ -28,46 +28,6 @@ form_at number = record { line = number; cause = Form }
 
 abbrev pub range_at : ℕ → ConfigFault
 range_at number = record { line = number; cause = Range }
-
--- what single spaces separate
-abbrev pub spaced_words : List ℕ → List (List ℕ)
-spaced_words line = slice_split (λ byte. byte == 32) line
-
--- the words of a line; a line of more than 128 bytes has none
-abbrev pub words_of : List ℕ → List (List ℕ)
-words_of line = if nat_lt 128 (length line) then [] else spaced_words line
-
--- the one word of a line that has no other
-abbrev pub only_word : List (List ℕ) → Option (List ℕ)
-only_word (word ∷ []) = Some word
-only_word _ = None
-
--- the word of a line that has that word after the keyword
-abbrev pub word_after : List ℕ → List (List ℕ) → Option (List ℕ)
-word_after keyword [] = None
-word_after keyword (first ∷ words) = if bytes_eq first keyword then only_word words else None
-
-pub record Five : Type 0 where
-  pub first : List ℕ
-  pub second : List ℕ
-  pub third : List ℕ
-  pub fourth : List ℕ
-  pub fifth : List ℕ
-
--- the words where they are five
-abbrev pub five_words : List (List ℕ) → Option Five
-five_words (a ∷ b ∷ c ∷ d ∷ e ∷ []) = Some (record { first = a; second = b; third = c; fourth = d; fifth = e })
-five_words _ = None
-
--- the five words of a line that has five after the keyword
-abbrev pub five_after : List ℕ → List (List ℕ) → Option Five
-five_after keyword [] = None
-five_after keyword (first ∷ words) = if bytes_eq first keyword then five_words words else None
-
--- decimal digits without a leading zero; 0 itself is one zero
-abbrev pub is_numeral : List ℕ → Bool
-is_numeral word =
-    list_all is_ascii_digit word && not (length word == 0) && (length word == 1 || not (slice_index word 0 == 48))
 
 -- the number of a numeral, which is to lie between two others
 abbrev pub within : ℕ → ℕ → ℕ → List ℕ → Result ℕ ConfigFault

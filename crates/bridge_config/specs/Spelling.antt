@@ -1,8 +1,8 @@
 -- Which texts spell which configuration.
 use Rattle.std.specs.Prelude.{◌≡◌, ℕ, ◌+◌, ◌≤◌, ◌⊎◌, List, [], ◌∷◌, ◌++◌, length, map, codes, All}
-use Rattle.std.specs.List.{join_with_byte}
 use Rattle.std.specs.Fmt.{decimal}
 use Rattle.std.specs.Str.Lines.{lines}
+use Rattle.line_text.specs.Words.{spaced}
 use Rattle.bridge_score.specs.declared.ranking.Scoring.{Scoring}
 use Rattle.bridge_score.specs.declared.ranking.Scoring.TheVariants.{MatchPoints, Imps}
 use Rattle.bridge_movement.specs.declared.row.Row.{Row}
@@ -12,10 +12,6 @@ use Rattle.bridge_movement.specs.Shape.{IsBetween, row_count}
 use Rattle.bridge_movement.specs.Mitchell.{mitchell_shape, FollowsMitchell}
 use Rattle.bridge_config.specs.Configuration.{Configuration, Pair, keys_of, Heading, heading_of, People, people_of}
 use Rattle.bridge_config.specs.Limits.{IsConfiguration}
-
--- words with one space between each two
-abbrev pub spaced : List (List ℕ) → List ℕ
-spaced words = join_with_byte 32 words
 
 abbrev pub scoring_word : Scoring → List ℕ
 scoring_word MatchPoints = codes "MP"

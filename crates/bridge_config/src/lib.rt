@@ -14,7 +14,6 @@ mod reading;
 pub mod refused;
 #[cfg(test)]
 mod tests;
-mod words;
 
 pub use config::Config;
 pub use fields::{ConfigFields, Key, PairFields};

@@ -1,11 +1,11 @@
 //! The limits of names, dates and keys.
 ghost use Rattle.std.specs.Prelude.{◌≡◌, map, length};
 ghost use Rattle.std.specs.List.{list_all};
-ghost use Rattle.std.specs.Char.{is_ascii_digit};
 ghost use Rattle.bridge_config.specs.Configuration.{key_number};
 ghost use Rattle.bridge_config.specs.Limits.{is_name_byte, is_name, is_date_form, is_date_within, two_digits, are_distinct, stands_in};
 
 use crate::fields::Key;
+use line_text::are_digits;
 
 fn is_name_byte(byte: u8) -> bool
     ensures { result ≡ is_name_byte byte }
@@ -24,13 +24,6 @@ pub fn is_name(text: &[u8]) -> bool
     ensures { result ≡ is_name text.now }
 {
     are_name_bytes(text) && !text.is_empty() && text.len() <= 24
-}
-
-/// Whether each byte is a decimal digit.
-pub fn are_digits(text: &[u8]) -> bool
-    ensures { result ≡ list_all is_ascii_digit text.now }
-{
-    text.iter().all(|byte| byte.is_ascii_digit())
 }
 
 /// Whether the bytes have a date's form: four, two and two digits with dots between.

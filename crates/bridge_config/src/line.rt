@@ -1,19 +1,20 @@
 //! A line of a configuration, and what its words state.
 ghost use Rattle.std.specs.Prelude.{◌≡◌, ◌==◌, not, length, is_some, ◌≤◌, ◌∷◌, [], map, MatchOption, MatchResult, IfOk, true};
-ghost use Rattle.std.specs.Str.Lines.{lines, strip_carriage_return};
+ghost use Rattle.std.specs.Str.Lines.{lines};
 ghost use Rattle.bridge_config.specs.Configuration.{pair_of, key_number};
-ghost use Rattle.bridge_config.specs.Words.{view_of_five};
-ghost use Rattle.bridge_config.specs.LineReading.{Gives, word_after, words_of, is_numeral, within, name_in, name_line, date_line, scoring_line, number_in, number_line, are_numerals, shape_within, shape_line, row_within, row_line, is_pair_form, keys_after, pair_within, pair_line, form_at, range_at};
+ghost use Rattle.line_text.specs.WordViews.{view_of_five};
+ghost use Rattle.bridge_config.specs.LineReading.{Gives, within, name_in, name_line, date_line, scoring_line, number_in, number_line, are_numerals, shape_within, shape_line, row_within, row_line, is_pair_form, keys_after, pair_within, pair_line, form_at, range_at};
+ghost use Rattle.line_text.specs.Words.{word_after, words_of};
+ghost use Rattle.line_text.specs.Numeral.{is_numeral};
 ghost use Rattle.bridge_config.specs.Reading.{due_line};
 
 use crate::fields::{Key, PairFields};
 use crate::limits::{is_date_form, is_date_within, is_name, stands_in};
 use crate::refused::{ConfigFault, ConfigRefused};
-use crate::words::{Five, five_after, inline, is_numeral, value_of, word_after};
 use arrayvec::ArrayString;
-use bridge_cards::split_once;
 use bridge_movement::{Row, Shape};
 use bridge_score::Scoring;
+use line_text::{Five, first_line, five_after, inline, is_numeral, value_of, word_after};
 
 /// A line and its number, from 1.
 #[derive(Clone, Copy)]
@@ -41,24 +42,6 @@ pub fn has_line(text: &[u8]) -> bool
     ensures { result ≡ not (length (lines text.now) == 0) }
 {
     first_line(text).is_some()
-}
-
-/// The first line of the text, and what stands after it.
-fn first_line(text: &[u8]) -> Option<(&[u8], &[u8])>
-    ensures { MatchOption result (lines text.now ≡ []) (λ parts. lines text.now ≡ parts.0.now ∷ lines parts.1.now) }
-{
-    match split_once(text, b'\n') {
-        Some((line, rest)) => Some((without_return(line), rest)),
-        None if text.is_empty() => None,
-        None => Some((text, &text[text.len()..])),
-    }
-}
-
-/// The line without one carriage return at its end.
-fn without_return(line: &[u8]) -> &[u8]
-    ensures { result.now ≡ strip_carriage_return line.now }
-{
-    line.strip_suffix(b"\r").unwrap_or(line)
 }
 
 impl Line<'_> {

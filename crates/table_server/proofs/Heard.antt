@@ -7,16 +7,16 @@ use Rattle.std.proofs.lemmas.List.{take_at, take_all}
 use Rattle.std.proofs.Math.Seq.{take-append-add}
 use Rattle.std.specs.Io.KnownBytes.{Appends, Consumes, Keeps, IsAtEnd}
 use Rattle.bridge_cards.specs.declared.seat.Seat.{Seat}
-use Rattle.table_server.specs.Lines.{complete_lines}
+use Rattle.line_text.specs.Lines.{complete_lines, is_within_line}
 use Rattle.table_server.specs.Replies.{replies_to, calls_after, limit_notice, ending, byte_limit, output_for, auction_output}
 use Rattle.table_server.specs.declared.fault.ServeFault.{ServeFault}
 use Rattle.table_server.specs.declared.fault.ServeFault.TheVariants.{Read, Write}
-use Rattle.table_server.specs.Desk.{Desk, is_within_line, replies_from, calls_from, Answers}
-use Rattle.table_server.specs.Streams.{AppendsFront, Written}
+use Rattle.table_server.specs.Desk.{Desk, replies_from, calls_from, Answers}
+use Rattle.line_text.specs.Streams.{between, TakesPrefix, Written}
 use Rattle.table_server.specs.Heard.{Heard, StopsAt}
-use Rattle.table_server.proofs.LineLemmas.{lines_none}
+use Rattle.line_text.proofs.CompleteLines.{lines_none}
 use Rattle.std.proofs.KnownBytes.{Appends-nil, Appends-trans, Consumes-nil, Consumes-trans, Consumes-kept}
-use Rattle.table_server.proofs.Streams.{appends_front, front_longer}
+use Rattle.line_text.proofs.Streams.{takes_prefix, prefix_longer}
 
 -- nothing is written for a line that has begun
 pub begun_replies : (desk : Desk) → list_all is_within_line desk.line ≡ true → replies_from desk [] ≡ []
@@ -70,39 +70,39 @@ heard_none dealer given before desk dealt no_calls no_line = record {
 }
 
 -- a read fault after what was heard
-pub stops_reading : (dealer : Seat) (given rest rest' before written : Option (List ℕ)) (desk : Desk) (left : ℕ) → Heard dealer given rest before written desk left → 0 < left → Keeps rest rest' → StopsAt dealer given rest' before written Read
+pub stops_reading : (dealer : Seat) (given rest rest' before written : Option (List ℕ)) (desk : Desk) (left : ℕ) → Heard dealer given rest before written desk left → 0 < left → Keeps rest rest' → StopsAt dealer (between given rest') (between before written) Read
 stops_reading dealer given rest rest' before written desk left h some kept =
     (h.bytes, omega (arith, h.count), Consumes-kept given rest rest' h.bytes h.consumed kept, h.appended)
 
--- a front of the replies to the bytes read is a front of the whole output, where the bytes given are known
-front_of_whole : (dealer : Seat) (given rest before written : Option (List ℕ)) (desk : Desk) (bytes : List ℕ) → length bytes ≤ byte_limit → Consumes given rest bytes → ((more : List ℕ) → replies_to [] (complete_lines (bytes ++ more)) ≡ replies_to [] (complete_lines bytes) ++ replies_from desk more) → AppendsFront before written (replies_to [] (complete_lines bytes)) → IfSome given (λ input. AppendsFront before written (auction_output dealer input))
-front_of_whole dealer None rest before written desk bytes room consumed replies front = tt
-front_of_whole dealer (Some input) None before written desk bytes room consumed replies front = absurd consumed
-front_of_whole dealer (Some input) (Some rest) before written desk bytes room consumed replies front =
+-- a prefix of the replies to the bytes read is a prefix of the whole output, where the bytes given are known
+prefix_of_whole : (dealer : Seat) (given rest before written : Option (List ℕ)) (desk : Desk) (bytes : List ℕ) → length bytes ≤ byte_limit → Consumes given rest bytes → ((more : List ℕ) → replies_to [] (complete_lines (bytes ++ more)) ≡ replies_to [] (complete_lines bytes) ++ replies_from desk more) → TakesPrefix (between before written) (replies_to [] (complete_lines bytes)) → IfSome given (λ input. TakesPrefix (between before written) (auction_output dealer input))
+prefix_of_whole dealer None rest before written desk bytes room consumed replies prefix = tt
+prefix_of_whole dealer (Some input) None before written desk bytes room consumed replies prefix = absurd consumed
+prefix_of_whole dealer (Some input) (Some rest) before written desk bytes room consumed replies prefix =
     let more : List ℕ = take (byte_limit - length bytes) rest in
     let all : List ℕ = bytes ++ more in
     let last : List ℕ = limit_notice (nat_le byte_limit (length all)) ++ ending dealer (calls_after [] (complete_lines all)) in
     let count : byte_limit ≡ length bytes + (byte_limit - length bytes) = omega (arith, room) in
     let taken : take byte_limit input ≡ all =
     ap (take byte_limit) consumed ∙ ap (λ most. take most (bytes ++ rest)) count ∙ take-append-add bytes rest (byte_limit - length bytes) in
-    let replied = front_longer before written (replies_to [] (complete_lines bytes)) (replies_from desk more) front in
-    rw (taken, replies more) (front_longer before written (replies_to [] (complete_lines bytes) ++ replies_from desk more) last replied)
+    let replied = prefix_longer before written (replies_to [] (complete_lines bytes)) (replies_from desk more) prefix in
+    rw (taken, replies more) (prefix_longer before written (replies_to [] (complete_lines bytes) ++ replies_from desk more) last replied)
 
 -- a write fault at the replies to one piece more
-pub stops_at_piece : (dealer : Seat) (given rest rest' before written written' : Option (List ℕ)) (old new : Desk) (left : ℕ) → Heard dealer given rest before written old left → (piece text : List ℕ) → length piece ≤ left → Consumes rest rest' piece → Answers old new piece text → AppendsFront written written' text → StopsAt dealer given rest' before written' Write
-stops_at_piece dealer given rest rest' before written written' old new left h piece text room consumed answers front =
+pub stops_at_piece : (dealer : Seat) (given rest rest' before written written' : Option (List ℕ)) (old new : Desk) (left : ℕ) → Heard dealer given rest before written old left → (piece text : List ℕ) → length piece ≤ left → Consumes rest rest' piece → Answers old new piece text → TakesPrefix (between written written') text → StopsAt dealer (between given rest') (between before written') Write
+stops_at_piece dealer given rest rest' before written written' old new left h piece text room consumed answers prefix =
     let bytes : List ℕ = h.bytes ++ piece in
     let last : List ℕ = limit_notice (nat_le byte_limit (length bytes)) ++ ending dealer (calls_after [] (complete_lines bytes)) in
     let few : length bytes ≤ byte_limit = omega (arith, h.count, room, length-append h.bytes piece) in
     let all_consumed = Consumes-trans given rest rest' h.bytes piece h.consumed consumed in
-    let replied : AppendsFront before written' (replies_to [] (complete_lines bytes)) =
+    let replied : TakesPrefix (between before written') (replies_to [] (complete_lines bytes)) =
     rw (piece_replies dealer given rest before written old new left h piece text answers)
-    (appends_front before written written' (replies_to [] (complete_lines h.bytes)) text h.appended front) in (
+    (takes_prefix before written written' (replies_to [] (complete_lines h.bytes)) text h.appended prefix) in (
       bytes,
       few,
       all_consumed,
-      front_longer before written' (replies_to [] (complete_lines bytes)) last replied,
-      front_of_whole dealer given rest' before written' new bytes few all_consumed
+      prefix_longer before written' (replies_to [] (complete_lines bytes)) last replied,
+      prefix_of_whole dealer given rest' before written' new bytes few all_consumed
           (more_replies dealer given rest before written old new left h piece text answers) replied,
     )
 
@@ -128,23 +128,23 @@ heard_all dealer input (Some bytes) before written desk (suc left) h end =
     let all : input ≡ h.bytes = h.consumed ∙ ap (λ more. h.bytes ++ more) (end (omega arith)) ∙ append-nil h.bytes in
     ap (take byte_limit) all ∙ take_all byte_limit h.bytes (omega (arith, h.count))
 
--- a front of the output for what was heard is a front of the whole output, where all that is read was heard
-front_at_end : (dealer : Seat) (given rest before written written' : Option (List ℕ)) (desk : Desk) (left : ℕ) (h : Heard dealer given rest before written desk left) → (0 < left → IsAtEnd rest) → AppendsFront before written' (output_for dealer h.bytes) → IfSome given (λ input. AppendsFront before written' (auction_output dealer input))
-front_at_end dealer None rest before written written' desk left h end front = tt
-front_at_end dealer (Some input) rest before written written' desk left h end front =
-    rw (heard_all dealer input rest before written desk left h end) front
+-- a prefix of the output for what was heard is a prefix of the whole output, where all that is read was heard
+prefix_at_end : (dealer : Seat) (given rest before written written' : Option (List ℕ)) (desk : Desk) (left : ℕ) (h : Heard dealer given rest before written desk left) → (0 < left → IsAtEnd rest) → TakesPrefix (between before written') (output_for dealer h.bytes) → IfSome given (λ input. TakesPrefix (between before written') (auction_output dealer input))
+prefix_at_end dealer None rest before written written' desk left h end prefix = tt
+prefix_at_end dealer (Some input) rest before written written' desk left h end prefix =
+    rw (heard_all dealer input rest before written desk left h end) prefix
 
 -- a write fault at the last line
-pub stops_at_end : (dealer : Seat) (given rest before written written' : Option (List ℕ)) (desk : Desk) (left : ℕ) → Heard dealer given rest before written desk left → (0 < left → IsAtEnd rest) → AppendsFront written written' (limit_notice (nat_eq left 0) ++ ending desk.dealer desk.calls) → StopsAt dealer given rest before written' Write
-stops_at_end dealer given rest before written written' desk left h end front =
-    let written_front : AppendsFront before written' (output_for dealer h.bytes) =
+pub stops_at_end : (dealer : Seat) (given rest before written written' : Option (List ℕ)) (desk : Desk) (left : ℕ) → Heard dealer given rest before written desk left → (0 < left → IsAtEnd rest) → TakesPrefix (between written written') (limit_notice (nat_eq left 0) ++ ending desk.dealer desk.calls) → StopsAt dealer (between given rest) (between before written') Write
+stops_at_end dealer given rest before written written' desk left h end prefix =
+    let written_prefix : TakesPrefix (between before written') (output_for dealer h.bytes) =
     rw (output_heard dealer given rest before written desk left h)
-    (appends_front before written written' (replies_to [] (complete_lines h.bytes)) (limit_notice (nat_eq left 0) ++ ending desk.dealer desk.calls) h.appended front) in (
+    (takes_prefix before written written' (replies_to [] (complete_lines h.bytes)) (limit_notice (nat_eq left 0) ++ ending desk.dealer desk.calls) h.appended prefix) in (
       h.bytes,
       omega (arith, h.count),
       h.consumed,
-      written_front,
-      front_at_end dealer given rest before written written' desk left h end written_front,
+      written_prefix,
+      prefix_at_end dealer given rest before written written' desk left h end written_prefix,
     )
 
 -- the whole output was written
@@ -157,9 +157,9 @@ ends_well dealer (Some input) rest before written written' desk left h end appen
       rw heard h.consumed,
     )
 
--- what holds once the last line was written, or a front of it
-pub ended : (dealer : Seat) (given rest before written written' : Option (List ℕ)) (desk : Desk) (left : ℕ) (result : Result (Unit {0}) ServeFault) → Heard dealer given rest before written desk left → (0 < left → IsAtEnd rest) → Written written written' (limit_notice (nat_eq left 0) ++ ending desk.dealer desk.calls) result → OnOk result (IfSome given (λ input. Appends before written' (auction_output dealer input) × Consumes given rest (take byte_limit input))) × IfErr result (StopsAt dealer given rest before written')
-ended dealer given rest before written written' desk left (Ok u) h end appended =
+-- what holds once the last line was written, or a prefix of it
+pub ended : (dealer : Seat) (given rest before written written' : Option (List ℕ)) (desk : Desk) (left : ℕ) (result : Result (Unit {0}) ServeFault) → Heard dealer given rest before written desk left → (0 < left → IsAtEnd rest) → Written (between written written') (limit_notice (nat_eq left 0) ++ ending desk.dealer desk.calls) result → IfErr result (λ fault. fault ≡ Write) → OnOk result (IfSome given (λ input. Appends before written' (auction_output dealer input) × Consumes given rest (take byte_limit input))) × IfErr result (StopsAt dealer (between given rest) (between before written'))
+ended dealer given rest before written written' desk left (Ok u) h end appended named =
     (ends_well dealer given rest before written written' desk left h end appended, tt)
-ended dealer given rest before written written' desk left (Err fault) h end front =
-    (tt, rw front.1 (stops_at_end dealer given rest before written written' desk left h end front.0))
+ended dealer given rest before written written' desk left (Err fault) h end prefix named =
+    (tt, rw named (stops_at_end dealer given rest before written written' desk left h end prefix))

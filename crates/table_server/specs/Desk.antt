@@ -1,9 +1,9 @@
 -- An auction between two lines, and what is still to be written for the bytes to come.
-use Rattle.std.specs.Prelude.{◌≡◌, ℕ, Bool, true, not, ◌==◌, List, ◌++◌}
+use Rattle.std.specs.Prelude.{◌≡◌, ℕ, true, List, ◌++◌}
 use Rattle.std.specs.List.{list_all}
 use Rattle.bridge_cards.specs.declared.seat.Seat.{Seat}
 use Rattle.bridge_auction.specs.declared.call.Call.{Call}
-use Rattle.table_server.specs.Lines.{complete_lines}
+use Rattle.line_text.specs.Lines.{complete_lines, is_within_line}
 use Rattle.table_server.specs.Replies.{calls_after, replies_to}
 
 -- the dealer, the calls of the complete lines, and the bytes of the line that has begun
@@ -11,10 +11,6 @@ pub record Desk : Type 0 where
   pub dealer : Seat
   pub calls : List Call
   pub line : List ℕ
-
--- no line feed
-abbrev pub is_within_line : ℕ → Bool
-is_within_line byte = not (byte == 10)
 
 -- the replies to the lines that these bytes complete
 abbrev pub replies_from : Desk → List ℕ → List ℕ

@@ -5,10 +5,10 @@ use Rattle.std.specs.Io.KnownBytes.{Appends, Consumes}
 use Rattle.bridge_cards.specs.declared.seat.Seat.{Seat}
 use Rattle.table_server.specs.declared.fault.ServeFault.{ServeFault}
 use Rattle.table_server.specs.declared.fault.ServeFault.TheVariants.{Read, Write}
-use Rattle.table_server.specs.Lines.{complete_lines}
+use Rattle.line_text.specs.Lines.{complete_lines, is_within_line}
 use Rattle.table_server.specs.Replies.{replies_to, calls_after, output_for, auction_output, byte_limit}
-use Rattle.table_server.specs.Desk.{Desk, is_within_line, replies_from, calls_from}
-use Rattle.table_server.specs.Streams.{AppendsFront}
+use Rattle.table_server.specs.Desk.{Desk, replies_from, calls_from}
+use Rattle.line_text.specs.Streams.{Stream, Gives, Takes, TakesPrefix}
 
 -- The desk has heard some bytes, which the reader gave, and the replies to their complete lines are written.
 pub record Heard (dealer : Seat) (given rest written_before written : Option (List ℕ)) (desk : Desk) (left : ℕ) : Type 0 where
@@ -21,13 +21,12 @@ pub record Heard (dealer : Seat) (given rest written_before written : Option (Li
   pub dealt : desk.dealer ≡ dealer
   pub within : list_all is_within_line desk.line ≡ true
 
--- What was read and written at a fault, of what was given to read and what was written before:
--- at a read fault the replies to the complete lines; at a write fault a front of the output for the bytes read,
--- which, where all the bytes given are known, is a front of the whole output too.
-abbrev pub StopsAt : Seat → Option (List ℕ) → Option (List ℕ) → Option (List ℕ) → Option (List ℕ) → ServeFault → Type 0
-StopsAt dealer given rest before written Read =
-    (bytes : List ℕ) × (length bytes < byte_limit) × Consumes given rest bytes × Appends before written (replies_to [] (complete_lines bytes))
-StopsAt dealer given rest before written Write =
-    (bytes : List ℕ) × (length bytes ≤ byte_limit) × Consumes given rest bytes
-    × AppendsFront before written (output_for dealer bytes)
-    × IfSome given (λ input. AppendsFront before written (auction_output dealer input))
+-- What was read and written at a fault, of the reader and the writer:
+-- at a read fault the replies to the complete lines; at a write fault a prefix of the output for the bytes read,
+-- which, where all the bytes given are known, is a prefix of the whole output too.
+abbrev pub StopsAt : Seat → Stream → Stream → ServeFault → Type 0
+StopsAt dealer input output Read =
+    (bytes : List ℕ) × (length bytes < byte_limit) × Gives input bytes × Takes output (replies_to [] (complete_lines bytes))
+StopsAt dealer input output Write =
+    (bytes : List ℕ) × (length bytes ≤ byte_limit) × Gives input bytes × TakesPrefix output (output_for dealer bytes)
+    × IfSome input.old (λ given. TakesPrefix output (auction_output dealer given))

@@ -1,35 +1,29 @@
 -- What is written for an auction that is read line by line.
-use Rattle.std.specs.Prelude.{ℕ, Bool, true, false, nat_lt, nat_le, if◌then◌else◌, List, [], ◌∷◌, ◌++◌, length, take, codes, Option, Some, None, Result, Ok, Err}
-use Rattle.std.specs.Io.BufRead.{strip_last}
+use Rattle.std.specs.Prelude.{ℕ, Bool, true, false, nat_le, if◌then◌else◌, List, [], ◌∷◌, ◌++◌, length, take, codes, Option, Some, None, Result, Ok, Err}
+use Rattle.std.specs.Str.Lines.{strip_carriage_return}
 use Rattle.bridge_cards.specs.declared.seat.Seat.{Seat}
 use Rattle.bridge_auction.specs.declared.call.Call.{Call}
 use Rattle.bridge_auction.specs.declared.contract.Contract.{Contract}
 use Rattle.bridge_auction.specs.declared.refused.CallRefused.{CallRefused}
-use Rattle.bridge_auction.specs.declared.refused.CallRefused.TheVariants.{Ended, InsufficientBid, InadmissibleDouble, InadmissibleRedouble}
 use Rattle.bridge_auction.specs.Legal.{is_ended, answer_to}
 use Rattle.bridge_auction.specs.Contract.{contract_of}
+use Rattle.bridge_auction.specs.Refused.{refusal_number, refusal_name}
+use Rattle.line_text.specs.Refusal.{refusal_line}
 use Rattle.table_server.specs.declared.reply.Reply.{Reply}
 use Rattle.table_server.specs.declared.reply.Reply.TheVariants.{Accepted, Refused, BadLine, LongLine}
-use Rattle.table_server.specs.Spelling.{contract_text, call_of}
-use Rattle.table_server.specs.Lines.{complete_lines}
+use Rattle.bridge_auction.specs.Spelling.{contract_text, call_of}
+use Rattle.line_text.specs.Lines.{complete_lines, is_long}
 
 -- the text of a reply, with its line feed
 abbrev pub reply_text : Reply → List ℕ
 reply_text Accepted = codes "OK\n"
-reply_text (Refused Ended) = codes "ERR 9 WrongPhase\n"
-reply_text (Refused InsufficientBid) = codes "ERR 17 InsufficientBid\n"
-reply_text (Refused InadmissibleDouble) = codes "ERR 18 InadmissibleDouble\n"
-reply_text (Refused InadmissibleRedouble) = codes "ERR 19 InadmissibleRedouble\n"
-reply_text BadLine = codes "ERR 30 BadLine\n"
-reply_text LongLine = codes "ERR 31 LongLine\n"
-
--- a line may have 128 bytes
-abbrev pub is_long : List ℕ → Bool
-is_long line = nat_lt 128 (length line)
+reply_text (Refused refused) = refusal_line (refusal_number refused) (refusal_name refused)
+reply_text BadLine = refusal_line 30 (codes "BadLine")
+reply_text LongLine = refusal_line 31 (codes "LongLine")
 
 -- the call that a line spells, without one carriage return (byte 13) at its end
 abbrev pub line_call : List ℕ → Option Call
-line_call line = if is_long line then None else call_of (strip_last 13 line)
+line_call line = if is_long line then None else call_of (strip_carriage_return line)
 
 abbrev pub answer_reply : Result (Unit {0}) CallRefused → Reply
 answer_reply (Ok _) = Accepted

@@ -1,25 +1,22 @@
 ghost use Rattle.std.specs.Prelude.{◌≡◌, ◌+◌, ◌*◌, ◌≤◌, ◌∷◌, Some, true, ◌++◌, [], List, ℕ, length};
 ghost use Rattle.arrayvec.specs.ArrayString.{array_string_len};
-ghost use Rattle.std.specs.Io.BufRead.{strip_last};
 ghost use Rattle.table_server.specs.Replies.{ending, contract_line, line_reply, line_call, calls_with};
-ghost use Rattle.table_server.specs.Desk.{is_within_line, replies_from, calls_from};
+ghost use Rattle.line_text.specs.Lines.{is_within_line};
+ghost use Rattle.table_server.specs.Desk.{replies_from, calls_from};
 ghost use Rattle.std.specs.List.{list_all};
 
-use crate::reply::Reply;
-use crate::spelling::{denomination_text, doubling_text, read_call};
+use crate::reply::{REPLY_BYTES, Reply};
 use arrayvec::{ArrayString, ArrayVec};
-use bridge_auction::{Auction, Contract};
+use bridge_auction::{Auction, Contract, denomination_text, doubling_text, read_call};
 use bridge_cards::Seat;
+use line_text::{LINE_BYTES, without_return};
 use std::marker::Model;
-
-/// The most bytes that a line may have before its line feed.
-pub const LINE_BYTES: usize = 128;
 
 /// The most bytes that a desk is fed at a time.
 pub const PIECE_BYTES: usize = 1024;
 
-/// The room for replies: 28 bytes, the most that a reply has, for each byte of a piece.
-pub const REPLIES_BYTES: usize = 28672;
+/// The room for replies: that of the longest for each byte of a piece.
+pub const REPLIES_BYTES: usize = REPLY_BYTES * PIECE_BYTES;
 
 /// An auction that is fed the bytes of its lines, in whatever pieces they come.
 ///
@@ -33,7 +30,8 @@ pub struct Desk {
 impl Model for Desk {
     ghost use Rattle.std.specs.Prelude.{◌≡◌, true};
     ghost use Rattle.std.specs.List.{list_all};
-    ghost use Rattle.table_server.specs.Desk.{Desk as DeskValue, is_within_line};
+    ghost use Rattle.table_server.specs.Desk.{Desk as DeskValue};
+    ghost use Rattle.line_text.specs.Lines.{is_within_line};
 
     ghost Value = { DeskValue };
 
@@ -60,7 +58,7 @@ impl Desk {
     /// What is written and what is still to be written for any bytes to come stay the same text together,
     /// so how the lines are cut into pieces makes no difference.
     pub fn feed(&mut self, piece: &[u8], out: &mut ArrayString<REPLIES_BYTES>)
-        requires { array_string_len out.old + 28 * length piece.now ≤ REPLIES_BYTES }
+        requires { array_string_len out.old + REPLY_BYTES * length piece.now ≤ REPLIES_BYTES }
         ensures replies { (rest : List ℕ) → out.old.bytes ++ replies_from self.old (piece.now ++ rest)
             ≡ out.new.bytes ++ replies_from self.new rest }
         ensures calls { (rest : List ℕ) → calls_from self.old (piece.now ++ rest) ≡ calls_from self.new rest }
@@ -75,18 +73,18 @@ impl Desk {
     }
 
     fn feed_byte(&mut self, byte: u8, out: &mut ArrayString<REPLIES_BYTES>)
-        requires { array_string_len out.old + 28 ≤ REPLIES_BYTES }
+        requires { array_string_len out.old + REPLY_BYTES ≤ REPLIES_BYTES }
         ensures replies { (rest : List ℕ) → out.old.bytes ++ replies_from self.old (byte ∷ rest)
             ≡ out.new.bytes ++ replies_from self.new rest }
         ensures calls { (rest : List ℕ) → calls_from self.old (byte ∷ rest) ≡ calls_from self.new rest }
         ensures dealer { self.new.dealer ≡ self.old.dealer }
         ensures within { list_all is_within_line self.new.line ≡ true }
-        ensures room { array_string_len out.new ≤ array_string_len out.old + 28 }
+        ensures room { array_string_len out.new ≤ array_string_len out.old + REPLY_BYTES }
     {
         if byte == b'\n' {
             let reply = answer(&mut self.auction, self.line.as_slice());
             self.line.clear();
-            out.push_str(reply.text());
+            reply.push_to(out);
         } else if !self.line.is_full() {
             self.line.push(byte);
         }
@@ -138,11 +136,4 @@ fn answer(auction: &mut Auction, line: &[u8]) -> Reply
             Err(refused) => Reply::Refused(refused),
         },
     }
-}
-
-/// The line without one carriage return at its end.
-fn without_return(line: &[u8]) -> &[u8]
-    ensures { result.now ≡ strip_last 13 line.now }
-{
-    line.strip_suffix(b"\r").unwrap_or(line)
 }

@@ -1,7 +1,13 @@
-ghost use Rattle.std.specs.Prelude.{◌≡◌, ◌≤◌, length};
+ghost use Rattle.std.specs.Prelude.{◌≡◌, ◌+◌, ◌≤◌, ◌++◌};
+ghost use Rattle.arrayvec.specs.ArrayString.{array_string_len};
 ghost use Rattle.table_server.specs.Replies.{reply_text};
 
+use arrayvec::ArrayString;
 use bridge_auction::CallRefused;
+use line_text::push_refusal;
+
+/// The most bytes that a reply has.
+pub const REPLY_BYTES: usize = 29;
 
 /// The reply to a line.
 #[derive(Clone, Copy, Debug, PartialEq, Eq)]
@@ -17,19 +23,17 @@ pub enum Reply {
 }
 
 impl Reply {
-    /// The reply's line, with its line feed: `OK`, or `ERR`, the refusal's number and its name.
-    pub fn text(self) -> &'static str
-        ensures text { result.now ≡ reply_text self }
-        ensures short { length result.now ≤ 28 }
+    /// Adds the reply's line: `OK`, or `ERR`, the refusal's number and its name.
+    pub fn push_to<const N: usize>(self, out: &mut ArrayString<N>)
+        requires { array_string_len out.old + REPLY_BYTES ≤ N }
+        ensures text { out.new.bytes ≡ out.old.bytes ++ reply_text self }
+        ensures room { array_string_len out.new ≤ array_string_len out.old + REPLY_BYTES }
     {
         match self {
-            Reply::Accepted => "OK\n",
-            Reply::Refused(CallRefused::Ended) => "ERR 9 WrongPhase\n",
-            Reply::Refused(CallRefused::InsufficientBid) => "ERR 17 InsufficientBid\n",
-            Reply::Refused(CallRefused::InadmissibleDouble) => "ERR 18 InadmissibleDouble\n",
-            Reply::Refused(CallRefused::InadmissibleRedouble) => "ERR 19 InadmissibleRedouble\n",
-            Reply::BadLine => "ERR 30 BadLine\n",
-            Reply::LongLine => "ERR 31 LongLine\n",
+            Reply::Accepted => out.push_str("OK\n"),
+            Reply::Refused(refused) => push_refusal(out, refused.number(), refused.name()),
+            Reply::BadLine => push_refusal(out, 30, "BadLine"),
+            Reply::LongLine => push_refusal(out, 31, "LongLine"),
         }
     }
 }

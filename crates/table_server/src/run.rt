@@ -1,17 +1,17 @@
 ghost use Rattle.std.specs.Prelude.{◌≡◌, ◌<◌, ◌≤◌, [], ◌++◌, List, ℕ, length, take, Err, OnOk, OnErr, IfOk, IfErr, IfSome};
-ghost use Rattle.std.specs.Io.KnownBytes.{Appends, Consumes, Keeps, IsAtEnd};
+ghost use Rattle.std.specs.Io.KnownBytes.{IsAtEnd};
 ghost use Rattle.bridge_cards.specs.Board.{dealer_of};
 ghost use Rattle.table_server.specs.Replies.{limit_notice, ending, auction_output};
-ghost use Rattle.table_server.specs.Streams.{Written};
+ghost use Rattle.line_text.specs.Streams.{stream, Gives, Takes, IsUntouched, Written};
 ghost use Rattle.table_server.specs.Desk.{Answers};
 ghost use Rattle.table_server.specs.Heard.{Heard, StopsAt};
-ghost use Rattle.table_server.specs.declared.fault.ServeFault.TheVariants.{Read as ReadFault};
+ghost use Rattle.table_server.specs.declared.fault.ServeFault.TheVariants.{Read as ReadFault, Write as WriteFault};
 
 use crate::desk::{Desk, PIECE_BYTES, REPLIES_BYTES};
 use crate::fault::ServeFault;
-use crate::write::write_text;
 use arrayvec::ArrayString;
 use bridge_cards::{BoardNumber, dealer};
+use line_text::write_text;
 use std::io::{Read, Write};
 
 /// The most bytes that are read.
@@ -30,12 +30,12 @@ pub fn run_auction<R: Read, W: Write>(
 ) -> Result<(), ServeFault>
     // All that is written is the output for the reader's bytes, however the reads cut them.
     ensures ok { OnOk result (IfSome (R.remaining reader.old) (λ input.
-        Appends (W.contents writer.old) (W.contents writer.new) (auction_output (dealer_of board) input)
-        × Consumes (R.remaining reader.old) (R.remaining reader.new) (take MOST_BYTES input))) }
+        Takes (stream W.contents writer.old writer.new) (auction_output (dealer_of board) input)
+        × Gives (stream R.remaining reader.old reader.new) (take MOST_BYTES input))) }
     // At a read fault the replies to the complete lines before it are written, and no last line.
-    // At a write fault a front of the output for the bytes read so far is written.
-    ensures fault { IfErr result (StopsAt (dealer_of board) (R.remaining reader.old) (R.remaining reader.new)
-        (W.contents writer.old) (W.contents writer.new)) }
+    // At a write fault a prefix of the output for the bytes read so far is written.
+    ensures fault { IfErr result (StopsAt (dealer_of board)
+        (stream R.remaining reader.old reader.new) (stream W.contents writer.old writer.new)) }
 {
     let mut desk = Desk::new(dealer(board));
     match answer_lines(&mut desk, reader, writer) {
@@ -55,8 +55,8 @@ fn answer_lines<R: Read, W: Write>(
     ensures heard { IfOk result (Heard desk.old.dealer (R.remaining reader.old) (R.remaining reader.new)
         (W.contents writer.old) (W.contents writer.new) desk.new) }
     ensures end { IfOk result (λ left. 0 < left → IsAtEnd (R.remaining reader.new)) }
-    ensures fault { IfErr result (StopsAt desk.old.dealer (R.remaining reader.old) (R.remaining reader.new)
-        (W.contents writer.old) (W.contents writer.new)) }
+    ensures fault { IfErr result (StopsAt desk.old.dealer
+        (stream R.remaining reader.old reader.new) (stream W.contents writer.old writer.new)) }
 {
     let mut piece = [0; PIECE_BYTES];
     let mut left = MOST_BYTES;
@@ -71,14 +71,14 @@ fn answer_lines<R: Read, W: Write>(
     Ok(0)
 }
 
-/// Reads once, at most so many bytes, into the front of the piece. None come only at the end of the input.
+/// Reads once, at most so many bytes, into the piece from its beginning. None come only at the end of the input.
 fn read_piece<R: Read>(reader: &mut R, piece: &mut [u8], most: usize) -> Result<usize, ServeFault>
     requires some { 0 < most }
     requires room { 0 < length piece.old }
     ensures bound { IfOk result (λ taken. (taken ≤ most) × (taken ≤ length piece.new)) }
-    ensures ok { IfOk result (λ taken. Consumes (R.remaining reader.old) (R.remaining reader.new) (take taken piece.new)) }
+    ensures ok { IfOk result (λ taken. Gives (stream R.remaining reader.old reader.new) (take taken piece.new)) }
     ensures end { IfOk result (λ taken. taken ≡ 0 → IsAtEnd (R.remaining reader.new)) }
-    ensures err { OnErr result (Keeps (R.remaining reader.old) (R.remaining reader.new)) }
+    ensures err { OnErr result (IsUntouched (stream R.remaining reader.old reader.new)) }
     ensures fault { IfErr result (λ fault. fault ≡ ReadFault) }
 {
     let room = piece.len().min(most);
@@ -90,23 +90,36 @@ fn read_piece<R: Read>(reader: &mut R, piece: &mut [u8], most: usize) -> Result<
 /// Writes the replies to the lines that the piece completes.
 fn answer_piece<W: Write>(desk: &mut Desk, piece: &[u8], writer: &mut W) -> Result<(), ServeFault>
     requires { length piece.now ≤ PIECE_BYTES }
-    ensures { (text : List ℕ) × Answers desk.old desk.new piece.now text
-        × Written (W.contents writer.old) (W.contents writer.new) text result }
+    ensures written { (text : List ℕ) × Answers desk.old desk.new piece.now text
+        × Written (stream W.contents writer.old writer.new) text result }
+    ensures fault { IfErr result (λ fault. fault ≡ WriteFault) }
 {
     let mut out = ArrayString::<REPLIES_BYTES>::new();
     desk.feed(piece, &mut out);
-    write_text(writer, out.as_str().as_bytes())
+    write_replies(writer, out.as_str())
 }
 
 /// Writes the last line, below a notice where the limit of bytes was reached.
 fn write_ending<W: Write>(desk: &Desk, at_limit: bool, writer: &mut W) -> Result<(), ServeFault>
-    ensures { Written (W.contents writer.old) (W.contents writer.new)
+    ensures written { Written (stream W.contents writer.old writer.new)
         (limit_notice at_limit ++ ending desk.now.dealer desk.now.calls) result }
+    ensures fault { IfErr result (λ fault. fault ≡ WriteFault) }
 {
     let mut out = ArrayString::<REPLIES_BYTES>::new();
     out.push_str(limit_notice(at_limit));
     desk.push_ending(&mut out);
-    write_text(writer, out.as_str().as_bytes())
+    write_replies(writer, out.as_str())
+}
+
+/// Writes the whole text; `Write` where that fails.
+fn write_replies<W: Write>(writer: &mut W, text: &str) -> Result<(), ServeFault>
+    ensures written { Written (stream W.contents writer.old writer.new) text.now result }
+    ensures fault { IfErr result (λ fault. fault ≡ WriteFault) }
+{
+    match write_text(writer, text.as_bytes()) {
+        Ok(()) => Ok(()),
+        Err(_) => Err(ServeFault::Write),
+    }
 }
 
 /// What stands before the last line.

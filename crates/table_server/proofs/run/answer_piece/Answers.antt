@@ -1,7 +1,7 @@
 use Rattle.table_server.proofs.run.answer_piece.Goals as goal
 
-pub returns : goal.returns
-returns g c = (
+pub returns-clause-written : goal.returns-clause-written
+returns-clause-written g c = (
   c.feed.new.out.bytes,
   record {
     replies = λ rest. rw c.new-out.ensures at (c.feed.ensures.replies rest);
@@ -9,5 +9,5 @@ returns g c = (
     dealer = c.feed.ensures.dealer;
     within = c.feed.ensures.within;
   },
-  rw (c.as_bytes.ensures.value, c.as_str.ensures.value) at c.write_text.ensures,
+  rw c.as_str.ensures.value at c.write_replies.ensures.written,
 )

@@ -9,7 +9,7 @@ returns-in-Ok-clause-ok g c =
     rw (← dealt)
     (ended c.new-desk.result.dealer (g.R.Read.remaining c.args.reader.now) (g.R.Read.remaining c.answer_lines.new.reader)
     (g.W.Write.contents c.args.writer.now) (g.W.Write.contents c.answer_lines.new.writer) (g.W.Write.contents c.write_ending.new.writer)
-    c.answer_lines.new.desk c.in-Ok.left c.write_ending.result c.in-Ok.ensures.heard c.in-Ok.ensures.end c.write_ending.ensures).0
+    c.answer_lines.new.desk c.in-Ok.left c.write_ending.result c.in-Ok.ensures.heard c.in-Ok.ensures.end c.write_ending.ensures.written c.write_ending.ensures.fault).0
 
 pub returns-in-Ok-clause-fault : goal.returns-in-Ok-clause-fault
 returns-in-Ok-clause-fault g c =
@@ -17,7 +17,7 @@ returns-in-Ok-clause-fault g c =
     rw (← dealt)
     (ended c.new-desk.result.dealer (g.R.Read.remaining c.args.reader.now) (g.R.Read.remaining c.answer_lines.new.reader)
     (g.W.Write.contents c.args.writer.now) (g.W.Write.contents c.answer_lines.new.writer) (g.W.Write.contents c.write_ending.new.writer)
-    c.answer_lines.new.desk c.in-Ok.left c.write_ending.result c.in-Ok.ensures.heard c.in-Ok.ensures.end c.write_ending.ensures).1
+    c.answer_lines.new.desk c.in-Ok.left c.write_ending.result c.in-Ok.ensures.heard c.in-Ok.ensures.end c.write_ending.ensures.written c.write_ending.ensures.fault).1
 
 pub returns-in-Err-clause-fault : goal.returns-in-Err-clause-fault
 returns-in-Err-clause-fault g c =

@@ -1,5 +1,5 @@
 use Rattle.std.proofs.Common.{arith}
-use Rattle.bridge_config.specs.Words.{view_of_five}
+use Rattle.line_text.specs.WordViews.{view_of_five}
 use Rattle.bridge_config.proofs.Bytes.{name_is_ascii, name_length}
 use Rattle.bridge_config.proofs.FiveWords.{pair_form}
 use Rattle.bridge_config.proofs.line.Line.pair_of.Goals as goal

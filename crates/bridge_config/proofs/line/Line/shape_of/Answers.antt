@@ -1,5 +1,5 @@
 use Rattle.bridge_config.proofs.FiveWords.{each_numeral}
-use Rattle.bridge_config.specs.Words.{view_of_five}
+use Rattle.line_text.specs.WordViews.{view_of_five}
 use Rattle.bridge_config.proofs.line.Line.shape_of.Goals as goal
 
 pub within_byte-requires-3 : goal.within_byte-requires-3

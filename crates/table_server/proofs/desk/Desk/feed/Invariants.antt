@@ -1,6 +1,7 @@
 use Rattle.std.proofs.Common.{◌≡◌, ◌+◌, ◌-◌, ◌*◌, ◌≤◌, ℕ, List, ◌++◌, drop, length, true}
 use Rattle.std.specs.List.{list_all}
-use Rattle.table_server.specs.Desk.{is_within_line, replies_from, calls_from}
+use Rattle.line_text.specs.Lines.{is_within_line}
+use Rattle.table_server.specs.Desk.{replies_from, calls_from}
 use Rattle.table_server.proofs.desk.Desk.feed.Given as goal
 
 abbrev pub invariant-loop-byte : goal.invariant-loop-byte
@@ -9,5 +10,5 @@ invariant-loop-byte l = record {
   calls : (rest : List ℕ) → calls_from l.fn.self (l.piece ++ rest) ≡ calls_from l.self (drop l.byte-index l.piece ++ rest);
   dealer : l.self.dealer ≡ l.fn.self.dealer;
   within : list_all is_within_line l.self.line ≡ true;
-  room : length l.out.bytes + 28 * (length l.piece - l.byte-index) ≤ 28672;
+  room : length l.out.bytes + 29 * (length l.piece - l.byte-index) ≤ 29696;
 }

@@ -7,9 +7,9 @@ pub returns-then-byte-eq10-clause-replies : goal.returns-then-byte-eq10-clause-r
 returns-then-byte-eq10-clause-replies c rest =
     rw (← c.self.view_is)
     (replies_fed c.self.inside.auction.calls c.answer-reply.new.auction.calls c.self.inside.line.items c.clear.new.self.items
-    c.as_slice.result.now rest c.args.out.now.bytes c.push_str.new.self.bytes c.text.result.now c.args.byte c.answer-reply.result
+    c.as_slice.result.now rest c.args.out.now.bytes c.push_to.new.out.bytes c.args.byte c.answer-reply.result
     c.self.invariant c.if-byte-eq10.true c.as_slice.ensures.value c.answer-reply.ensures.reply c.answer-reply.ensures.calls
-    c.clear.ensures c.text.ensures.text c.push_str.ensures.bytes)
+    c.clear.ensures c.push_to.ensures.text)
 
 pub returns-then-byte-eq10-clause-calls : goal.returns-then-byte-eq10-clause-calls
 returns-then-byte-eq10-clause-calls c rest =

@@ -1,0 +1,10 @@
+pub mod Splits
+pub mod Texts
+pub mod Ascii
+pub mod Values
+pub mod WordReading
+pub mod WordLaws
+pub mod PlainWords
+pub mod NumeralLaws
+pub mod CompleteLines
+pub mod Streams

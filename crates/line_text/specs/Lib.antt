@@ -1,0 +1,6 @@
+pub mod Lines
+pub mod Words
+pub mod WordViews
+pub mod Numeral
+pub mod Streams
+pub mod Refusal
