@@ -16,7 +16,7 @@ use Rattle.line_text.specs.Words.{spaced, Five, words_of, five_after}
 use Rattle.bridge_config.specs.Spelling.{shape_text, row_text, pair_text, player_words}
 use Rattle.bridge_config.specs.LineReading.{form_at, within, are_numerals, is_pair_form, keys_after, shape_in, shape_within, row_in, row_within, pair_in, pair_within, shape_line, row_line, pair_line}
 use Rattle.bridge_config.proofs.Steps.{bind_ok, ok_is}
-use Rattle.bridge_config.proofs.Tests.{after_test, unless}
+use Rattle.bridge_config.proofs.PassedTests.{after_test, unless}
 use Rattle.line_text.proofs.WordLaws.{is_not_space, are_plain, words_of_five, five_takes, five_again}
 use Rattle.bridge_config.proofs.PlainWords.{name_is_plain}
 use Rattle.bridge_config.proofs.NumeralLaws.{numeral_takes, numeral_again}

@@ -2,7 +2,7 @@ mod FiveWords
 mod Bytes
 mod Keys
 mod Loops
-mod Tests
+mod PassedTests
 mod PlainWords
 mod NumeralLaws
 mod DistinctKeys

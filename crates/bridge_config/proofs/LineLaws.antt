@@ -13,7 +13,7 @@ use Rattle.line_text.specs.Words.{spaced, words_of, word_after}
 use Rattle.bridge_config.specs.Spelling.{scoring_word}
 use Rattle.bridge_config.specs.LineReading.{form_at, range_at, within, name_in, date_in, scoring_in, number_in, name_line, date_line, scoring_line, number_line}
 use Rattle.line_text.specs.Numeral.{is_numeral}
-use Rattle.bridge_config.proofs.Tests.{ok_if, after_test, unless}
+use Rattle.bridge_config.proofs.PassedTests.{ok_if, after_test, unless}
 use Rattle.line_text.proofs.WordLaws.{same_word, is_not_space, word_takes, word_again}
 use Rattle.bridge_config.proofs.PlainWords.{name_is_plain, date_is_plain}
 use Rattle.bridge_config.proofs.NumeralLaws.{IsNumber, numeral_takes, numeral_again}

@@ -7,7 +7,7 @@ use Rattle.std.proofs.lemmas.Fmt.{digits_value-decimal}
 use Rattle.bridge_movement.specs.Shape.{IsBetween}
 use Rattle.bridge_config.specs.Limits.{is_between}
 use Rattle.bridge_config.specs.LineReading.{within, range_at}
-use Rattle.bridge_config.proofs.Tests.{ok_if}
+use Rattle.bridge_config.proofs.PassedTests.{ok_if}
 use Rattle.line_text.specs.Numeral.{is_numeral}
 use Rattle.line_text.proofs.Values.{digits_read}
 use Rattle.line_text.proofs.NumeralLaws.{numeral_is_decimal}

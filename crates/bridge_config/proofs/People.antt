@@ -12,7 +12,7 @@ use Rattle.line_text.specs.Words.{spaced}
 use Rattle.bridge_config.specs.Spelling.{pair_lines, people_lines}
 use Rattle.bridge_config.specs.LineReading.{◌>>=◌, form_at, number_line}
 use Rattle.bridge_config.specs.Reading.{pairs_in, people_in}
-use Rattle.bridge_config.proofs.Tests.{ok_if}
+use Rattle.bridge_config.proofs.PassedTests.{ok_if}
 use Rattle.bridge_config.proofs.LineLaws.{number_takes, number_again}
 use Rattle.bridge_config.proofs.Steps.{bind_ok, line_takes, IsShort, TakesLines, takes_line, number_short}
 use Rattle.bridge_config.proofs.Pairs.{IsKey, pairs_takes, pairs_again}
