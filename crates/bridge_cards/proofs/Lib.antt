@@ -1,4 +1,4 @@
-mod CardSetLaws
+pub mod CardSetLaws
 mod CardCounts
 mod CardBits
 mod OnesCounted
@@ -9,3 +9,4 @@ mod DealLemmas
 mod PrintLemmas
 mod PrintedDeal
 mod DealtHands
+mod DealTests

@@ -1,8 +1,9 @@
 -- The four hands of a board (Law 1): North's, and then clockwise.
-use Rattle.std.specs.Prelude.{ℕ, ◌≡◌, ◌≢◌, ◌<◌, ◌≤◌, List, length, slice_index, count_by, All, Any}
+use Rattle.std.specs.Prelude.{ℕ, ◌≡◌, ◌≢◌, ◌<◌, ◌≤◌, ◌==◌, nat_le, Bool, ◌&&◌, List, length, slice_index, count_by, All, Any}
+use Rattle.std.specs.List.{list_all}
 use Rattle.bridge_cards.specs.declared.seat.Seat.{Seat}
 use Rattle.bridge_cards.specs.Seat.{seat_number}
-use Rattle.bridge_cards.specs.CardSet.{IsCardSet, has_card, card_count}
+use Rattle.bridge_cards.specs.CardSet.{IsCardSet, has_card, deck, card_count}
 
 -- the hand of a seat
 abbrev pub hand_at : List ℕ → Seat → ℕ
@@ -34,3 +35,11 @@ pub record IsDeal (hands : List ℕ) : Type 0 where
   pub four : length hands ≡ 4
   pub each : All IsHand hands
   pub once : NoneTwice hands
+
+-- whether each card of the deck is in one of the hands at most
+abbrev pub is_each_once : List ℕ → Bool
+is_each_once hands = list_all (λ card. nat_le (holders hands card) 1) deck
+
+-- whether the hands are a deal: 13 cards each, and no card in two of them
+abbrev pub is_dealt_out : List ℕ → Bool
+is_dealt_out hands = is_each_once hands && list_all (λ hand. card_count hand == 13) hands

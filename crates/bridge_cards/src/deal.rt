@@ -1,6 +1,7 @@
-ghost use Rattle.std.specs.Prelude.{◌≡◌, ◌≢◌, ◌↔◌, ℕ, IsOk, IfOk, OnOk, MatchBool, All};
+ghost use Rattle.std.specs.Prelude.{◌≡◌, ◌≢◌, ◌↔◌, ◌==◌, ℕ, is_ok, IsOk, IfOk, OnOk, MatchBool, All};
+ghost use Rattle.std.specs.List.{list_all};
 ghost use Rattle.bridge_cards.specs.CardSet.{has_card, card_count};
-ghost use Rattle.bridge_cards.specs.Deal.{hand_at, holders, NoneTwice, SomeTwice, IsHand, SomeNotThirteen, IsDeal};
+ghost use Rattle.bridge_cards.specs.Deal.{hand_at, holders, NoneTwice, SomeTwice, IsHand, SomeNotThirteen, IsDeal, is_each_once, is_dealt_out};
 
 use crate::card_set::CardSet;
 use crate::seat::Seat;
@@ -42,6 +43,7 @@ impl Deal {
     pub fn from_hands(hands: [CardSet; 4]) -> Result<Deal, BadDeal>
         ensures hands { IfOk result (λ deal. deal ≡ hands) }
         ensures deal { IfOk result IsDeal }
+        ensures test { is_ok result ≡ is_dealt_out hands }
         ensures ok { IsOk result ↔ (NoneTwice hands × All (λ hand. card_count hand ≡ 13) hands) }
         ensures twice { (result ≡ Err BadDeal.Twice) ↔ SomeTwice hands }
         ensures not_thirteen { (result ≡ Err BadDeal.NotThirteen) ↔ (NoneTwice hands × SomeNotThirteen hands) }
@@ -68,7 +70,8 @@ impl Deal {
 
 /// Whether no card is in two of the hands.
 fn are_disjoint(hands: &[CardSet]) -> bool
-    ensures { MatchBool result (NoneTwice hands.now) (SomeTwice hands.now) }
+    ensures cases { MatchBool result (NoneTwice hands.now) (SomeTwice hands.now) }
+    ensures test { result ≡ is_each_once hands.now }
 {
     let mut dealt = CardSet::new();
     for hand in hands {
@@ -82,7 +85,8 @@ fn are_disjoint(hands: &[CardSet]) -> bool
 
 /// Whether each of the hands has 13 cards.
 fn have_thirteen_each(hands: &[CardSet]) -> bool
-    ensures { MatchBool result (All IsHand hands.now) (SomeNotThirteen hands.now) }
+    ensures cases { MatchBool result (All IsHand hands.now) (SomeNotThirteen hands.now) }
+    ensures test { result ≡ list_all (λ hand. card_count hand == 13) hands.now }
 {
     hands.iter().all(|hand| hand.len() == 13)
 }
