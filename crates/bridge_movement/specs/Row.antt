@@ -1,10 +1,14 @@
 -- Which pairs stand in a row of a movement, and which rows are played.
-use Rattle.std.specs.Prelude.{ℕ, ◌≡◌, ◌≢◌, ◌⊎◌}
+use Rattle.std.specs.Prelude.{ℕ, ◌≡◌, ◌≢◌, ◌==◌, Bool, not, ◌&&◌, ◌⊎◌}
 use Rattle.bridge_movement.specs.declared.row.Row.{Row}
 
 -- both sides have a pair, so the row is played
 abbrev pub IsLive : Row → Type 0
 IsLive row = (row.ns ≢ 0) × (row.ew ≢ 0)
+
+-- whether both sides have a pair
+abbrev pub is_live : Row → Bool
+is_live row = not (row.ns == 0) && not (row.ew == 0)
 
 -- the pair stands in the row, on either side
 abbrev pub SitsIn : Row → ℕ → Type 0

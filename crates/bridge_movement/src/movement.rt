@@ -117,6 +117,16 @@ impl Movement {
         self.rows[before + usize::from(table - 1)]
     }
 
+    /// The rows, by round, then by table: one for each table in each round.
+    pub fn rows(&self) -> &[Row]
+        ensures rows { result.now ≡ self.now.rows }
+        ensures most { length result.now ≤ 144 }
+        ensures limits { IsShape self.now.shape }
+        ensures fair { IsMovement self.now.shape result.now }
+    {
+        self.rows.as_slice()
+    }
+
     /// The number of tables, rounds, sets and pairs, and the last pair of the first field.
     pub fn shape(&self) -> Shape
         ensures shape { result ≡ self.now.shape }

@@ -1,5 +1,5 @@
-ghost use Rattle.std.specs.Prelude.{◌↔◌, IsTrue};
-ghost use Rattle.bridge_movement.specs.Row.{IsLive, SitsIn, ShareAPair, SeatPairTwice, PlaySetAgain};
+ghost use Rattle.std.specs.Prelude.{◌≡◌, ◌↔◌, IsTrue};
+ghost use Rattle.bridge_movement.specs.Row.{IsLive, is_live, SitsIn, ShareAPair, SeatPairTwice, PlaySetAgain};
 
 /// Who meets at one table in one round, and which boards they play.
 #[derive(Clone, Copy, Debug, Default, PartialEq, Eq)]
@@ -19,7 +19,8 @@ pub struct Row {
 impl Row {
     /// Whether both sides have a pair. Only such a row is played: a pair without opponents sits out.
     pub fn is_live(self) -> bool
-        ensures { IsTrue result ↔ IsLive self }
+        ensures live { IsTrue result ↔ IsLive self }
+        ensures test { result ≡ is_live self }
     {
         self.ns != 0 && self.ew != 0
     }
