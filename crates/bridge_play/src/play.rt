@@ -1,8 +1,8 @@
-ghost use Rattle.std.specs.Prelude.{◌≡◌, ◌≢◌, ℕ, ◌+◌, ◌<◌, ◌≤◌, ◌++◌, ◌∷◌, [], ◌↔◌, length, IsOk, OnOk, OnErr, IfSome, None};
+ghost use Rattle.std.specs.Prelude.{◌≡◌, ◌≢◌, ℕ, ◌+◌, ◌/◌, ◌<◌, ◌≤◌, ◌++◌, ◌∷◌, [], ◌↔◌, length, IsOk, OnOk, OnErr, IfSome, None};
 ghost use Rattle.std.specs.Bool.{OnFalse};
 ghost use Rattle.bridge_play.specs.Play.{with_card, is_over, is_agreed, card_answer, MayBePlayed, claim_answer, with_claim, consent_answer, with_agreement, without_claim, tricks_of, settled_tricks, IsClaimIn};
 ghost use Rattle.bridge_play.specs.Dummy.{actor_of, dummy_of};
-ghost use Rattle.bridge_play.specs.Trick.{turn_of};
+ghost use Rattle.bridge_play.specs.Trick.{turn_of, leader_of, tricks_won};
 ghost use Rattle.bridge_play.specs.Legal.{IsLegal, holds};
 ghost use Rattle.bridge_cards.specs.CardSet.{has_card};
 
@@ -10,6 +10,7 @@ use crate::card_play::CardPlay;
 use crate::claim::{Claim, agreed_by, all_agreed, consent_to};
 use crate::dummy::{actor, dummy};
 use crate::refused::{CardRefused, ClaimRefused, ConsentRefused};
+use crate::trick::leader;
 use bridge_auction::Contract;
 use bridge_cards::{Card, CardSet, Deal, Seat, Side};
 use std::marker::Model;
@@ -46,6 +47,29 @@ impl Play {
             claims: 0,
             claim: None,
         }
+    }
+
+    /// The contract that is played.
+    pub fn contract(&self) -> &Contract
+        ensures { result.now ≡ self.now.contract }
+    {
+        self.card_play.contract()
+    }
+
+    /// The seat that leads to a trick, the tricks counted from 0, of the whole tricks and the next.
+    pub fn leader(&self, trick: usize) -> Seat
+        requires { trick ≤ length self.now.cards / 4 }
+        ensures { result ≡ leader_of self.now.contract self.now.cards trick }
+    {
+        leader(self.card_play.contract(), self.card_play.cards(), trick)
+    }
+
+    /// How many of the whole tricks the side won, without those of a claim.
+    pub fn tricks_won(&self, side: Side) -> u8
+        ensures won { result ≡ tricks_won self.now.contract self.now.cards side (length self.now.cards / 4) }
+        ensures most { result ≤ length self.now.cards / 4 }
+    {
+        self.card_play.tricks_won(side)
     }
 
     /// The hand to play: the leader's, then clockwise (Law 44). When the play is over, the hand that would play next.

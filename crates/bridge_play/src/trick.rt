@@ -66,6 +66,21 @@ pub(crate) fn winning_place(trump: Denomination, trick: &[Card]) -> usize
     winner(trump, trick).unwrap_or(0)
 }
 
+/// Who leads to a trick, the tricks counted from 0: declarer's left-hand opponent to the first, and the winner of each
+/// trick to the next (Law 44).
+pub(crate) fn leader(contract: &Contract, cards: &[Card], trick: usize) -> Seat
+    requires { trick ≤ length cards.now / 4 }
+    ensures { result ≡ leader_of contract.now cards.now trick }
+{
+    let mut leader = contract.declarer.clockwise(1);
+    for earlier in 0..trick {
+        let (_, rest) = cards.split_at(4 * earlier);
+        let (played, _) = rest.split_at(4);
+        leader = leader.clockwise(winning_place(contract.bid.denomination, played));
+    }
+    leader
+}
+
 /// Who leads to the trick after those cards: after a whole trick its winner, and else the seat that led to the trick of
 /// the last card (Law 44).
 pub fn next_leader(contract: &Contract, cards: &[Card], leader: Seat) -> Seat
