@@ -1,9 +1,9 @@
 -- What holds at every moment of a run of calls. A caller carries one `EveryMoment` from call to call:
 -- `begins`, then `reads_on`, `writes_on`, `syncs_on` or `goes_on` for each call; `joins` puts two runs together.
-use Rattle.std.specs.Prelude.{◌⊎◌, ◌≤◌, ℕ, List, Result}
-use Rattle.std.proofs.Common.{inl, inr, ⊎_elim, arith, ◌∙◌}
-use Rattle.sector_disk.specs.Disk.{Image, IsSame, with_sector, same_has, Disk}
-use Rattle.sector_disk.specs.Calls.{Called, Reads, Writes, Syncs, write_leaves, sync_leaves}
+use Rattle.std.specs.Prelude.{◌≡◌, ◌⊎◌, ◌≤◌, ℕ, List, Result}
+use Rattle.std.proofs.Common.{inl, inr, ⊎_elim, arith, refl, sym, ◌∙◌}
+use Rattle.sector_disk.specs.Disk.{Image, IsSame, with_sector, same_has, image_is, Disk}
+use Rattle.sector_disk.specs.Calls.{Called, Reads, Writes, Syncs, IsSynced, write_leaves, sync_leaves, sync_reads}
 
 -- A power cut at any moment since old, within a call or between two, leaves an image that has P.
 pub record EveryMoment {D : Type 0} (disk : Disk D) (old new : D) (P : Image → Type 0) : Type 0 where
@@ -119,3 +119,96 @@ module _ {D : Type 0} (disk : Disk D) where
   only_reads_on old mid new P so_far run =
       joins disk old mid new P so_far
       (weakens disk mid new (disk.may_leave mid) run.moments P (now_has disk old mid P so_far))
+
+  -- a sync among the reads
+  pub one_sync : {T E : Type 0} (old mid new : D) (result : Result T E)
+      → OnlyRead disk old mid → Called disk mid new result → Syncs disk mid new result → OnlyRead disk old new
+  one_sync old mid new result so_far called did = record {
+    reads = λ k. sync_reads disk mid new result did k ∙ so_far.reads k;
+    moments = syncs_on disk old mid new (disk.may_leave old) result so_far.moments called did;
+  }
+
+  -- two such runs, one after the other
+  pub only_read_joins : (old mid new : D) → OnlyRead disk old mid → OnlyRead disk mid new → OnlyRead disk old new
+  only_read_joins old mid new first second = record {
+    reads = λ k. second.reads k ∙ first.reads k;
+    moments = only_reads_on old mid new (disk.may_leave old) first.moments second;
+  }
+
+-- what no call changes: honesty, or the want of it, and the number of sectors
+pub record Remains {D : Type 0} (disk : Disk D) (old new : D) : Type 0 where
+  pub stays_honest : disk.honest old → disk.honest new
+  pub was_honest : disk.honest new → disk.honest old
+  pub count : disk.count new ≡ disk.count old
+
+-- after any number of reads and syncs
+pub record Quiet {D : Type 0} (disk : Disk D) (old new : D) : Type 0 where
+  pub remains : Remains disk old new
+  pub only_read : disk.honest old → OnlyRead disk old new
+
+module _ {D : Type 0} (disk : Disk D) where
+  -- before the first call
+  pub remains : (old : D) → Remains disk old old
+  remains old = record { stays_honest = λ honest. honest; was_honest = λ honest. honest; count = refl }
+
+  -- after one call more
+  pub remains_on : {T E : Type 0} (old mid new : D) (result : Result T E)
+      → Remains disk old mid → Called disk mid new result → Remains disk old new
+  remains_on old mid new result so_far called = record {
+    stays_honest = λ honest. called.stays_honest (so_far.stays_honest honest);
+    was_honest = λ honest. so_far.was_honest (called.was_honest honest);
+    count = called.count ∙ so_far.count;
+  }
+
+  -- two runs, one after the other
+  pub remains_joins : (old mid new : D) → Remains disk old mid → Remains disk mid new → Remains disk old new
+  remains_joins old mid new first second = record {
+    stays_honest = λ honest. second.stays_honest (first.stays_honest honest);
+    was_honest = λ honest. first.was_honest (second.was_honest honest);
+    count = second.count ∙ first.count;
+  }
+
+  -- before the first read or sync
+  pub quiet : (old : D) → Quiet disk old old
+  quiet old = record { remains = remains old; only_read = none_read disk old }
+
+  -- one read more
+  pub quiet_read : {T E : Type 0} (old mid new : D) (i : ℕ) (bytes : List ℕ) (result : Result T E) → Quiet disk old mid
+      → Called disk mid new result → (disk.honest mid → Reads disk mid new i bytes result) → Quiet disk old new
+  quiet_read old mid new i bytes result so_far called did = record {
+    remains = remains_on old mid new result so_far.remains called;
+    only_read = λ honest.
+        one_read disk old mid new i bytes result (so_far.only_read honest) called
+        (did (so_far.remains.stays_honest honest));
+  }
+
+  -- one sync more
+  pub quiet_sync : {T E : Type 0} (old mid new : D) (result : Result T E) → Quiet disk old mid
+      → Called disk mid new result → (disk.honest mid → Syncs disk mid new result) → Quiet disk old new
+  quiet_sync old mid new result so_far called did = record {
+    remains = remains_on old mid new result so_far.remains called;
+    only_read = λ honest.
+        one_sync disk old mid new result (so_far.only_read honest) called (did (so_far.remains.stays_honest honest));
+  }
+
+  -- two runs of reads and syncs, one after the other
+  pub quiet_joins : (old mid new : D) → Quiet disk old mid → Quiet disk mid new → Quiet disk old new
+  quiet_joins old mid new first second = record {
+    remains = remains_joins old mid new first.remains second.remains;
+    only_read = λ honest.
+        only_read_joins disk old mid new (first.only_read honest) (second.only_read (first.remains.stays_honest honest));
+  }
+
+-- after a sync that answered Ok, what may be left is what reads give
+pub synced_is : {D : Type 0} (disk : Disk D) (old new : D) → IsSynced disk old new
+    → (c : Image) → disk.may_leave new c → c ≡ disk.reads new
+synced_is disk old new synced c left =
+    image_is c (disk.reads new) (λ k. synced.images c left k ∙ sym (synced.reads k))
+
+-- what a write may leave is what might be left before, or such an image with the sector
+pub write_is : {D T E : Type 0} (disk : Disk D) (old new : D) (i : ℕ) (bytes : List ℕ) (result : Result T E)
+    → Writes disk old new i bytes result → (c : Image) → disk.may_leave new c
+    → disk.may_leave old c ⊎ ((d : Image) × disk.may_leave old d × (c ≡ with_sector d i bytes))
+write_is disk old new i bytes result did c left =
+    ⊎_elim (λ was. inl was) (λ d. inr (d.0, d.1, image_is c (with_sector d.0 i bytes) d.2))
+    (write_leaves disk old new i bytes result did c left)

@@ -1,7 +1,7 @@
 //! Runs of calls over any disk.
 ghost use Rattle.std.specs.Prelude.{◌≡◌, ◌<◌, ◌≤◌, ◌-◌, OnErr};
 ghost use Rattle.sector_disk.specs.Disk.{Rose};
-ghost use Rattle.sector_disk.specs.Runs.{EveryMoment, OnlyRead};
+ghost use Rattle.sector_disk.specs.Runs.{EveryMoment, Remains, Quiet};
 ghost use Rattle.sector_disk.specs.Staged.{IsStaged};
 
 use super::*;
@@ -31,7 +31,7 @@ fn fill_then_mark<D: SectorDisk>(
     ensures any_moment { D.disk.honest disk.old
         → EveryMoment D.disk disk.old disk.new (IsStaged (D.disk.may_leave disk.old) end bytes.now) }
     ensures cause { OnErr result (Rose (D.disk.faults disk.old) (D.disk.faults disk.new)) }
-    ensures count { D.disk.count disk.new ≡ D.disk.count disk.old }
+    ensures remains { Remains D.disk disk.old disk.new }
 {
     for i in 0..end {
         disk.write(i, bytes)?;
@@ -40,12 +40,13 @@ fn fill_then_mark<D: SectorDisk>(
     disk.write(end, mark)
 }
 
-// Reads the sectors below `end`. Reads then give the same, and a power cut leaves nothing that it might not have left
-// before.
+// Syncs, and reads the sectors below `end`. Reads then give the same, and a power cut leaves nothing that it might
+// not have left before.
 fn read_all<D: SectorDisk>(disk: &mut D, end: u32) -> Result<(), DiskFault>
     requires { end ≤ D.disk.count disk.old }
-    ensures same { D.disk.honest disk.old → OnlyRead D.disk disk.old disk.new }
+    ensures { Quiet D.disk disk.old disk.new }
 {
+    disk.sync()?;
     let mut bytes = [0; 512];
     for i in 0..end {
         disk.read(i, &mut bytes)?;

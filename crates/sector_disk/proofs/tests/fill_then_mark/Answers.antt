@@ -1,5 +1,5 @@
 use Rattle.std.proofs.Common.{inl, ◌∙◌, arith}
-use Rattle.sector_disk.specs.Runs.{syncs_on, weakens}
+use Rattle.sector_disk.specs.Runs.{syncs_on, weakens, remains_on}
 use Rattle.sector_disk.proofs.StagedLemmas.{Partly, Staged, fills_on, filled_more, marks_on}
 use Rattle.sector_disk.proofs.tests.fill_then_mark.Goals as goal
 
@@ -13,7 +13,7 @@ returns-in_err-write-clause-any_moment g c = λ honest.
 pub loop-i-preserved : goal.loop-i-preserved
 loop-i-preserved g c =
     let disk = g.D.SectorDisk.disk in record {
-      count = c.write.ensures.called.count ∙ c.loop-i.invariant.count;
+      remains = remains_on disk _ _ _ _ c.loop-i.invariant.remains c.write.ensures.called;
       faults = c.in_ok-write.ensures.called.faults_ok ∙ c.loop-i.invariant.faults;
       moments = λ honest.
           let so_far = c.loop-i.invariant.moments honest in
