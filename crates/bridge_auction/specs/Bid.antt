@@ -1,5 +1,7 @@
 -- Bids in order (Law 18).
-use Rattle.std.specs.Prelude.{ℕ, ◌+◌, ◌-◌, ◌*◌}
+use Rattle.std.specs.Prelude.{ℕ, ◌+◌, ◌-◌, ◌*◌, Option, Some, None}
+use Rattle.bridge_cards.specs.declared.suit.Suit.{Suit}
+use Rattle.bridge_cards.specs.declared.suit.Suit.TheVariants as suit
 use Rattle.bridge_auction.specs.declared.bid.Denomination.{Denomination}
 use Rattle.bridge_auction.specs.declared.bid.Denomination.TheVariants.{Clubs, Diamonds, Hearts, Spades, NoTrump}
 use Rattle.bridge_auction.specs.declared.bid.Bid.{Bid}
@@ -12,6 +14,14 @@ denomination_number Diamonds = 1
 denomination_number Hearts = 2
 denomination_number Spades = 3
 denomination_number NoTrump = 4
+
+-- the trump suit that a denomination names; no trump names none
+abbrev pub denomination_suit : Denomination → Option Suit
+denomination_suit Clubs = Some suit.Clubs
+denomination_suit Diamonds = Some suit.Diamonds
+denomination_suit Hearts = Some suit.Hearts
+denomination_suit Spades = Some suit.Spades
+denomination_suit NoTrump = None
 
 -- the place of a bid in their order, from 0: first by level, then by denomination
 abbrev pub bid_number : Bid → ℕ

@@ -1,10 +1,13 @@
 ghost use Rattle.std.specs.Prelude.{◌≡◌, ◌≤◌, ◌<◌};
-ghost use Rattle.bridge_auction.specs.Bid.{denomination_number, bid_number, IsBid};
+ghost use Rattle.bridge_auction.specs.Bid.{denomination_number, denomination_suit, bid_number, IsBid};
 
 use crate::level::Level;
+use crate::spelling::denomination_text;
+use bridge_cards::Suit;
+use std::fmt;
 
 /// What a bid names as trump, from the lowest to the highest (Law 18E).
-#[derive(Clone, Copy, Debug, PartialEq, Eq, PartialOrd, Ord)]
+#[derive(Clone, Copy, Debug, PartialEq, Eq)]
 pub enum Denomination {
     Clubs,
     Diamonds,
@@ -14,7 +17,7 @@ pub enum Denomination {
 }
 
 /// A bid: a number of tricks above six, and a denomination (Law 18A). Bids are in order by level, then by denomination.
-#[derive(Clone, Copy, Debug, PartialEq, Eq, PartialOrd, Ord)]
+#[derive(Clone, Copy, Debug, PartialEq, Eq)]
 pub struct Bid {
     /// The tricks above six, 1 to 7.
     pub level: Level,
@@ -45,6 +48,19 @@ impl Denomination {
             Denomination::NoTrump => 4,
         }
     }
+
+    /// The trump suit; `None` for no trump.
+    pub fn suit(self) -> Option<Suit>
+        ensures { result ≡ denomination_suit self }
+    {
+        match self {
+            Denomination::Clubs => Some(Suit::Clubs),
+            Denomination::Diamonds => Some(Suit::Diamonds),
+            Denomination::Hearts => Some(Suit::Hearts),
+            Denomination::Spades => Some(Suit::Spades),
+            Denomination::NoTrump => None,
+        }
+    }
 }
 
 impl Bid {
@@ -59,5 +75,30 @@ impl Bid {
         ensures bid { IsBid self }
     {
         5 * (self.level.number() - 1) + self.denomination.number()
+    }
+}
+
+/// The denomination's letters.
+impl fmt::Display for Denomination {
+    ghost use Rattle.std.specs.Prelude.{Some};
+    ghost use Rattle.bridge_auction.specs.Spelling.{denomination_text};
+
+    ghost output = { λ denomination. Some (denomination_text denomination) };
+
+    fn fmt<W: fmt::Write>(&self, f: &mut fmt::Formatter<W>) -> fmt::Result {
+        f.write_str(denomination_text(*self))
+    }
+}
+
+/// The bid's text, as `1C` or `7NT`.
+impl fmt::Display for Bid {
+    ghost use Rattle.std.specs.Prelude.{Some};
+    ghost use Rattle.bridge_auction.specs.Spelling.{bid_text};
+
+    ghost output = { λ bid. Some (bid_text bid) };
+
+    fn fmt<W: fmt::Write>(&self, f: &mut fmt::Formatter<W>) -> fmt::Result {
+        f.write_char(char::from(b'0' + self.level.number()))?;
+        f.write_str(denomination_text(self.denomination))
     }
 }

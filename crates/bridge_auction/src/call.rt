@@ -2,6 +2,7 @@ ghost use Rattle.std.specs.Prelude.{◌≡◌};
 ghost use Rattle.bridge_auction.specs.Call.{is_pass, is_bid, IsCall};
 
 use crate::bid::Bid;
+use std::fmt;
 
 /// What a player may say in turn (Laws 17 to 19).
 #[derive(Clone, Copy, Debug, PartialEq, Eq)]
@@ -37,5 +38,22 @@ impl Default for Call {
 
     fn default() -> Self {
         Call::Pass
+    }
+}
+
+/// The call's text: `PASS`, `X`, `XX`, or the bid's.
+impl fmt::Display for Call {
+    ghost use Rattle.std.specs.Prelude.{Some};
+    ghost use Rattle.bridge_auction.specs.Spelling.{call_text};
+
+    ghost output = { λ call. Some (call_text call) };
+
+    fn fmt<W: fmt::Write>(&self, f: &mut fmt::Formatter<W>) -> fmt::Result {
+        match self {
+            Call::Pass => f.write_str("PASS"),
+            Call::Bid(bid) => write!(f, "{bid}"),
+            Call::Double => f.write_str("X"),
+            Call::Redouble => f.write_str("XX"),
+        }
     }
 }

@@ -4,7 +4,7 @@ ghost use Rattle.bridge_auction.specs.Level.{IsLevel};
 use std::marker::Model;
 
 /// The level of a bid: the number of tricks above six that it promises, 1 to 7 (Law 18A).
-#[derive(Clone, Copy, Debug, PartialEq, Eq, PartialOrd, Ord)]
+#[derive(Clone, Copy, Debug, PartialEq, Eq)]
 pub struct Level {
     tricks: u8,
 }

@@ -4,6 +4,7 @@ ghost use Rattle.bridge_cards.specs.Vulnerability.{includes_side};
 
 use crate::seat::{Seat, Side};
 use crate::vulnerability::Vulnerability;
+use std::fmt;
 use std::marker::Model;
 
 /// The number of a board, 1 to 36.
@@ -75,4 +76,16 @@ pub fn vulnerable(board: BoardNumber, side: Side) -> bool
     ensures { result ≡ includes_side (vulnerability_on board) side }
 {
     vulnerability_of(board).includes(side)
+}
+
+/// The board's number.
+impl fmt::Display for BoardNumber {
+    ghost use Rattle.std.specs.Prelude.{Some};
+    ghost use Rattle.std.specs.Fmt.{decimal};
+
+    ghost output = { λ board. Some (decimal board) };
+
+    fn fmt<W: fmt::Write>(&self, f: &mut fmt::Formatter<W>) -> fmt::Result {
+        write!(f, "{}", self.number)
+    }
 }

@@ -4,6 +4,7 @@ ghost use Rattle.bridge_cards.specs.Card.{IsCard, card_of, card_suit, card_rank,
 
 use crate::rank::Rank;
 use crate::suit::Suit;
+use std::fmt;
 use std::marker::Model;
 
 #[cfg(test)]
@@ -99,4 +100,17 @@ pub fn read_card(text: &[u8]) -> Option<Card>
         return None;
     };
     Some(Card::of(Suit::from_letter(*suit)?, Rank::from_letter(*rank)?))
+}
+
+/// The card's text: its suit's letter, and its rank's.
+impl fmt::Display for Card {
+    ghost use Rattle.std.specs.Prelude.{Some};
+    ghost use Rattle.bridge_cards.specs.Card.{card_text};
+
+    ghost output = { λ card. Some (card_text card) };
+
+    fn fmt<W: fmt::Write>(&self, f: &mut fmt::Formatter<W>) -> fmt::Result {
+        f.write_char(char::from(self.suit().letter()))?;
+        f.write_char(char::from(self.rank().letter()))
+    }
 }

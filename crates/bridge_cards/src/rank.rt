@@ -4,7 +4,7 @@ ghost use Rattle.bridge_cards.specs.Rank.{IsRank, rank_letter};
 use std::marker::Model;
 
 /// A rank of cards, from the 2 to the ace (Law 1).
-#[derive(Clone, Copy, Debug, PartialEq, Eq, PartialOrd, Ord)]
+#[derive(Clone, Copy, Debug, PartialEq, Eq)]
 pub struct Rank {
     number: u8,
 }

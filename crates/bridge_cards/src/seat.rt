@@ -2,6 +2,8 @@ ghost use Rattle.std.specs.Prelude.{◌≡◌, ◌≢◌, ◌<◌, IfSome, IfNon
 ghost use Rattle.bridge_cards.specs.Seat.{seat_number, seat_at, clockwise_from, side_of, other_side, seat_letter};
 ghost use Rattle.bridge_cards.specs.declared.seat.Seat.{Seat};
 
+use std::fmt;
+
 /// A player's place at the table, clockwise from North.
 #[derive(Clone, Copy, Debug, PartialEq, Eq)]
 pub enum Seat {
@@ -45,6 +47,20 @@ impl Seat {
             2 => Seat::South,
             _ => Seat::West,
         }
+    }
+
+    /// The left-hand opponent, who plays next.
+    pub fn left(self) -> Seat
+        ensures { result ≡ clockwise_from self 1 }
+    {
+        self.clockwise(1)
+    }
+
+    /// The player opposite.
+    pub fn partner(self) -> Seat
+        ensures { result ≡ clockwise_from self 2 }
+    {
+        self.clockwise(2)
     }
 
     /// The side that the seat plays for.
@@ -94,5 +110,17 @@ impl Side {
             Side::NorthSouth => Side::EastWest,
             Side::EastWest => Side::NorthSouth,
         }
+    }
+}
+
+/// The seat's letter.
+impl fmt::Display for Seat {
+    ghost use Rattle.std.specs.Prelude.{Some, [], ◌∷◌};
+    ghost use Rattle.bridge_cards.specs.Seat.{seat_letter};
+
+    ghost output = { λ seat. Some (seat_letter seat ∷ []) };
+
+    fn fmt<W: fmt::Write>(&self, f: &mut fmt::Formatter<W>) -> fmt::Result {
+        f.write_char(char::from(self.letter()))
     }
 }

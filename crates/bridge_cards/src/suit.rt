@@ -2,8 +2,10 @@ ghost use Rattle.std.specs.Prelude.{◌≡◌, ◌≢◌, ◌<◌, IfSome, IfNon
 ghost use Rattle.bridge_cards.specs.Suit.{suit_number, suit_letter};
 ghost use Rattle.bridge_cards.specs.declared.suit.Suit.{Suit};
 
+use std::fmt;
+
 /// A suit, from the lowest to the highest (Law 1).
-#[derive(Clone, Copy, Debug, PartialEq, Eq, PartialOrd, Ord)]
+#[derive(Clone, Copy, Debug, PartialEq, Eq)]
 pub enum Suit {
     Clubs,
     Diamonds,
@@ -53,5 +55,17 @@ impl Suit {
             b'S' => Some(Suit::Spades),
             _ => None,
         }
+    }
+}
+
+/// The suit's letter.
+impl fmt::Display for Suit {
+    ghost use Rattle.std.specs.Prelude.{Some, [], ◌∷◌};
+    ghost use Rattle.bridge_cards.specs.Suit.{suit_letter};
+
+    ghost output = { λ suit. Some (suit_letter suit ∷ []) };
+
+    fn fmt<W: fmt::Write>(&self, f: &mut fmt::Formatter<W>) -> fmt::Result {
+        f.write_char(char::from(self.letter()))
     }
 }
