@@ -1,5 +1,5 @@
 pub mod CardSetLaws
-mod CardCounts
+pub mod CardCounts
 mod CardBits
 mod OnesCounted
 mod SuitText

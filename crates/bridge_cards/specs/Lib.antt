@@ -5,6 +5,7 @@ pub mod Board
 pub mod Rank
 pub mod Card
 pub mod CardSet
+pub mod Trick
 pub mod Deal
 pub mod DealText
 pub mod Shuffle

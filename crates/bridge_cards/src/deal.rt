@@ -69,7 +69,7 @@ impl Deal {
 }
 
 /// Whether no card is in two of the hands.
-fn are_disjoint(hands: &[CardSet]) -> bool
+pub fn are_disjoint(hands: &[CardSet]) -> bool
     ensures cases { MatchBool result (NoneTwice hands.now) (SomeTwice hands.now) }
     ensures test { result ≡ is_each_once hands.now }
 {

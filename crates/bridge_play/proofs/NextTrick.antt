@@ -3,9 +3,9 @@ use Rattle.std.proofs.Common.{◌≡◌, ◌≢◌, ◌<◌, ◌≤◌, ◌+◌,
 use Rattle.std.proofs.lemmas.List.{take-append-le, drop-append-le, take_all}
 use Rattle.bridge_cards.specs.declared.seat.Seat.{Seat}
 use Rattle.bridge_cards.specs.declared.seat.Side.{Side}
-use Rattle.bridge_cards.specs.Seat.{clockwise_from}
+use Rattle.bridge_cards.specs.Trick.{next_leader}
 use Rattle.bridge_auction.specs.declared.contract.Contract.{Contract}
-use Rattle.bridge_play.specs.Trick.{winning_place, trick_at, leader_of, plays_for, tricks_won}
+use Rattle.bridge_play.specs.Trick.{trump_of, trick_at, leader_of, plays_for, tricks_won}
 
 -- the tricks of the front of a list are those of the list
 trick_at-front : (cards rest : List ℕ) (trick : ℕ) → 4 * trick + 4 ≤ length cards → trick_at (cards ++ rest) trick ≡ trick_at cards trick
@@ -16,7 +16,7 @@ trick_at-front cards rest trick within =
 pub leader_of-front : (contract : Contract) (cards rest : List ℕ) (tricks : ℕ) → 4 * tricks ≤ length cards → leader_of contract (cards ++ rest) tricks ≡ leader_of contract cards tricks
 leader_of-front contract cards rest zero within = refl
 leader_of-front contract cards rest (suc tricks) within =
-    let next : Seat → List ℕ → Seat = λ seat trick. clockwise_from seat (winning_place contract.bid.denomination trick) in
+    let next : Seat → List ℕ → Seat = next_leader (trump_of contract) in
     ap (λ seat. next seat (trick_at (cards ++ rest) tricks)) (leader_of-front contract cards rest tricks (omega arith))
     ∙ ap (next (leader_of contract cards tricks)) (trick_at-front cards rest tricks (omega arith))
 
@@ -41,14 +41,14 @@ same_won contract cards side part = ap (tricks_won contract cards side) (same_tr
 one_trick_more : (n : ℕ) → 0 < n → n % 4 ≡ 0 → n / 4 ≡ suc ((n - 1) / 4)
 one_trick_more n some whole = omega arith
 
-pub winner_leads : (contract : Contract) (cards : List ℕ) → 0 < length cards → length cards % 4 ≡ 0 → leader_of contract cards (length cards / 4) ≡ clockwise_from (leader_of contract cards ((length cards - 1) / 4)) (winning_place contract.bid.denomination (drop (length cards - 4) cards))
+pub winner_leads : (contract : Contract) (cards : List ℕ) → 0 < length cards → length cards % 4 ≡ 0 → leader_of contract cards (length cards / 4) ≡ next_leader (trump_of contract) (leader_of contract cards ((length cards - 1) / 4)) (drop (length cards - 4) cards)
 winner_leads contract cards some whole =
     let before : ℕ = (length cards - 1) / 4 in
     let start : 4 * before ≡ length cards - 4 = omega arith in
     let last : trick_at cards before ≡ drop (length cards - 4) cards =
     ap (λ n. take 4 (drop n cards)) start ∙ take_all 4 (drop (length cards - 4) cards) (omega (arith, length-drop (length cards - 4) cards)) in
     ap (leader_of contract cards) (one_trick_more (length cards) some whole)
-    ∙ ap (λ trick. clockwise_from (leader_of contract cards before) (winning_place contract.bid.denomination trick)) last
+    ∙ ap (next_leader (trump_of contract) (leader_of contract cards before)) last
 
 pub winner_won : (contract : Contract) (cards : List ℕ) (side : Side) → 0 < length cards → length cards % 4 ≡ 0 → tricks_won contract cards side (length cards / 4) ≡ tricks_won contract cards side ((length cards - 1) / 4) + (if plays_for side (leader_of contract cards (length cards / 4)) then 1 else 0)
 winner_won contract cards side some whole =

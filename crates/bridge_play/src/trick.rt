@@ -1,10 +1,11 @@
 //! Who wins a trick, and who leads to the next.
 ghost use Rattle.std.specs.Prelude.{◌≡◌, ◌-◌, ◌/◌, ◌<◌, ◌≤◌, length, position};
 ghost use Rattle.bridge_cards.specs.Card.{IsCard, same_suit};
-ghost use Rattle.bridge_play.specs.Trick.{is_trump, beats, is_or_beats, wins, winning_place, leader_of, tricks_won};
+ghost use Rattle.bridge_cards.specs.Trick.{is_trump, beats, is_or_beats, wins, winning_place};
+ghost use Rattle.bridge_play.specs.Trick.{leader_of, tricks_won};
 
-use bridge_auction::{Contract, Denomination};
-use bridge_cards::{Card, Seat, Side};
+use bridge_auction::Contract;
+use bridge_cards::{Card, Seat, Side, Suit};
 
 /// Whether the cards are of one suit.
 pub fn same_suit(c: Card, d: Card) -> bool
@@ -17,14 +18,14 @@ pub fn same_suit(c: Card, d: Card) -> bool
 }
 
 /// Whether the card is a trump.
-fn is_trump(trump: Denomination, card: Card) -> bool
+fn is_trump(trump: Option<Suit>, card: Card) -> bool
     ensures { result ≡ is_trump trump card }
 {
-    card.suit().number() == trump.number()
+    trump == Some(card.suit())
 }
 
 /// Whether card c beats d in a trick to which `led` was led (Law 44).
-fn beats(trump: Denomination, led: Card, c: Card, d: Card) -> bool
+fn beats(trump: Option<Suit>, led: Card, c: Card, d: Card) -> bool
     ensures { result ≡ beats trump led c d }
 {
     (same_suit(c, d) && d < c)
@@ -33,14 +34,14 @@ fn beats(trump: Denomination, led: Card, c: Card, d: Card) -> bool
 }
 
 /// Whether the card is d, or beats it.
-fn is_or_beats(trump: Denomination, led: Card, c: Card, d: Card) -> bool
+fn is_or_beats(trump: Option<Suit>, led: Card, c: Card, d: Card) -> bool
     ensures { result ≡ is_or_beats trump led c d }
 {
     c == d || beats(trump, led, c, d)
 }
 
 /// Whether the card beats the others of the trick.
-fn wins(trump: Denomination, trick: &[Card], card: Card) -> bool
+fn wins(trump: Option<Suit>, trick: &[Card], card: Card) -> bool
     requires { 0 < length trick.now }
     ensures { result ≡ wins trump trick.now card }
 {
@@ -51,7 +52,7 @@ fn wins(trump: Denomination, trick: &[Card], card: Card) -> bool
 }
 
 /// The place in the trick of the card that beats the others.
-fn winner(trump: Denomination, trick: &[Card]) -> Option<usize>
+fn winner(trump: Option<Suit>, trick: &[Card]) -> Option<usize>
     requires { 0 < length trick.now }
     ensures { result ≡ position (wins trump trick.now) trick.now }
 {
@@ -59,7 +60,7 @@ fn winner(trump: Denomination, trick: &[Card]) -> Option<usize>
 }
 
 /// The place of the winner: of different cards one always beats the others.
-pub(crate) fn winning_place(trump: Denomination, trick: &[Card]) -> usize
+pub(crate) fn winning_place(trump: Option<Suit>, trick: &[Card]) -> usize
     requires { 0 < length trick.now }
     ensures { result ≡ winning_place trump trick.now }
 {
@@ -76,7 +77,7 @@ pub(crate) fn leader(contract: &Contract, cards: &[Card], trick: usize) -> Seat
     for earlier in 0..trick {
         let (_, rest) = cards.split_at(4 * earlier);
         let (played, _) = rest.split_at(4);
-        leader = leader.clockwise(winning_place(contract.bid.denomination, played));
+        leader = leader.clockwise(winning_place(contract.bid.denomination.suit(), played));
     }
     leader
 }
@@ -92,7 +93,7 @@ pub fn next_leader(contract: &Contract, cards: &[Card], leader: Seat) -> Seat
         return leader;
     }
     let (_, trick) = cards.split_at(cards.len() - 4);
-    leader.clockwise(winning_place(contract.bid.denomination, trick))
+    leader.clockwise(winning_place(contract.bid.denomination.suit(), trick))
 }
 
 /// How many of the whole tricks North and South won, of which they won so many before the last card; after a whole trick

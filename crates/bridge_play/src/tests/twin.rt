@@ -19,7 +19,7 @@ fn leader(contract: &Contract, cards: &[Card], tricks: usize) -> Seat
     for trick in 0..tricks {
         let (_, rest) = cards.split_at(4 * trick);
         let (played, _) = rest.split_at(4);
-        leader = leader.clockwise(winning_place(contract.bid.denomination, played));
+        leader = leader.clockwise(winning_place(contract.bid.denomination.suit(), played));
     }
     leader
 }

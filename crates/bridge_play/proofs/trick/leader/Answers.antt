@@ -7,6 +7,7 @@ loop-earlier-preserved c =
       add-one,
       c.clockwise-leader-in-loop-earlier.ensures,
       c.winning_place.ensures,
+      c.suit.ensures,
       c.split_at-in-loop-earlier.ensures.front,
       c.split_at.ensures.back,
       c.loop-earlier.invariant,

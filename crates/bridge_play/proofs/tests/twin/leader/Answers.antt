@@ -7,6 +7,7 @@ loop-trick-preserved c =
       add-one,
       c.clockwise-leader-in-loop-trick.ensures,
       c.winning_place.ensures,
+      c.suit.ensures,
       c.split_at-in-loop-trick.ensures.front,
       c.split_at.ensures.back,
       c.loop-trick.invariant,
