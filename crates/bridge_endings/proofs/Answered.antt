@@ -1,0 +1,43 @@
+-- The loop over the cards that may be played: each that is no longer to be tried was answered against the side in turn.
+use Rattle.std.proofs.Common.{◌≡◌, ℕ, Bool, true, false, not, ◌&&◌, ◌==◌, List, Option, refl, sym, ap, ◌∙◌, subst}
+use mathlib.Core.Bool.{beq}
+use Rattle.std.proofs.lemmas.Bool.{eqb-true, and_parts}
+use Rattle.bridge_cards.specs.declared.suit.Suit.{Suit}
+use Rattle.bridge_cards.specs.CardSet.{has_card}
+
+pub record IsAnswered (legal rest : ℕ) (answer : ℕ → Bool) (against : Bool) : Type 0 where
+  pub among : (card : ℕ) → has_card rest card ≡ true → has_card legal card ≡ true
+  pub tried : (card : ℕ) → has_card legal card ≡ true → has_card rest card ≡ false → answer card ≡ against
+
+pub answered-init : (legal : ℕ) (answer : ℕ → Bool) (against : Bool) → IsAnswered legal legal answer against
+answered-init legal answer against = record { among = λ card has. has; tried = λ card has not. cc }
+
+module _ (legal rest less card : ℕ) (answer : ℕ → Bool) (against : Bool) (without : (other : ℕ) → has_card less other ≡ (has_card rest other && not (other == card))) (before : IsAnswered legal rest answer against) (now : answer card ≡ against) where
+  at : (other : ℕ) (left same : Bool) → has_card rest other ≡ left → (other == card) ≡ same → has_card legal other ≡ true → (left && not same) ≡ false → answer other ≡ against
+  at other true true is same may gone = ap answer (eqb-true other card same) ∙ now
+  at other true false is same may gone = cc
+  at other false same is eq may gone = before.tried other may is
+
+  pub answered-step : IsAnswered legal less answer against
+  answered-step = record {
+    among = λ other has. before.among other ((and_parts (has_card rest other) (not (other == card)) (sym (without other) ∙ has)).0);
+    tried = λ other may gone. at other (has_card rest other) (other == card) refl refl may (sym (without other) ∙ gone);
+  }
+
+-- what a test of two answers tells
+pub same_answer : (a b : Bool) → beq a b ≡ true → a ≡ b
+same_answer true true same = refl
+same_answer true false same = cc
+same_answer false true same = cc
+same_answer false false same = refl
+
+pub other_answer : (a b : Bool) → beq a b ≡ false → a ≡ not b
+other_answer true true other = cc
+other_answer true false other = refl
+other_answer false true other = refl
+other_answer false false other = cc
+
+-- what was told of the hands and the trump suit holds of those that equal them
+pub answer_kept : (hands : List ℕ) (trump : Option Suit) (before : List ℕ) (suit : Option Suit) (P : List ℕ → Option Suit → Type 0) → hands ≡ before → trump ≡ suit → P hands trump → P before suit
+answer_kept hands trump before suit P same_hands same_trump holds =
+    subst (P before) same_trump (subst (λ h. P h trump) same_hands holds)

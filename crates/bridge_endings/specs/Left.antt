@@ -1,0 +1,20 @@
+-- What a search asks: of the cards dealt, those that are left, and whether so many tricks are won.
+use Rattle.std.specs.Prelude.{◌≡◌, ℕ, ◌<◌, ◌⊎◌, Bool, true, false, ◌&&◌, List}
+use Rattle.bridge_cards.specs.declared.seat.Seat.{Seat}
+use Rattle.bridge_cards.specs.declared.seat.Side.{Side}
+use Rattle.bridge_cards.specs.declared.seat.Side.TheVariants.{NorthSouth, EastWest}
+use Rattle.bridge_cards.specs.CardSet.{has_card}
+use Rattle.bridge_cards.specs.Deal.{hand_at}
+
+-- whether the seat was dealt the card, and it is left
+abbrev pub left_to : List ℕ → ℕ → Seat → ℕ → Bool
+left_to hands left seat card = has_card (hand_at hands seat) card && has_card left card
+
+-- whether the side wants the answer to be yes
+abbrev pub is_sought : Side → Bool
+is_sought NorthSouth = true
+is_sought EastWest = false
+
+-- at the start of a trick, no tricks are needed, or more than are left
+abbrev pub IsSettled : ℕ → ℕ → ℕ → Type 0
+IsSettled played tricks need = (played ≡ 0) × ((need ≡ 0) ⊎ (tricks < need))

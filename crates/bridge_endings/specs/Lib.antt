@@ -1,0 +1,5 @@
+pub mod Position
+pub mod Ending
+pub mod Worth
+pub mod TrickCards
+pub mod Left

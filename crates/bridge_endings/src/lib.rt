@@ -1,0 +1,12 @@
+//! The last tricks of a deal, solved: how many of them North and South win where each of the four sees all the cards.
+#![tactic(auto)]
+
+pub mod ending;
+mod search;
+pub mod solver;
+#[cfg(test)]
+mod tests;
+mod trick;
+
+pub use ending::{Ending, EndingRefused};
+pub use solver::solve;

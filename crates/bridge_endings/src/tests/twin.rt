@@ -1,0 +1,96 @@
+//! A plain twin of the solver: each legal card is tried, with no bounds. A card's height in its trick says who wins.
+use bridge_cards::{Card, CardSet, Seat, Side, Suit};
+
+/// The cards of a trick so far.
+#[derive(Clone, Copy)]
+pub struct Played {
+    trump: Option<Suit>,
+    leader: Seat,
+    cards: [Option<Card>; 4],
+}
+
+impl Played {
+    /// Nobody has played.
+    pub fn new(trump: Option<Suit>, leader: Seat) -> Played {
+        Played {
+            trump,
+            leader,
+            cards: [None; 4],
+        }
+    }
+
+    /// How high the card is: a trump above all others, then the suit led (Law 44).
+    fn height(&self, card: Card) -> u8 {
+        let place = card.number() % 13;
+        if Some(card.suit()) == self.trump {
+            27 + place
+        } else if Some(card.suit()) == self.cards[0].map(|led| led.suit()) {
+            14 + place
+        } else {
+            0
+        }
+    }
+
+    /// The seat that played the highest card.
+    fn winner(&self) -> Seat {
+        let mut winner = self.leader;
+        let mut highest = 0;
+        for (place, card) in self.cards.iter().enumerate() {
+            let height = card.map_or(0, |card| self.height(card));
+            if height > highest {
+                highest = height;
+                winner = self.leader.clockwise(place);
+            }
+        }
+        winner
+    }
+}
+
+/// The tricks of North and South of the cards left, of which there are so many in all.
+pub fn worth(cards_left: u8, hands: [CardSet; 4], trick: Played) -> u8 {
+    let Some(place) = trick.cards.iter().position(|card| card.is_none()) else {
+        return 0;
+    };
+    if cards_left == 0 {
+        return 0;
+    }
+    let seat = trick.leader.clockwise(place);
+    let hand = hands[usize::from(seat.number())];
+    let mut best = None;
+    for card in hand.cards().as_slice() {
+        let mut after = trick;
+        after.cards[place] = Some(*card);
+        if !may_follow(hand, after.cards[0], *card) {
+            continue;
+        }
+        let left = hands.map(|hand| hand.without(*card));
+        let mut tricks = 0;
+        if place == 3 {
+            let winner = after.winner();
+            if winner.side() == Side::NorthSouth {
+                tricks = 1;
+            }
+            after = Played::new(trick.trump, winner);
+        }
+        tricks = worth(cards_left - 1, left, after).saturating_add(tricks);
+        best = Some(better(seat.side(), best, tricks));
+    }
+    best.unwrap_or(0)
+}
+
+/// Whether the card is of the suit led, or the hand has none of it.
+fn may_follow(hand: CardSet, led: Option<Card>, card: Card) -> bool {
+    let Some(led) = led else {
+        return true;
+    };
+    card.suit() == led.suit() || hand.of_suit(led.suit()).is_empty()
+}
+
+/// The better for the side of what it had found, if anything, and the next.
+fn better(side: Side, found: Option<u8>, next: u8) -> u8 {
+    match (found, side) {
+        (None, _) => next,
+        (Some(found), Side::NorthSouth) => found.max(next),
+        (Some(found), Side::EastWest) => found.min(next),
+    }
+}

@@ -1,0 +1,153 @@
+//! A trick that is being played: whose turn it is, and who wins it.
+ghost use Rattle.std.specs.Prelude.{◌≡◌, ◌<◌, ◌≤◌, [], ◌∷◌, ◌++◌, length, slice_get, position};
+ghost use Rattle.bridge_cards.specs.Card.{same_suit};
+ghost use Rattle.bridge_cards.specs.Seat.{clockwise_from};
+ghost use Rattle.bridge_cards.specs.Trick.{is_trump, beats, is_or_beats, wins, winning_place, next_leader};
+
+use bridge_cards::{Card, Seat, Suit};
+use std::marker::Model;
+
+/// The cards of a trick so far, and the seat that led.
+#[derive(Drop)]
+pub struct Trick {
+    leader: Seat,
+    cards: [Card; 4],
+    played: usize,
+}
+
+impl Model for Trick {
+    ghost use Rattle.std.specs.Prelude.{◌≡◌, ◌≤◌, length, take};
+    ghost use Rattle.bridge_endings.specs.TrickCards.{TrickCards};
+
+    ghost Value = { TrickCards };
+
+    ghost view = { λ t. record { leader = t.leader; cards = take t.played t.cards } };
+
+    ghost invariant = { λ t. (t.played ≤ 4) × (length t.cards ≡ 4) };
+}
+
+impl Trick {
+    /// The trick to which nobody has played; that seat leads.
+    pub fn new(leader: Seat) -> Trick
+        ensures leader { result.leader ≡ leader }
+        ensures cards { result.cards ≡ [] }
+    {
+        Trick {
+            leader,
+            cards: [Card::default(); 4],
+            played: 0,
+        }
+    }
+
+    /// How many cards were played to it.
+    pub fn len(&self) -> usize
+        ensures length { result ≡ length self.now.cards }
+        ensures most { result ≤ 4 }
+    {
+        self.played
+    }
+
+    /// The card led, if one is.
+    pub fn led(&self) -> Option<Card>
+        ensures { result ≡ slice_get self.now.cards 0 }
+    {
+        self.so_far().first().copied()
+    }
+
+    /// The hand to play.
+    pub fn turn(&self) -> Seat
+        ensures { result ≡ clockwise_from self.now.leader (length self.now.cards) }
+    {
+        self.leader.clockwise(self.len())
+    }
+
+    /// The trick with the card too.
+    pub fn with(&self, card: Card) -> Trick
+        requires { length self.now.cards < 4 }
+        ensures leader { result.leader ≡ self.now.leader }
+        ensures cards { result.cards ≡ self.now.cards ++ card ∷ [] }
+    {
+        let mut cards = self.cards;
+        cards[self.played] = card;
+        Trick {
+            leader: self.leader,
+            cards,
+            played: self.played + 1,
+        }
+    }
+
+    /// The cards, from the one led.
+    fn so_far(&self) -> &[Card]
+        ensures { result.now ≡ self.now.cards }
+    {
+        &self.cards[..self.played]
+    }
+
+    /// Who wins the trick, and so leads to the next (Law 44).
+    pub fn winner(&self, trump: Option<Suit>) -> Seat
+        requires { 0 < length self.now.cards }
+        ensures { result ≡ next_leader trump self.now.leader self.now.cards }
+    {
+        self.leader.clockwise(winning_place(trump, self.so_far()))
+    }
+}
+
+/// Whether the cards are of one suit.
+fn same_suit(c: Card, d: Card) -> bool
+    ensures { result ≡ same_suit c d }
+{
+    c.suit() == d.suit()
+}
+
+/// Whether the card is a trump.
+fn is_trump(trump: Option<Suit>, card: Card) -> bool
+    ensures { result ≡ is_trump trump card }
+{
+    match trump {
+        Some(suit) => card.suit().number() == suit.number(),
+        None => false,
+    }
+}
+
+/// Whether card c beats d in a trick to which `led` was led (Law 44).
+fn beats(trump: Option<Suit>, led: Card, c: Card, d: Card) -> bool
+    ensures { result ≡ beats trump led c d }
+{
+    (same_suit(c, d) && d < c)
+        || (is_trump(trump, c) && !is_trump(trump, d))
+        || (same_suit(c, led) && !same_suit(d, led) && !is_trump(trump, d))
+}
+
+/// Whether the card is d, or beats it.
+fn is_or_beats(trump: Option<Suit>, led: Card, c: Card, d: Card) -> bool
+    ensures { result ≡ is_or_beats trump led c d }
+{
+    c == d || beats(trump, led, c, d)
+}
+
+/// Whether the card beats the others of the trick.
+fn wins(trump: Option<Suit>, trick: &[Card], card: Card) -> bool
+    requires { 0 < length trick.now }
+    ensures { result ≡ wins trump trick.now card }
+{
+    let led = trick[0];
+    trick
+        .iter()
+        .all(|other| is_or_beats(trump, led, card, *other))
+}
+
+/// The place of the winner: of different cards one always beats the others.
+fn winning_place(trump: Option<Suit>, trick: &[Card]) -> usize
+    requires { 0 < length trick.now }
+    ensures { result ≡ winning_place trump trick.now }
+{
+    winner(trump, trick).unwrap_or(0)
+}
+
+/// The place in the trick of the card that beats the others.
+fn winner(trump: Option<Suit>, trick: &[Card]) -> Option<usize>
+    requires { 0 < length trick.now }
+    ensures { result ≡ position (wins trump trick.now) trick.now }
+{
+    trick.iter().position(|card| wins(trump, trick, *card))
+}
