@@ -1,0 +1,69 @@
+-- Formatting: zeros hold nothing, and the first snapshot over them stands for its state.
+use Rattle.std.proofs.Common.{◌≡◌, ◌<◌, ◌≤◌, ◌+◌, ℕ, List, [], take, zero, suc, inl, inr, replicate, Some, None, Ok, refl, sym, ap, subst, ◌∙◌, arith}
+use Rattle.std.proofs.lemmas.Bool.{cases_eq}
+use Rattle.sector_disk.specs.Disk.{Image, Disk}
+use Rattle.sector_disk.specs.Calls.{Writes, write_here, write_elsewhere}
+use Rattle.session_store.specs.Keeping.{Keeping, IsLawful, fold}
+use Rattle.session_store.specs.Form.{header_of}
+use Rattle.session_store.specs.declared.reading.Header.{Header}
+use Rattle.session_store.specs.Stands.{placed, header_at, IsLater, recovered, IsInOrder}
+use Rattle.session_store.specs.Base.{IsSettled}
+use Rattle.session_store.specs.Snapshot.{NothingLater, WithSnapshot}
+use Rattle.session_store.specs.Sound.{IsSoundDisk, StandsOnlyFor}
+use Rattle.session_store.proofs.FormLemmas.{header_of-zeros, zeros_not_later}
+use Rattle.session_store.proofs.StandsLemmas.{fold-nil}
+use Rattle.session_store.proofs.BaseLemmas.{settled-stands}
+use Rattle.session_store.proofs.SnapshotLemmas.{with_snapshot-settled}
+
+no_header : (at : ℕ) (bytes : List ℕ) (h : Header) → bytes ≡ replicate 512 0 → header_at at bytes ≡ Some h → h.epoch ≤ 0
+unfolding placed
+no_header at bytes h zeros is =
+    let none : None ≡ Some h = sym (ap (placed at) (ap header_of zeros ∙ header_of-zeros)) ∙ is in absurd (cc)
+
+-- an image of zeros holds no header and no record
+pub zeros-nothing_later : (image : Image) → ((k : ℕ) → k < 2048 → image k ≡ replicate 512 0) → NothingLater 0 image
+zeros-nothing_later image zeros = record {
+  first = λ h is. no_header 0 (image 0) h (zeros 0 (omega arith)) is;
+  second = λ h is. no_header 512 (image 512) h (zeros 512 (omega arith)) is;
+  none_later = λ k above below later. zeros_not_later 0 (subst (λ (bytes : List ℕ). IsLater 0 bytes) (zeros k below) later);
+}
+
+module _ {S A R : Type 0} (kept : Keeping S A R) where
+  -- an image with no action pending stands for its base
+  pub settled-only : (epoch n : ℕ) (s : S) (image : Image) → n ≤ 1024 → IsSettled kept epoch s n [] image
+      → (recovered kept image ≡ Ok s) × IsInOrder image
+  unfolding fold
+  settled-only epoch n s image within settled =
+      let stands = settled-stands kept epoch n s s [] image (omega arith) (fold-nil kept s) settled in
+      let same : Some s ≡ Some stands.state = of_take stands.count stands.state stands.made in
+      let is : s ≡ stands.state = cc in
+      (stands.stands ∙ ap (λ (t : S). Ok t) (sym is), stands.in_order)
+    where
+      of_take : (count : ℕ) (t : S) → fold kept s (take count []) ≡ Some t → Some s ≡ Some t
+      of_take zero t made = made
+      of_take (suc n) t made = made
+
+  pub first_snapshot : {D : Type 0} (disk : Disk D) → IsLawful kept → (old new : D) (s : S) → kept.IsState s → disk.honest new
+      → ((c : Image) → disk.may_leave old c → (k : ℕ) → k < 2048 → c k ≡ replicate 512 0)
+      → ((c : Image) → disk.may_leave new c → WithSnapshot kept (disk.may_leave old) 1 s c)
+      → IsSoundDisk kept disk new × StandsOnlyFor kept disk s new
+  first_snapshot disk lawful old new s is_state honest zeros written =
+      let settled : (c : Image) → disk.may_leave new c → IsSettled kept 1 s 0 [] c
+      = λ c left. with_snapshot-settled kept lawful (disk.may_leave old) 0 1 s c refl (omega arith) is_state
+      (λ d before. zeros-nothing_later d (zeros d before)) (written c left) in (
+        record {
+          honest = honest;
+          stands = λ c left. (s, (settled-only 1 0 s c (omega arith) (settled c left)).0);
+          in_order = λ c left. (settled-only 1 0 s c (omega arith) (settled c left)).1;
+        },
+        λ c left. (settled-only 1 0 s c (omega arith) (settled c left)).0,
+      )
+
+-- one sector more is cleared
+pub cleared_more : {D T E : Type 0} (disk : Disk D) (mid new : D) (i : ℕ) (v : T) → Writes {T = T} {E = E} disk mid new i (replicate 512 0) (Ok v)
+    → ((k : ℕ) → k < i → disk.reads mid k ≡ replicate 512 0) → (k : ℕ) → k < i + 1 → disk.reads new k ≡ replicate 512 0
+cleared_more disk mid new i v did before k below =
+    elim (cases_eq k i) [
+      | inl here ↦ subst (λ (n : ℕ). disk.reads new n ≡ replicate 512 0) (sym here) (write_here disk mid new i (replicate 512 0) v did)
+      | inr other ↦ write_elsewhere disk mid new i (replicate 512 0) (Ok v) did k other ∙ before k (omega (arith, below, other))
+    ]

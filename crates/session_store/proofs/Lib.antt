@@ -1,0 +1,9 @@
+pub mod FormLemmas
+pub mod PutLemmas
+pub mod ReadLemmas
+pub mod StandsLemmas
+pub mod BaseLemmas
+pub mod SnapshotLemmas
+pub mod RunLemmas
+pub mod FormatLemmas
+pub mod StoreLemmas

@@ -1,0 +1,10 @@
+pub mod Keeping
+pub mod Form
+pub mod Stands
+pub mod Base
+pub mod Snapshot
+pub mod Sound
+pub mod Frame
+pub mod Value
+pub mod Store
+pub mod Answers

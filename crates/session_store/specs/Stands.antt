@@ -1,0 +1,95 @@
+-- What an image of a disk stands for: the snapshot with the greater epoch, and then that epoch's records in turn.
+use Rattle.std.specs.Prelude.{◌≡◌, ◌<◌, ◌≤◌, ◌+◌, ◌==◌, nat_lt, ℕ, zero, suc, List, [], ◌∷◌, take, if◌then◌else◌, Option, Some, None, Result, Ok, Err}
+use Rattle.sector_disk.specs.Disk.{Image}
+use Rattle.session_store.specs.Keeping.{Keeping}
+use Rattle.session_store.specs.declared.reading.Header.{Header}
+use Rattle.session_store.specs.Form.{header_of, payload_in, part_mark, record_mark, entry_in, epoch_field, place}
+use Rattle.session_store.specs.declared.reading.Entry.{Entry}
+use Rattle.session_store.specs.declared.reading.Entry.TheVariants.{Missing, Damaged as DamagedEntry, Holds}
+use Rattle.session_store.specs.declared.fault.StoreFault.{StoreFault}
+use Rattle.session_store.specs.declared.fault.StoreFault.TheVariants.{NotFormatted, Damaged}
+
+-- a header at 0 or at 512, if its epoch's snapshot has its place there
+unfoldable pub placed : ℕ → Option Header → Option Header
+placed at None = None
+placed at (Some h) = if place h.epoch == at then Some h else None
+
+abbrev pub header_at : ℕ → List ℕ → Option Header
+header_at at bytes = placed at (header_of bytes)
+
+-- the header with the greater epoch
+unfoldable pub newer : Option Header → Option Header → Option Header
+newer None b = b
+newer (Some a) None = Some a
+newer (Some a) (Some b) = if nat_lt a.epoch b.epoch then Some b else Some a
+
+unfoldable pub header_in : Image → Option Header
+header_in image = newer (header_at 0 (image 0)) (header_at 512 (image 512))
+
+-- a part before those that follow it
+unfoldable pub with_part : List ℕ → Result (List (List ℕ)) StoreFault → Result (List (List ℕ)) StoreFault
+with_part payload (Ok parts) = Ok (payload ∷ parts)
+with_part payload (Err fault) = Err fault
+
+-- the parts, if the one in this sector is in form
+unfoldable pub after_part : ℕ → Option (List ℕ) → Result (List (List ℕ)) StoreFault → Result (List (List ℕ)) StoreFault
+after_part at None rest = Err (Damaged at)
+after_part at (Some payload) rest = with_part payload rest
+
+-- the payloads of parts i, i + 1, .., so many of them; or the first sector out of form
+unfoldable pub parts_from : Image → ℕ → ℕ → ℕ → Result (List (List ℕ)) StoreFault
+parts_from image epoch i zero = Ok []
+parts_from image epoch i (suc left) =
+    after_part (place epoch + 1 + i) (payload_in part_mark epoch i (image (place epoch + 1 + i)))
+    (parts_from image epoch (i + 1) left)
+
+module _ {S A R : Type 0} (kept : Keeping S A R) where
+  -- after record k's step, and after its sector: the records go on where it is accepted
+  unfoldable pub after_step : ℕ → (S → Result S StoreFault) → Result S R → Result S StoreFault
+  after_step k next (Ok s) = next s
+  after_step k next (Err _) = Err (Damaged (1024 + k))
+
+  unfoldable pub after_entry : ℕ → S → (S → Result S StoreFault) → Entry A → Result S StoreFault
+  after_entry k s next Missing = Ok s
+  after_entry k s next DamagedEntry = Err (Damaged (1024 + k))
+  after_entry k s next (Holds a) = after_step k next (kept.step s a)
+
+  -- the state after records k, k + 1, .. up to the first that is missing, of at most so many; or the first sector that
+  -- is damaged or whose action is refused
+  unfoldable pub replay : ℕ → Image → ℕ → ℕ → S → Result S StoreFault
+  replay zero image epoch k s = Ok s
+  replay (suc left) image epoch k s =
+      after_entry k s (λ t. replay left image epoch (k + 1) t) (entry_in kept epoch k (image (1024 + k)))
+
+  -- after the parts, and after the header: the state of its parts and of its epoch's records
+  unfoldable pub after_state : Image → Header → Option S → Result S StoreFault
+  after_state image h None = Err (Damaged (place h.epoch))
+  after_state image h (Some s) = replay 1024 image h.epoch 0 s
+
+  unfoldable pub after_parts : Image → Header → Result (List (List ℕ)) StoreFault → Result S StoreFault
+  after_parts image h (Err fault) = Err fault
+  after_parts image h (Ok parts) = after_state image h (kept.state_of parts)
+
+  unfoldable pub after_header : Image → Option Header → Result S StoreFault
+  after_header image None = Err NotFormatted
+  after_header image (Some h) = after_parts image h (parts_from image h.epoch 0 h.parts)
+
+  -- the state that an image stands for, or why it stands for none
+  unfoldable pub recovered : Image → Result S StoreFault
+  recovered image = after_header image (header_in image)
+
+  -- the image stands for this state
+  abbrev pub StandsFor : S → Image → Type 0
+  StandsFor s image = recovered image ≡ Ok s
+
+-- a record's mark, and an epoch above this one
+abbrev pub IsLater : ℕ → List ℕ → Type 0
+IsLater epoch bytes = (take 4 bytes ≡ record_mark) × (epoch < epoch_field bytes)
+
+-- no sector of the journal is of an epoch above this one
+abbrev pub NoneLater : ℕ → Image → Type 0
+NoneLater epoch image = (k : ℕ) → 1024 ≤ k → k < 2048 → IsLater epoch (image k) → ⊥
+
+-- no sector of the journal is of an epoch above the header's
+abbrev pub IsInOrder : Image → Type 0
+IsInOrder image = (h : Header) → header_in image ≡ Some h → NoneLater h.epoch image

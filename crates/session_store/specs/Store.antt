@@ -1,0 +1,32 @@
+-- Sound stores.
+use Rattle.std.specs.Prelude.{◌≡◌, ◌≤◌, ◌+◌, ℕ, List, ◌++◌, length, take, drop, false, Some}
+use Rattle.sector_disk.specs.Disk.{Image, Disk}
+use Rattle.sector_disk.specs.Runs.{EveryMoment}
+use Rattle.session_store.specs.Keeping.{Keeping, fold}
+use Rattle.session_store.specs.Base.{IsSettled, HoldsAll, StandsForPrefix}
+use Rattle.session_store.specs.Value.{StoreValue}
+
+module _ {D S A R : Type 0} (kept : Keeping S A R) (disk : Disk D) where
+  -- while no call of the disk has failed: the journal holds the pending actions behind n others
+  pub record IsWorking (v : StoreValue D S A) : Type 0 where
+    pub settled : (n : ℕ) → n + length v.pending ≡ v.records
+        → (c : Image) → disk.may_leave v.disk c → IsSettled kept v.epoch v.base n v.pending c
+    pub written : (n : ℕ) → n + length v.pending ≡ v.records → HoldsAll kept v.epoch n v.pending (disk.reads v.disk)
+
+  -- A store over an honest disk that was sound when it was opened: every image that a power cut may leave stands for the
+  -- base with a prefix of the pending actions, and is in order.
+  pub record IsSoundStore (v : StoreValue D S A) : Type 0 where
+    pub honest : disk.honest v.disk
+    pub images : (c : Image) → disk.may_leave v.disk c → StandsForPrefix kept v.base v.pending c
+    pub working : v.failed ≡ false → IsWorking v
+
+  -- What a call does that accepted these actions, none or one: some of the first of what was pending and is accepted are
+  -- confirmed, and a power cut at any moment leaves the old base with a prefix of them.
+  pub record Continues (old : StoreValue D S A) (accepted : List A) (new : StoreValue D S A) : Type 0 where
+    pub confirmed : ℕ
+    pub few : confirmed ≤ length (old.pending ++ accepted)
+    pub base : fold kept old.base (take confirmed (old.pending ++ accepted)) ≡ Some new.base
+    pub pending : new.pending ≡ drop confirmed (old.pending ++ accepted)
+    pub sound : IsSoundStore old → IsSoundStore new
+    pub any_moment : IsSoundStore old
+        → EveryMoment disk old.disk new.disk (StandsForPrefix kept old.base (old.pending ++ accepted))

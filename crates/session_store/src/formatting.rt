@@ -1,0 +1,62 @@
+//! Formatting a disk.
+ghost use Rattle.std.specs.Prelude.{◌≡◌, ◌<◌, ◌≤◌, Err, IfOk, IfErr, MatchResult, OnOk, OnErr, ℕ, replicate};
+ghost use Rattle.sector_disk.specs.Disk.{Image, Rose};
+ghost use Rattle.sector_disk.specs.Runs.{Remains};
+ghost use Rattle.session_store.specs.Sound.{IsSoundDisk, StandsOnlyFor};
+
+use crate::snapshot::write_snapshot;
+use crate::{Kept, StoreFault};
+use sector_disk::{DiskFault, SectorDisk};
+
+/// The number of sectors that a store uses.
+pub(crate) const SECTORS: u32 = 2048;
+
+/// Writes zeros to all sectors that a store uses, and syncs.
+fn clear<D: SectorDisk>(disk: &mut D) -> Result<(), DiskFault>
+    requires { 2048 ≤ D.disk.count disk.old }
+    ensures remains { Remains D.disk disk.old disk.new }
+    ensures fault { OnErr result (Rose (D.disk.faults disk.old) (D.disk.faults disk.new)) }
+    ensures no_fault { OnOk result (D.disk.faults disk.new ≡ D.disk.faults disk.old) }
+    ensures cleared { D.disk.honest disk.old → OnOk result ((c : Image) → D.disk.may_leave disk.new c
+        → (k : ℕ) → k < 2048 → c k ≡ replicate 512 0) }
+{
+    for i in 0..SECTORS {
+        disk.write(i, &[0; 512])?;
+    }
+    disk.sync()?;
+    Ok(())
+}
+
+/// Clears the disk, and writes a snapshot of the state for epoch 1.
+fn write_first<D: SectorDisk, K: Kept>(disk: &mut D, state: &K) -> Result<(), DiskFault>
+    requires { 2048 ≤ D.disk.count disk.old }
+    ensures remains { Remains D.disk disk.old disk.new }
+    ensures fault { OnErr result (Rose (D.disk.faults disk.old) (D.disk.faults disk.new)) }
+    ensures stands { D.disk.honest disk.old → OnOk result (StandsOnlyFor K.kept D.disk state.now disk.new) }
+    ensures sound { D.disk.honest disk.old → OnOk result (IsSoundDisk K.kept D.disk disk.new) }
+{
+    clear(disk)?;
+    write_snapshot(disk, 1, state)?;
+    Ok(())
+}
+
+/// Makes of the disk one that holds this state, in epoch 1, and hands it back, at an error too. `TooSmall` where it
+/// has fewer than 2,048 sectors, and then nothing was called; `Disk` where a call of the disk failed. After `Disk`,
+/// and after a power cut inside the call, the disk is to be formatted again.
+pub fn format<D: SectorDisk, K: Kept>(mut disk: D, state: &K) -> Result<D, (D, StoreFault)>
+    ensures too_small { D.disk.count disk < 2048 → result ≡ Err (disk, StoreFault.TooSmall) }
+    ensures fault { 2048 ≤ D.disk.count disk → IfErr result (λ e.
+        (e.1 ≡ StoreFault.Disk) × Rose (D.disk.faults disk) (D.disk.faults e.0)) }
+    ensures remains { MatchResult result (Remains D.disk disk) (λ e. Remains D.disk disk e.0) }
+    ensures stands { D.disk.honest disk → IfOk result (StandsOnlyFor K.kept D.disk state.now) }
+    ensures sound { D.disk.honest disk → IfOk result (IsSoundDisk K.kept D.disk) }
+    ensures large { IfOk result (λ new. 2048 ≤ D.disk.count new) }
+{
+    if disk.count() < SECTORS {
+        return Err((disk, StoreFault::TooSmall));
+    }
+    match write_first(&mut disk, state) {
+        Ok(()) => Ok(disk),
+        Err(_) => Err((disk, StoreFault::Disk)),
+    }
+}

@@ -1,0 +1,19 @@
+//! A store that keeps a state on a disk of sectors: a journal of actions, and two snapshots that take turns.
+#![tactic(auto)]
+
+mod confirming;
+mod entry;
+mod fault;
+mod formatting;
+mod kept;
+mod laws;
+mod reading;
+mod sectors;
+mod snapshot;
+mod store;
+
+pub use fault::{CheckpointFault, ConfirmFault, PartsFault, StoreFault, SubmitFault};
+pub use formatting::format;
+pub use kept::Kept;
+pub use laws::frame_law;
+pub use store::Store;

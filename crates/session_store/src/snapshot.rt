@@ -1,0 +1,94 @@
+//! Writing a snapshot: its parts, and over them, once they are on the disk, its header.
+ghost use Rattle.std.specs.Prelude.{◌≡◌, ◌<◌, ◌≤◌, ◌+◌, [], length, slice_index_or, OnOk, OnErr};
+ghost use Rattle.sector_disk.specs.Disk.{Image, Rose};
+ghost use Rattle.sector_disk.specs.Calls.{WriteCall};
+ghost use Rattle.sector_disk.specs.Runs.{EveryMoment, Remains};
+ghost use Rattle.session_store.specs.Form.{sector, part_mark, place};
+ghost use Rattle.session_store.specs.Snapshot.{ButForParts, HasParts, header_sector, IsSnapshotting, WithSnapshot};
+
+use crate::Kept;
+use crate::reading::{HEADER_MARK, PART_MARK};
+use crate::sectors::make_sector;
+use arrayvec::ArrayVec;
+use sector_disk::{DiskFault, SectorDisk};
+
+/// The sector of the header of this epoch's snapshot.
+pub(crate) fn place_of(epoch: u64) -> u32
+    ensures place { result ≡ place epoch }
+    ensures first { result ≤ 512 }
+{
+    if epoch % 2 == 1 { 0 } else { 512 }
+}
+
+/// Writes part `i` of the state into this epoch's snapshot.
+fn write_part<D: SectorDisk, K: Kept>(
+    disk: &mut D,
+    epoch: u64,
+    state: &K,
+    i: u32,
+) -> Result<(), DiskFault>
+    requires sectors { 2048 ≤ D.disk.count disk.old }
+    requires few { i < 494 }
+    requires part { i < length (K.kept.parts state.now) }
+    ensures { WriteCall D.disk disk.old disk.new (place epoch + 1 + i)
+        (sector part_mark epoch i (slice_index_or (K.kept.parts state.now) i [])) result }
+{
+    let mut part = ArrayVec::new();
+    state.write_part(i, &mut part);
+    let bytes = make_sector(&PART_MARK, epoch, i, part.as_slice());
+    disk.write(place_of(epoch) + 1 + i, &bytes)
+}
+
+/// Writes the header of this epoch's snapshot of the state.
+fn write_header<D: SectorDisk, K: Kept>(
+    disk: &mut D,
+    epoch: u64,
+    state: &K,
+) -> Result<(), DiskFault>
+    requires { 2048 ≤ D.disk.count disk.old }
+    ensures { WriteCall D.disk disk.old disk.new (place epoch) (header_sector K.kept epoch state.now) result }
+{
+    let bytes = make_sector(&HEADER_MARK, epoch, state.parts(), &[]);
+    disk.write(place_of(epoch), &bytes)
+}
+
+/// Writes all parts of the state into this epoch's snapshot.
+fn write_parts<D: SectorDisk, K: Kept>(disk: &mut D, epoch: u64, state: &K) -> Result<(), DiskFault>
+    requires { 2048 ≤ D.disk.count disk.old }
+    ensures remains { Remains D.disk disk.old disk.new }
+    ensures fault { OnErr result (Rose (D.disk.faults disk.old) (D.disk.faults disk.new)) }
+    ensures no_fault { OnOk result (D.disk.faults disk.new ≡ D.disk.faults disk.old) }
+    ensures any_moment { D.disk.honest disk.old
+        → EveryMoment D.disk disk.old disk.new (ButForParts (D.disk.may_leave disk.old) epoch) }
+    ensures written { D.disk.honest disk.old → OnOk result (HasParts K.kept epoch state.now (D.disk.reads disk.new)) }
+    ensures state { K.kept.IsState state.now }
+{
+    let count = state.parts();
+    for i in 0..count {
+        write_part(disk, epoch, state, i)?;
+    }
+    Ok(())
+}
+
+/// Writes a snapshot of the state for this epoch: the parts, a sync, the header, a sync.
+pub(crate) fn write_snapshot<D: SectorDisk, K: Kept>(
+    disk: &mut D,
+    epoch: u64,
+    state: &K,
+) -> Result<(), DiskFault>
+    requires { 2048 ≤ D.disk.count disk.old }
+    ensures remains { Remains D.disk disk.old disk.new }
+    ensures fault { OnErr result (Rose (D.disk.faults disk.old) (D.disk.faults disk.new)) }
+    ensures no_fault { OnOk result (D.disk.faults disk.new ≡ D.disk.faults disk.old) }
+    ensures any_moment { D.disk.honest disk.old
+        → EveryMoment D.disk disk.old disk.new (IsSnapshotting K.kept (D.disk.may_leave disk.old) epoch state.now) }
+    ensures written { D.disk.honest disk.old → OnOk result ((c : Image)
+        → D.disk.may_leave disk.new c → WithSnapshot K.kept (D.disk.may_leave disk.old) epoch state.now c) }
+    ensures state { K.kept.IsState state.now }
+{
+    write_parts(disk, epoch, state)?;
+    disk.sync()?;
+    write_header(disk, epoch, state)?;
+    disk.sync()?;
+    Ok(())
+}
