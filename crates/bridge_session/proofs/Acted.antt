@@ -1,0 +1,81 @@
+-- A session after a change in one table.
+use Rattle.std.proofs.Common.{◌≡◌, ◌<◌, ℕ, Bool, true, cond, List, [], length, Option, Some, None, Result, Ok, Err, refl, sym, ap, ◌∙◌, length-set, subst, arith, Vec, Global}
+use Rattle.std.specs.Prelude.{All, map, slice_get, slice_set, slice_index_or, unwrap_or}
+use Rattle.std.specs.Vec.{with_items}
+use Rattle.std.specs.Option.{option_map}
+use Rattle.std.proofs.lemmas.List.{map-set, length-map, with_items_is}
+use Rattle.std.proofs.lemmas.List.Elements.{All-set}
+use Rattle.std.proofs.lemmas.Option.{slice_get-map, slice_get_read, slice_get_within, get_or_from_slice_get}
+use Rattle.bridge_config.specs.Configuration.{Configuration}
+use Rattle.bridge_session.specs.declared.deed.Deed.{Deed}
+use Rattle.bridge_session.specs.declared.record.Record.{Record}
+use Rattle.bridge_session.specs.declared.refused.Refused.{Refused}
+use Rattle.bridge_session.specs.declared.refused.Refused.TheVariants.{NotCurrent}
+use Rattle.bridge_session.specs.declared.seating.Seating.{Seating}
+use Rattle.bridge_session.specs.Record.{PlainRecord}
+use Rattle.bridge_session.specs.State.{State, deal_on, row_at, changed_at, seating_of, is_of_set}
+use Rattle.bridge_session.specs.Step.{seen_by, seen_deal, seen_records, answer_among, answer_seated, player_answer, acted_among, acted_at, acted}
+use Rattle.bridge_session.specs.Kept.{plain_of, state_of, IsTiedIn, IsKept}
+use Rattle.bridge_session.proofs.Lists.{changed_at-Some}
+
+-- the answer to a player who sits there
+answer_by : State → ℕ → ℕ → Deed → Result Seating Refused → Result (Unit {0}) Refused
+answer_by s board at done seating =
+    answer_seated (record { configuration = s.configuration; round = s.round; deal = seen_deal s board seating; records = seen_records s seating }) board at done seating
+
+pub seated_answer : (s : State) (key board at : ℕ) (done : Deed) (seating : Seating) → seating_of s.configuration s.round key ≡ Ok seating → is_of_set s.configuration seating.set board ≡ true → player_answer (seen_by s key board) key board at done ≡ answer_among (row_at s.records seating.place) (deal_on s.deals board) board seating.seat at done
+unfolding answer_by
+seated_answer s key board at done seating sits of_set =
+    let among : Bool → Result (Unit {0}) Refused = λ b.
+    cond b (answer_among (row_at s.records seating.place) (cond b (deal_on s.deals board) None) board seating.seat at done) (Err NotCurrent) in
+    ap (answer_by s board at done) sits ∙ ap among of_set
+
+-- a row of the records
+pub row_is : (tables : List (List Record)) (place : ℕ) (table : List Record) → slice_get tables place ≡ Some table → slice_get (map (map plain_of) tables) place ≡ Some (map plain_of table)
+row_is tables place table is = slice_get-map (map plain_of) tables place ∙ ap (option_map (map plain_of)) is
+
+pub row_at_is : (tables : List (List Record)) (place : ℕ) (table : List Record) → slice_get tables place ≡ Some table → row_at (map (map plain_of) tables) place ≡ map plain_of table
+row_at_is tables place table is = ap (λ row. unwrap_or row []) (row_is tables place table is)
+
+-- the records, where a table is changed
+pub changed_row : (tables : List (List Record)) (place : ℕ) (table after : List Record) (f : List PlainRecord → List PlainRecord) → slice_get tables place ≡ Some table → map plain_of after ≡ f (map plain_of table) → map (map plain_of) (slice_set tables place after) ≡ changed_at f (map (map plain_of) tables) place
+changed_row tables place table after f is left =
+    map-set (map plain_of) tables place after
+    ∙ ap (slice_set (map (map plain_of) tables) place) left
+    ∙ sym (changed_at-Some f (map (map plain_of) tables) place (map plain_of table) (row_is tables place table is))
+
+-- the session after what a player did
+pub acted_state : (configuration : Configuration) (round : ℕ) (deals : List (Option (List ℕ))) (tables : List (List Record)) (key : ℕ) (done : Deed) (seating : Seating) (table after : List Record) → seating_of configuration round key ≡ Ok seating → slice_get tables seating.place ≡ Some table → map plain_of after ≡ acted_among seating.seat done (map plain_of table) → state_of configuration round deals (slice_set tables seating.place after) ≡ acted (state_of configuration round deals tables) key done
+acted_state configuration round deals tables key done seating table after sits is left =
+    let made : List (List PlainRecord) → State = λ records. record { configuration = configuration; round = round; deals = deals; records = records } in
+    ap made (changed_row tables seating.place table after (acted_among seating.seat done) is left)
+    ∙ ap (acted_at (state_of configuration round deals tables) done) (sym sits)
+
+-- the parts are kept
+pub kept_with : (configuration : Configuration) (round : ℕ) (deals : List (Option (List ℕ))) (tables : List (List Record)) (place : ℕ) (after : List Record) → IsKept configuration round deals tables → All (IsTiedIn deals) after → IsKept configuration round deals (slice_set tables place after)
+kept_with configuration round deals tables place after kept tied = record {
+  begun = kept.begun;
+  boards = kept.boards;
+  rows = length-set tables place after ∙ kept.rows;
+  tied = All-set (All (IsTiedIn deals)) tables place after tied kept.tied;
+}
+
+-- the records of a row are tied
+pub tied_row : (deals : List (Option (List ℕ))) (tables : List (List Record)) (place : ℕ) (table : List Record) → All (All (IsTiedIn deals)) tables → slice_get tables place ≡ Some table → All (IsTiedIn deals) table
+tied_row deals tables place table tied is =
+    subst (All (IsTiedIn deals)) (get_or_from_slice_get tables place table [] is) (tied place [] (slice_get_within tables place table is))
+
+-- the lists in vectors
+abbrev pub lists_in : List (Vec Record Global) → List (List Record)
+lists_in vectors = map (λ (table : Vec Record Global). table.items) vectors
+
+pub list_there : (vectors : List (Vec Record Global)) (place : ℕ) (table : Vec Record Global) → place < length (lists_in vectors) → table ≡ slice_index_or vectors place table → slice_get (lists_in vectors) place ≡ Some table.items
+list_there vectors place table within is =
+    let inside : place < length vectors = omega (arith, length-map vectors (λ (t : Vec Record Global). t.items)) in
+    slice_get-map (λ (t : Vec Record Global). t.items) vectors place
+    ∙ ap (option_map (λ (t : Vec Record Global). t.items)) (slice_get_read vectors (length vectors) place table refl inside is)
+
+pub list_changed : (vectors : List (Vec Record Global)) (place : ℕ) (table : Vec Record Global) (after : List Record) → length after ≡ table.len → lists_in (slice_set vectors place (with_items table after)) ≡ slice_set (lists_in vectors) place after
+list_changed vectors place table after long =
+    map-set (λ (t : Vec Record Global). t.items) vectors place (with_items table after)
+    ∙ ap (slice_set (lists_in vectors) place) (with_items_is table after long)

@@ -1,0 +1,62 @@
+-- The opening session.
+use Rattle.std.proofs.Common.{◌≡◌, ◌+◌, ◌-◌, ◌*◌, ℕ, Bool, true, false, cond, List, [], ◌∷◌, length, Option, None, refl, sym, ap, ◌∙◌, subst, arith}
+use Rattle.std.specs.Prelude.{All, map, replicate, slice_index_or}
+use Rattle.std.specs.List.{range_with_len}
+use Rattle.std.proofs.lemmas.List.{length-map, length-replicate}
+use Rattle.std.proofs.lemmas.List.Elements.{All-map}
+use Rattle.bridge_movement.specs.declared.row.Row.{Row}
+use Rattle.bridge_movement.specs.Row.{is_live}
+use Rattle.bridge_movement.specs.Shape.{row_count}
+use Rattle.bridge_config.specs.Configuration.{Configuration}
+use Rattle.bridge_session.specs.declared.record.Record.{Record}
+use Rattle.bridge_session.specs.Record.{PlainRecord, empty_record}
+use Rattle.bridge_session.specs.State.{State, opening, opening_row}
+use Rattle.bridge_session.specs.Kept.{plain_of, state_of, new_record, new_table, IsTiedIn, IsKept}
+
+-- a new record is tied to whatever is dealt
+new_tied : (deals : List (Option (List ℕ))) (board : ℕ) → IsTiedIn deals (new_record board)
+new_tied deals board = record { tied = record { dealer = refl; play = refl }; undealt = λ none. refl }
+
+new_table_tied : (deals : List (Option (List ℕ))) (boards : List ℕ) (live : Bool) → All (IsTiedIn deals) (cond live (map new_record boards) [])
+new_table_tied deals boards true = All-map (IsTiedIn deals) new_record boards (λ k d within. new_tied deals _)
+new_table_tied deals boards false = λ k d within. absurd (omega arith)
+
+new_row_tied : (deals : List (Option (List ℕ))) (boards : ℕ) (row : Row) → All (IsTiedIn deals) (new_table boards row)
+new_row_tied deals boards row = new_table_tied deals (range_with_len ((row.set - 1) * boards + 1) boards) (is_live row)
+
+-- what is seen of the new records
+new_seen : (boards : List ℕ) → map plain_of (map new_record boards) ≡ map empty_record boards
+new_seen [] = refl
+new_seen (board ∷ boards) = ap (λ rest. empty_record board ∷ rest) (new_seen boards)
+
+row_seen : (boards : List ℕ) (live : Bool) → map plain_of (cond live (map new_record boards) []) ≡ cond live (map empty_record boards) []
+row_seen boards true = new_seen boards
+row_seen boards false = refl
+
+rows_seen : (boards : ℕ) (rows : List Row) → map (map plain_of) (map (new_table boards) rows) ≡ map (opening_row boards) rows
+rows_seen boards [] = refl
+rows_seen boards (row ∷ rows) =
+    ap (λ first. first ∷ map (map plain_of) (map (new_table boards) rows)) (row_seen _ (is_live row))
+    ∙ ap (λ rest. opening_row boards row ∷ rest) (rows_seen boards rows)
+
+-- the parts of a new session
+pub record IsNew (configuration : Configuration) (dealt : List (Option (List ℕ))) (lists : List (List Record)) : Type 0 where
+  pub rows : length configuration.movement.rows ≡ row_count configuration.movement.shape
+  pub deals : dealt ≡ replicate (configuration.movement.shape.sets * configuration.boards) None
+  pub tables : lists ≡ map (new_table configuration.boards) configuration.movement.rows
+
+pub new_is_kept : (configuration : Configuration) (deals : List (Option (List ℕ))) (tables : List (List Record)) → IsNew configuration deals tables → IsKept configuration 1 deals tables
+new_is_kept configuration deals tables parts = record {
+  begun = omega arith;
+  boards = ap length parts.deals ∙ length-replicate (configuration.movement.shape.sets * configuration.boards) None;
+  rows = ap length parts.tables ∙ length-map configuration.movement.rows (new_table configuration.boards) ∙ parts.rows;
+  tied = subst (All (All (IsTiedIn deals))) (sym parts.tables)
+      (All-map (All (IsTiedIn deals)) (new_table configuration.boards) configuration.movement.rows (λ k d within. new_row_tied deals configuration.boards (slice_index_or configuration.movement.rows k d)));
+}
+
+pub new_is_opening : (configuration : Configuration) (deals : List (Option (List ℕ))) (tables : List (List Record)) → IsNew configuration deals tables → state_of configuration 1 deals tables ≡ opening configuration
+new_is_opening configuration deals tables parts =
+    let made : List (Option (List ℕ)) → List (List PlainRecord) → State = λ d r. record { configuration = configuration; round = 1; deals = d; records = r } in
+    ap (λ d. made d (map (map plain_of) tables)) parts.deals
+    ∙ ap (made (replicate (configuration.movement.shape.sets * configuration.boards) None))
+    (ap (map (map plain_of)) parts.tables ∙ rows_seen configuration.boards configuration.movement.rows)

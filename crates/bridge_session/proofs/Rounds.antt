@@ -1,0 +1,44 @@
+-- The tables of a round, as they are kept and as they are seen.
+use Rattle.std.proofs.Common.{◌≡◌, ℕ, zero, suc, Bool, ◌||◌, List, [], ◌∷◌, Option, refl, sym, ap, ◌∙◌, arith, take, drop, Vec, Global}
+use Rattle.std.specs.Prelude.{All, map}
+use Rattle.std.specs.List.{list_any}
+use Rattle.std.proofs.lemmas.List.{take-map, drop-map}
+use Rattle.bridge_session.specs.declared.record.Record.{Record}
+use Rattle.bridge_session.specs.Record.{is_open}
+use Rattle.bridge_session.specs.Kept.{plain_of, is_kept_open, hands_on, IsTiedIn}
+use Rattle.bridge_session.proofs.Tied.{open_same}
+use Rattle.bridge_session.proofs.Acted.{lists_in}
+
+list_any-map : {X Y : Type 0} (p : Y → Bool) (f : X → Y) (xs : List X) → list_any p (map f xs) ≡ list_any (λ x. p (f x)) xs
+list_any-map p f [] = refl
+list_any-map p f (x ∷ xs) = ap (λ b. p (f x) || b) (list_any-map p f xs)
+
+-- a test of some elements by the tests of all
+among : {X : Type 0} (p : X → Bool) (count start : ℕ) (xs : List X) → list_any p (take count (drop start xs)) ≡ list_any (λ b. b) (take count (drop start (map p xs)))
+among p count start xs =
+    sym (list_any-map (λ b. b) p (take count (drop start xs)))
+    ∙ ap (list_any (λ b. b)) (sym (take-map p count (drop start xs)) ∙ ap (take count) (sym (drop-map p start xs)))
+
+-- a table has an open play
+open_among : (deals : List (Option (List ℕ))) (table : List Record) → All (IsTiedIn deals) table → list_any is_open (map plain_of table) ≡ list_any is_kept_open table
+open_among deals [] tied = refl
+open_among deals (kept ∷ table) tied =
+    let first = tied zero kept (omega arith) in
+    let rest = open_among deals table (λ k d within. tied (suc k) d (omega arith)) in
+    ap (λ b. b || list_any is_open (map plain_of table)) (open_same (hands_on deals kept.board) kept first.tied)
+    ∙ ap (λ b. is_kept_open kept || b) rest
+
+-- of each table
+open_tables : (deals : List (Option (List ℕ))) (vectors : List (Vec Record Global)) → All (All (IsTiedIn deals)) (lists_in vectors) → map (list_any is_open) (map (map plain_of) (lists_in vectors)) ≡ map (λ (table : Vec Record Global). list_any is_kept_open table.items) vectors
+open_tables deals [] tied = refl
+open_tables deals (table ∷ vectors) tied =
+    let first = open_among deals table.items (tied zero table.items (omega arith)) in
+    let rest = open_tables deals vectors (λ k d within. tied (suc k) d (omega arith)) in
+    ap (λ b. b ∷ map (list_any is_open) (map (map plain_of) (lists_in vectors))) first
+    ∙ ap (λ bs. list_any is_kept_open table.items ∷ bs) rest
+
+pub open_of_round : (deals : List (Option (List ℕ))) (vectors : List (Vec Record Global)) (count start : ℕ) → All (All (IsTiedIn deals)) (lists_in vectors) → list_any (λ (table : Vec Record Global). list_any is_kept_open table.items) (take count (drop start vectors)) ≡ list_any (list_any is_open) (take count (drop start (map (map plain_of) (lists_in vectors))))
+open_of_round deals vectors count start tied =
+    among (λ (table : Vec Record Global). list_any is_kept_open table.items) count start vectors
+    ∙ ap (λ bs. list_any (λ b. b) (take count (drop start bs))) (sym (open_tables deals vectors tied))
+    ∙ sym (among (list_any is_open) count start (map (map plain_of) (lists_in vectors)))

@@ -1,0 +1,81 @@
+-- A session after a ruling.
+use Rattle.std.proofs.Common.{◌≡◌, ℕ, Bool, true, false, cond, List, [], Option, Some, None, Err, refl, sym, ap, ◌∙◌, subst, inl, inr}
+use Rattle.std.specs.Prelude.{All, map, nat_lt, slice_get, slice_set}
+use Rattle.std.specs.Option.{option_map}
+use Rattle.std.proofs.lemmas.List.{map-set}
+use Rattle.std.proofs.lemmas.List.Elements.{All-set}
+use Rattle.std.proofs.lemmas.Option.{slice_get-map, slice_get_cases}
+use Rattle.bridge_auction.specs.declared.call.Call.{Call}
+use Rattle.bridge_auction.specs.declared.contract.Contract.{Contract}
+use Rattle.bridge_session.specs.declared.correction.Correction.{Correction}
+use Rattle.bridge_session.specs.declared.correction.Correction.TheVariants as correction
+use Rattle.bridge_session.specs.declared.record.Record.{Record}
+use Rattle.bridge_session.specs.declared.refused.Refused.TheVariants.{NotYet}
+use Rattle.bridge_session.specs.Record.{PlainRecord, play_of, playing_in, contract_in}
+use Rattle.bridge_session.specs.Correction.{ruling_answer}
+use Rattle.bridge_session.specs.State.{changed_at}
+use Rattle.bridge_session.specs.Step.{rule_answer}
+use Rattle.bridge_session.specs.Kept.{plain_of, hands_on, with_kept_ruling, kept_rule_answer, IsTiedIn}
+use Rattle.bridge_session.proofs.Lists.{changed_at-Some, changed_at-None}
+
+-- the answer to a ruling does not depend on the hands
+by_hands : (calls : List Call) (hands : List ℕ) (plain : PlainRecord) (made : Correction) (over : Bool) (contract : Option Contract) → ruling_answer calls (option_map (playing_in hands plain) contract) made over ≡ ruling_answer calls (option_map (playing_in [] plain) contract) made over
+by_hands calls hands plain (correction.Tricks tricks) over None = refl
+by_hands calls hands plain (correction.Tricks tricks) over (Some contract) = refl
+by_hands calls hands plain correction.Void over contract = refl
+by_hands calls hands plain correction.Restore over None = refl
+by_hands calls hands plain correction.Restore over (Some contract) = refl
+
+-- the answer by what is kept of a play, and by what is seen of it
+answer_seen : (deals : List (Option (List ℕ))) (kept : Record) (now round : ℕ) (made : Correction) → IsTiedIn deals kept → kept_rule_answer now round made (Some kept) ≡ rule_answer now round made (Some (plain_of kept))
+answer_seen deals kept now round made tied =
+    let calls = kept.auction.calls in
+    let over = nat_lt round now in
+    let same : ruling_answer calls kept.play made over ≡ ruling_answer calls (play_of [] (plain_of kept)) made over =
+    ap (λ play. ruling_answer calls play made over) tied.tied.play ∙ by_hands calls (hands_on deals kept.board) (plain_of kept) made over (contract_in (plain_of kept)) in
+    ap (λ answer. cond (nat_lt now round) (Err NotYet) answer) same
+
+pub rule_seen : (deals : List (Option (List ℕ))) (table : List Record) (place now round : ℕ) (made : Correction) → All (IsTiedIn deals) table → kept_rule_answer now round made (slice_get table place) ≡ rule_answer now round made (slice_get (map plain_of table) place)
+rule_seen deals table place now round made tied =
+    let seen = slice_get-map plain_of table place in
+    elim (slice_get_cases table place).1 [
+      | inl (kept, within, is, found) ↦
+          ap (kept_rule_answer now round made) is
+          ∙ answer_seen deals kept now round made (subst (IsTiedIn deals) found (tied place kept within))
+          ∙ ap (rule_answer now round made) (sym (seen ∙ ap (option_map plain_of) is))
+      | inr (past, none) ↦
+          ap (kept_rule_answer now round made) none
+          ∙ ap (rule_answer now round made) (sym (seen ∙ ap (option_map plain_of) none))
+    ]
+
+-- a change that is seen as another
+pub changed_at-map : {X Y : Type 0} (v : X → Y) (f : X → X) (g : Y → Y) (xs : List X) (i : ℕ) → ((x : X) → v (f x) ≡ g (v x)) → map v (changed_at f xs i) ≡ changed_at g (map v xs) i
+changed_at-map v f g xs i same =
+    let seen = slice_get-map v xs i in
+    elim (slice_get_cases xs i).1 [
+      | inl (x, within, is, found) ↦
+          ap (map v) (changed_at-Some f xs i x is)
+          ∙ map-set v xs i (f x)
+          ∙ ap (slice_set (map v xs) i) (same x)
+          ∙ sym (changed_at-Some g (map v xs) i (v x) (seen ∙ ap (option_map v) is))
+      | inr (past, none) ↦
+          ap (map v) (changed_at-None f xs i none) ∙ sym (changed_at-None g (map v xs) i (seen ∙ ap (option_map v) none))
+    ]
+
+pub All-changed_at : {X : Type 0} (P : X → Type 0) (f : X → X) (xs : List X) (i : ℕ) → ((x : X) → P x → P (f x)) → All P xs → All P (changed_at f xs i)
+All-changed_at P f xs i stays all =
+    elim (slice_get_cases xs i).1 [
+      | inl (x, within, is, found) ↦
+          subst (All P) (sym (changed_at-Some f xs i x is)) (All-set P xs i (f x) (stays x (subst P found (all i x within))) all)
+      | inr (past, none) ↦ subst (All P) (sym (changed_at-None f xs i none)) all
+    ]
+
+-- a ruling leaves a record tied
+pub ruling_tied : (deals : List (Option (List ℕ))) (made : Correction) (kept : Record) → IsTiedIn deals kept → IsTiedIn deals (with_kept_ruling made kept)
+ruling_tied deals made kept tied =
+    record { tied = record { dealer = tied.tied.dealer; play = tied.tied.play }; undealt = tied.undealt }
+
+-- an answer that is there only where a test passes
+pub some_if : (b : Bool) (n p : ℕ) → ◌≡◌ {A = Option ℕ} (cond b (Some n) None) (Some p) → (b ≡ true) × (n ≡ p)
+some_if true n p e = (refl, cc)
+some_if false n p e = absurd cc

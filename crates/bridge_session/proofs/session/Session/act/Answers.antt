@@ -1,0 +1,82 @@
+use Rattle.std.proofs.Common.{◌≡◌, ◌<◌, ℕ, List, length, Option, Some, Result, sym, ap, ◌∙◌, subst, arith}
+use Rattle.std.specs.Prelude.{All, map, slice_get, slice_set}
+use Rattle.std.specs.Vec.{with_items}
+use Rattle.bridge_session.specs.declared.record.Record.{Record}
+use Rattle.bridge_session.specs.declared.refused.Refused.{Refused}
+use Rattle.bridge_session.specs.State.{State, deal_on}
+use Rattle.bridge_session.specs.Step.{seen_by, player_answer, answer_among, acted}
+use Rattle.bridge_session.specs.Kept.{plain_of, state_of, IsTiedIn, IsKept}
+use Rattle.bridge_session.proofs.Lists.{map_ok, map_err, set_there}
+use Rattle.bridge_session.proofs.Acted.{seated_answer, row_at_is, acted_state, kept_with, tied_row, lists_in, list_there, list_changed}
+use Rattle.bridge_session.proofs.session.Session.act.Goals as goal
+use Rattle.bridge_session.proofs.session.Session.act.Goals.{After-as_mut_slice, After-self-1}
+
+pub act_among-requires : goal.act_among-requires
+act_among-requires c =
+    let s = c.self.inside in
+    let place = c.in_ok-seating.seating.place in
+    let vector = c.index_mut-table.result.now in
+    let within : place < length (lists_in s.tables.items) = omega (arith, c.in_ok-seating.ensures.within, c.self.invariant.rows) in
+    let there = list_there s.tables.items place vector within c.index_mut-table.ensures.value in
+    let tied = tied_row s.deals.items (lists_in s.tables.items) place vector.items c.self.invariant.tied there in
+    subst (λ deals. All (IsTiedIn deals) c.as_mut_slice.result.now) (sym c.as_slice-deals.ensures.value)
+    (subst (All (IsTiedIn s.deals.items)) (sym c.as_mut_slice.ensures.value) tied)
+
+-- what was found in the table, and what was left there
+pub record IsChanged (c : After-self-1) : Type 0 where
+  pub row : slice_get (lists_in c.self.inside.tables.items) c.in_ok-seating.seating.place ≡ Some c.as_mut_slice.result.now
+  pub left : lists_in (slice_set c.self.inside.tables.items c.in_ok-seating.seating.place (with_items c.index_mut-table.result.now c.act_among.new.table)) ≡ slice_set (lists_in c.self.inside.tables.items) c.in_ok-seating.seating.place c.act_among.new.table
+
+is_changed : (c : After-self-1) → IsChanged c
+is_changed c =
+    let s = c.self.inside in
+    let place = c.in_ok-seating.seating.place in
+    let vector = c.index_mut-table.result.now in
+    let within : place < length (lists_in s.tables.items) = omega (arith, c.in_ok-seating.ensures.within, c.self.invariant.rows) in
+    record {
+      row = list_there s.tables.items place vector within c.index_mut-table.ensures.value ∙ ap Some (sym c.as_mut_slice.ensures.value);
+      left = list_changed s.tables.items place vector c.act_among.new.table (omega arith);
+    }
+
+pub invariant_of-self : goal.invariant_of-self
+invariant_of-self c =
+    let s = c.self.inside in
+    let tied = subst (λ deals. All (IsTiedIn deals) c.act_among.new.table) c.as_slice-deals.ensures.value c.act_among.ensures.tied in
+    subst (IsKept s.config s.round s.deals.items) (sym (is_changed c).left)
+    (kept_with s.config s.round s.deals.items (lists_in s.tables.items) c.in_ok-seating.seating.place c.act_among.new.table c.self.invariant tied)
+
+pub returns-clause-answer : goal.returns-clause-answer
+returns-clause-answer c =
+    let s = c.self.inside in
+    let seating = c.in_ok-seating.seating in
+    let state = state_of s.config s.round s.deals.items (lists_in s.tables.items) in
+    let answer : List Record → List (Option (List ℕ)) → Result (Unit {0}) Refused =
+    λ table deals. answer_among (map plain_of table) (deal_on deals c.args.board) c.args.board seating.seat c.args.at c.args.deed in
+    let among : c.act_among.result ≡ answer c.as_mut_slice.result.now s.deals.items =
+    c.act_among.ensures.answer ∙ ap (answer c.as_mut_slice.result.now) c.as_slice-deals.ensures.value in
+    let row = row_at_is (lists_in s.tables.items) seating.place c.as_mut_slice.result.now (is_changed c).row in
+    among
+    ∙ ap (λ records. answer_among records (deal_on s.deals.items c.args.board) c.args.board seating.seat c.args.at c.args.deed) (sym row)
+    ∙ sym (seated_answer state c.args.key.0 c.args.board c.args.at c.args.deed seating (sym c.in_ok-seating.ensures.seating) (sym c.if-not-is_of_set.ensures))
+    ∙ ap (λ (s : State). player_answer (seen_by s c.args.key.0 c.args.board) c.args.key.0 c.args.board c.args.at c.args.deed) c.self.view_is
+
+pub returns-clause-taken : goal.returns-clause-taken
+returns-clause-taken c =
+    let s = c.self.inside in
+    let seating = c.in_ok-seating.seating in
+    let lists = lists_in s.tables.items in
+    map_ok _ _ c.act_among.result c.act_among.ensures.taken
+    (λ ok taken.
+    ap (state_of s.config s.round s.deals.items) (is_changed c).left
+    ∙ acted_state s.config s.round s.deals.items lists c.args.key.0 c.args.deed seating c.as_mut_slice.result.now c.act_among.new.table (sym c.in_ok-seating.ensures.seating) (is_changed c).row taken
+    ∙ ap (λ (s : State). acted s c.args.key.0 c.args.deed) c.self.view_is)
+
+pub returns-clause-refused : goal.returns-clause-refused
+returns-clause-refused c =
+    let s = c.self.inside in
+    let place = c.in_ok-seating.seating.place in
+    let lists = lists_in s.tables.items in
+    map_err _ _ c.act_among.result c.act_among.ensures.refused
+    (λ same.
+    ap (state_of s.config s.round s.deals.items) ((is_changed c).left ∙ ap (slice_set lists place) same ∙ set_there lists place c.as_mut_slice.result.now (is_changed c).row)
+    ∙ c.self.view_is)

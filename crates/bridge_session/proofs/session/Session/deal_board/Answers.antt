@@ -1,0 +1,37 @@
+use Rattle.std.proofs.Common.{◌≡◌, ◌-◌, ◌<◌, ◌≤◌, ◌*◌, length, Some, None, sym, ap, ◌∙◌, subst, arith}
+use Rattle.std.specs.Prelude.{slice_set}
+use Rattle.bridge_session.specs.State.{State, deal_on, director_answer}
+use Rattle.bridge_session.specs.Step.{if_allowed, deal_answer}
+use Rattle.bridge_session.specs.Kept.{state_of, IsKept}
+use Rattle.bridge_session.proofs.Acted.{lists_in}
+use Rattle.bridge_session.proofs.Dealt.{was_none, kept_dealt, deal_accepted}
+use Rattle.bridge_session.proofs.session.Session.deal_board.Goals as goal
+use Rattle.bridge_session.proofs.session.Session.deal_board.Goals.{After-self-1}
+
+-- the place of the board
+place_is : (c : After-self-1) → c.from-place.result ≡ c.args.board - 1
+place_is c = c.from-place.ensures ∙ ap (λ n. n - 1) c.number.ensures.number
+
+-- the board was not dealt
+none_there : (c : After-self-1) → deal_on c.self.inside.deals.items c.args.board ≡ None
+none_there c =
+    let deals = c.self.inside.deals.items in
+    let within : c.from-place.result < length deals = omega arith in
+    was_none deals c.from-place.result c.args.board c.index.result.now (place_is c) within c.index.ensures (sym c.is_some.ensures ∙ c.if-is_some.false)
+
+pub invariant_of-self : goal.invariant_of-self
+invariant_of-self c =
+    let s = c.self.inside in
+    let lists = lists_in s.tables.items in
+    subst (λ place. IsKept s.config s.round (slice_set s.deals.items place (Some c.in-Ok.deal)) lists) (sym (place_is c))
+    (kept_dealt s.config s.round s.deals.items lists c.args.board c.in-Ok.deal (none_there c) c.self.invariant)
+
+pub returns-clause-answer : goal.returns-clause-answer
+returns-clause-answer c =
+    let s = c.self.inside in
+    let state = state_of s.config s.round s.deals.items (lists_in s.tables.items) in
+    let within : c.args.board ≤ s.config.movement.shape.sets * s.config.boards = omega (arith, place_is c, c.self.invariant.boards) in
+    let accepted = deal_accepted state c.args.board c.args.hands (sym c.if-is_closed.ensures) within (none_there c) (sym c.in-Ok.ensures.test) in
+    sym accepted
+    ∙ ap (λ allowed. if_allowed allowed (deal_answer state c.args.board c.args.hands)) c.in_ok-check_director.ensures
+    ∙ ap (λ (t : State). if_allowed (director_answer t.configuration c.args.key.0) (deal_answer t c.args.board c.args.hands)) c.self.view_is

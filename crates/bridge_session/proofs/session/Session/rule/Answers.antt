@@ -1,0 +1,105 @@
+use Rattle.std.proofs.Common.{◌≡◌, ◌<◌, ◌-◌, ℕ, true, cond, List, length, Option, Some, None, Result, refl, sym, ap, ◌∙◌, subst, arith}
+use Rattle.std.specs.Prelude.{All, map, slice_get, slice_set}
+use Rattle.std.specs.Vec.{with_items}
+use Rattle.bridge_session.specs.declared.refused.Refused.{Refused}
+use Rattle.bridge_session.specs.Record.{PlainRecord}
+use Rattle.bridge_session.specs.State.{State, director_answer, row_place, row_at, changed_at}
+use Rattle.bridge_session.specs.Step.{if_allowed, is_row_within, rule_answer, record_of, ruled, with_ruling}
+use Rattle.bridge_session.specs.Kept.{plain_of, state_of, with_kept_ruling, kept_rule_answer, IsTiedIn, IsKept}
+use Rattle.bridge_session.proofs.Lists.{at_result, map_ok, map_err, set_there}
+use Rattle.bridge_session.proofs.Acted.{row_at_is, changed_row, kept_with, tied_row, lists_in, list_there, list_changed}
+use Rattle.bridge_session.proofs.Ruled.{rule_seen, changed_at-map, All-changed_at, ruling_tied, some_if}
+use Rattle.bridge_session.proofs.session.Session.rule.Goals as goal
+use Rattle.bridge_session.proofs.session.Session.rule.Goals.{After-self-1}
+
+-- the table that was found, and what was left there
+pub record IsChanged (c : After-self-1) : Type 0 where
+  pub row : slice_get (lists_in c.self.inside.tables.items) c.in-Some.place ≡ Some c.as_mut_slice.result.now
+  pub left : lists_in (slice_set c.self.inside.tables.items c.in-Some.place (with_items c.index_mut-records.result.now c.rule_among.new.table)) ≡ slice_set (lists_in c.self.inside.tables.items) c.in-Some.place c.rule_among.new.table
+  pub index : c.from-at.result ≡ c.args.play.index - 1
+  pub place : (is_row_within c.self.inside.config.movement.shape c.args.play.round c.args.play.table ≡ true) × (row_place c.self.inside.config.movement.shape c.args.play.round c.args.play.table ≡ c.in-Some.place)
+
+is_changed : (c : After-self-1) → IsChanged c
+is_changed c =
+    let s = c.self.inside in
+    let place = c.in-Some.place in
+    let vector = c.index_mut-records.result.now in
+    let within : place < length (lists_in s.tables.items) = omega (arith, c.in-Some.ensures.within, c.self.invariant.rows) in
+    record {
+      row = list_there s.tables.items place vector within c.index_mut-records.ensures.value ∙ ap Some (sym c.as_mut_slice.ensures.value);
+      left = list_changed s.tables.items place vector c.rule_among.new.table (omega arith);
+      index = c.from-at.ensures ∙ ap (λ n. n - 1) c.number.ensures.number;
+      place = some_if (is_row_within s.config.movement.shape c.args.play.round c.args.play.table) _ place (sym c.in-Some.ensures.row);
+    }
+
+-- the records of the table are tied
+tied_there : (c : After-self-1) → All (IsTiedIn c.self.inside.deals.items) c.as_mut_slice.result.now
+tied_there c =
+    let s = c.self.inside in
+    tied_row s.deals.items (lists_in s.tables.items) c.in-Some.place c.as_mut_slice.result.now c.self.invariant.tied (is_changed c).row
+
+pub invariant_of-self : goal.invariant_of-self
+invariant_of-self c =
+    let s = c.self.inside in
+    let deals = s.deals.items in
+    let tied : All (IsTiedIn deals) c.rule_among.new.table =
+    at_result _ _ (All (IsTiedIn deals) c.rule_among.new.table) c.rule_among.result c.rule_among.ensures.taken c.rule_among.ensures.refused
+    (λ ok taken.
+    subst (All (IsTiedIn deals)) (sym taken)
+    (All-changed_at (IsTiedIn deals) (with_kept_ruling c.args.correction) c.as_mut_slice.result.now c.from-at.result (ruling_tied deals c.args.correction) (tied_there c)))
+    (λ same. subst (All (IsTiedIn deals)) (sym same) (tied_there c)) in
+    subst (IsKept s.config s.round deals) (sym (is_changed c).left)
+    (kept_with s.config s.round deals (lists_in s.tables.items) c.in-Some.place c.rule_among.new.table c.self.invariant tied)
+
+-- the record of the play
+record_is : (c : After-self-1) → record_of (state_of c.self.inside.config c.self.inside.round c.self.inside.deals.items (lists_in c.self.inside.tables.items)) c.args.play ≡ slice_get (map plain_of c.as_mut_slice.result.now) c.from-at.result
+record_is c =
+    let s = c.self.inside in
+    let play = c.args.play in
+    let records = map (map plain_of) (lists_in s.tables.items) in
+    let at : ℕ → ℕ → Option PlainRecord = λ place index. slice_get (row_at records place) index in
+    let changed = is_changed c in
+    ap (λ b. cond b (at (row_place s.config.movement.shape play.round play.table) (play.index - 1)) None) changed.place.0
+    ∙ ap (λ place. at place (play.index - 1)) changed.place.1
+    ∙ ap (at c.in-Some.place) (sym changed.index)
+    ∙ ap (λ row. slice_get row c.from-at.result) (row_at_is (lists_in s.tables.items) c.in-Some.place c.as_mut_slice.result.now changed.row)
+
+pub returns-clause-answer : goal.returns-clause-answer
+returns-clause-answer c =
+    let s = c.self.inside in
+    let made = c.args.correction in
+    let table = c.as_mut_slice.result.now in
+    let answer : State → Result (Unit {0}) Refused =
+    λ t. if_allowed (director_answer t.configuration c.args.key.0) (rule_answer t.round c.args.play.round made (record_of t c.args.play)) in
+    c.rule_among.ensures.answer
+    ∙ ap (λ round. kept_rule_answer s.round round made (slice_get table c.from-at.result)) c.number-of_round.ensures.number
+    ∙ rule_seen s.deals.items table c.from-at.result s.round c.args.play.round made (tied_there c)
+    ∙ ap (rule_answer s.round c.args.play.round made) (sym (record_is c))
+    ∙ ap (λ allowed. if_allowed allowed (rule_answer s.round c.args.play.round made (record_of (state_of s.config s.round s.deals.items (lists_in s.tables.items)) c.args.play))) c.in_ok-check_director.ensures
+    ∙ ap answer c.self.view_is
+
+pub returns-clause-taken : goal.returns-clause-taken
+returns-clause-taken c =
+    let s = c.self.inside in
+    let made = c.args.correction in
+    let lists = lists_in s.tables.items in
+    let changed = is_changed c in
+    let after : List (List PlainRecord) → State = λ records. record { configuration = s.config; round = s.round; deals = s.deals.items; records = records } in
+    let change : ℕ → List PlainRecord → List PlainRecord = λ index records. changed_at (with_ruling made) records index in
+    map_ok _ _ c.rule_among.result c.rule_among.ensures.taken
+    (λ ok taken.
+    let seen = ap (map plain_of) taken ∙ changed_at-map plain_of (with_kept_ruling made) (with_ruling made) c.as_mut_slice.result.now c.from-at.result (λ kept. refl) in
+    ap (state_of s.config s.round s.deals.items) changed.left
+    ∙ ap after (changed_row lists c.in-Some.place c.as_mut_slice.result.now c.rule_among.new.table (change c.from-at.result) changed.row seen)
+    ∙ ap (λ index. after (changed_at (change index) (map (map plain_of) lists) c.in-Some.place)) changed.index
+    ∙ ap (λ place. after (changed_at (change (c.args.play.index - 1)) (map (map plain_of) lists) place)) (sym changed.place.1)
+    ∙ ap (λ (t : State). ruled t c.args.play made) c.self.view_is)
+
+pub returns-clause-refused : goal.returns-clause-refused
+returns-clause-refused c =
+    let s = c.self.inside in
+    let lists = lists_in s.tables.items in
+    map_err _ _ c.rule_among.result c.rule_among.ensures.refused
+    (λ same.
+    ap (state_of s.config s.round s.deals.items) ((is_changed c).left ∙ ap (slice_set lists c.in-Some.place) same ∙ set_there lists c.in-Some.place c.as_mut_slice.result.now (is_changed c).row)
+    ∙ c.self.view_is)

@@ -1,0 +1,7 @@
+pub mod Numbers
+pub mod Record
+pub mod Deed
+pub mod Correction
+pub mod State
+pub mod Step
+pub mod Kept

@@ -1,0 +1,121 @@
+-- What contracts see of a session, who acts in it, and where.
+use Rattle.std.specs.Prelude.{ℕ, ◌+◌, ◌-◌, ◌*◌, nat_lt, nat_le, Bool, true, false, ◌==◌, ◌&&◌, ◌||◌, if◌then◌else◌, is_some, map, replicate, List, [], slice_get, slice_set, slice_index, position, unwrap_or, ok_or, Option, None, Result, Ok, Err}
+use Rattle.std.specs.List.{position_or_len, range_with_len}
+use Rattle.std.specs.Option.{option_map, option_map_or}
+use Rattle.bridge_cards.specs.declared.seat.Seat.{Seat}
+use Rattle.bridge_cards.specs.declared.seat.Seat.TheVariants.{North, East, South, West}
+use Rattle.bridge_cards.specs.declared.seat.Side.{Side}
+use Rattle.bridge_cards.specs.declared.seat.Side.TheVariants.{NorthSouth, EastWest}
+use Rattle.bridge_movement.specs.declared.place.Place.{Place}
+use Rattle.bridge_movement.specs.declared.row.Row.{Row}
+use Rattle.bridge_movement.specs.declared.shape.Shape.{Shape}
+use Rattle.bridge_movement.specs.Row.{is_live}
+use Rattle.bridge_movement.specs.Seating.{place_of}
+use Rattle.bridge_config.specs.Configuration.{Configuration, Pair}
+use Rattle.bridge_session.specs.declared.refused.Refused.{Refused}
+use Rattle.bridge_session.specs.declared.refused.Refused.TheVariants.{NoKey, NotAllowed, Closed, SitsOut}
+use Rattle.bridge_session.specs.declared.seating.Player.{Player}
+use Rattle.bridge_session.specs.declared.seating.Seating.{Seating}
+use Rattle.bridge_session.specs.Record.{PlainRecord, empty_record, is_open}
+
+-- The configuration, the round, the deal of each board by the boards' numbers, and for each row of the movement the
+-- records of its plays in order: one for each board of its set where the row is live, and otherwise none. The round is
+-- one more than the last once the session is closed.
+pub record State : Type 0 where
+  pub configuration : Configuration
+  pub round : ℕ
+  pub deals : List (Option (List ℕ))
+  pub records : List (List PlainRecord)
+
+-- the records of a row at the opening
+abbrev pub opening_row : ℕ → Row → List PlainRecord
+opening_row boards row = if is_live row then map empty_record (range_with_len ((row.set - 1) * boards + 1) boards) else []
+
+-- The opening session of a configuration: round 1, no board dealt, and nothing has happened in any play.
+abbrev pub opening : Configuration → State
+opening configuration = record {
+  configuration = configuration;
+  round = 1;
+  deals = replicate (configuration.movement.shape.sets * configuration.boards) None;
+  records = map (opening_row configuration.boards) configuration.movement.rows;
+}
+
+-- the deal of a board, if the session has the board and it is dealt
+abbrev pub deal_on : List (Option (List ℕ)) → ℕ → Option (List ℕ)
+deal_on deals board = unwrap_or (slice_get deals (board - 1)) None
+
+-- the records of a row
+abbrev pub row_at : List (List PlainRecord) → ℕ → List PlainRecord
+row_at records place = unwrap_or (slice_get records place) []
+
+-- a list, in which the element at that place is changed
+abbrev pub changed_at : {A : Type 0} → (A → A) → List A → ℕ → List A
+changed_at change xs place = option_map_or (λ x. slice_set xs place (change x)) (slice_get xs place) xs
+
+-- the place of a table's current play among its records: the first that is neither finished nor void
+abbrev pub current_place : List PlainRecord → ℕ
+current_place records = position_or_len is_open records
+
+-- whether the key is one of the pair's players'
+abbrev pub has_key : ℕ → Pair → Bool
+has_key key pair = slice_index pair.keys 0 == key || slice_index pair.keys 1 == key
+
+-- whether the key is that of the first player of the pair at that place
+abbrev pub is_first_key : List Pair → ℕ → ℕ → Bool
+is_first_key pairs key place = option_map_or (λ (pair : Pair). slice_index pair.keys 0 == key) (slice_get pairs place) false
+
+-- the player of these pairs whose key it is
+abbrev pub player_in : List Pair → ℕ → Option Player
+player_in pairs key =
+    option_map (λ (place : ℕ). record { pair = place + 1; first = is_first_key pairs key place }) (position (has_key key) pairs)
+
+abbrev pub player_of : Configuration → ℕ → Option Player
+player_of configuration key = player_in configuration.pairs key
+
+-- the player who may act by the key
+abbrev pub acting_player : Configuration → ℕ → Result Player Refused
+acting_player configuration key =
+    if key == configuration.director then Err NotAllowed else ok_or (player_of configuration key) NoKey
+
+-- whether the director may act by the key
+abbrev pub director_answer : Configuration → ℕ → Result (Unit {0}) Refused
+director_answer configuration key =
+    if key == configuration.director then Ok tt else Err (if is_some (player_of configuration key) then NotAllowed else NoKey)
+
+-- the first player of a pair sits North or East, the second South or West
+abbrev pub seat_on : Side → Bool → Seat
+seat_on NorthSouth true = North
+seat_on NorthSouth false = South
+seat_on EastWest true = East
+seat_on EastWest false = West
+
+-- the place of a table's row of a round among the rows of the movement
+abbrev pub row_place : Shape → ℕ → ℕ → ℕ
+row_place shape round table = (round - 1) * shape.tables + (table - 1)
+
+-- the session is closed after the last round
+abbrev pub is_closed : Configuration → ℕ → Bool
+is_closed configuration round = nat_lt configuration.movement.shape.rounds round
+
+abbrev pub seating_at : Configuration → ℕ → Bool → Place → Seating
+seating_at configuration round first place = record {
+  place = row_place configuration.movement.shape round place.table;
+  seat = seat_on place.side first;
+  set = place.set;
+}
+
+-- where the player sits in the round
+abbrev pub seated : Configuration → ℕ → Result Player Refused → Result Seating Refused
+seated configuration round (Err refused) = Err refused
+seated configuration round (Ok player) =
+    if is_closed configuration round then Err Closed
+    else ok_or (option_map (seating_at configuration round player.first) (place_of configuration.movement.rows round player.pair)) SitsOut
+
+-- where the player of the key sits in the round
+abbrev pub seating_of : Configuration → ℕ → ℕ → Result Seating Refused
+seating_of configuration round key = seated configuration round (acting_player configuration key)
+
+-- the boards of a set
+abbrev pub is_of_set : Configuration → ℕ → ℕ → Bool
+is_of_set configuration set board =
+    nat_lt ((set - 1) * configuration.boards) board && nat_le board (set * configuration.boards)

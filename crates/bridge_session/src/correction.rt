@@ -1,0 +1,26 @@
+ghost use Rattle.std.specs.Prelude.{◌≡◌};
+ghost use Rattle.bridge_session.specs.Correction.{ruling_by};
+
+use crate::numbers::TrickCount;
+use crate::ruling::Ruling;
+
+/// What the director does to the ruling on a play.
+#[derive(Clone, Copy, Debug, PartialEq, Eq)]
+pub enum Correction {
+    Tricks(TrickCount),
+    Void,
+    Restore,
+}
+
+impl Correction {
+    /// The ruling that is left.
+    pub fn ruling(self) -> Option<Ruling>
+        ensures { result ≡ ruling_by self }
+    {
+        match self {
+            Correction::Tricks(tricks) => Some(Ruling::Tricks(tricks)),
+            Correction::Void => Some(Ruling::Void),
+            Correction::Restore => None,
+        }
+    }
+}

@@ -1,0 +1,26 @@
+//! A session of duplicate bridge for pairs: what players and the director do, which of it is accepted, and what each of
+//! them may see (the Laws of Duplicate Bridge 2017).
+//!
+//! ```rust
+//! let mut session = Session::new(alloc, config)?;
+//! session.step(&Action::NextRound { key, round })?;
+//! ```
+#![tactic(auto)]
+
+pub mod action;
+mod correction;
+mod deed;
+pub mod numbers;
+mod opening;
+mod record;
+pub mod refused;
+pub mod ruling;
+mod seating;
+pub mod session;
+mod table;
+
+pub use action::{Action, PlayId};
+pub use numbers::{BoardIndex, MadeCount, RoundNumber, TableNumber, TrickCount};
+pub use refused::Refused;
+pub use ruling::Ruling;
+pub use session::Session;

@@ -1,0 +1,210 @@
+//! The numbers that an action names, each within its range.
+ghost use Rattle.std.specs.Prelude.{◌≡◌, ◌↔◌, IsSome, IfSome};
+ghost use Rattle.bridge_session.specs.Numbers.{IsRoundNumber, IsTableNumber, IsBoardIndex, IsTrickCount, IsMadeCount};
+
+use std::marker::Model;
+
+/// The number of a round, 1 to 12.
+#[derive(Clone, Copy, Debug, PartialEq, Eq)]
+pub struct RoundNumber {
+    number: u8,
+}
+
+impl Model for RoundNumber {
+    ghost use Rattle.std.specs.Prelude.{ℕ};
+    ghost use Rattle.bridge_session.specs.Numbers.{IsRoundNumber};
+
+    ghost Value = { ℕ };
+
+    ghost view = { λ n. n.number };
+
+    ghost invariant = { λ n. IsRoundNumber n.number };
+
+    ghost inverse = { λ number. record { number = number } };
+}
+
+impl RoundNumber {
+    /// `None` where the number is not from 1 to 12.
+    pub fn new(number: u8) -> Option<RoundNumber>
+        ensures valid { IsSome result ↔ IsRoundNumber number }
+        ensures value { IfSome result (λ made. made ≡ number) }
+    {
+        if (1..=12).contains(&number) {
+            Some(RoundNumber { number })
+        } else {
+            None
+        }
+    }
+
+    /// The number, 1 to 12.
+    pub fn number(self) -> u8
+        ensures number { result ≡ self }
+        ensures range { IsRoundNumber result }
+    {
+        self.number
+    }
+}
+
+/// The number of a table, 1 to 12.
+#[derive(Clone, Copy, Debug, PartialEq, Eq)]
+pub struct TableNumber {
+    number: u8,
+}
+
+impl Model for TableNumber {
+    ghost use Rattle.std.specs.Prelude.{ℕ};
+    ghost use Rattle.bridge_session.specs.Numbers.{IsTableNumber};
+
+    ghost Value = { ℕ };
+
+    ghost view = { λ n. n.number };
+
+    ghost invariant = { λ n. IsTableNumber n.number };
+
+    ghost inverse = { λ number. record { number = number } };
+}
+
+impl TableNumber {
+    /// `None` where the number is not from 1 to 12.
+    pub fn new(number: u8) -> Option<TableNumber>
+        ensures valid { IsSome result ↔ IsTableNumber number }
+        ensures value { IfSome result (λ made. made ≡ number) }
+    {
+        if (1..=12).contains(&number) {
+            Some(TableNumber { number })
+        } else {
+            None
+        }
+    }
+
+    /// The number, 1 to 12.
+    pub fn number(self) -> u8
+        ensures number { result ≡ self }
+        ensures range { IsTableNumber result }
+    {
+        self.number
+    }
+}
+
+/// The place of a board in its set, 1 to 3.
+#[derive(Clone, Copy, Debug, PartialEq, Eq)]
+pub struct BoardIndex {
+    number: u8,
+}
+
+impl Model for BoardIndex {
+    ghost use Rattle.std.specs.Prelude.{ℕ};
+    ghost use Rattle.bridge_session.specs.Numbers.{IsBoardIndex};
+
+    ghost Value = { ℕ };
+
+    ghost view = { λ n. n.number };
+
+    ghost invariant = { λ n. IsBoardIndex n.number };
+
+    ghost inverse = { λ number. record { number = number } };
+}
+
+impl BoardIndex {
+    /// `None` where the number is not from 1 to 3.
+    pub fn new(number: u8) -> Option<BoardIndex>
+        ensures valid { IsSome result ↔ IsBoardIndex number }
+        ensures value { IfSome result (λ made. made ≡ number) }
+    {
+        if (1..=3).contains(&number) {
+            Some(BoardIndex { number })
+        } else {
+            None
+        }
+    }
+
+    /// The number, 1 to 3.
+    pub fn number(self) -> u8
+        ensures number { result ≡ self }
+        ensures range { IsBoardIndex result }
+    {
+        self.number
+    }
+}
+
+/// A number of tricks, 0 to 13.
+#[derive(Clone, Copy, Debug, PartialEq, Eq)]
+pub struct TrickCount {
+    number: u8,
+}
+
+impl Model for TrickCount {
+    ghost use Rattle.std.specs.Prelude.{ℕ};
+    ghost use Rattle.bridge_session.specs.Numbers.{IsTrickCount};
+
+    ghost Value = { ℕ };
+
+    ghost view = { λ n. n.number };
+
+    ghost invariant = { λ n. IsTrickCount n.number };
+
+    ghost inverse = { λ number. record { number = number } };
+}
+
+impl TrickCount {
+    /// `None` where the number is not from 0 to 13.
+    pub fn new(number: u8) -> Option<TrickCount>
+        ensures valid { IsSome result ↔ IsTrickCount number }
+        ensures value { IfSome result (λ made. made ≡ number) }
+    {
+        if number <= 13 {
+            Some(TrickCount { number })
+        } else {
+            None
+        }
+    }
+
+    /// The number, 0 to 13.
+    pub fn number(self) -> u8
+        ensures number { result ≡ self }
+        ensures range { IsTrickCount result }
+    {
+        self.number
+    }
+}
+
+/// How many calls, cards or claims a player takes as made, 0 to 999.
+#[derive(Clone, Copy, Debug, PartialEq, Eq)]
+pub struct MadeCount {
+    number: u16,
+}
+
+impl Model for MadeCount {
+    ghost use Rattle.std.specs.Prelude.{ℕ};
+    ghost use Rattle.bridge_session.specs.Numbers.{IsMadeCount};
+
+    ghost Value = { ℕ };
+
+    ghost view = { λ n. n.number };
+
+    ghost invariant = { λ n. IsMadeCount n.number };
+
+    ghost inverse = { λ number. record { number = number } };
+}
+
+impl MadeCount {
+    /// `None` where the number is not from 0 to 999.
+    pub fn new(number: u16) -> Option<MadeCount>
+        ensures valid { IsSome result ↔ IsMadeCount number }
+        ensures value { IfSome result (λ made. made ≡ number) }
+    {
+        if number <= 999 {
+            Some(MadeCount { number })
+        } else {
+            None
+        }
+    }
+
+    /// The number, 0 to 999.
+    pub fn number(self) -> u16
+        ensures number { result ≡ self }
+        ensures range { IsMadeCount result }
+    {
+        self.number
+    }
+}

@@ -1,0 +1,134 @@
+//! Who acts by a key, and where a player sits.
+ghost use Rattle.std.specs.Prelude.{◌≡◌, ◌==◌, ◌<◌, ◌≤◌, slice_index, length, map, position, IfOk};
+ghost use Rattle.bridge_config.specs.Configuration.{pair_of};
+ghost use Rattle.bridge_config.specs.declared.fields.PairFields.{PairFields as PairType};
+ghost use Rattle.bridge_movement.specs.Shape.{row_count};
+ghost use Rattle.bridge_session.specs.State.{has_key, player_in, player_of, acting_player, director_answer, seat_on, is_closed, seating_of, is_of_set};
+
+use crate::refused::Refused;
+use bridge_cards::{BoardNumber, Seat, Side};
+use bridge_config::{Config, Key, PairFields};
+
+/// A player of the session.
+#[derive(Clone, Copy)]
+pub struct Player {
+    /// The pair's number.
+    pub pair: u8,
+    /// Whether it is the pair's first player.
+    pub first: bool,
+}
+
+/// Where a player sits in a round.
+#[derive(Clone, Copy)]
+pub struct Seating {
+    /// The place of the table's row among the rows of the movement, from 0.
+    pub place: usize,
+    pub seat: Seat,
+    /// The set of boards that the table plays.
+    pub set: u8,
+}
+
+/// Whether the key is that of the pair's player at that place, from 0.
+fn is_key_of(pair: &PairFields, place: usize, key: Key) -> bool
+    requires { place < 2 }
+    ensures { result ≡ (slice_index (pair_of pair.now).keys place == key.0) }
+{
+    pair.keys[place].0 == key.0
+}
+
+/// The place of the pair whose player's key it is.
+fn place_of_key(pairs: &[PairFields], key: Key) -> Option<usize>
+    ensures { result ≡ position (λ (pair : PairType). has_key key.0 (pair_of pair)) pairs.now }
+{
+    pairs
+        .iter()
+        .position(|pair| is_key_of(pair, 0, key) || is_key_of(pair, 1, key))
+}
+
+/// The player of these pairs whose key it is.
+fn player_in(pairs: &[PairFields], key: Key) -> Option<Player>
+    requires { length pairs.now ≤ 24 }
+    ensures { result ≡ player_in (map pair_of pairs.now) key.0 }
+{
+    let place = place_of_key(pairs, key)?;
+    Some(Player {
+        pair: place as u8 + 1,
+        first: is_key_of(&pairs[place], 0, key),
+    })
+}
+
+/// The player whose key it is.
+fn player_by(config: &Config, key: Key) -> Option<Player>
+    ensures { result ≡ player_of config.now key.0 }
+{
+    player_in(config.fields().pairs.as_slice(), key)
+}
+
+/// The player who may act by the key: `NoKey` where it is nobody's, `NotAllowed` where it is the director's.
+fn acting_player(config: &Config, key: Key) -> Result<Player, Refused>
+    ensures { result ≡ acting_player config.now key.0 }
+{
+    if key == config.fields().director {
+        return Err(Refused::NotAllowed);
+    }
+    player_by(config, key).ok_or(Refused::NoKey)
+}
+
+/// Whether the director may act by the key: `NoKey` where it is nobody's, `NotAllowed` where it is a player's.
+pub fn check_director(config: &Config, key: Key) -> Result<(), Refused>
+    ensures { result ≡ director_answer config.now key.0 }
+{
+    if key == config.fields().director {
+        return Ok(());
+    }
+    match player_by(config, key) {
+        Some(_) => Err(Refused::NotAllowed),
+        None => Err(Refused::NoKey),
+    }
+}
+
+fn seat_on(side: Side, first: bool) -> Seat
+    ensures { result ≡ seat_on side first }
+{
+    match (side, first) {
+        (Side::NorthSouth, true) => Seat::North,
+        (Side::NorthSouth, false) => Seat::South,
+        (Side::EastWest, true) => Seat::East,
+        (Side::EastWest, false) => Seat::West,
+    }
+}
+
+/// Whether the session is closed in that round.
+pub fn is_closed(config: &Config, round: u8) -> bool
+    ensures { result ≡ is_closed config.now round }
+{
+    round > config.fields().movement.shape().rounds
+}
+
+/// Where the player of the key sits in the round: `NoKey`, `NotAllowed`, `Closed` or `SitsOut` where there is no place.
+pub fn seat_by(config: &Config, round: u8, key: Key) -> Result<Seating, Refused>
+    ensures seating { result ≡ seating_of config.now round key.0 }
+    ensures within { IfOk result (λ seating. seating.place < row_count config.now.movement.shape) }
+{
+    let player = acting_player(config, key)?;
+    if is_closed(config, round) {
+        return Err(Refused::Closed);
+    }
+    let movement = &config.fields().movement;
+    let place = movement.place(round, player.pair).ok_or(Refused::SitsOut)?;
+    let before = usize::from(round.saturating_sub(1)) * usize::from(movement.shape().tables);
+    Ok(Seating {
+        place: before + usize::from(place.table - 1),
+        seat: seat_on(place.side, player.first),
+        set: place.set,
+    })
+}
+
+/// Whether the board is one of the set's.
+pub fn is_of_set(config: &Config, set: u8, board: BoardNumber) -> bool
+    ensures { result ≡ is_of_set config.now set board }
+{
+    let boards = u16::from(config.fields().boards);
+    let board = u16::from(board.number());
+    u16::from(set.saturating_sub(1)) * boards < board && board <= u16::from(set) * boards
+}

@@ -1,0 +1,79 @@
+ghost use Rattle.std.specs.Prelude.{◌≡◌, IfOk};
+ghost use Rattle.std.specs.Option.{option_copied};
+ghost use Rattle.bridge_session.specs.State.{opening, deal_on};
+
+use crate::opening::{opening_tables, undealt};
+use crate::record::Record;
+use bridge_cards::{BoardNumber, Deal};
+use bridge_config::Config;
+use std::alloc::{AllocError, Global};
+use std::marker::Model;
+
+mod step;
+
+/// A session: who plays, the round, the boards that are dealt, and a record of each play.
+#[derive(Drop)]
+pub struct Session {
+    config: Config,
+    /// From 1; one more than the last once the session is closed.
+    round: u8,
+    /// By the boards' numbers.
+    deals: Vec<Option<Deal>>,
+    /// By the rows of the movement; for each that is live, by the boards of its set.
+    tables: Vec<Vec<Record>>,
+}
+
+impl Model for Session {
+    ghost use Rattle.std.specs.Prelude.{map};
+    ghost use Rattle.bridge_session.specs.State.{State};
+    ghost use Rattle.bridge_session.specs.Kept.{state_of, IsKept};
+
+    ghost Value = { State };
+
+    ghost view = { λ s. state_of s.config s.round s.deals.items (map (λ table. table.items) s.tables.items) };
+
+    ghost invariant = { λ s. IsKept s.config s.round s.deals.items (map (λ table. table.items) s.tables.items) };
+}
+
+impl Session {
+    /// The session of the configuration in round 1, with no board dealt. It takes all its memory at once; no other call
+    /// takes any.
+    pub fn new(alloc: Global, config: Config) -> Result<Session, AllocError>
+        ensures { IfOk result (λ session. session ≡ opening config) }
+    {
+        let fields = config.fields();
+        let count = usize::from(fields.movement.shape().sets) * usize::from(fields.boards);
+        let deals = undealt(alloc, count)?;
+        let tables = opening_tables(alloc, fields.movement.rows(), fields.boards)?;
+        Ok(Session {
+            config,
+            round: 1,
+            deals,
+            tables,
+        })
+    }
+
+    /// The configuration.
+    pub fn config(&self) -> &Config
+        ensures { result.now ≡ self.now.configuration }
+    {
+        &self.config
+    }
+
+    /// The current round, from 1; one more than the last once the session is closed.
+    pub fn round(&self) -> u8
+        ensures { result ≡ self.now.round }
+    {
+        self.round
+    }
+
+    /// The deal of a board, if the session has the board and it is dealt.
+    pub fn deal(&self, board: BoardNumber) -> Option<&Deal>
+        ensures { option_copied result ≡ deal_on self.now.deals board }
+    {
+        match self.deals.get(usize::from(board.number() - 1)) {
+            Some(deal) => deal.as_ref(),
+            None => None,
+        }
+    }
+}

@@ -1,0 +1,198 @@
+//! What players and the director do in a session.
+ghost use Rattle.std.specs.Prelude.{◌≡◌, ◌+◌, ◌<◌, ◌≤◌, OnOk, OnErr, IfSome, if◌then◌else◌, Some, None, map, take, drop, length, slice_set, ◌-◌};
+ghost use Rattle.std.specs.List.{list_any};
+ghost use Rattle.bridge_movement.specs.Shape.{row_count};
+ghost use Rattle.bridge_session.specs.declared.correction.Correction.TheVariants as correction;
+ghost use Rattle.bridge_session.specs.declared.deed.Deed.TheVariants as deed;
+ghost use Rattle.bridge_session.specs.Record.{is_open};
+ghost use Rattle.bridge_session.specs.State.{director_answer, row_place};
+ghost use Rattle.bridge_session.specs.Step.{seen_by, player_answer, acted, if_allowed, deal_answer, next_answer, records_of_round, is_row_within, rule_answer, record_of, ruled, step_answer, changed};
+ghost use Rattle.bridge_session.specs.Kept.{is_kept_open};
+
+use super::Session;
+use crate::action::{Action, PlayId};
+use crate::correction::Correction;
+use crate::deed::Deed;
+use crate::numbers::{MadeCount, RoundNumber, TableNumber};
+use crate::record::Record;
+use crate::refused::Refused;
+use crate::seating::{check_director, is_closed, is_of_set, seat_by};
+use crate::table::{act_among, has_open, rule_among};
+use bridge_cards::{BoardNumber, CardSet, Deal};
+use bridge_config::{Config, Key};
+
+/// The place of a table's row of a round among the rows of the movement, if it has that round and table.
+fn row_of(config: &Config, round: RoundNumber, table: TableNumber) -> Option<usize>
+    ensures row { result ≡ (if is_row_within config.now.movement.shape round table then Some (row_place config.now.movement.shape round table) else None) }
+    ensures within { IfSome result (λ place. place < row_count config.now.movement.shape) }
+{
+    let shape = config.fields().movement.shape();
+    let round = round.number();
+    let table = table.number();
+    if round <= shape.rounds && table <= shape.tables {
+        Some(usize::from(round - 1) * usize::from(shape.tables) + usize::from(table - 1))
+    } else {
+        None
+    }
+}
+
+/// Whether one of so many tables from a place on has a play that is neither finished nor void.
+fn have_open(tables: &[Vec<Record>], start: usize, count: usize) -> bool
+    ensures { result ≡ list_any (λ table. list_any is_kept_open table.items) (take count (drop start tables.now)) }
+{
+    tables
+        .iter()
+        .skip(start)
+        .take(count)
+        .any(|table| has_open(table.as_slice()))
+}
+
+impl Session {
+    /// What a player does in the current play of the table where the player sits.
+    fn act(
+        &mut self,
+        key: Key,
+        board: BoardNumber,
+        at: MadeCount,
+        deed: Deed,
+    ) -> Result<(), Refused>
+        ensures answer { result ≡ player_answer (seen_by self.old key.0 board) key.0 board at deed }
+        ensures taken { OnOk result (self.new ≡ acted self.old key.0 deed) }
+        ensures refused { OnErr result (self.new ≡ self.old) }
+    {
+        let seating = seat_by(&self.config, self.round, key)?;
+        if !is_of_set(&self.config, seating.set, board) {
+            return Err(Refused::NotCurrent);
+        }
+        let deals = self.deals.as_slice();
+        let table = &mut self.tables[seating.place];
+        act_among(table.as_mut_slice(), deals, board, seating.seat, at, deed)
+    }
+
+    /// Deals a board. Refused are: `Closed`, `NoSuchPlay` where the session has no such board, `AlreadyDealt`, `BadDeal`.
+    fn deal_board(
+        &mut self,
+        key: Key,
+        board: BoardNumber,
+        hands: [CardSet; 4],
+    ) -> Result<(), Refused>
+        ensures answer { result ≡ if_allowed (director_answer self.old.configuration key.0) (deal_answer self.old board hands) }
+        ensures taken { OnOk result (self.new ≡ record self.old { deals = slice_set self.old.deals (board - 1) (Some hands) }) }
+        ensures refused { OnErr result (self.new ≡ self.old) }
+    {
+        check_director(&self.config, key)?;
+        if is_closed(&self.config, self.round) {
+            return Err(Refused::Closed);
+        }
+        let place = usize::from(board.number() - 1);
+        if place >= self.deals.len() {
+            return Err(Refused::NoSuchPlay);
+        }
+        if self.deals[place].is_some() {
+            return Err(Refused::AlreadyDealt);
+        }
+        let Ok(deal) = Deal::from_hands(hands) else {
+            return Err(Refused::BadDeal);
+        };
+        self.deals[place] = Some(deal);
+        Ok(())
+    }
+
+    /// Whether a live play of the round is neither finished nor void.
+    fn is_round_open(&self) -> bool
+        ensures { result ≡ list_any (list_any is_open) (records_of_round self.now) }
+    {
+        let tables = usize::from(self.config.fields().movement.shape().tables);
+        let start = usize::from(self.round - 1) * tables;
+        have_open(self.tables.as_slice(), start, tables)
+    }
+
+    /// Ends the round. Refused are: `Closed`, `Stale` where it is not that round, `RoundOpen`.
+    fn end_round(&mut self, key: Key, round: RoundNumber) -> Result<(), Refused>
+        ensures answer { result ≡ if_allowed (director_answer self.old.configuration key.0) (next_answer self.old round) }
+        ensures taken { OnOk result (self.new ≡ record self.old { round = self.old.round + 1 }) }
+        ensures refused { OnErr result (self.new ≡ self.old) }
+    {
+        check_director(&self.config, key)?;
+        if is_closed(&self.config, self.round) {
+            return Err(Refused::Closed);
+        }
+        if round.number() != self.round {
+            return Err(Refused::Stale);
+        }
+        if self.is_round_open() {
+            return Err(Refused::RoundOpen);
+        }
+        self.round = round.number() + 1;
+        Ok(())
+    }
+
+    /// Rules on a play. Refused are: `NoSuchPlay`, `NotYet`, and those of the ruling.
+    fn rule(&mut self, key: Key, play: PlayId, correction: Correction) -> Result<(), Refused>
+        ensures answer { result ≡ if_allowed (director_answer self.old.configuration key.0) (rule_answer self.old.round play.round correction (record_of self.old play)) }
+        ensures taken { OnOk result (self.new ≡ ruled self.old play correction) }
+        ensures refused { OnErr result (self.new ≡ self.old) }
+    {
+        let PlayId {
+            round,
+            table,
+            index,
+        } = play;
+        let of_round = round.number();
+        let at = usize::from(index.number() - 1);
+        check_director(&self.config, key)?;
+        let Some(place) = row_of(&self.config, round, table) else {
+            return Err(Refused::NoSuchPlay);
+        };
+        let now = self.round;
+        let records = &mut self.tables[place];
+        rule_among(records.as_mut_slice(), at, now, of_round, correction)
+    }
+
+    /// Takes an action, or answers the first refusal that applies, which changes nothing. It takes no memory.
+    ///
+    /// The refusals of each action are, in this order: of all, `NoKey` and `NotAllowed`. Of a player's, `Closed`,
+    /// `SitsOut`, `NotCurrent`, `NotDealt`, `WrongPhase` and `Stale`, and then of a call `NotYourTurn`,
+    /// `InsufficientBid`, `InadmissibleDouble` and `InadmissibleRedouble`; of a card `ClaimStands`, `NotYourTurn`,
+    /// `NotHeld` and `MustFollow`; of a claim `ClaimStands`, `NotYourTurn`, `MidTrick`, `TooManyTricks` and
+    /// `ClaimsSpent`; of an answer to a claim `NoClaim` and `NotAsked`. Of a deal `Closed`, `NoSuchPlay`,
+    /// `AlreadyDealt` and `BadDeal`; of the end of a round `Closed`, `Stale` and `RoundOpen`; of a ruling `NoSuchPlay`
+    /// and `NotYet`, and then of `Tricks` `NoContract` and `NotFinished`, of `Restore` `NotFinished`.
+    pub fn step(&mut self, action: &Action) -> Result<(), Refused>
+        ensures answer { result ≡ step_answer self.old action.now }
+        ensures taken { OnOk result (self.new ≡ changed self.old action.now) }
+        ensures refused { OnErr result (self.new ≡ self.old) }
+    {
+        match *action {
+            Action::Deal { key, board, hands } => self.deal_board(key, board, hands),
+            Action::Call {
+                key,
+                board,
+                at,
+                call,
+            } => self.act(key, board, at, Deed::Call(call)),
+            Action::Card {
+                key,
+                board,
+                at,
+                card,
+            } => self.act(key, board, at, Deed::Card(card)),
+            Action::Claim {
+                key,
+                board,
+                at,
+                tricks,
+            } => self.act(key, board, at, Deed::Claim(tricks)),
+            Action::Agree { key, board, at } => self.act(key, board, at, Deed::Agree),
+            Action::Refuse { key, board, at } => self.act(key, board, at, Deed::Refuse),
+            Action::NextRound { key, round } => self.end_round(key, round),
+            Action::Tricks { key, play, tricks } => self.rule(
+                key,
+                play,
+                Correction::Tricks(tricks),
+            ),
+            Action::Void { key, play } => self.rule(key, play, Correction::Void),
+            Action::Restore { key, play } => self.rule(key, play, Correction::Restore),
+        }
+    }
+}

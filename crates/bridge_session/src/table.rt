@@ -1,0 +1,85 @@
+//! The records of one table in one round.
+ghost use Rattle.std.specs.Prelude.{◌≡◌, ◌<◌, length, map, position, unwrap_or, None, slice_get, All, OnOk, OnErr};
+ghost use Rattle.std.specs.List.{list_any};
+ghost use Rattle.bridge_session.specs.State.{deal_on, current_place, changed_at};
+ghost use Rattle.bridge_session.specs.Step.{answer_among, acted_among};
+ghost use Rattle.bridge_session.specs.Kept.{plain_of, is_kept_open, with_kept_ruling, kept_rule_answer, IsTiedIn};
+
+use crate::correction::Correction;
+use crate::deed::Deed;
+use crate::numbers::MadeCount;
+use crate::record::Record;
+use crate::refused::Refused;
+use bridge_cards::{BoardNumber, Deal, Seat};
+
+/// The place of the current play: the first that is neither finished nor void.
+fn current(table: &[Record]) -> Option<usize>
+    ensures { result ≡ position is_kept_open table.now }
+{
+    table.iter().position(|record| record.is_open())
+}
+
+/// The deal of a board, if the session has the board and it is dealt.
+pub fn deal_on(deals: &[Option<Deal>], board: BoardNumber) -> Option<Deal>
+    ensures { result ≡ deal_on deals.now board }
+{
+    match deals.get(usize::from(board.number() - 1)) {
+        Some(deal) => *deal,
+        None => None,
+    }
+}
+
+/// What a player does in the current play of the table.
+pub fn act_among(
+    table: &mut [Record],
+    deals: &[Option<Deal>],
+    board: BoardNumber,
+    seat: Seat,
+    at: MadeCount,
+    deed: Deed,
+) -> Result<(), Refused>
+    requires { All (IsTiedIn deals.now) table.old }
+    ensures answer { result ≡ answer_among (map plain_of table.old) (deal_on deals.now board) board seat at deed }
+    ensures taken { OnOk result (map plain_of table.new ≡ acted_among seat deed (map plain_of table.old)) }
+    ensures tied { All (IsTiedIn deals.now) table.new }
+    ensures refused { OnErr result (table.new ≡ table.old) }
+{
+    let Some(place) = current(table) else {
+        return Err(Refused::NotCurrent);
+    };
+    if table[place].board != board {
+        return Err(Refused::NotCurrent);
+    }
+    let Some(deal) = deal_on(deals, board) else {
+        return Err(Refused::NotDealt);
+    };
+    table[place].act(seat, at, deed, &deal)
+}
+
+/// The answer to a ruling on the play of that place, from 0, in a round, and the ruling.
+pub fn rule_among(
+    table: &mut [Record],
+    place: usize,
+    now: u8,
+    round: u8,
+    correction: Correction,
+) -> Result<(), Refused>
+    ensures answer { result ≡ kept_rule_answer now round correction (slice_get table.old place) }
+    ensures taken { OnOk result (table.new ≡ changed_at (with_kept_ruling correction) table.old place) }
+    ensures refused { OnErr result (table.new ≡ table.old) }
+{
+    if place >= table.len() {
+        return Err(Refused::NoSuchPlay);
+    }
+    if now < round {
+        return Err(Refused::NotYet);
+    }
+    table[place].rule(correction, round < now)
+}
+
+/// Whether a play of the table is neither finished nor void.
+pub fn has_open(table: &[Record]) -> bool
+    ensures { result ≡ list_any is_kept_open table.now }
+{
+    table.iter().any(|record| record.is_open())
+}
