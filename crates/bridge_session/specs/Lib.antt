@@ -5,3 +5,4 @@ pub mod Correction
 pub mod State
 pub mod Step
 pub mod Kept
+pub mod Refused

@@ -1,5 +1,8 @@
 //! Why a session refuses an action or a question.
-ghost use Rattle.std.specs.Prelude.{◌≤◌};
+ghost use Rattle.std.specs.Prelude.{◌≡◌, ◌≤◌, length};
+ghost use Rattle.bridge_session.specs.Refused.{refusal_number, refusal_name};
+
+use std::fmt;
 
 /// Why an action or a question is refused. A refused action changes nothing. Where several causes hold, the answer is the
 /// first in the order that the call states.
@@ -66,7 +69,7 @@ pub enum Refused {
 impl Refused {
     /// The refusal's number, 1 to 28.
     pub fn number(self) -> u8
-        ensures least { 1 ≤ result }
+        ensures number { result ≡ refusal_number self }
         ensures most { result ≤ 28 }
     {
         match self {
@@ -101,8 +104,11 @@ impl Refused {
         }
     }
 
-    /// The refusal's name.
-    pub fn name(self) -> &'static str {
+    /// The refusal's name, in one word of at most 20 letters.
+    pub fn name(self) -> &'static str
+        ensures name { result.now ≡ refusal_name self }
+        ensures short { length result.now ≤ 20 }
+    {
         match self {
             Refused::NoKey => "NoKey",
             Refused::NotAllowed => "NotAllowed",
@@ -135,3 +141,17 @@ impl Refused {
         }
     }
 }
+
+/// The refusal's name.
+impl fmt::Display for Refused {
+    ghost use Rattle.std.specs.Prelude.{Some};
+    ghost use Rattle.bridge_session.specs.Refused.{refusal_name};
+
+    ghost output = { λ refused. Some (refusal_name refused) };
+
+    fn fmt<W: fmt::Write>(&self, f: &mut fmt::Formatter<W>) -> fmt::Result {
+        f.write_str(self.name())
+    }
+}
+
+impl std::error::Error for Refused {}
