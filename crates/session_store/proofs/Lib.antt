@@ -7,3 +7,5 @@ pub mod SnapshotLemmas
 pub mod RunLemmas
 pub mod FormatLemmas
 pub mod StoreLemmas
+pub mod CheckpointLemmas
+pub mod RecordLemmas

@@ -1,6 +1,7 @@
 //! A store that keeps a state on a disk of sectors: a journal of actions, and two snapshots that take turns.
 #![tactic(auto)]
 
+mod checkpointing;
 mod confirming;
 mod entry;
 mod fault;
@@ -11,6 +12,7 @@ mod reading;
 mod sectors;
 mod snapshot;
 mod store;
+mod submitting;
 
 pub use fault::{CheckpointFault, ConfirmFault, PartsFault, StoreFault, SubmitFault};
 pub use formatting::format;
