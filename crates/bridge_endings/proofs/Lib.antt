@@ -5,3 +5,4 @@ pub mod WorthSteps
 pub mod Answered
 pub mod SearchSteps
 pub mod Root
+pub mod Kept

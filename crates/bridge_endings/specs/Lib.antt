@@ -3,3 +3,4 @@ pub mod Ending
 pub mod Worth
 pub mod TrickCards
 pub mod Left
+pub mod Cached

@@ -1,6 +1,8 @@
 //! The last tricks of a deal, solved: how many of them North and South win where each of the four sees all the cards.
 #![tactic(auto)]
 
+mod bounds;
+pub mod cache;
 pub mod ending;
 mod search;
 pub mod solver;
@@ -8,5 +10,6 @@ pub mod solver;
 mod tests;
 mod trick;
 
+pub use cache::Cache;
 pub use ending::{Ending, EndingRefused};
 pub use solver::solve;

@@ -32,6 +32,13 @@ impl Search {
         }
     }
 
+    /// How many cards were tried, with those before; at `u64::MAX` it stays.
+    pub fn tried(&self) -> u64
+        ensures { result ≡ self.now.tried }
+    {
+        self.tried
+    }
+
     /// The cards left that the seat was dealt.
     fn held(&self, left: CardSet, seat: Seat) -> CardSet
         ensures { (card : ℕ) → has_card result card ≡ left_to self.now.hands left seat card }

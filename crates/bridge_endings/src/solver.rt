@@ -1,18 +1,59 @@
-ghost use Rattle.std.specs.Prelude.{◌≡◌, ℕ, ◌≤◌, length};
+ghost use Rattle.std.specs.Prelude.{◌≡◌, ℕ, ◌≤◌, ◌⊎◌, length};
 ghost use Rattle.bridge_endings.specs.Worth.{dealt, worth_of};
 ghost use Rattle.bridge_endings.specs.Left.{left_to};
+ghost use Rattle.bridge_endings.specs.Cached.{Keeps, OfCache};
 
+use crate::cache::Cache;
 use crate::ending::Ending;
 use crate::search::Search;
 use crate::trick::Trick;
 use bridge_cards::CardSet;
 
 /// The tricks of North and South where each of the four sees all the cards, and both sides play for as many as they can.
-pub fn solve(ending: &Ending) -> u8
+/// A cache answers at once for an ending that it keeps. For any other the ending is searched and then kept, unless memory
+/// is refused.
+pub fn solve(ending: &Ending, cache: Option<&mut Cache>) -> u8
     ensures worth { result ≡ worth_of ending.now }
     ensures few { result ≤ 6 }
+
+    // A cache counts the cards tried, and none for an ending that it keeps.
+    ensures tried { OfCache cache.entry cache.exit (λ old new. old.tried ≤ new.tried) }
+    ensures known { OfCache cache.entry cache.exit (λ old new. (worth : ℕ) → Keeps old ending.now worth → new.tried ≡ old.tried) }
+    ensures kept { OfCache cache.entry cache.exit (λ old new. Keeps new ending.now result ⊎ (new.entries ≡ old.entries)) }
 {
-    let mut search = Search::new(ending, 0);
+    match cache {
+        Some(cache) => solve_with(ending, cache),
+        None => tricks_won(ending, &mut Search::new(ending, 0)),
+    }
+}
+
+/// The same with a cache.
+fn solve_with(ending: &Ending, cache: &mut Cache) -> u8
+    ensures worth { result ≡ worth_of ending.now }
+    ensures few { result ≤ 6 }
+    ensures tried { cache.old.tried ≤ cache.new.tried }
+    ensures known { (worth : ℕ) → Keeps cache.old ending.now worth → cache.new.tried ≡ cache.old.tried }
+    ensures kept { Keeps cache.new ending.now result ⊎ (cache.new.entries ≡ cache.old.entries) }
+{
+    let tried = cache.tried();
+    if let Some(worth) = cache.worth(ending) {
+        cache.keep(ending, worth, tried);
+        return worth;
+    }
+    let mut search = Search::new(ending, tried);
+    let worth = tricks_won(ending, &mut search);
+    cache.keep(ending, worth, search.tried());
+    worth
+}
+
+/// The tricks of North and South by a search: as many as it says that they win.
+fn tricks_won(ending: &Ending, search: &mut Search) -> u8
+    requires hands { search.old.hands ≡ ending.now.hands }
+    requires trump { search.old.trump ≡ ending.now.trump }
+    ensures worth { result ≡ worth_of ending.now }
+    ensures few { result ≤ 6 }
+    ensures tried { search.old.tried ≤ search.new.tried }
+{
     let left = all_cards(&ending.hands());
     let first = Trick::new(ending.leader());
     let tricks = ending.tricks();

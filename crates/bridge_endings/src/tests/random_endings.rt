@@ -25,7 +25,7 @@ fn agrees_with_the_twin(rt: &impl Abort, hands: [CardSet; 4], trump: Option<Suit
     if let Ok(ending) = Ending::new(hands, trump, leader) {
         let cards_left = 4 * ending.tricks();
         let due = worth(cards_left, hands, Played::new(trump, leader));
-        expect_eq(rt, solve(&ending), due, (hands, trump, leader));
+        expect_eq(rt, solve(&ending, None), due, (hands, trump, leader));
     }
 }
 

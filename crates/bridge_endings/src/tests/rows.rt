@@ -23,7 +23,7 @@ const WORTHS: [(&[u8], Option<Suit>, Seat, u8); 7] = [
 fn worths_are_those_of_the_rows(rt: HostRuntime) -> Result<(), Fail> {
     for (text, trump, leader, worth) in WORTHS {
         let ending = ending_of(text, trump, leader)?;
-        expect_eq(&rt, solve(&ending), worth, (text, trump));
+        expect_eq(&rt, solve(&ending, None), worth, (text, trump));
     }
     Ok(())
 }

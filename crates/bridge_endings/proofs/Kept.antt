@@ -1,0 +1,102 @@
+-- The entries of a cache: what is found of an ending is true of it, and stays so when one more is kept.
+use Rattle.std.proofs.Common.{◌≡◌, ℕ, zero, suc, ◌⊎◌, inl, inr, nat_eq, List, [], ◌∷◌, ◌++◌, length, Option, Some, None, IfSome, Contains, Result, Ok, Err, OnOk, OnErr, refl, sym, ap, ◌∙◌, subst, arith}
+use Rattle.std.specs.Map.{lookup}
+use Rattle.std.specs.Cmp.Lexicographic.{pointwise, same_text}
+use Rattle.std.proofs.lemmas.Cmp.{nat_list_eq_equiv}
+use Rattle.lru.specs.LruCache.{LruCache, lru_cache, put_entries}
+use Rattle.lru.proofs.CallerLemmas.{Contains-lookup, Contains-put_entries, lookup-put_entries}
+use Rattle.bridge_cards.specs.declared.suit.Suit.{Suit}
+use Rattle.bridge_cards.specs.declared.suit.Suit.TheVariants.{Clubs, Diamonds, Hearts, Spades}
+use Rattle.bridge_cards.specs.declared.seat.Seat.{Seat}
+use Rattle.bridge_cards.specs.declared.seat.Seat.TheVariants.{North, East, South, West}
+use Rattle.bridge_cards.specs.Suit.{suit_at}
+use Rattle.bridge_cards.specs.Seat.{seat_number, seat_at}
+use Rattle.bridge_endings.specs.declared.bounds.Bounds.{Bounds}
+use Rattle.bridge_endings.specs.Position.{Position}
+use Rattle.bridge_endings.specs.Ending.{IsEnding}
+use Rattle.bridge_endings.specs.Worth.{worth_of}
+use Rattle.bridge_endings.specs.Cached.{trump_number, key_of, IsBetween, EachIsTrue}
+
+-- ---- a key stands for one ending
+
+-- trump suits and seats by their numbers
+trump_at : ℕ → Option Suit
+trump_at zero = None
+trump_at (suc place) = Some (suit_at place)
+
+trump_at-number : (trump : Option Suit) → trump_at (trump_number trump) ≡ trump
+unfolding trump_at
+trump_at-number None = refl
+trump_at-number (Some Clubs) = refl
+trump_at-number (Some Diamonds) = refl
+trump_at-number (Some Hearts) = refl
+trump_at-number (Some Spades) = refl
+
+seat_at-number : (seat : Seat) → seat_at (seat_number seat) ≡ seat
+seat_at-number North = refl
+seat_at-number East = refl
+seat_at-number South = refl
+seat_at-number West = refl
+
+-- two lists as long as each other, with two numbers behind each
+same_parts : (xs ys : List ℕ) (a b c d : ℕ) → length xs ≡ length ys → xs ++ a ∷ b ∷ [] ≡ ys ++ c ∷ d ∷ [] → (xs ≡ ys) × (a ≡ c) × (b ≡ d)
+same_parts [] [] a b c d long same = (refl, cc, cc)
+same_parts [] (y ∷ ys) a b c d long same = absurd (omega arith)
+same_parts (x ∷ xs) [] a b c d long same = absurd (omega arith)
+same_parts (x ∷ xs) (y ∷ ys) a b c d long same =
+    let first : x ≡ y = cc in
+    let rest : xs ++ a ∷ b ∷ [] ≡ ys ++ c ∷ d ∷ [] = cc in
+    let parts = same_parts xs ys a b c d (omega arith) rest in
+    (ap (λ z. z ∷ xs) first ∙ ap (λ zs. y ∷ zs) parts.0, parts.1, parts.2)
+
+pub same_worth : (one other : Position) → IsEnding one.hands → IsEnding other.hands → key_of one ≡ key_of other → worth_of one ≡ worth_of other
+same_worth one other is is_other same =
+    let parts = same_parts one.hands other.hands (trump_number one.trump) (seat_number one.leader) (trump_number other.trump) (seat_number other.leader) (is.four ∙ sym is_other.four) same in
+    let trump : one.trump ≡ other.trump = sym (trump_at-number one.trump) ∙ ap trump_at parts.1 ∙ trump_at-number other.trump in
+    let leader : one.leader ≡ other.leader = sym (seat_at-number one.leader) ∙ ap seat_at parts.2 ∙ seat_at-number other.leader in
+    ap (λ h. worth_of (record { hands = h; trump = one.trump; leader = one.leader })) parts.0
+    ∙ ap (λ t. worth_of (record { hands = other.hands; trump = t; leader = one.leader })) trump
+    ∙ ap (λ l. worth_of (record { hands = other.hands; trump = other.trump; leader = l })) leader
+
+-- ---- what is found
+
+pub found_true : (entries : List (List ℕ × Bounds)) (ending : Position) (found : Option Bounds) → EachIsTrue entries → IsEnding ending.hands → lookup (pointwise nat_eq (key_of ending)) entries ≡ found → IfSome found (IsBetween (worth_of ending))
+found_true entries ending None each is look = tt
+found_true entries ending (Some bounds) each is look =
+    let at = Contains-lookup (pointwise nat_eq (key_of ending)) entries bounds look in
+    each at.0 bounds at.1 ending is (same_text (key_of ending) at.0 (sym at.2))
+
+-- ---- what is kept
+
+either : {A E : Type 0} (X Y P : Type 0) (answer : Result A E) → OnOk answer X → OnErr answer Y → (X → P) → (Y → P) → P
+either X Y P (Ok a) ok err f g = f ok
+either X Y P (Err e) ok err f g = g err
+
+module _ (old new : LruCache (List ℕ) Bounds) (key : List ℕ) (bounds : Bounds) (ending : Position) (key_is : key ≡ key_of ending) where
+  abbrev Puts : Type 0
+  Puts = new ≡ lru_cache (put_entries (pointwise nat_eq) old key bounds) old.cap
+
+  put_true : Puts → EachIsTrue old.entries → IsEnding ending.hands → IsBetween (worth_of ending) bounds → EachIsTrue new.entries
+  put_true puts each is between k b on other is_other other_key =
+      elim (Contains-put_entries (pointwise nat_eq) old key bounds (k, b) (subst (λ es. Contains es (k, b)) (ap (λ c. c.entries) puts) on)) [
+        | inl before ↦ each k b before other is_other other_key
+        | inr put ↦
+            let stands : key ≡ k = (elim put.1 [
+              | inl same ↦ sym same
+              | inr there ↦ same_text key k (sym there.2)
+            ]) in
+            let worths : worth_of other ≡ worth_of ending = same_worth other ending is_other is (other_key ∙ sym stands ∙ key_is) in
+            subst (λ w. IsBetween w b) (sym worths) (subst (IsBetween (worth_of ending)) (sym put.0) between)
+      ]
+
+  pub kept_true : {A E : Type 0} (answer : Result A E) → OnOk answer Puts → OnErr answer (new ≡ old) → EachIsTrue old.entries → IsEnding ending.hands → IsBetween (worth_of ending) bounds → EachIsTrue new.entries
+  kept_true answer ok err each is between =
+      either Puts (new ≡ old) (EachIsTrue new.entries) answer ok err
+      (λ puts. put_true puts each is between)
+      (λ same. subst (λ c. EachIsTrue c.entries) (sym same) each)
+
+  pub kept_or_same : {A E : Type 0} (answer : Result A E) → OnOk answer Puts → OnErr answer (new ≡ old) → (lookup (pointwise nat_eq (key_of ending)) new.entries ≡ Some bounds) ⊎ (new.entries ≡ old.entries)
+  kept_or_same answer ok err =
+      either Puts (new ≡ old) ((lookup (pointwise nat_eq (key_of ending)) new.entries ≡ Some bounds) ⊎ (new.entries ≡ old.entries)) answer ok err
+      (λ puts. inl (ap (λ k. lookup (pointwise nat_eq k) new.entries) (sym key_is) ∙ ap (λ c. lookup (pointwise nat_eq key) c.entries) puts ∙ lookup-put_entries (pointwise nat_eq) old key bounds nat_list_eq_equiv))
+      (λ same. inr (ap (λ c. c.entries) same))

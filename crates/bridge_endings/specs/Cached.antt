@@ -1,0 +1,50 @@
+-- What a contract sees of a cache: for endings by their keys two bounds of the worth, and how many cards were tried.
+use Rattle.std.specs.Prelude.{◌≡◌, ℕ, ◌+◌, ◌≤◌, ◌⊎◌, List, [], ◌∷◌, ◌++◌, Option, Some, None, Contains, nat_eq}
+use Rattle.std.proofs.Common.{inl, inr}
+use Rattle.std.specs.Map.{lookup}
+use Rattle.std.specs.Cmp.Lexicographic.{pointwise}
+use Rattle.std.specs.Borrow.{MutBor}
+use Rattle.bridge_cards.specs.declared.suit.Suit.{Suit}
+use Rattle.bridge_cards.specs.Suit.{suit_number}
+use Rattle.bridge_cards.specs.Seat.{seat_number}
+use Rattle.bridge_endings.specs.declared.bounds.Bounds.{Bounds}
+use Rattle.bridge_endings.specs.Position.{Position}
+use Rattle.bridge_endings.specs.Ending.{IsEnding}
+use Rattle.bridge_endings.specs.Worth.{worth_of}
+
+pub record Cached : Type 0 where
+  pub entries : List (List ℕ × Bounds)
+  pub tried : ℕ
+
+-- the trump suit's place, from 1; 0 where there is none
+abbrev pub trump_number : Option Suit → ℕ
+trump_number None = 0
+trump_number (Some suit) = suit_number suit + 1
+
+-- what stands for an ending: its hands, its trump suit and the seat to lead
+abbrev pub key_of : Position → List ℕ
+key_of ending = ending.hands ++ trump_number ending.trump ∷ seat_number ending.leader ∷ []
+
+-- the bounds are true of the worth
+pub record IsBetween (worth : ℕ) (bounds : Bounds) : Type 0 where
+  pub least : bounds.least ≤ worth
+  pub most : worth ≤ bounds.most
+
+-- each entry's bounds are true of its ending
+abbrev pub EachIsTrue : List (List ℕ × Bounds) → Type 0
+EachIsTrue entries = (key : List ℕ) (bounds : Bounds) → Contains entries (key, bounds)
+    → (ending : Position) → IsEnding ending.hands → key_of ending ≡ key → IsBetween (worth_of ending) bounds
+
+-- the bounds that are kept of an ending
+abbrev pub bounds_of : Cached → Position → Option Bounds
+bounds_of cache ending = lookup (pointwise nat_eq (key_of ending)) cache.entries
+
+-- the ending is kept with that number as both bounds
+abbrev pub Keeps : Cached → Position → ℕ → Type 0
+Keeps cache ending worth = bounds_of cache ending ≡ Some (record { least = worth; most = worth })
+
+-- what holds of a cache that is lent, before and after
+abbrev pub OfCache : Option (MutBor Cached) → Unit {0} ⊎ ((MutBor Cached × Unit {0}) ⊎ ⊥) → (Cached → Cached → Type 0) → Type 0
+OfCache None _ P = Unit {0}
+OfCache (Some cache) (inr (inl left)) P = P cache.now left.0.now
+OfCache (Some cache) _ P = ⊥
