@@ -1,6 +1,6 @@
 //! Shares as percentages.
 ghost use Rattle.std.specs.Prelude.{◌≡◌, ◌≤◌, IfSome};
-ghost use Rattle.bridge_score.specs.Percent.{percent_hundredths_of};
+ghost use Rattle.bridge_score.specs.Percent.{percent_hundredths_of, IsNearest};
 
 /// What was earned of what was available, in hundredths of a per cent, 0 to 10000, rounded to the nearest, and a half up.
 /// `None` where nothing was available. No more was earned than was available, at most 10,000,000.
@@ -8,6 +8,7 @@ pub fn percent_hundredths(earned: u32, available: u32) -> Option<u32>
     requires earned { earned ≤ available }
     requires available { available ≤ 10000000 }
     ensures value { result ≡ percent_hundredths_of earned available }
+    ensures nearest { IfSome result (IsNearest earned available) }
     ensures most { IfSome result (λ hundredths. hundredths ≤ 10000) }
 {
     if available == 0 {

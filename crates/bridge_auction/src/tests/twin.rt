@@ -72,7 +72,7 @@ fn is_lower(call: Call, bid: Bid) -> bool
     ensures { result ≡ is_below (bid_number bid) call }
 {
     match call {
-        Call::Bid(other) => other < bid,
+        Call::Bid(other) => other.number() < bid.number(),
         _ => true,
     }
 }
