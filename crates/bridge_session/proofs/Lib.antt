@@ -6,3 +6,5 @@ pub mod NewSession
 pub mod Dealt
 pub mod Rounds
 pub mod Ruled
+pub mod Entries
+pub mod SameAnswer

@@ -1,8 +1,10 @@
 pub mod Numbers
 pub mod Record
+pub mod Outcome
 pub mod Deed
 pub mod Correction
 pub mod State
 pub mod Step
 pub mod Kept
+pub mod Apart
 pub mod Refused

@@ -8,19 +8,27 @@
 #![tactic(auto)]
 
 pub mod action;
+pub mod apart;
 mod correction;
 mod deed;
+pub mod entry;
 pub mod numbers;
 mod opening;
+pub mod outcome;
 mod record;
 pub mod refused;
 pub mod ruling;
 mod seating;
 pub mod session;
 mod table;
+#[cfg(test)]
+mod tests;
 
 pub use action::{Action, PlayId};
+pub use apart::tables_are_judged_apart;
+pub use entry::Entry;
 pub use numbers::{BoardIndex, MadeCount, RoundNumber, TableNumber, TrickCount};
+pub use outcome::Outcome;
 pub use refused::Refused;
 pub use ruling::Ruling;
 pub use session::Session;

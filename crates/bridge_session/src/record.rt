@@ -1,14 +1,17 @@
 //! The record of one play.
-ghost use Rattle.std.specs.Prelude.{◌≡◌, OnOk, OnErr};
+ghost use Rattle.std.specs.Prelude.{◌≡◌, OnOk, OnErr, Some};
 ghost use Rattle.bridge_session.specs.Record.{is_done, is_void};
 ghost use Rattle.bridge_session.specs.Deed.{from_call, from_card, from_claim, from_consent, renamed, call_answer, deed_answer, answer_if_play};
 ghost use Rattle.bridge_session.specs.Correction.{ruling_by};
+ghost use Rattle.bridge_session.specs.Outcome.{outcome_of_play, outcome_by};
+ghost use Rattle.bridge_session.specs.declared.ruling.Ruling.TheVariants as ruling;
 ghost use Rattle.bridge_session.specs.Kept.{new_record, is_kept_open, after_deed, kept_ruling_answer};
 ghost use Rattle.bridge_session.specs.declared.deed.Deed.TheVariants as deed;
 
 use crate::correction::Correction;
 use crate::deed::Deed;
 use crate::numbers::{MadeCount, TrickCount};
+use crate::outcome::Outcome;
 use crate::refused::Refused;
 use crate::ruling::Ruling;
 use bridge_auction::{Auction, Call, CallRefused};
@@ -108,6 +111,48 @@ impl Record {
         ensures { result ≡ is_kept_open self.now }
     {
         !self.is_void() && !self.is_finished()
+    }
+
+    /// What came of the play but for a ruling.
+    fn outcome_of_play(&self) -> Outcome
+        ensures { result ≡ outcome_of_play self.now.auction.calls self.now.play }
+    {
+        match &self.play {
+            None if self.auction.is_ended() => Outcome::PassedOut,
+            Some(play) if play.is_over() => {
+                let contract = *play.contract();
+                let side = contract.declarer.side();
+                Outcome::Played {
+                    contract,
+                    tricks: play.tricks(side),
+                }
+            }
+            _ => Outcome::Unfinished,
+        }
+    }
+
+    /// What came of the play of which declarer has that many tricks by a ruling.
+    fn outcome_ruled(&self, tricks: TrickCount) -> Outcome
+        ensures { result ≡ outcome_by self.now.auction.calls self.now.play (Some (ruling.Tricks tricks)) }
+    {
+        match &self.play {
+            Some(play) => Outcome::Played {
+                contract: *play.contract(),
+                tricks: tricks.number(),
+            },
+            None => Outcome::Unfinished,
+        }
+    }
+
+    /// What came of the play.
+    pub fn outcome(&self) -> Outcome
+        ensures { result ≡ outcome_by self.now.auction.calls self.now.play self.now.ruling }
+    {
+        match self.ruling {
+            None => self.outcome_of_play(),
+            Some(Ruling::Void) => Outcome::Voided,
+            Some(Ruling::Tricks(tricks)) => self.outcome_ruled(tricks),
+        }
     }
 
     fn call(&mut self, seat: Seat, at: MadeCount, call: Call, deal: &Deal) -> Result<(), Refused>

@@ -1,10 +1,12 @@
 //! Who acts by a key, and where a player sits.
-ghost use Rattle.std.specs.Prelude.{◌≡◌, ◌==◌, ◌<◌, ◌≤◌, slice_index, length, map, position, IfOk};
+ghost use Rattle.std.specs.Prelude.{◌≡◌, ◌==◌, ◌<◌, ◌≤◌, slice_index, length, map, position, IfOk, IfSome, if◌then◌else◌, Some, None};
 ghost use Rattle.bridge_config.specs.Configuration.{pair_of};
 ghost use Rattle.bridge_config.specs.declared.fields.PairFields.{PairFields as PairType};
 ghost use Rattle.bridge_movement.specs.Shape.{row_count};
-ghost use Rattle.bridge_session.specs.State.{has_key, player_in, player_of, acting_player, director_answer, seat_on, is_closed, seating_of, is_of_set};
+ghost use Rattle.bridge_session.specs.State.{has_key, player_in, player_of, acting_player, director_answer, seat_on, is_closed, seating_of, is_of_set, row_place};
+ghost use Rattle.bridge_session.specs.Step.{is_row_within};
 
+use crate::numbers::{RoundNumber, TableNumber};
 use crate::refused::Refused;
 use bridge_cards::{BoardNumber, Seat, Side};
 use bridge_config::{Config, Key, PairFields};
@@ -131,4 +133,19 @@ pub fn is_of_set(config: &Config, set: u8, board: BoardNumber) -> bool
     let boards = u16::from(config.fields().boards);
     let board = u16::from(board.number());
     u16::from(set.saturating_sub(1)) * boards < board && board <= u16::from(set) * boards
+}
+
+/// The place of a table's row of a round among the rows of the movement, if it has that round and table.
+pub fn row_of(config: &Config, round: RoundNumber, table: TableNumber) -> Option<usize>
+    ensures row { result ≡ (if is_row_within config.now.movement.shape round table then Some (row_place config.now.movement.shape round table) else None) }
+    ensures within { IfSome result (λ place. place < row_count config.now.movement.shape) }
+{
+    let shape = config.fields().movement.shape();
+    let round = round.number();
+    let table = table.number();
+    if round <= shape.rounds && table <= shape.tables {
+        Some(usize::from(round - 1) * usize::from(shape.tables) + usize::from(table - 1))
+    } else {
+        None
+    }
 }

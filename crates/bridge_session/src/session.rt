@@ -1,9 +1,17 @@
-ghost use Rattle.std.specs.Prelude.{◌≡◌, IfOk};
-ghost use Rattle.std.specs.Option.{option_copied};
+ghost use Rattle.std.specs.Prelude.{◌≡◌, IfOk, IfSome};
+ghost use Rattle.std.specs.Option.{option_copied, option_map};
+ghost use Rattle.bridge_session.specs.Record.{bidding_of, play_of};
+ghost use Rattle.bridge_session.specs.Outcome.{outcome_of};
 ghost use Rattle.bridge_session.specs.State.{opening, deal_on};
+ghost use Rattle.bridge_session.specs.Step.{record_of};
+ghost use Rattle.bridge_session.specs.Kept.{plain_of, hands_on, IsTiedIn};
 
+use crate::action::PlayId;
+use crate::entry::Entry;
 use crate::opening::{opening_tables, undealt};
 use crate::record::Record;
+use crate::seating::row_of;
+use crate::table::record_at;
 use bridge_cards::{BoardNumber, Deal};
 use bridge_config::Config;
 use std::alloc::{AllocError, Global};
@@ -75,5 +83,29 @@ impl Session {
             Some(deal) => deal.as_ref(),
             None => None,
         }
+    }
+
+    /// The record of a play, if there is such a play at a live row.
+    fn record_of(&self, play: PlayId) -> Option<&Record>
+        ensures record { option_map plain_of (option_copied result) ≡ record_of self.now play }
+        ensures tied { IfSome (option_copied result) (IsTiedIn self.now.deals) }
+    {
+        let place = row_of(&self.config, play.round, play.table)?;
+        let table = &self.tables[place];
+        record_at(table.as_slice(), usize::from(play.index.number() - 1))
+    }
+
+    /// What is known of a play, or `None` where there is no such play at a live row.
+    pub fn entry(&self, play: PlayId) -> Option<Entry<'_>>
+        ensures auction { option_map (λ entry. entry.auction.now) result ≡ option_map bidding_of (record_of self.now play) }
+        ensures play { option_map (λ entry. option_copied entry.play) result ≡ option_map (λ plain. play_of (hands_on self.now.deals plain.board) plain) (record_of self.now play) }
+        ensures outcome { option_map (λ entry. entry.outcome) result ≡ option_map outcome_of (record_of self.now play) }
+    {
+        let record = self.record_of(play)?;
+        Some(Entry {
+            auction: &record.auction,
+            play: record.play.as_ref(),
+            outcome: record.outcome(),
+        })
     }
 }

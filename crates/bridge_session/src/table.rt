@@ -1,6 +1,7 @@
 //! The records of one table in one round.
 ghost use Rattle.std.specs.Prelude.{◌≡◌, ◌<◌, length, map, position, unwrap_or, None, slice_get, All, OnOk, OnErr};
 ghost use Rattle.std.specs.List.{list_any};
+ghost use Rattle.std.specs.Option.{option_copied};
 ghost use Rattle.bridge_session.specs.State.{deal_on, current_place, changed_at};
 ghost use Rattle.bridge_session.specs.Step.{answer_among, acted_among};
 ghost use Rattle.bridge_session.specs.Kept.{plain_of, is_kept_open, with_kept_ruling, kept_rule_answer, IsTiedIn};
@@ -27,6 +28,13 @@ pub fn deal_on(deals: &[Option<Deal>], board: BoardNumber) -> Option<Deal>
         Some(deal) => *deal,
         None => None,
     }
+}
+
+/// The record of that place, from 0, if there is one.
+pub fn record_at(table: &[Record], place: usize) -> Option<&Record>
+    ensures { option_copied result ≡ slice_get table.now place }
+{
+    table.get(place)
 }
 
 /// What a player does in the current play of the table.

@@ -13,28 +13,13 @@ use super::Session;
 use crate::action::{Action, PlayId};
 use crate::correction::Correction;
 use crate::deed::Deed;
-use crate::numbers::{MadeCount, RoundNumber, TableNumber};
+use crate::numbers::{MadeCount, RoundNumber};
 use crate::record::Record;
 use crate::refused::Refused;
-use crate::seating::{check_director, is_closed, is_of_set, seat_by};
+use crate::seating::{check_director, is_closed, is_of_set, row_of, seat_by};
 use crate::table::{act_among, has_open, rule_among};
 use bridge_cards::{BoardNumber, CardSet, Deal};
-use bridge_config::{Config, Key};
-
-/// The place of a table's row of a round among the rows of the movement, if it has that round and table.
-fn row_of(config: &Config, round: RoundNumber, table: TableNumber) -> Option<usize>
-    ensures row { result ≡ (if is_row_within config.now.movement.shape round table then Some (row_place config.now.movement.shape round table) else None) }
-    ensures within { IfSome result (λ place. place < row_count config.now.movement.shape) }
-{
-    let shape = config.fields().movement.shape();
-    let round = round.number();
-    let table = table.number();
-    if round <= shape.rounds && table <= shape.tables {
-        Some(usize::from(round - 1) * usize::from(shape.tables) + usize::from(table - 1))
-    } else {
-        None
-    }
-}
+use bridge_config::Key;
 
 /// Whether one of so many tables from a place on has a play that is neither finished nor void.
 fn have_open(tables: &[Vec<Record>], start: usize, count: usize) -> bool

@@ -1,13 +1,14 @@
-use Rattle.std.proofs.Common.{◌≡◌, ◌<◌, ◌-◌, ℕ, true, cond, List, length, Option, Some, None, Result, refl, sym, ap, ◌∙◌, subst, arith}
+use Rattle.std.proofs.Common.{◌≡◌, ◌<◌, ◌-◌, ℕ, true, List, length, Some, Result, refl, sym, ap, ◌∙◌, subst, arith}
 use Rattle.std.specs.Prelude.{All, map, slice_get, slice_set}
 use Rattle.std.specs.Vec.{with_items}
 use Rattle.bridge_session.specs.declared.refused.Refused.{Refused}
 use Rattle.bridge_session.specs.Record.{PlainRecord}
-use Rattle.bridge_session.specs.State.{State, director_answer, row_place, row_at, changed_at}
+use Rattle.bridge_session.specs.State.{State, director_answer, row_place, changed_at}
 use Rattle.bridge_session.specs.Step.{if_allowed, is_row_within, rule_answer, record_of, ruled, with_ruling}
 use Rattle.bridge_session.specs.Kept.{plain_of, state_of, with_kept_ruling, kept_rule_answer, IsTiedIn, IsKept}
 use Rattle.bridge_session.proofs.Lists.{at_result, map_ok, map_err, set_there}
-use Rattle.bridge_session.proofs.Acted.{row_at_is, changed_row, kept_with, tied_row, lists_in, list_there, list_changed}
+use Rattle.bridge_session.proofs.Acted.{changed_row, kept_with, tied_row, lists_in, list_there, list_changed}
+use Rattle.bridge_session.proofs.Entries.{record_found}
 use Rattle.bridge_session.proofs.Ruled.{rule_seen, changed_at-map, All-changed_at, ruling_tied, some_if}
 use Rattle.bridge_session.proofs.session.Session.rule.Goals as goal
 use Rattle.bridge_session.proofs.session.Session.rule.Goals.{After-self-1}
@@ -55,14 +56,8 @@ invariant_of-self c =
 record_is : (c : After-self-1) → record_of (state_of c.self.inside.config c.self.inside.round c.self.inside.deals.items (lists_in c.self.inside.tables.items)) c.args.play ≡ slice_get (map plain_of c.as_mut_slice.result.now) c.from-at.result
 record_is c =
     let s = c.self.inside in
-    let play = c.args.play in
-    let records = map (map plain_of) (lists_in s.tables.items) in
-    let at : ℕ → ℕ → Option PlainRecord = λ place index. slice_get (row_at records place) index in
     let changed = is_changed c in
-    ap (λ b. cond b (at (row_place s.config.movement.shape play.round play.table) (play.index - 1)) None) changed.place.0
-    ∙ ap (λ place. at place (play.index - 1)) changed.place.1
-    ∙ ap (at c.in-Some.place) (sym changed.index)
-    ∙ ap (λ row. slice_get row c.from-at.result) (row_at_is (lists_in s.tables.items) c.in-Some.place c.as_mut_slice.result.now changed.row)
+    record_found s.config s.round s.deals.items (lists_in s.tables.items) c.args.play c.in-Some.place c.from-at.result c.as_mut_slice.result.now changed.place.0 changed.place.1 changed.index changed.row
 
 pub returns-clause-answer : goal.returns-clause-answer
 returns-clause-answer c =

@@ -1,0 +1,14 @@
+use bridge_auction::Contract;
+
+/// What came of a play.
+#[derive(Clone, Copy, Debug, PartialEq, Eq)]
+pub enum Outcome {
+    /// It is not finished.
+    Unfinished,
+    /// Nobody bid (Law 22).
+    PassedOut,
+    /// Declarer won that many tricks, or has them by a ruling.
+    Played { contract: Contract, tricks: u8 },
+    /// The director took it out.
+    Voided,
+}
