@@ -7,6 +7,7 @@ ghost use Rattle.bridge_endings.specs.Worth.{may_play, after_playing, trick_for,
 ghost use Rattle.bridge_endings.specs.Left.{left_to, is_sought, IsSettled};
 
 use crate::ending::Ending;
+use crate::move_order::next_card;
 use crate::trick::Trick;
 use bridge_cards::{Card, CardSet, Seat, Side, Suit};
 
@@ -80,7 +81,7 @@ impl Search {
         }
         let sought = is_sought(trick.turn());
         let mut rest = legal;
-        while let Some(card) = rest.highest() {
+        while let Some(card) = next_card(rest, trick, self.trump) {
             rest = rest.without(card);
             if self.reaches_with(left, trick, card, tricks, need) == sought {
                 return sought;

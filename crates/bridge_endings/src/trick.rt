@@ -26,6 +26,15 @@ impl Model for Trick {
     ghost invariant = { λ t. (t.played ≤ 4) × (length t.cards ≡ 4) };
 }
 
+/// The card that wins a trick so far.
+#[derive(Clone, Copy)]
+pub struct Winning {
+    /// The card.
+    pub card: Card,
+    /// Whether the partner of the hand in turn played it.
+    pub is_partners: bool,
+}
+
 impl Trick {
     /// The trick to which nobody has played; that seat leads.
     pub fn new(leader: Seat) -> Trick
@@ -81,6 +90,32 @@ impl Trick {
         ensures { result.now ≡ self.now.cards }
     {
         &self.cards[..self.played]
+    }
+
+    /// The card that wins so far, if one is played.
+    pub fn winning(&self, trump: Option<Suit>) -> Option<Winning> {
+        let cards = self.so_far();
+        let led = *cards.first()?;
+        let mut card = led;
+        let mut place = 0;
+        for (next, other) in cards.iter().enumerate() {
+            if beats(trump, led, *other, card) {
+                card = *other;
+                place = next;
+            }
+        }
+        Some(Winning {
+            card,
+            is_partners: cards.len() >= 2 && place == cards.len() - 2,
+        })
+    }
+
+    /// Whether the card would beat the one that wins so far.
+    pub fn would_win(&self, trump: Option<Suit>, card: Card, winning: Card) -> bool {
+        match self.led() {
+            Some(led) => beats(trump, led, card, winning),
+            None => true,
+        }
     }
 
     /// Who wins the trick, and so leads to the next (Law 44).
