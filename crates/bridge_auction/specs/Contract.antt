@@ -1,5 +1,5 @@
 -- The contract that a list of calls makes (Law 22 and the definitions of contract and declarer).
-use Rattle.std.specs.Prelude.{ℕ, ◌%◌, Bool, false, not, ◌&&◌, ◌==◌, if◌then◌else◌, List, slice_get, position, Option, Some, None, unwrap_or, option_and_then}
+use Rattle.std.specs.Prelude.{ℕ, ◌%◌, Bool, false, ◌&&◌, ◌==◌, if◌then◌else◌, List, slice_get, position, Option, Some, None, unwrap_or, option_and_then}
 use Rattle.std.specs.Option.{option_map}
 use Rattle.std.specs.List.{enumerate_from}
 use Rattle.bridge_cards.specs.declared.seat.Seat.{Seat}
@@ -12,8 +12,8 @@ use Rattle.bridge_auction.specs.declared.contract.Contract.{Contract}
 use Rattle.bridge_auction.specs.declared.contract.Doubling.{Doubling}
 use Rattle.bridge_auction.specs.declared.contract.Doubling.TheVariants.{Undoubled, Doubled, Redoubled}
 use Rattle.bridge_auction.specs.Bid.{denomination_number}
-use Rattle.bridge_auction.specs.Call.{is_pass, is_bid, bid_in}
-use Rattle.bridge_auction.specs.Legal.{is_ended, last_place}
+use Rattle.bridge_auction.specs.Call.{is_bid, bid_in}
+use Rattle.bridge_auction.specs.Legal.{is_ended, last_place, last_but_passes}
 
 -- the bid at that place, if there is one
 abbrev pub bid_at : List Call → ℕ → Option BidType
@@ -41,7 +41,7 @@ doubling_by (Some Redouble) = Redoubled
 
 -- the doubling after those calls, by the last of them that is no pass
 abbrev pub doubling_of : List Call → Doubling
-doubling_of calls = doubling_by (option_and_then (slice_get calls) (last_place (λ call. not (is_pass call)) calls))
+doubling_of calls = doubling_by (option_and_then (slice_get calls) (last_but_passes calls))
 
 -- the contract whose bid, the last one, stands at that place
 abbrev pub contract_at : Seat → List Call → ℕ → Option Contract

@@ -24,6 +24,10 @@ abbrev pub last_place : (Call → Bool) → List Call → Option ℕ
 last_place test [] = None
 last_place test (call ∷ calls) = later_or_here (last_place test calls) (test call)
 
+-- the place of the last call other than a pass
+abbrev pub last_but_passes : List Call → Option ℕ
+last_but_passes calls = last_place (λ call. not (is_pass call)) calls
+
 -- a call at that place was made by an opponent of the player who calls next, since turns go round by one place at a time
 abbrev pub is_opponents : List Call → ℕ → Bool
 is_opponents calls place = not (place % 2 == length calls % 2)
@@ -34,7 +38,7 @@ opponents_call_at calls place = if is_opponents calls place then slice_get calls
 
 -- the last call that is no pass, if an opponent of the player who calls next made it
 abbrev pub opponents_call : List Call → Option Call
-opponents_call calls = option_and_then (opponents_call_at calls) (last_place (λ call. not (is_pass call)) calls)
+opponents_call calls = option_and_then (opponents_call_at calls) (last_but_passes calls)
 
 -- the call is no bid, or one of a lower number
 abbrev pub is_below : ℕ → Call → Bool
@@ -61,14 +65,17 @@ pub record MayFollow (earlier : List Call) (call : Call) : Type 0 where
 abbrev pub IsLegal : List Call → Type 0
 IsLegal = EachMayFollow MayFollow
 
--- why a call that is not admissible is refused; a pass always is admissible, so its answer here is never given
-abbrev pub fault_of : Call → CallRefused
-fault_of Pass = Ended
-fault_of (Bid _) = InsufficientBid
-fault_of Double = InadmissibleDouble
-fault_of Redouble = InadmissibleRedouble
+-- the answer to a call that is taken where it is admissible, and otherwise refused so
+abbrev pub taken_or : List Call → Call → CallRefused → Result (Unit {0}) CallRefused
+taken_or earlier call refused = if is_admissible earlier call then Ok tt else Err refused
+
+-- the answer to a call in an open auction; a pass is always taken
+abbrev pub open_answer : List Call → Call → Result (Unit {0}) CallRefused
+open_answer earlier Pass = Ok tt
+open_answer earlier (Bid bid) = taken_or earlier (Bid bid) InsufficientBid
+open_answer earlier Double = taken_or earlier Double InadmissibleDouble
+open_answer earlier Redouble = taken_or earlier Redouble InadmissibleRedouble
 
 -- the answer to a call after a legal list of calls
 abbrev pub answer_to : List Call → Call → Result (Unit {0}) CallRefused
-answer_to earlier call =
-    if is_ended earlier then Err Ended else if is_admissible earlier call then Ok tt else Err (fault_of call)
+answer_to earlier call = if is_ended earlier then Err Ended else open_answer earlier call

@@ -1,9 +1,9 @@
 //! What the calls so far say of the next call, and of the contract.
-ghost use Rattle.std.specs.Prelude.{◌≡◌, not, ◌<◌, length, unwrap_or, OnOk};
+ghost use Rattle.std.specs.Prelude.{◌≡◌, ◌<◌, length, unwrap_or, OnOk};
 ghost use Rattle.std.specs.List.{list_all};
 ghost use Rattle.bridge_auction.specs.Bid.{bid_number, IsBid};
 ghost use Rattle.bridge_auction.specs.Call.{is_pass, is_bid, is_double, IsCall};
-ghost use Rattle.bridge_auction.specs.Legal.{is_ended, last_place, opponents_call, is_below, is_admissible, answer_to};
+ghost use Rattle.bridge_auction.specs.Legal.{is_ended, last_place, last_but_passes, opponents_call, is_below, is_admissible, answer_to};
 ghost use Rattle.bridge_auction.specs.Contract.{first_to_name, names, doubling_of};
 
 use crate::bid::{Bid, Denomination};
@@ -27,7 +27,7 @@ pub fn ended(calls: &[Call]) -> bool
 
 /// The place of the last call that is no pass.
 pub fn last_but_passes(calls: &[Call]) -> Option<usize>
-    ensures { result ≡ last_place (λ call. not (is_pass call)) calls.now }
+    ensures { result ≡ last_but_passes calls.now }
 {
     calls.iter().rposition(|call| !call.is_pass())
 }
