@@ -15,7 +15,8 @@ use Rattle.bridge_endings.specs.declared.bounds.Bounds.{Bounds}
 use Rattle.bridge_endings.specs.Position.{Position}
 use Rattle.bridge_endings.specs.Ending.{IsEnding}
 use Rattle.bridge_endings.specs.Worth.{worth_of}
-use Rattle.bridge_endings.specs.Cached.{trump_number, key_of, IsBetween, EachIsTrue}
+use Rattle.bridge_endings.specs.Cached.{trump_number, key_of, EachIsTrue}
+use Rattle.bridge_endings.specs.Between.{IsBetween}
 
 -- ---- a key stands for one ending
 

@@ -6,3 +6,4 @@ pub mod Answered
 pub mod SearchSteps
 pub mod Root
 pub mod Kept
+pub mod Table

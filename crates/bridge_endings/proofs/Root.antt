@@ -1,5 +1,5 @@
 -- The worth of the ending that is solved, and what the first trick's answers tell of it.
-use Rattle.std.proofs.Common.{◌≡◌, ℕ, ◌-◌, ◌*◌, ◌<◌, ◌≤◌, Bool, true, false, nat_le, List, [], length, Option, sym, ap, ◌∙◌, arith}
+use Rattle.std.proofs.Common.{◌≡◌, ℕ, ◌*◌, ◌<◌, ◌≤◌, Bool, true, false, nat_le, List, [], Option, sym, ap, ◌∙◌, arith}
 use Rattle.std.proofs.lemmas.Bool.{leb-true, leb-false}
 use Rattle.bridge_cards.specs.declared.suit.Suit.{Suit}
 use Rattle.bridge_cards.specs.declared.seat.Seat.{Seat}
@@ -15,19 +15,16 @@ worth_of_le ending =
     omega (arith, worth_with_le ending.trump (4 * tricks_in ending.hands) (dealt ending.hands) ending.leader [] (omega arith))
 
 -- what the search is asked at first is the worth of the ending
-module _ (ending : Position) (hands : List ℕ) (trump : Option Suit) (leader : Seat) (trick : List ℕ) (tricks left need : ℕ) (answer : Bool) (hands_is : hands ≡ ending.hands) (trump_is : trump ≡ ending.trump) (leader_is : leader ≡ ending.leader) (trick_is : trick ≡ []) (tricks_is : tricks ≡ tricks_in ending.hands) (left_is : left_to ending.hands left ≡ dealt ending.hands) (told : answer ≡ nat_le need (worth_with trump (4 * tricks - length trick) (left_to hands left) leader trick)) where
+module _ (ending : Position) (hands : List ℕ) (trump : Option Suit) (leader : Seat) (tricks left need : ℕ) (answer : Bool) (hands_is : hands ≡ ending.hands) (trump_is : trump ≡ ending.trump) (leader_is : leader ≡ ending.leader) (tricks_is : tricks ≡ tricks_in ending.hands) (left_is : left_to ending.hands left ≡ dealt ending.hands) (told : answer ≡ nat_le need (worth_with trump (4 * tricks) (left_to hands left) leader [])) where
   asked : answer ≡ nat_le need (worth_of ending)
   asked =
-      let none : length trick ≡ 0 = ap length trick_is in
-      let cards : 4 * tricks - length trick ≡ 4 * tricks_in ending.hands = omega (arith, tricks_is) in
       told
       ∙ ap (nat_le need) (
-      ap (λ t. worth_with t (4 * tricks - length trick) (left_to hands left) leader trick) trump_is
-      ∙ ap (λ n. worth_with ending.trump n (left_to hands left) leader trick) cards
-      ∙ ap (λ h. worth_with ending.trump (4 * tricks_in ending.hands) (left_to h left) leader trick) hands_is
-      ∙ ap (λ held. worth_with ending.trump (4 * tricks_in ending.hands) held leader trick) left_is
-      ∙ ap (λ seat. worth_with ending.trump (4 * tricks_in ending.hands) (dealt ending.hands) seat trick) leader_is
-      ∙ ap (λ l. worth_with ending.trump (4 * tricks_in ending.hands) (dealt ending.hands) ending.leader l) trick_is
+      ap (λ t. worth_with t (4 * tricks) (left_to hands left) leader []) trump_is
+      ∙ ap (λ n. worth_with ending.trump (4 * n) (left_to hands left) leader []) tricks_is
+      ∙ ap (λ h. worth_with ending.trump (4 * tricks_in ending.hands) (left_to h left) leader []) hands_is
+      ∙ ap (λ held. worth_with ending.trump (4 * tricks_in ending.hands) held leader []) left_is
+      ∙ ap (λ seat. worth_with ending.trump (4 * tricks_in ending.hands) (dealt ending.hands) seat []) leader_is
       )
 
   pub told_yes : answer ≡ true → need ≤ worth_of ending

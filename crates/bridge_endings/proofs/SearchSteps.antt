@@ -99,18 +99,15 @@ module _ (trump : Option Suit) (hands : List ℕ) (left rest : ℕ) (leader : Se
       )
 
   -- it is, and its winner leads
-  pub after_whole : (leads winner : Seat) (longer : List ℕ) (less : ℕ) (next : Seat) (begun : List ℕ) → longer ≡ trick ++ card ∷ [] → leads ≡ leader → length longer ≡ 4 → 0 < tricks → winner ≡ next_leader trump leads longer → less ≡ need - trick_for (side_of winner) → next ≡ winner → begun ≡ [] → nat_le less (worth_with trump (4 * (tricks - 1) - length begun) (left_to hands rest) next begun) ≡ nat_le need wanted
-  after_whole leads winner longer less next begun is lead whole some wins need_is next_is begun_is =
+  pub after_whole : (leads winner : Seat) (longer : List ℕ) (less : ℕ) → longer ≡ trick ++ card ∷ [] → leads ≡ leader → length longer ≡ 4 → 0 < tricks → winner ≡ next_leader trump leads longer → less ≡ need - trick_for (side_of winner) → nat_le less (worth_with trump (4 * (tricks - 1)) (left_to hands rest) winner []) ≡ nat_le need wanted
+  after_whole leads winner longer less is lead whole some wins need_is =
       let long : length longer ≡ length trick + 1 = ap length is ∙ length-append trick (card ∷ []) in
-      let none : length begun ≡ 0 = ap length begun_is in
-      let fuel : 4 * (tricks - 1) - length begun ≡ cards_then = omega arith in
+      let fuel : 4 * (tricks - 1) ≡ cards_then = omega arith in
       let winner_is : winner ≡ next_leader trump leader (trick ++ card ∷ []) = wins ∙ ap (λ seat. next_leader trump seat longer) lead ∙ ap (next_leader trump leader) is in
-      ap (λ n. nat_le n (worth_with trump (4 * (tricks - 1) - length begun) (left_to hands rest) next begun)) need_is
+      ap (λ n. nat_le n (worth_with trump (4 * (tricks - 1)) (left_to hands rest) winner [])) need_is
       ∙ ap (nat_le (need - trick_for (side_of winner))) (
-      ap (λ cards. worth_with trump cards (left_to hands rest) next begun) fuel
-      ∙ ap (λ held. worth_with trump cards_then held next begun) same_held
-      ∙ ap (λ seat. worth_with trump cards_then held_then seat begun) next_is
-      ∙ ap (λ cards. worth_with trump cards_then held_then winner cards) begun_is
+      ap (λ cards. worth_with trump cards (left_to hands rest) winner []) fuel
+      ∙ ap (λ held. worth_with trump cards_then held winner []) same_held
       )
       ∙ need_less need (trick_for (side_of winner)) (worth_with trump cards_then held_then winner [])
       ∙ ap (nat_le need) (

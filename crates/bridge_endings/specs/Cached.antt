@@ -1,5 +1,5 @@
 -- What a contract sees of a cache: for endings by their keys two bounds of the worth, and how many cards were tried.
-use Rattle.std.specs.Prelude.{◌≡◌, ℕ, ◌+◌, ◌≤◌, ◌⊎◌, List, [], ◌∷◌, ◌++◌, Option, Some, None, Contains, nat_eq}
+use Rattle.std.specs.Prelude.{◌≡◌, ℕ, ◌+◌, ◌⊎◌, List, [], ◌∷◌, ◌++◌, Option, Some, None, Contains, nat_eq}
 use Rattle.std.proofs.Common.{inl, inr}
 use Rattle.std.specs.Map.{lookup}
 use Rattle.std.specs.Cmp.Lexicographic.{pointwise}
@@ -11,6 +11,7 @@ use Rattle.bridge_endings.specs.declared.bounds.Bounds.{Bounds}
 use Rattle.bridge_endings.specs.Position.{Position}
 use Rattle.bridge_endings.specs.Ending.{IsEnding}
 use Rattle.bridge_endings.specs.Worth.{worth_of}
+use Rattle.bridge_endings.specs.Between.{IsBetween}
 
 pub record Cached : Type 0 where
   pub entries : List (List ℕ × Bounds)
@@ -24,11 +25,6 @@ trump_number (Some suit) = suit_number suit + 1
 -- what stands for an ending: its hands, its trump suit and the seat to lead
 abbrev pub key_of : Position → List ℕ
 key_of ending = ending.hands ++ trump_number ending.trump ∷ seat_number ending.leader ∷ []
-
--- the bounds are true of the worth
-pub record IsBetween (worth : ℕ) (bounds : Bounds) : Type 0 where
-  pub least : bounds.least ≤ worth
-  pub most : worth ≤ bounds.most
 
 -- each entry's bounds are true of its ending
 abbrev pub EachIsTrue : List (List ℕ × Bounds) → Type 0

@@ -1,7 +1,8 @@
 ghost use Rattle.std.specs.Prelude.{◌≡◌, ℕ, ◌≤◌, ◌⊎◌, [], IfOk, IfSome, IsSome};
 ghost use Rattle.bridge_endings.specs.Ending.{IsEnding};
 ghost use Rattle.bridge_endings.specs.Worth.{worth_of};
-ghost use Rattle.bridge_endings.specs.Cached.{bounds_of, Keeps, key_of, IsBetween};
+ghost use Rattle.bridge_endings.specs.Cached.{bounds_of, Keeps, key_of};
+ghost use Rattle.bridge_endings.specs.Between.{IsBetween};
 
 use crate::bounds::Bounds;
 use crate::ending::Ending;

@@ -1,22 +1,42 @@
 //! The search: whether North and South win at least so many of the tricks left.
-ghost use Rattle.std.specs.Prelude.{◌≡◌, ℕ, ◌-◌, ◌*◌, ◌<◌, ◌≤◌, nat_le, length, MatchBool, ◌++◌, ◌∷◌, []};
+ghost use Rattle.std.specs.Prelude.{◌≡◌, ℕ, ◌-◌, ◌*◌, ◌<◌, ◌≤◌, nat_le, length, MatchBool, All, ◌++◌, ◌∷◌, []};
 ghost use Rattle.bridge_cards.specs.Card.{IsCard, card_suit};
 ghost use Rattle.bridge_cards.specs.CardSet.{IsCardSet, has_card};
 ghost use Rattle.bridge_cards.specs.Seat.{clockwise_from, side_of};
 ghost use Rattle.bridge_endings.specs.Worth.{may_play, after_playing, trick_for, worth_with, worth_after};
 ghost use Rattle.bridge_endings.specs.Left.{left_to, is_sought, IsSettled};
+ghost use Rattle.bridge_endings.specs.Between.{IsBetween};
+ghost use Rattle.bridge_endings.specs.Searched.{IsFound, IsNothing};
 
+use crate::bounds::Bounds;
 use crate::ending::Ending;
+use crate::found::Found;
 use crate::move_order::next_card;
 use crate::trick::Trick;
 use bridge_cards::{Card, CardSet, Seat, Side, Suit};
+use std::marker::Model;
 
-/// What a search knows of its ending, and how many cards it has tried.
+/// How many places the table has; it lies on the stack.
+const PLACES: usize = 1024;
+
+/// A search of an ending, and how many cards it has tried. Its table has bounds of what was left at the start of a trick;
+/// a later entry replaces the one in its place.
 #[derive(Drop)]
 pub struct Search {
     hands: [CardSet; 4],
     trump: Option<Suit>,
     tried: u64,
+    table: [Found; PLACES],
+}
+
+impl Model for Search {
+    ghost use Rattle.bridge_endings.specs.Searched.{Searched, EachIsFound};
+
+    ghost Value = { Searched };
+
+    ghost view = { λ s. record { hands = s.hands; trump = s.trump; tried = s.tried } };
+
+    ghost invariant = { λ s. EachIsFound s.hands s.trump s.table };
 }
 
 impl Search {
@@ -30,7 +50,49 @@ impl Search {
             hands: ending.hands(),
             trump: ending.trump(),
             tried,
+            table: empty_table(),
         }
+    }
+
+    /// The trump suit, if there is one.
+    fn trump(&self) -> Option<Suit>
+        ensures { result ≡ self.now.trump }
+    {
+        self.trump
+    }
+
+    /// Counts one card more.
+    fn count_card(&mut self)
+        ensures hands { self.new.hands ≡ self.old.hands }
+        ensures trump { self.new.trump ≡ self.old.trump }
+        ensures tried { self.old.tried ≤ self.new.tried }
+    {
+        self.tried = self.tried.saturating_add(1);
+    }
+
+    /// Bounds of what is left at the start of a trick, of which so many tricks are left.
+    fn bounds(&self, left: CardSet, leader: Seat, tricks: u8) -> Bounds
+        ensures { IsBetween (worth_with self.now.trump (4 * tricks) (left_to self.now.hands left) leader []) result }
+    {
+        let found = self.table[place(left, leader)];
+        if found.left == left && found.leader == leader && found.tricks == tricks {
+            found.bounds
+        } else {
+            Bounds {
+                least: 0,
+                most: tricks,
+            }
+        }
+    }
+
+    /// Puts bounds into the table.
+    fn note(&mut self, found: Found)
+        requires { IsFound self.old.hands self.old.trump found }
+        ensures hands { self.new.hands ≡ self.old.hands }
+        ensures trump { self.new.trump ≡ self.old.trump }
+        ensures tried { self.new.tried ≡ self.old.tried }
+    {
+        self.table[place(found.left, found.leader)] = found;
     }
 
     /// How many cards were tried, with those before; at `u64::MAX` it stays.
@@ -61,9 +123,32 @@ impl Search {
         if suited.is_empty() { held } else { suited }
     }
 
-    /// Whether North and South win at least `need` of the tricks left, of which there are so many with this one.
+    /// Whether North and South win at least `need` of so many tricks left, to the first of which that seat leads.
     #[cycle(search)]
-    pub fn reaches(&mut self, left: CardSet, trick: &Trick, tricks: u8, need: u8) -> bool
+    pub fn reaches_from(&mut self, left: CardSet, leader: Seat, tricks: u8, need: u8) -> bool
+        ensures worth { result ≡ nat_le need (worth_with self.old.trump (4 * tricks) (left_to self.old.hands left) leader []) }
+        ensures hands { self.new.hands ≡ self.old.hands }
+        ensures trump { self.new.trump ≡ self.old.trump }
+        ensures tried { self.old.tried ≤ self.new.tried }
+    {
+        let known = self.bounds(left, leader, tricks);
+        if need <= known.least || need > known.most {
+            return need <= known.least;
+        }
+        let answer = self.reaches(left, &Trick::new(leader), tricks, need);
+        let bounds = narrowed(known, need, answer);
+        self.note(Found {
+            left,
+            leader,
+            tricks,
+            bounds,
+        });
+        answer
+    }
+
+    /// The same at any card of a trick, with which so many tricks are left.
+    #[cycle(search)]
+    fn reaches(&mut self, left: CardSet, trick: &Trick, tricks: u8, need: u8) -> bool
         requires part { length trick.now.cards < 4 }
         requires enough { length trick.now.cards ≤ 4 * tricks }
         ensures worth { result ≡ nat_le need (worth_with self.old.trump (4 * tricks - length trick.now.cards)
@@ -81,7 +166,7 @@ impl Search {
         }
         let sought = is_sought(trick.turn());
         let mut rest = legal;
-        while let Some(card) = next_card(rest, trick, self.trump) {
+        while let Some(card) = next_card(rest, trick, self.trump()) {
             rest = rest.without(card);
             if self.reaches_with(left, trick, card, tricks, need) == sought {
                 return sought;
@@ -108,15 +193,15 @@ impl Search {
         ensures trump { self.new.trump ≡ self.old.trump }
         ensures tried { self.old.tried ≤ self.new.tried }
     {
-        self.tried = self.tried.saturating_add(1);
+        self.count_card();
         let left = left.without(card);
         let trick = trick.with(card);
         if trick.len() < 4 {
             return self.reaches(left, &trick, tricks, need);
         }
-        let winner = trick.winner(self.trump);
+        let winner = trick.winner(self.trump());
         let need = need_after(winner, need);
-        self.reaches(left, &Trick::new(winner), tricks - 1, need)
+        self.reaches_from(left, winner, tricks - 1, need)
     }
 }
 
@@ -127,6 +212,39 @@ fn is_settled(trick: &Trick, tricks: u8, need: u8) -> bool
     ensures { MatchBool result (IsSettled (length trick.now.cards) tricks need) (length trick.now.cards < 4 * tricks) }
 {
     trick.len() == 0 && (need == 0 || need > tricks)
+}
+
+/// The table in which nothing is found yet.
+fn empty_table() -> [Found; PLACES]
+    ensures { All IsNothing result }
+{
+    [Found::nothing(); PLACES]
+}
+
+/// The bounds once it is known whether so many tricks are reached.
+fn narrowed(known: Bounds, need: u8, answer: bool) -> Bounds
+    requires { known.least < need }
+    ensures { (worth : ℕ) → IsBetween worth known → answer ≡ nat_le need worth → IsBetween worth result }
+{
+    if answer {
+        Bounds {
+            least: need,
+            most: known.most,
+        }
+    } else {
+        Bounds {
+            least: known.least,
+            most: need - 1,
+        }
+    }
+}
+
+/// The place in the table of what is left.
+fn place(left: CardSet, leader: Seat) -> usize
+    ensures { result < PLACES }
+{
+    let mixed = (left.bits() ^ u64::from(leader.number())).wrapping_mul(0x9e37_79b9_7f4a_7c15);
+    (mixed >> 32) as usize % PLACES
 }
 
 /// The suit of a card.

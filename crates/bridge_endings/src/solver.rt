@@ -6,7 +6,6 @@ ghost use Rattle.bridge_endings.specs.Cached.{Keeps, OfCache};
 use crate::cache::Cache;
 use crate::ending::Ending;
 use crate::search::Search;
-use crate::trick::Trick;
 use bridge_cards::CardSet;
 
 /// The tricks of North and South where each of the four sees all the cards, and both sides play for as many as they can.
@@ -55,10 +54,10 @@ fn tricks_won(ending: &Ending, search: &mut Search) -> u8
     ensures tried { search.old.tried ≤ search.new.tried }
 {
     let left = all_cards(&ending.hands());
-    let first = Trick::new(ending.leader());
+    let leader = ending.leader();
     let tricks = ending.tricks();
     let mut won = 0;
-    while search.reaches(left, &first, tricks, won + 1) {
+    while search.reaches_from(left, leader, tricks, won + 1) {
         won += 1;
     }
     won

@@ -2,7 +2,6 @@ use Rattle.std.proofs.Common.{◌≡◌, ◌-◌, ◌*◌, nat_le, length, refl,
 use Rattle.bridge_cards.specs.CardSet.{has_card}
 use Rattle.bridge_cards.proofs.CardSetLaws.{has_card-zero}
 use Rattle.bridge_cards.proofs.CardCounts.{card_count-without}
-use Rattle.bridge_endings.specs.declared.search.Search.{Search}
 use Rattle.bridge_endings.specs.Left.{left_to}
 use Rattle.bridge_endings.proofs.WorthSteps.{worth_of_card}
 use Rattle.bridge_endings.proofs.Answered.{same_answer, answer_kept}
@@ -19,8 +18,7 @@ reaches-returns-then-is_empty-clause-worth t c =
 
 pub reaches-returns-then-reaches_with-sought-clause-worth : goal.reaches-returns-then-reaches_with-sought-clause-worth
 reaches-returns-then-reaches_with-sought-clause-worth t c =
-    let now : Search = c.loop-card.self in
-    let told = answer_kept now.hands now.trump c.args.self.now.hands c.args.self.now.trump (λ hands trump. c.reaches_with.result ≡ nat_le c.args.need (worth_of_card trump (4 * c.args.tricks - length c.args.trick.now.cards - 1) (left_to hands c.args.left) c.args.trick.now.leader c.args.trick.now.cards c.in-Some.card)) c.loop-card.invariant.hands c.loop-card.invariant.trump c.reaches_with.ensures.worth in
+    let told = answer_kept c.loop-card.self.hands c.loop-card.self.trump c.args.self.now.hands c.args.self.now.trump (λ hands trump. c.reaches_with.result ≡ nat_le c.args.need (worth_of_card trump (4 * c.args.tricks - length c.args.trick.now.cards - 1) (left_to hands c.args.left) c.args.trick.now.leader c.args.trick.now.cards c.in-Some.card)) c.loop-card.invariant.hands c.loop-card.invariant.trump c.reaches_with.ensures.worth in
     found c.args.self.now.trump c.args.tricks c.args.need (left_to c.args.self.now.hands c.args.left) c.args.trick.now.leader c.args.trick.now.cards c.legal_cards-legal.result c.if-is_settled.ensures c.legal_cards-legal.ensures.legal
     c.in-Some.card c.is_sought-sought.result c.reaches_with.result c.in-Some.ensures.card.0 (c.loop-card.invariant.answered.among c.in-Some.card c.in-Some.ensures.card.1) (rw (← c.turn.ensures) c.is_sought-sought.ensures) told (same_answer c.reaches_with.result c.is_sought-sought.result c.if-reaches_with-sought.true)
 
@@ -37,13 +35,19 @@ reaches-returns-clause-worth t c =
 
 pub reaches_with-returns-then-len-lt4-clause-worth : goal.reaches_with-returns-then-len-lt4-clause-worth
 reaches_with-returns-then-len-lt4-clause-worth t c =
-    c.reaches.ensures.worth
-    ∙ after_part c.args.self.now.trump c.args.self.now.hands c.args.left c.without-left.result c.args.trick.now.leader c.args.trick.now.cards c.args.card c.args.tricks c.args.need c.without-left.ensures
-    c.with-trick.result.leader c.with-trick.result.cards c.with-trick.ensures.cards c.with-trick.ensures.leader (omega arith)
+    let told = c.reaches.ensures.worth
+    ∙ after_part c.count_card.new.self.trump c.count_card.new.self.hands c.args.left c.without-left.result c.args.trick.now.leader c.args.trick.now.cards c.args.card c.args.tricks c.args.need c.without-left.ensures
+    c.with-trick.result.leader c.with-trick.result.cards c.with-trick.ensures.cards c.with-trick.ensures.leader (omega arith) in
+    answer_kept c.count_card.new.self.hands c.count_card.new.self.trump c.args.self.now.hands c.args.self.now.trump
+    (λ hands trump. c.reaches.result ≡ nat_le c.args.need (worth_of_card trump (4 * c.args.tricks - length c.args.trick.now.cards - 1) (left_to hands c.args.left) c.args.trick.now.leader c.args.trick.now.cards c.args.card))
+    c.count_card.ensures.hands c.count_card.ensures.trump told
 
 pub reaches_with-returns-clause-worth : goal.reaches_with-returns-clause-worth
 reaches_with-returns-clause-worth t c =
-    c.reaches-2.ensures.worth
-    ∙ after_whole c.args.self.now.trump c.args.self.now.hands c.args.left c.without-left.result c.args.trick.now.leader c.args.trick.now.cards c.args.card c.args.tricks c.args.need c.without-left.ensures
-    c.with-trick.result.leader c.winner-winner.result c.with-trick.result.cards c.need_after-need.result c.new.result.leader c.new.result.cards c.with-trick.ensures.cards c.with-trick.ensures.leader (omega arith) (omega arith)
-    c.winner-winner.ensures c.need_after-need.ensures c.new.ensures.leader c.new.ensures.cards
+    let told = c.reaches_from.ensures.worth
+    ∙ after_whole c.count_card.new.self.trump c.count_card.new.self.hands c.args.left c.without-left.result c.args.trick.now.leader c.args.trick.now.cards c.args.card c.args.tricks c.args.need c.without-left.ensures
+    c.with-trick.result.leader c.winner-winner.result c.with-trick.result.cards c.need_after-need.result c.with-trick.ensures.cards c.with-trick.ensures.leader (omega arith) (omega arith)
+    (rw (← c.trump.ensures) c.winner-winner.ensures) c.need_after-need.ensures in
+    answer_kept c.count_card.new.self.hands c.count_card.new.self.trump c.args.self.now.hands c.args.self.now.trump
+    (λ hands trump. c.reaches_from.result ≡ nat_le c.args.need (worth_of_card trump (4 * c.args.tricks - length c.args.trick.now.cards - 1) (left_to hands c.args.left) c.args.trick.now.leader c.args.trick.now.cards c.args.card))
+    c.count_card.ensures.hands c.count_card.ensures.trump told

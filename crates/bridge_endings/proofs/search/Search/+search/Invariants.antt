@@ -6,10 +6,13 @@ use Rattle.bridge_endings.proofs.Answered.{IsAnswered}
 use Rattle.bridge_endings.proofs.search.Search.+search.Given as goal
 
 abbrev pub decreases-reaches : goal.decreases-reaches
-decreases-reaches l = 2 * (4 * l.tricks - length l.trick.now.cards) + 1
+decreases-reaches l = 3 * (4 * l.tricks - length l.trick.now.cards) + 1
+
+abbrev pub decreases-reaches_from : goal.decreases-reaches_from
+decreases-reaches_from l = 3 * (4 * l.tricks) + 2
 
 abbrev pub decreases-reaches_with : goal.decreases-reaches_with
-decreases-reaches_with l = 2 * (4 * l.tricks - length l.trick.now.cards)
+decreases-reaches_with l = 3 * (4 * l.tricks - length l.trick.now.cards)
 
 abbrev pub invariant-reaches-loop-card : goal.invariant-reaches-loop-card
 invariant-reaches-loop-card l = record {

@@ -1,0 +1,5 @@
+use Rattle.bridge_endings.proofs.Table.{nothing_found}
+use Rattle.bridge_endings.proofs.search.Search.new.Goals as goal
+
+pub invariant_of-result : goal.invariant_of-result
+invariant_of-result c = λ k d within. nothing_found c.hands.result c.trump.result _ (c.empty_table.ensures k d within)
