@@ -39,7 +39,7 @@ fn higher(card: Card, other: Option<Card>) -> Card
     ensures { (result ≡ card) ⊎ (other ≡ Some result) }
 {
     match other {
-        Some(other) if other.rank() > card.rank() => other,
+        Some(other) if other.rank().number() > card.rank().number() => other,
         _ => card,
     }
 }
