@@ -9,3 +9,6 @@ pub mod FormatLemmas
 pub mod StoreLemmas
 pub mod CheckpointLemmas
 pub mod RecordLemmas
+pub mod PartsLemmas
+pub mod ReplayLemmas
+pub mod OpeningLemmas

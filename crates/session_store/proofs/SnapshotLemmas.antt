@@ -1,6 +1,6 @@
 -- Snapshots: what the one in use stands for, and what a new one does.
 use Rattle.std.proofs.Common.{◌≡◌, ◌≢◌, ◌⊎◌, ◌<◌, ◌≤◌, ◌+◌, ◌-◌, ◌*◌, ◌^◌, ◌==◌, ℕ, suc, List, [], ◌∷◌, length, get_or, Option, Some, None, Result, Ok, Err, nat_lt, inl, inr, refl, sym, ap, subst, ◌∙◌, arith}
-use Rattle.std.specs.Prelude.{All}
+use Rattle.std.specs.Prelude.{All, IfSome}
 use Rattle.std.proofs.lemmas.Bool.{cases_eq, cases_Bool, eqb-true, eq-eqb, cond-true, cond-false}
 use Rattle.sector_disk.specs.Disk.{Image, with_sector, with_sector-same, with_sector-other}
 use Rattle.session_store.specs.Keeping.{Keeping, IsLawful}
@@ -48,6 +48,14 @@ unfolding header_in
 header_in-range image h is = elim (newer_cases _ _ h is) [
   | inl first ↦ header_of-range (image 0) h (placed_is 0 _ h first).0
   | inr second ↦ header_of-range (image 512) h (placed_is 512 _ h second).0
+]
+
+pub newer-range : (first second : List ℕ) (o : Option Header) → o ≡ newer (header_at 0 first) (header_at 512 second)
+    → IfSome o (λ h. (1 ≤ h.epoch) × (h.parts ≤ 494))
+newer-range first second None is = tt
+newer-range first second (Some h) is = elim (newer_cases _ _ h (sym is)) [
+  | inl here ↦ let range = header_of-range first h (placed_is 0 _ h here).0 in (range.0, range.2)
+  | inr there ↦ let range = header_of-range second h (placed_is 512 _ h there).0 in (range.0, range.2)
 ]
 
 -- an image of this epoch has nothing of a later one

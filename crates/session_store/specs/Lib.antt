@@ -8,3 +8,4 @@ pub mod Frame
 pub mod Value
 pub mod Store
 pub mod Answers
+pub mod Opening

@@ -1,5 +1,5 @@
 //! Reading what the bytes of a sector state.
-ghost use Rattle.std.specs.Prelude.{◌≡◌, ◌<◌, ◌^◌};
+ghost use Rattle.std.specs.Prelude.{◌≡◌, ◌<◌, ◌≤◌, ◌^◌, IfSome, length};
 ghost use Rattle.std.specs.Option.{option_copied};
 ghost use Rattle.session_store.specs.Form.{epoch_field, number_field, payload_in, header_of};
 
@@ -56,7 +56,8 @@ pub(crate) fn read_payload<'a>(
     number: u32,
     bytes: &'a [u8; 512],
 ) -> Option<&'a [u8]>
-    ensures { option_copied result ≡ payload_in mark.now epoch number bytes.now }
+    ensures payload { option_copied result ≡ payload_in mark.now epoch number bytes.now }
+    ensures fits { IfSome result (λ payload. length payload.now ≤ 480) }
 {
     let len = u16::from_be_bytes([bytes[16], bytes[17]]) as usize;
     if len > 480 {

@@ -9,14 +9,14 @@ returns-then-ne g c =
 pub returns-in-None : goal.returns-in-None
 returns-in-None g c =
     sym (entry_in-damaged g.K.Kept.kept _ _ c.args.bytes.now _ c.make_sector-empty.ensures (sym c.ne.ensures ∙ c.if-ne.false)
-    c.in-None.ensures)
+    c.in-None.ensures.payload)
 
 pub returns-in-None-read_action : goal.returns-in-None-read_action
 returns-in-None-read_action g c =
     sym (entry_in-no_action g.K.Kept.kept _ _ c.args.bytes.now _ c.make_sector-empty.ensures (sym c.ne.ensures ∙ c.if-ne.false)
-    _ c.in-Some.ensures c.in-None-read_action.ensures)
+    _ c.in-Some.ensures.payload c.in-None-read_action.ensures)
 
 pub returns-in-Some-read_action : goal.returns-in-Some-read_action
 returns-in-Some-read_action g c =
     sym (entry_in-action g.K.Kept.kept _ _ c.args.bytes.now _ c.make_sector-empty.ensures (sym c.ne.ensures ∙ c.if-ne.false)
-    _ c.in-Some.ensures _ c.in-Some-read_action.ensures)
+    _ c.in-Some.ensures.payload _ c.in-Some-read_action.ensures)

@@ -16,18 +16,18 @@ part_is bytes len is =
     let count : 18 + len - 18 ≡ len = omega arith in
     ap (λ (n : ℕ). take n (drop 18 bytes)) (count ∙ stated bytes len is)
 
-pub returns-then-len-gt480 : goal.returns-then-len-gt480
-returns-then-len-gt480 c =
+pub returns-then-len-gt480-clause-payload : goal.returns-then-len-gt480-clause-payload
+returns-then-len-gt480-clause-payload c =
     sym (payload_in-long _ _ _ c.args.bytes.now _ (stated c.args.bytes.now _ c.from_be_bytes-len.ensures)
     (omega (arith, c.fits-bytes)) (omega (arith, c.if-len-gt480.true)))
 
-pub returns-then-ne : goal.returns-then-ne
-returns-then-ne c =
+pub returns-then-ne-clause-payload : goal.returns-then-ne-clause-payload
+returns-then-ne-clause-payload c =
     let unequal = rw c.make_sector.ensures at (sym c.ne.ensures ∙ c.if-ne.true) in
     sym (payload_in-unequal _ _ _ c.args.bytes.now _ (part_is c.args.bytes.now _ c.from_be_bytes-len.ensures) unequal)
 
-pub returns : goal.returns
-returns c =
+pub returns-clause-payload : goal.returns-clause-payload
+returns-clause-payload c =
     let equal = rw c.make_sector.ensures at (sym c.ne.ensures ∙ c.if-ne.false) in
     let len = c.from_be_bytes-len.result in
     let fits : length (take (18 + len - 18) (drop 18 c.args.bytes.now)) ≤ 480 = simp length-take (omega (arith, c.if-len-gt480.false)) in

@@ -1,0 +1,56 @@
+-- What opening a disk reads, and why it fails.
+use Rattle.std.proofs.Common.{◌≡◌, ◌-◌, ◌^◌, ℕ, List, Some, None, Result, Ok, Err, inl, inr, refl, sym, ap, subst, ◌∙◌}
+use Rattle.std.proofs.lemmas.Bool.{cond-true, cond-false, eq-eqb, ne_eqb}
+use Rattle.sector_disk.specs.Disk.{Image, Rose}
+use Rattle.session_store.specs.Keeping.{Keeping}
+use Rattle.session_store.specs.Form.{place}
+use Rattle.session_store.specs.declared.reading.Header.{Header}
+use Rattle.session_store.specs.declared.fault.StoreFault.{StoreFault}
+use Rattle.session_store.specs.declared.fault.StoreFault.TheVariants.{Damaged, NotFormatted, EpochsSpent}
+use Rattle.session_store.specs.Stands.{header_in, after_state, after_parts, after_header, recovered, replay, parts_from}
+use Rattle.session_store.specs.Opening.{IsCause, reading_from, reading}
+
+-- the cause of a call is one of the call around it
+pub cause-from : {X Y : Type 0} (inner outer : Type 0) (mid before now : ℕ) (found : Result X StoreFault) (all : Result Y StoreFault)
+    (fault : StoreFault) → (outer → inner) → mid ≡ before → (outer → found ≡ Err fault → all ≡ Err fault)
+    → IsCause inner mid now found fault → IsCause outer before now all fault
+cause-from inner outer mid before now found all fault honest same so (inl failed) =
+    inl (failed.0, subst (λ (n : ℕ). Rose n now) same failed.1)
+cause-from inner outer mid before now found all fault honest same so (inr (inl none)) = inr (inl none)
+cause-from inner outer mid before now found all fault honest same so (inr (inr is)) =
+    inr (inr (is.0, λ holds. so holds (is.1 (honest holds))))
+
+module _ {S A R : Type 0} (kept : Keeping S A R) (image : Image) (h : Header) where
+  pub after_parts-err : (parts : Result (List (List ℕ)) StoreFault) (fault : StoreFault) → parts ≡ Err fault
+      → after_parts kept image h parts ≡ Err fault
+  unfolding after_parts
+  after_parts-err parts fault is = rw is refl
+
+  pub after_parts-bad : (parts : Result (List (List ℕ)) StoreFault) (payloads : List (List ℕ)) → parts ≡ Ok payloads
+      → kept.state_of payloads ≡ None → after_parts kept image h parts ≡ Err (Damaged (place h.epoch))
+  unfolding after_parts after_state
+  after_parts-bad parts payloads is none = rw (is, none) refl
+
+  pub after_parts-ok : (parts : Result (List (List ℕ)) StoreFault) (payloads : List (List ℕ)) (s : S) → parts ≡ Ok payloads
+      → kept.state_of payloads ≡ Some s → after_parts kept image h parts ≡ replay kept 1024 image h.epoch 0 s
+  unfolding after_parts after_state
+  after_parts-ok parts payloads s is some = rw (is, some) refl
+
+module _ {S A R : Type 0} (kept : Keeping S A R) (image : Image) where
+  pub reading-none : None ≡ header_in image → reading kept image ≡ Err NotFormatted
+  unfolding reading reading_from
+  reading-none none = rw (← none) refl
+
+  pub reading-spent : (h : Header) → Some h ≡ header_in image → h.epoch ≡ 2 ^ 64 - 1 → reading kept image ≡ Err EpochsSpent
+  unfolding reading reading_from
+  reading-spent h some last = rw (← some) (cond-true _ _ _ (eq-eqb h.epoch (2 ^ 64 - 1) last))
+
+  pub reading-some : (h : Header) → Some h ≡ header_in image → (h.epoch ≡ 2 ^ 64 - 1 → ⊥)
+      → (reading kept image ≡ recovered kept image)
+      × (recovered kept image ≡ after_parts kept image h (parts_from image h.epoch 0 h.parts))
+  unfolding reading reading_from recovered after_header
+  reading-some h some more = (
+    (let head : reading_from kept image (header_in image) ≡ reading_from kept image (Some h) = ap (reading_from kept image) (sym some) in
+        head ∙ cond-false _ _ _ (ne_eqb h.epoch (2 ^ 64 - 1) more)),
+    rw (← some) refl,
+  )

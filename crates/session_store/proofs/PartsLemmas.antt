@@ -1,0 +1,53 @@
+-- Parts read one after another.
+use Rattle.std.proofs.Common.{◌≡◌, ◌<◌, ◌≤◌, ◌+◌, ◌-◌, ℕ, suc, List, [], ◌∷◌, ◌++◌, Option, Some, None, Result, Ok, Err, refl, sym, ap, ◌∙◌, arith, append_assoc, append-nil}
+use Rattle.sector_disk.specs.Disk.{Image}
+use Rattle.session_store.specs.Form.{payload_in, part_mark, place}
+use Rattle.session_store.specs.declared.fault.StoreFault.{StoreFault}
+use Rattle.session_store.specs.declared.fault.StoreFault.TheVariants.{Damaged}
+use Rattle.session_store.specs.Stands.{with_part, after_part, parts_from}
+
+-- some parts before those that follow them
+pub with_parts : List (List ℕ) → Result (List (List ℕ)) StoreFault → Result (List (List ℕ)) StoreFault
+with_parts before (Ok parts) = Ok (before ++ parts)
+with_parts before (Err fault) = Err fault
+
+with_parts-one : (before : List (List ℕ)) (part : List ℕ) (rest : Result (List (List ℕ)) StoreFault)
+    → with_parts before (with_part part rest) ≡ with_parts (before ++ part ∷ []) rest
+unfolding with_parts with_part
+with_parts-one before part (Ok parts) = ap (λ (xs : List (List ℕ)). Ok xs) (sym (append_assoc before (part ∷ []) parts))
+with_parts-one before part (Err fault) = refl
+
+-- before the first
+pub parts-none : (rest : Result (List (List ℕ)) StoreFault) → rest ≡ with_parts [] rest
+unfolding with_parts
+parts-none (Ok parts) = refl
+parts-none (Err fault) = refl
+
+module _ (image : Image) (epoch i count : ℕ) (before : List (List ℕ)) where
+  -- one more
+  pub parts-more : (at : List ℕ) (part : List ℕ) → i < count → at ≡ image (place epoch + 1 + i) → payload_in part_mark epoch i at ≡ Some part
+      → with_parts before (parts_from image epoch i (count - i)) ≡ with_parts (before ++ part ∷ []) (parts_from image epoch (i + 1) (count - (i + 1)))
+  unfolding parts_from after_part
+  parts-more at part within same read =
+      let left : count - i ≡ suc (count - (i + 1)) = omega arith in
+      let here : payload_in part_mark epoch i (image (place epoch + 1 + i)) ≡ Some part = ap (payload_in part_mark epoch i) (sym same) ∙ read in
+      ap (λ (n : ℕ). with_parts before (parts_from image epoch i n)) left
+      ∙ ap (λ (o : Option (List ℕ)). with_parts before (after_part (place epoch + 1 + i) o (parts_from image epoch (i + 1) (count - (i + 1))))) here
+      ∙ with_parts-one before part (parts_from image epoch (i + 1) (count - (i + 1)))
+
+  -- one that is out of form
+  pub parts-damaged : (at : List ℕ) → i < count → at ≡ image (place epoch + 1 + i) → payload_in part_mark epoch i at ≡ None
+      → with_parts before (parts_from image epoch i (count - i)) ≡ Err (Damaged (place epoch + 1 + i))
+  unfolding parts_from after_part with_parts
+  parts-damaged at within same read =
+      let left : count - i ≡ suc (count - (i + 1)) = omega arith in
+      let here : payload_in part_mark epoch i (image (place epoch + 1 + i)) ≡ None = ap (payload_in part_mark epoch i) (sym same) ∙ read in
+      ap (λ (n : ℕ). with_parts before (parts_from image epoch i n)) left
+      ∙ ap (λ (o : Option (List ℕ)). with_parts before (after_part (place epoch + 1 + i) o (parts_from image epoch (i + 1) (count - (i + 1))))) here
+
+  -- all of them
+  pub parts-all : count ≤ i → with_parts before (parts_from image epoch i (count - i)) ≡ Ok before
+  unfolding parts_from with_parts
+  parts-all past =
+      let none : count - i ≡ 0 = omega arith in
+      ap (λ (n : ℕ). with_parts before (parts_from image epoch i n)) none ∙ ap (λ (xs : List (List ℕ)). Ok xs) (append-nil before)

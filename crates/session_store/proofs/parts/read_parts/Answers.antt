@@ -1,0 +1,51 @@
+use Rattle.std.proofs.Common.{◌≡◌, ◌+◌, ◌-◌, map, Err, refl, sym, ap, ◌∙◌, inl, inr, arith}
+use Rattle.std.proofs.lemmas.List.{map-append}
+use Rattle.sector_disk.specs.Runs.{quiet, quiet_joins}
+use Rattle.session_store.specs.Form.{place}
+use Rattle.session_store.specs.Stands.{parts_from}
+use Rattle.session_store.proofs.PartsLemmas.{with_parts, parts-none, parts-more, parts-damaged, parts-all}
+use Rattle.session_store.proofs.parts.read_parts.Goals as goal
+
+pub loop-i-init : goal.loop-i-init
+loop-i-init g c =
+    let left : c.args.header.parts - 0 ≡ c.args.header.parts = omega arith in
+    record {
+      quiet = quiet g.D.SectorDisk.disk _;
+      no_fault = refl;
+      read = λ honest. rw (c.in-Ok.ensures.items, left) (parts-none _);
+    }
+
+pub returns-in-Err-read_part-clause-fault : goal.returns-in-Err-read_part-clause-fault
+returns-in-Err-read_part-clause-fault g c =
+    let disk = g.D.SectorDisk.disk in
+    elim c.in-Err-read_part.ensures.fault [
+      | inl failed ↦ inl (failed.0, omega (arith, failed.1, c.loop-i.invariant.no_fault))
+      | inr damaged ↦ inr (inr (
+        λ same. let never = sym damaged.0 ∙ same in cc,
+        λ honest.
+            let reads = (c.loop-i.invariant.quiet.only_read honest).reads (place c.args.header.epoch + 1 + c.loop-i.i) in
+            c.loop-i.invariant.read honest
+            ∙ parts-damaged (disk.reads c.args.disk.now) c.args.header.epoch c.loop-i.i c.args.header.parts _ _ c.loop-i-test.true reads
+            (damaged.1 (c.loop-i.invariant.quiet.remains.stays_honest honest))
+            ∙ ap (λ fault. Err fault) (sym damaged.0),
+      ))
+    ]
+
+pub loop-i-preserved : goal.loop-i-preserved
+loop-i-preserved g c =
+    let disk = g.D.SectorDisk.disk in
+    record {
+      quiet = quiet_joins disk _ _ _ c.loop-i.invariant.quiet c.read_part.ensures.quiet;
+      no_fault = c.in-Ok-read_part.ensures.no_fault ∙ c.loop-i.invariant.no_fault;
+      read = λ honest.
+          let reads = (c.loop-i.invariant.quiet.only_read honest).reads (place c.args.header.epoch + 1 + c.loop-i.i) in
+          c.loop-i.invariant.read honest
+          ∙ parts-more (disk.reads c.args.disk.now) c.args.header.epoch c.loop-i.i c.args.header.parts _ _ _ c.loop-i-test.true reads
+          (c.in-Ok-read_part.ensures.part (c.loop-i.invariant.quiet.remains.stays_honest honest))
+          ∙ ap (λ xs. with_parts xs (parts_from (disk.reads c.args.disk.now) c.args.header.epoch (c.loop-i.i + 1) (c.args.header.parts - (c.loop-i.i + 1)))) (sym (ap (map (λ part. part.items)) c.in-Ok-push.ensures.items ∙ map-append _ _ _));
+    }
+
+pub returns-after-loop-i-clause-parts : goal.returns-after-loop-i-clause-parts
+returns-after-loop-i-clause-parts g c = λ honest.
+    c.loop-i.invariant.read honest
+    ∙ parts-all (g.D.SectorDisk.disk.reads c.args.disk.now) c.args.header.epoch c.loop-i.i c.args.header.parts _ (omega (arith, c.loop-i-test.false))

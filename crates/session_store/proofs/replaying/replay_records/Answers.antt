@@ -1,0 +1,66 @@
+use Rattle.std.proofs.Common.{◌+◌, sym, ◌∙◌, inr, arith}
+use Rattle.sector_disk.specs.Runs.{quiet_joins}
+use Rattle.session_store.proofs.ReplayLemmas.{record-missing, record-damaged, record-refused, record-taken, records-end}
+use Rattle.session_store.proofs.replaying.replay_records.Goals as goal
+
+pub returns-in-Err-clause-quiet : goal.returns-in-Err-clause-quiet
+returns-in-Err-clause-quiet g c = quiet_joins g.D.SectorDisk.disk _ _ _ c.loop-number.invariant.quiet c.read_record.ensures.quiet
+
+pub returns-in-Missing-clause-quiet : goal.returns-in-Missing-clause-quiet
+returns-in-Missing-clause-quiet g c = quiet_joins g.D.SectorDisk.disk _ _ _ c.loop-number.invariant.quiet c.read_record.ensures.quiet
+
+pub returns-in-Missing-clause-replayed : goal.returns-in-Missing-clause-replayed
+returns-in-Missing-clause-replayed g c = λ honest.
+    let so_far = c.loop-number.invariant in
+    let reads = (so_far.quiet.only_read honest).reads (1024 + c.loop-number.number) in
+    let entry = sym c.in-Missing.is ∙ c.in-Ok.ensures.entry (so_far.quiet.remains.stays_honest honest) in
+    so_far.replayed honest
+    ∙ record-missing g.K.Kept.kept (g.D.SectorDisk.disk.reads c.args.disk.now) c.args.epoch c.loop-number.number c.loop-number.state _ reads entry
+
+pub returns-in-Damaged-clause-quiet : goal.returns-in-Damaged-clause-quiet
+returns-in-Damaged-clause-quiet g c = quiet_joins g.D.SectorDisk.disk _ _ _ c.loop-number.invariant.quiet c.read_record.ensures.quiet
+
+pub returns-in-Damaged-clause-fault : goal.returns-in-Damaged-clause-fault
+returns-in-Damaged-clause-fault g c = inr (inr (
+  λ same. cc,
+  λ honest.
+      let so_far = c.loop-number.invariant in
+      let reads = (so_far.quiet.only_read honest).reads (1024 + c.loop-number.number) in
+      let entry = sym c.in-Damaged.is ∙ c.in-Ok.ensures.entry (so_far.quiet.remains.stays_honest honest) in
+      so_far.replayed honest
+      ∙ record-damaged g.K.Kept.kept (g.D.SectorDisk.disk.reads c.args.disk.now) c.args.epoch c.loop-number.number c.loop-number.state _ reads
+      c.loop-number-test.true entry,
+))
+
+pub returns-in-Err-step_both-clause-fault : goal.returns-in-Err-step_both-clause-fault
+returns-in-Err-step_both-clause-fault g c = inr (inr (
+  λ same. cc,
+  λ honest.
+      let so_far = c.loop-number.invariant in
+      let reads = (so_far.quiet.only_read honest).reads (1024 + c.loop-number.number) in
+      let entry = sym c.in-Holds.is ∙ c.in-Ok.ensures.entry (so_far.quiet.remains.stays_honest honest) in
+      so_far.replayed honest
+      ∙ record-refused g.K.Kept.kept (g.D.SectorDisk.disk.reads c.args.disk.now) c.args.epoch c.loop-number.number c.loop-number.state _ reads
+      c.loop-number-test.true c.in-Holds.action entry _ c.in-Err-step_both.ensures.step,
+))
+
+pub loop-number-preserved : goal.loop-number-preserved
+loop-number-preserved g c =
+    let so_far = c.loop-number.invariant in
+    record {
+      quiet = quiet_joins g.D.SectorDisk.disk _ _ _ so_far.quiet c.read_record.ensures.quiet;
+      no_fault = c.in-Ok.ensures.no_fault ∙ so_far.no_fault;
+      same = c.in-Ok-step_both.ensures.same;
+      replayed = λ honest.
+          let reads = (so_far.quiet.only_read honest).reads (1024 + c.loop-number.number) in
+          let entry = sym c.in-Holds.is ∙ c.in-Ok.ensures.entry (so_far.quiet.remains.stays_honest honest) in
+          so_far.replayed honest
+          ∙ record-taken g.K.Kept.kept (g.D.SectorDisk.disk.reads c.args.disk.now) c.args.epoch c.loop-number.number c.loop-number.state _ reads
+          c.loop-number-test.true c.in-Holds.action entry _ c.in-Ok-step_both.ensures.step;
+    }
+
+pub returns-clause-replayed : goal.returns-clause-replayed
+returns-clause-replayed g c = λ honest.
+    c.loop-number.invariant.replayed honest
+    ∙ records-end g.K.Kept.kept (g.D.SectorDisk.disk.reads c.args.disk.now) c.args.epoch c.loop-number.number c.loop-number.state
+    (omega (arith, c.loop-number-test.false))

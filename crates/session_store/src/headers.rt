@@ -1,0 +1,55 @@
+//! Finding the header that counts.
+ghost use Rattle.std.specs.Prelude.{◌≡◌, ◌≤◌, IfOk, IfSome, OnErr, OnOk};
+ghost use Rattle.sector_disk.specs.Disk.{Rose};
+ghost use Rattle.sector_disk.specs.Runs.{Quiet};
+ghost use Rattle.session_store.specs.Stands.{header_at, header_in, newer};
+
+use crate::reading::{Header, read_header};
+use crate::snapshot::place_of;
+use sector_disk::{DiskFault, SectorDisk};
+
+/// The header of these bytes at this sector, if it is one in form and its epoch's snapshot stands there.
+#[tactic(auto, unfolding(crate::specs::Stands::placed))]
+fn placed_header(at: u32, bytes: &[u8; 512]) -> Option<Header>
+    ensures { result ≡ header_at at bytes.now }
+{
+    match read_header(bytes) {
+        None => None,
+        Some(header) => {
+            if place_of(header.epoch) == at {
+                Some(header)
+            } else {
+                None
+            }
+        }
+    }
+}
+
+/// The header with the greater epoch.
+#[tactic(auto, unfolding(crate::specs::Stands::newer))]
+fn newer_header(a: Option<Header>, b: Option<Header>) -> Option<Header>
+    ensures { result ≡ newer a b }
+{
+    match (a, b) {
+        (None, b) => b,
+        (a, None) => a,
+        (Some(a), Some(b)) => { if a.epoch < b.epoch { Some(b) } else { Some(a) } }
+    }
+}
+
+/// The header that counts, if there is one.
+#[tactic(auto, unfolding(crate::specs::Stands::header_in))]
+pub(crate) fn find_header<D: SectorDisk>(disk: &mut D) -> Result<Option<Header>, DiskFault>
+    requires { 2048 ≤ D.disk.count disk.old }
+    ensures quiet { Quiet D.disk disk.old disk.new }
+    ensures fault { OnErr result (Rose (D.disk.faults disk.old) (D.disk.faults disk.new)) }
+    ensures no_fault { OnOk result (D.disk.faults disk.new ≡ D.disk.faults disk.old) }
+    ensures range { IfOk result (λ header. IfSome header (λ h. (1 ≤ h.epoch) × (h.parts ≤ 494))) }
+    ensures found { D.disk.honest disk.old → IfOk result (λ header. header ≡ header_in (D.disk.reads disk.old)) }
+{
+    let mut first = [0; 512];
+    disk.read(0, &mut first)?;
+    let mut second = [0; 512];
+    disk.read(512, &mut second)?;
+    Ok(newer_header(placed_header(0, &first), placed_header(512, &second)))
+}

@@ -1,0 +1,78 @@
+//! Reading the parts of a snapshot.
+ghost use Rattle.std.specs.Prelude.{◌≡◌, ◌⊎◌, ◌<◌, ◌≤◌, ◌+◌, Err, IfErr, IfOk, None, Ok, OnErr, OnOk, Some, map};
+ghost use Rattle.sector_disk.specs.Disk.{Rose};
+ghost use Rattle.sector_disk.specs.Runs.{Quiet};
+ghost use Rattle.session_store.specs.Form.{part_mark, payload_in, place};
+ghost use Rattle.session_store.specs.Opening.{IsCause};
+ghost use Rattle.session_store.specs.Stands.{parts_from};
+
+use crate::StoreFault;
+use crate::reading::{Header, PART_MARK, read_payload};
+use crate::snapshot::place_of;
+use arrayvec::ArrayVec;
+use sector_disk::SectorDisk;
+use std::alloc::Global;
+
+/// Reads part `i` of this epoch's snapshot.
+fn read_part<D: SectorDisk>(
+    disk: &mut D,
+    epoch: u64,
+    i: u32,
+) -> Result<ArrayVec<u8, 480>, StoreFault>
+    requires sectors { 2048 ≤ D.disk.count disk.old }
+    requires few { i < 494 }
+    ensures quiet { Quiet D.disk disk.old disk.new }
+    ensures no_fault { OnOk result (D.disk.faults disk.new ≡ D.disk.faults disk.old) }
+    ensures part { D.disk.honest disk.old → IfOk result (λ part.
+        payload_in part_mark epoch i (D.disk.reads disk.old (place epoch + 1 + i)) ≡ Some part.items) }
+    ensures fault { IfErr result (λ fault.
+        ((fault ≡ StoreFault.Disk) × Rose (D.disk.faults disk.old) (D.disk.faults disk.new))
+        ⊎ ((fault ≡ StoreFault.Damaged (place epoch + 1 + i)) × (D.disk.honest disk.old
+        → payload_in part_mark epoch i (D.disk.reads disk.old (place epoch + 1 + i)) ≡ None))) }
+{
+    let at = place_of(epoch) + 1 + i;
+    let mut bytes = [0; 512];
+    match disk.read(at, &mut bytes) {
+        Err(_) => Err(StoreFault::Disk),
+        Ok(()) => match read_payload(&PART_MARK, epoch, i, &bytes) {
+            None => Err(StoreFault::Damaged(at)),
+            Some(payload) => {
+                let mut part = ArrayVec::new();
+                let _ = part.try_extend_from_slice(payload);
+                Ok(part)
+            }
+        },
+    }
+}
+
+/// Reads the parts that this header tells of.
+pub(crate) fn read_parts<D: SectorDisk>(
+    alloc: Global,
+    disk: &mut D,
+    header: Header,
+) -> Result<Vec<ArrayVec<u8, 480>>, StoreFault>
+    requires sectors { 2048 ≤ D.disk.count disk.old }
+    requires few { header.parts ≤ 494 }
+    ensures quiet { Quiet D.disk disk.old disk.new }
+    ensures no_fault { OnOk result (D.disk.faults disk.new ≡ D.disk.faults disk.old) }
+    ensures parts { D.disk.honest disk.old → IfOk result (λ parts.
+        parts_from (D.disk.reads disk.old) header.epoch 0 header.parts ≡ Ok (map (λ part. part.items) parts.items)) }
+    ensures fault { IfErr result (IsCause (D.disk.honest disk.old) (D.disk.faults disk.old) (D.disk.faults disk.new)
+        (parts_from (D.disk.reads disk.old) header.epoch 0 header.parts)) }
+{
+    match Vec::with_capacity(alloc, header.parts as usize) {
+        Err(_) => Err(StoreFault::NoMemory),
+        Ok(mut parts) => {
+            for i in 0..header.parts {
+                match read_part(disk, header.epoch, i) {
+                    Err(fault) => return Err(fault),
+                    Ok(part) => match parts.push(part) {
+                        Ok(()) => {}
+                        Err(_) => return Err(StoreFault::NoMemory),
+                    },
+                }
+            }
+            Ok(parts)
+        }
+    }
+}

@@ -1,0 +1,83 @@
+//! Reading the journal.
+ghost use Rattle.std.specs.Prelude.{◌≡◌, ◌<◌, ◌≤◌, ◌+◌, Err, IfErr, IfOk, MatchResult, Ok, OnOk};
+ghost use Rattle.sector_disk.specs.Disk.{Rose};
+ghost use Rattle.sector_disk.specs.Runs.{Quiet};
+ghost use Rattle.session_store.specs.Form.{entry_in};
+ghost use Rattle.session_store.specs.Opening.{IsCause};
+ghost use Rattle.session_store.specs.Stands.{replay};
+
+use crate::entry::read_entry;
+use crate::reading::Entry;
+use crate::submitting::{JOURNAL, RECORDS};
+use crate::{Kept, StoreFault};
+use sector_disk::{DiskFault, SectorDisk};
+
+/// Reads what sector of the journal is to the record of this epoch and number.
+fn read_record<D: SectorDisk, K: Kept>(
+    disk: &mut D,
+    epoch: u64,
+    number: u32,
+) -> Result<Entry<K::Action>, DiskFault>
+    requires sectors { 2048 ≤ D.disk.count disk.old }
+    requires few { number < 1024 }
+    ensures quiet { Quiet D.disk disk.old disk.new }
+    ensures no_fault { OnOk result (D.disk.faults disk.new ≡ D.disk.faults disk.old) }
+    ensures fault { IfErr result (λ _. Rose (D.disk.faults disk.old) (D.disk.faults disk.new)) }
+    ensures entry { D.disk.honest disk.old → IfOk result (λ entry.
+        entry ≡ entry_in K.kept epoch number (D.disk.reads disk.old (1024 + number))) }
+{
+    let mut bytes = [0; 512];
+    match disk.read(JOURNAL + number, &mut bytes) {
+        Err(fault) => Err(fault),
+        Ok(()) => Ok(read_entry::<K>(epoch, number, &bytes)),
+    }
+}
+
+/// Takes an action on two equal states.
+fn step_both<K: Kept>(base: &mut K, state: &mut K, action: &K::Action) -> Result<(), K::Refusal>
+    requires { base.old ≡ state.old }
+    ensures step { MatchResult result (λ _. K.kept.step state.old action.now ≡ Ok state.new)
+        (λ refusal. K.kept.step state.old action.now ≡ Err refusal) }
+    ensures same { OnOk result (base.new ≡ state.new) }
+{
+    match base.step(action) {
+        Err(refusal) => Err(refusal),
+        Ok(()) => match state.step(action) {
+            Err(refusal) => Err(refusal),
+            Ok(()) => Ok(()),
+        },
+    }
+}
+
+/// Takes the actions of this epoch's records, up to the first that is missing, on two equal states.
+pub(crate) fn replay_records<D: SectorDisk, K: Kept>(
+    disk: &mut D,
+    epoch: u64,
+    base: &mut K,
+    state: &mut K,
+) -> Result<(), StoreFault>
+    requires sectors { 2048 ≤ D.disk.count disk.old }
+    requires same { base.old ≡ state.old }
+    ensures quiet { Quiet D.disk disk.old disk.new }
+    ensures no_fault { OnOk result (D.disk.faults disk.new ≡ D.disk.faults disk.old) }
+    ensures replayed { D.disk.honest disk.old → OnOk result
+        (replay K.kept 1024 (D.disk.reads disk.old) epoch 0 state.old ≡ Ok state.new) }
+    ensures same { OnOk result (base.new ≡ state.new) }
+    ensures fault { IfErr result (IsCause (D.disk.honest disk.old) (D.disk.faults disk.old) (D.disk.faults disk.new)
+        (replay K.kept 1024 (D.disk.reads disk.old) epoch 0 state.old)) }
+{
+    for number in 0..RECORDS {
+        match read_record::<D, K>(disk, epoch, number) {
+            Err(_) => return Err(StoreFault::Disk),
+            Ok(entry) => match entry {
+                Entry::Missing => return Ok(()),
+                Entry::Damaged => return Err(StoreFault::Damaged(JOURNAL + number)),
+                Entry::Holds(action) => match step_both(base, state, &action) {
+                    Err(_) => return Err(StoreFault::Damaged(JOURNAL + number)),
+                    Ok(()) => {}
+                },
+            },
+        }
+    }
+    Ok(())
+}
