@@ -12,3 +12,4 @@ pub mod RecordLemmas
 pub mod PartsLemmas
 pub mod ReplayLemmas
 pub mod OpeningLemmas
+pub mod OpenLemmas

@@ -1,11 +1,11 @@
 -- What opening a disk answers.
-use Rattle.std.specs.Prelude.{◌≡◌, ◌≢◌, ◌⊎◌, ◌-◌, ◌^◌, ◌==◌, ℕ, Option, Some, None, Result, Err, if◌then◌else◌}
+use Rattle.std.specs.Prelude.{◌≡◌, ◌≢◌, ◌⊎◌, ◌-◌, ◌^◌, ◌==◌, ℕ, Option, Some, None, Result, Ok, Err, if◌then◌else◌}
 use Rattle.sector_disk.specs.Disk.{Image, Rose}
 use Rattle.session_store.specs.Keeping.{Keeping}
 use Rattle.session_store.specs.declared.reading.Header.{Header}
 use Rattle.session_store.specs.declared.fault.StoreFault.{StoreFault}
 use Rattle.session_store.specs.declared.fault.StoreFault.TheVariants.{Disk as DiskFailed, NotFormatted, EpochsSpent, NoMemory}
-use Rattle.session_store.specs.Stands.{header_in, recovered}
+use Rattle.session_store.specs.Stands.{header_in, recovered, IsInOrder}
 
 -- Why a call of a disk that is honest, or not, answered this fault: the disk's faults rose in it, memory was refused,
 -- or it is what was found.
@@ -22,3 +22,13 @@ module _ {S A R : Type 0} (kept : Keeping S A R) where
 
   unfoldable pub reading : Image → Result S StoreFault
   reading image = reading_from image (header_in image)
+
+  -- What a power cut leaves while a disk with these images is opened: it is in order, and stands for a state that one of
+  -- these images stood for.
+  pub record IsStillSound (images : Image → Type 0) (c : Image) : Type 0 where
+    pub in_order : IsInOrder c
+    pub state : S
+    pub stands : recovered kept c ≡ Ok state
+    pub start : Image
+    pub was_there : images start
+    pub stood : recovered kept start ≡ Ok state

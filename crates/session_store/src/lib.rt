@@ -9,6 +9,7 @@ mod formatting;
 mod headers;
 mod kept;
 mod laws;
+mod opening;
 mod parts;
 mod reading;
 mod recovering;

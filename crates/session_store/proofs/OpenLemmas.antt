@@ -1,0 +1,117 @@
+-- What opening does to a disk.
+use Rattle.std.proofs.Common.{◌≡◌, ◌<◌, ◌≤◌, ◌+◌, ◌-◌, ◌^◌, ℕ, zero, suc, List, [], take, Some, Ok, false, refl, sym, ap, subst, ◌∙◌, arith}
+use Rattle.sector_disk.specs.Disk.{Image, Disk}
+use Rattle.sector_disk.specs.Runs.{EveryMoment, Quiet, weakens, joins}
+use Rattle.session_store.specs.Keeping.{Keeping, IsLawful, fold}
+use Rattle.session_store.specs.Stands.{recovered}
+use Rattle.session_store.specs.Base.{HasEpoch, IsSettled, StandsForPrefix}
+use Rattle.session_store.specs.Snapshot.{IsSnapshotting, WithSnapshot}
+use Rattle.session_store.specs.Sound.{IsSoundDisk, StandsOnlyFor}
+use Rattle.session_store.specs.Value.{StoreValue, IsStore}
+use Rattle.session_store.specs.Store.{IsSoundStore}
+use Rattle.session_store.specs.Opening.{IsStillSound}
+use Rattle.session_store.proofs.StandsLemmas.{fold-nil}
+use Rattle.session_store.proofs.SnapshotLemmas.{stands-settled, settled-nothing_later}
+use Rattle.session_store.proofs.StoreLemmas.{some_is, sound-stands}
+use Rattle.session_store.proofs.CheckpointLemmas.{snapshotting-stands, snapshot-sound}
+
+module _ {D S A R : Type 0} (kept : Keeping S A R) (disk : Disk D) where
+  -- what stands for the base with none of no actions stands for the base
+  prefix-none : (s : S) (c : Image) → StandsForPrefix kept s [] c → recovered kept c ≡ Ok s
+  prefix-none s c from = of_count from.count from.state from.made from.stands
+    where
+      of_count : (count : ℕ) (t : S) → fold kept s (take count []) ≡ Some t → recovered kept c ≡ Ok t → recovered kept c ≡ Ok s
+      of_count zero t made stands = let same = some_is s t (sym (fold-nil kept s) ∙ made) in stands ∙ ap (λ (x : S). Ok x) (sym same)
+      of_count (suc n) t made stands = let same = some_is s t (sym (fold-nil kept s) ∙ made) in stands ∙ ap (λ (x : S). Ok x) (sym same)
+
+  -- reading leaves a sound disk sound
+  pub quiet-still : (old mid : D) → IsSoundDisk kept disk old → Quiet disk old mid
+      → EveryMoment disk old mid (IsStillSound kept (disk.may_leave old))
+  quiet-still old mid sound quiet =
+      weakens disk old mid (disk.may_leave old) (quiet.only_read sound.honest).moments (IsStillSound kept (disk.may_leave old))
+      (λ c left. record {
+        in_order = sound.in_order c left;
+        state = (sound.stands c left).0;
+        stands = (sound.stands c left).1;
+        start = c;
+        was_there = left;
+        stood = (sound.stands c left).1;
+      })
+
+  module _ (old mid : D) (epoch : ℕ) (s : S) (sound : IsSoundDisk kept disk old)
+      (settled : (c : Image) → disk.may_leave mid c → c ≡ disk.reads old)
+      (found : recovered kept (disk.reads old) ≡ Ok s) (has_epoch : HasEpoch epoch (disk.reads old)) where
+    -- the image that was read is one of a base with no record to come
+    pub read-settled : (c : Image) → disk.may_leave mid c → IsSettled kept epoch s 1024 [] c
+    read-settled c left =
+        let image = disk.reads old in
+        let h = has_epoch.0 in
+        let none = sound.in_order image (disk.reads_left old sound.honest) h has_epoch.1 in
+        subst (IsSettled kept epoch s 1024 []) (sym (settled c left))
+        (subst (λ (e : ℕ). IsSettled kept e s 1024 [] image) has_epoch.2 (stands-settled kept image h s has_epoch.1 found none))
+
+    module _ (lawful : IsLawful kept) (room : epoch < 2 ^ 64 - 1) (is_state : kept.IsState s) (quiet : Quiet disk old mid) (new : D) where
+      -- the writing of the next epoch's snapshot leaves it sound
+      pub snapshot-still : (disk.honest mid → EveryMoment disk mid new (IsSnapshotting kept (disk.may_leave mid) (epoch + 1) s))
+          → EveryMoment disk old new (IsStillSound kept (disk.may_leave old))
+      snapshot-still run =
+          let images = disk.may_leave mid in
+          joins disk old mid new (IsStillSound kept (disk.may_leave old)) (quiet-still old mid sound quiet)
+          (weakens disk mid new (IsSnapshotting kept images (epoch + 1) s) (run (quiet.remains.stays_honest sound.honest))
+          (IsStillSound kept (disk.may_leave old))
+          (λ c writing.
+          let stands = snapshotting-stands kept disk lawful images epoch 1024 s s s [] [] (omega arith) room is_state
+          (fold-nil kept s) (fold-nil kept s) read-settled c writing in
+          record {
+            in_order = stands.in_order;
+            state = s;
+            stands = prefix-none s c stands;
+            start = disk.reads old;
+            was_there = disk.reads_left old sound.honest;
+            stood = found;
+          }))
+
+      -- and the store is sound
+      pub opened-sound : disk.honest new
+          → (disk.honest mid → (c : Image) → disk.may_leave new c → WithSnapshot kept (disk.may_leave mid) (epoch + 1) s c)
+          → IsSoundStore kept disk (record { disk = new; base = s; pending = []; state = s; epoch = epoch + 1; records = 0; failed = false })
+      opened-sound honest written =
+          let before : StoreValue D S A = record { disk = mid; base = s; pending = []; state = s; epoch = epoch; records = 1024; failed = false } in
+          snapshot-sound kept disk lawful (disk.may_leave mid) before new room is_state honest
+          (λ d left. settled-nothing_later kept epoch 1024 s [] d (read-settled d left))
+          (written (quiet.remains.stays_honest sound.honest))
+
+      pub opened-stands : disk.honest new
+          → (disk.honest mid → (c : Image) → disk.may_leave new c → WithSnapshot kept (disk.may_leave mid) (epoch + 1) s c)
+          → StandsOnlyFor kept disk s new
+      opened-stands honest written =
+          sound-stands kept disk (record { disk = new; base = s; pending = []; state = s; epoch = epoch + 1; records = 0; failed = false })
+          refl refl (opened-sound honest written)
+
+  -- the new store is one
+  pub opened-store : (new : D) (base s : S) (pending : List A) (epoch : ℕ) → base ≡ s → pending ≡ [] → 2048 ≤ disk.count new
+      → epoch < 2 ^ 64 - 1
+      → IsStore kept disk (record { disk = new; base = base; pending = pending; state = s; epoch = epoch + 1; records = 0; failed = false })
+  opened-store new base s pending epoch same none large room =
+      let view : (record { disk = new; base = s; pending = []; state = s; epoch = epoch + 1; records = 0; failed = false })
+      ≡ (record { disk = new; base = base; pending = pending; state = s; epoch = epoch + 1; records = 0; failed = false })
+      = λ i. record { disk = new; base = sym same i; pending = sym none i; state = s; epoch = epoch + 1; records = 0; failed = false } in
+      subst (IsStore kept disk) view (record {
+        large = large;
+        accepted = fold-nil kept s;
+        few = omega arith;
+        recorded = omega arith;
+        records = omega arith;
+        some_epoch = omega arith;
+        epoch = omega (arith, room);
+      })
+
+  -- the new store as it is seen
+  pub opened-view : (new : D) (base s : S) (pending : List A) (epoch : ℕ) → base ≡ s → pending ≡ []
+      → IsSoundStore kept disk (record { disk = new; base = s; pending = []; state = s; epoch = epoch + 1; records = 0; failed = false })
+      → IsSoundStore kept disk (record { disk = new; base = base; pending = pending; state = s; epoch = epoch + 1; records = 0; failed = false })
+  opened-view new base s pending epoch same none sound =
+      let view : (record { disk = new; base = s; pending = []; state = s; epoch = epoch + 1; records = 0; failed = false })
+      ≡ (record { disk = new; base = base; pending = pending; state = s; epoch = epoch + 1; records = 0; failed = false })
+      = λ i. record { disk = new; base = sym same i; pending = sym none i; state = s; epoch = epoch + 1; records = 0; failed = false } in
+      subst (IsSoundStore kept disk) view sound

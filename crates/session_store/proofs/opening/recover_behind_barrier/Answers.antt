@@ -1,0 +1,23 @@
+use Rattle.sector_disk.specs.Disk.{image_is}
+use Rattle.sector_disk.specs.Runs.{quiet, quiet_sync, quiet_joins, only_read_leaves}
+use Rattle.session_store.proofs.opening.recover_behind_barrier.Goals as goal
+
+pub returns-in-Err-clause-quiet : goal.returns-in-Err-clause-quiet
+returns-in-Err-clause-quiet g c =
+    quiet_sync g.D.SectorDisk.disk _ _ _ _ (quiet g.D.SectorDisk.disk _) c.sync.ensures.called c.sync.ensures.syncs
+
+pub returns-in-Err-recover-clause-quiet : goal.returns-in-Err-recover-clause-quiet
+returns-in-Err-recover-clause-quiet g c =
+    let disk = g.D.SectorDisk.disk in
+    quiet_joins disk _ _ _ (quiet_sync disk _ _ _ _ (quiet disk _) c.sync.ensures.called c.sync.ensures.syncs) c.recover.ensures.quiet
+
+pub returns-in-Ok-recover-clause-quiet : goal.returns-in-Ok-recover-clause-quiet
+returns-in-Ok-recover-clause-quiet g c =
+    let disk = g.D.SectorDisk.disk in
+    quiet_joins disk _ _ _ (quiet_sync disk _ _ _ _ (quiet disk _) c.sync.ensures.called c.sync.ensures.syncs) c.recover.ensures.quiet
+
+pub returns-in-Ok-recover-clause-settled : goal.returns-in-Ok-recover-clause-settled
+returns-in-Ok-recover-clause-settled g c = λ honest image left.
+    let disk = g.D.SectorDisk.disk in
+    let read = c.recover.ensures.quiet.only_read (c.sync.ensures.called.stays_honest honest) in
+    image_is image _ ((c.in-Ok.ensures.syncs honest).ok.images image (only_read_leaves disk _ _ read image left))

@@ -1,0 +1,57 @@
+use Rattle.std.proofs.Common.{◌≤◌, arith}
+use Rattle.sector_disk.specs.Runs.{none_read, quiet}
+use Rattle.session_store.proofs.OpenLemmas.{quiet-still, snapshot-still, opened-sound, opened-stands, opened-store, opened-view}
+use Rattle.session_store.proofs.store.Store.open.Goals as goal
+
+pub returns-then-count-lt-SECTORS-clause-only_read : goal.returns-then-count-lt-SECTORS-clause-only_read
+returns-then-count-lt-SECTORS-clause-only_read g c = λ other honest. none_read g.D.SectorDisk.disk _ honest
+
+pub returns-then-count-lt-SECTORS-clause-any_moment : goal.returns-then-count-lt-SECTORS-clause-any_moment
+returns-then-count-lt-SECTORS-clause-any_moment g c = λ sound.
+    quiet-still g.K.Kept.kept g.D.SectorDisk.disk _ _ sound (quiet g.D.SectorDisk.disk _)
+
+pub returns-in-Err-clause-any_moment : goal.returns-in-Err-clause-any_moment
+returns-in-Err-clause-any_moment g c = λ sound.
+    quiet-still g.K.Kept.kept g.D.SectorDisk.disk _ _ sound c.recover_behind_barrier.ensures.quiet
+
+pub invariant_of-result : goal.invariant_of-result
+invariant_of-result g c =
+    let disk = g.D.SectorDisk.disk in
+    let large : 2048 ≤ disk.count c.write_snapshot.new.disk
+    = omega (arith, c.write_snapshot.ensures.remains.count, c.recover_behind_barrier.ensures.quiet.remains.count, c.count.ensures.count, c.if-count-lt-SECTORS.false) in
+    opened-store g.K.Kept.kept disk c.write_snapshot.new.disk c.in-Ok.found.base c.in-Ok.found.state _ c.in-Ok.found.epoch
+    c.in-Ok.ensures.same c.new.ensures large c.in-Ok.ensures.epoch
+
+pub returns-in-Err-write_snapshot-clause-any_moment : goal.returns-in-Err-write_snapshot-clause-any_moment
+returns-in-Err-write_snapshot-clause-any_moment g c = λ sound.
+    let found = c.in-Ok.ensures.found sound.honest in
+    snapshot-still g.K.Kept.kept g.D.SectorDisk.disk _ _ c.in-Ok.found.epoch c.in-Ok.found.state sound
+    (c.in-Ok.ensures.settled sound.honest) found.1 found.2 g.met.K.Kept.lawful c.in-Ok.ensures.epoch c.write_snapshot.ensures.state
+    c.recover_behind_barrier.ensures.quiet _ c.write_snapshot.ensures.any_moment
+
+pub returns-in-Ok-write_snapshot-clause-any_moment : goal.returns-in-Ok-write_snapshot-clause-any_moment
+returns-in-Ok-write_snapshot-clause-any_moment g c = λ sound.
+    let found = c.in-Ok.ensures.found sound.honest in
+    snapshot-still g.K.Kept.kept g.D.SectorDisk.disk _ _ c.in-Ok.found.epoch c.in-Ok.found.state sound
+    (c.in-Ok.ensures.settled sound.honest) found.1 found.2 g.met.K.Kept.lawful c.in-Ok.ensures.epoch c.write_snapshot.ensures.state
+    c.recover_behind_barrier.ensures.quiet _ c.write_snapshot.ensures.any_moment
+
+pub returns-in-Ok-write_snapshot-clause-sound : goal.returns-in-Ok-write_snapshot-clause-sound
+returns-in-Ok-write_snapshot-clause-sound g c = λ sound.
+    let found = c.in-Ok.ensures.found sound.honest in
+    let quietly = c.recover_behind_barrier.ensures.quiet in
+    let honest = c.write_snapshot.ensures.remains.stays_honest (quietly.remains.stays_honest sound.honest) in
+    opened-view g.K.Kept.kept g.D.SectorDisk.disk c.write_snapshot.new.disk c.in-Ok.found.base c.in-Ok.found.state _ c.in-Ok.found.epoch
+    c.in-Ok.ensures.same c.new.ensures
+    (opened-sound g.K.Kept.kept g.D.SectorDisk.disk _ _ c.in-Ok.found.epoch c.in-Ok.found.state sound
+    (c.in-Ok.ensures.settled sound.honest) found.1 found.2 g.met.K.Kept.lawful c.in-Ok.ensures.epoch c.write_snapshot.ensures.state
+    quietly c.write_snapshot.new.disk honest c.in-Ok-write_snapshot.ensures.written)
+
+pub returns-in-Ok-write_snapshot-clause-stands : goal.returns-in-Ok-write_snapshot-clause-stands
+returns-in-Ok-write_snapshot-clause-stands g c = λ sound.
+    let found = c.in-Ok.ensures.found sound.honest in
+    let quietly = c.recover_behind_barrier.ensures.quiet in
+    let honest = c.write_snapshot.ensures.remains.stays_honest (quietly.remains.stays_honest sound.honest) in
+    opened-stands g.K.Kept.kept g.D.SectorDisk.disk _ _ c.in-Ok.found.epoch c.in-Ok.found.state sound
+    (c.in-Ok.ensures.settled sound.honest) found.1 found.2 g.met.K.Kept.lawful c.in-Ok.ensures.epoch c.write_snapshot.ensures.state
+    quietly c.write_snapshot.new.disk honest c.in-Ok-write_snapshot.ensures.written
