@@ -1,0 +1,30 @@
+#!/bin/sh
+# Random endings of 6, 5, 4 and 3 cards a hand by `solve`, without and with a cache, beside the same endings by
+# `SolveBoard` of libdds (Debian's libdds-dev; mode 1, one thread).
+#
+#     bench/endings.sh [ROUNDS] [ENDINGS]     (20 and 500 when left out)
+#
+# Prints for each size the means, the ratios of means, medians and 99th percentiles, and how many answers differ. Each
+# round has its own endings, which both programs solve in a process each, every other round in the other order.
+# The goal is a ratio of means of at most 0.5 at each size.
+set -eu
+here=$(cd "$(dirname "$0")" && pwd)
+top=$(cd "$here/.." && pwd)
+
+# The program is built in a repository of its own, so that the gate does not prove it.
+work=$(mktemp -d "$here/endings_bench.XXXXXX")
+trap 'rm -rf "$work"' EXIT
+crates=$work/repo/crates
+mkdir -p "$crates/endings_bench/src"
+cp -r "$top/crates/bridge_cards" "$top/crates/bridge_endings" "$crates"
+cp "$here/endings/program.txt" "$crates/endings_bench/src/main.rt"
+grep -E '^(bridge_cards|bridge_endings):' "$top/crates.txt" > "$work/repo/crates.txt"
+echo 'endings_bench: anyhow bridge_cards bridge_endings' >> "$work/repo/crates.txt"
+echo 'Handles allowed: none.' > "$work/repo/HANDLES"
+echo "building" >&2
+if ! (cd "$crates/endings_bench" && rt run -- 3 1 1 0) > "$work/build.log" 2>&1; then
+    cat "$work/build.log" >&2
+    exit 1
+fi
+g++ -O2 -o "$work/peer" "$here/endings/peer.cpp" -ldds
+python3 "$here/endings/compare.py" "$crates/endings_bench/out/endings_bench" "$work/peer" "${1:-20}" "${2:-500}"
