@@ -131,6 +131,9 @@ impl Search {
         ensures trump { self.new.trump ≡ self.old.trump }
         ensures tried { self.old.tried ≤ self.new.tried }
     {
+        if tricks < 2 {
+            return self.reaches(left, &Trick::new(leader), tricks, need);
+        }
         let known = self.bounds(left, leader, tricks);
         if need <= known.least || need > known.most {
             return need <= known.least;
