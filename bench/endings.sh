@@ -16,9 +16,9 @@ work=$(mktemp -d "$here/endings_bench.XXXXXX")
 trap 'rm -rf "$work"' EXIT
 crates=$work/repo/crates
 mkdir -p "$crates/endings_bench/src"
-cp -r "$top/crates/bridge_cards" "$top/crates/bridge_endings" "$crates"
+cp -r "$top/crates/line_text" "$top/crates/bridge_cards" "$top/crates/bridge_endings" "$crates"
 cp "$here/endings/program.txt" "$crates/endings_bench/src/main.rt"
-grep -E '^(bridge_cards|bridge_endings):' "$top/crates.txt" > "$work/repo/crates.txt"
+grep -E '^(line_text|bridge_cards|bridge_endings):' "$top/crates.txt" > "$work/repo/crates.txt"
 echo 'endings_bench: anyhow bridge_cards bridge_endings' >> "$work/repo/crates.txt"
 echo 'Handles allowed: none.' > "$work/repo/HANDLES"
 echo "building" >&2
