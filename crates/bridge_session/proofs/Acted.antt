@@ -1,5 +1,5 @@
 -- A session after a change in one table.
-use Rattle.std.proofs.Common.{◌≡◌, ◌<◌, ℕ, Bool, true, cond, List, [], length, Option, Some, None, Result, Ok, Err, refl, sym, ap, ◌∙◌, length-set, subst, arith, Vec, Global}
+use Rattle.std.proofs.Common.{◌≡◌, ◌<◌, ◌≤◌, ℕ, Bool, true, cond, List, [], length, Option, Some, None, Result, Ok, Err, refl, sym, ap, ◌∙◌, length-set, subst, arith, Vec, Global}
 use Rattle.std.specs.Prelude.{All, map, slice_get, slice_set, slice_index_or, unwrap_or}
 use Rattle.std.specs.Vec.{with_items}
 use Rattle.std.specs.Option.{option_map}
@@ -51,13 +51,22 @@ acted_state configuration round deals tables key done seating table after sits i
     ap made (changed_row tables seating.place table after (acted_among seating.seat done) is left)
     ∙ ap (acted_at (state_of configuration round deals tables) done) (sym sits)
 
+-- a row has few records
+pub few_row : (tables : List (List Record)) (place : ℕ) (table : List Record) → All (λ (row : List Record). length row ≤ 3) tables → slice_get tables place ≡ Some table → length table ≤ 3
+few_row tables place table few is =
+    let P : List Record → Type 0 = λ row. length row ≤ 3 in
+    subst P (get_or_from_slice_get tables place table [] is) (few place [] (slice_get_within tables place table is))
+
 -- the parts are kept
-pub kept_with : (configuration : Configuration) (round : ℕ) (deals : List (Option (List ℕ))) (tables : List (List Record)) (place : ℕ) (after : List Record) → IsKept configuration round deals tables → All (IsTiedIn deals) after → IsKept configuration round deals (slice_set tables place after)
-kept_with configuration round deals tables place after kept tied = record {
+pub kept_with : (configuration : Configuration) (round : ℕ) (deals : List (Option (List ℕ))) (tables : List (List Record)) (place : ℕ) (table after : List Record) → IsKept configuration round deals tables → slice_get tables place ≡ Some table → length after ≡ length table → All (IsTiedIn deals) after → IsKept configuration round deals (slice_set tables place after)
+kept_with configuration round deals tables place table after kept is long tied = record {
   begun = kept.begun;
   boards = kept.boards;
   rows = length-set tables place after ∙ kept.rows;
   tied = All-set (All (IsTiedIn deals)) tables place after tied kept.tied;
+  few =
+      let were : length table ≤ 3 = few_row tables place table kept.few is in
+      All-set (λ (row : List Record). length row ≤ 3) tables place after (omega arith) kept.few;
 }
 
 -- the records of a row are tied

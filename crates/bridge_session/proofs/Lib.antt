@@ -8,3 +8,4 @@ pub mod Rounds
 pub mod Ruled
 pub mod Entries
 pub mod SameAnswer
+pub mod Shown

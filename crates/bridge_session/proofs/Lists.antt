@@ -1,6 +1,6 @@
 -- Lists whose elements are seen in another way.
 use Rattle.std.proofs.Common.{◌≡◌, ◌+◌, ℕ, zero, suc, Bool, true, false, not, cond, List, [], ◌∷◌, ◌++◌, length, Option, Some, None, Result, Ok, Err, refl, sym, ap, ◌∙◌, arith, add-zero}
-use Rattle.std.specs.Prelude.{All, map, position, nat_lt, slice_get, slice_set, OnOk, OnErr}
+use Rattle.std.specs.Prelude.{All, map, position, nat_lt, slice_get, slice_set, OnOk, OnErr, MatchResult}
 use Rattle.std.specs.List.{position_or_len, range_with_len}
 use Rattle.std.specs.Option.{option_map, option_map_or}
 use Rattle.std.proofs.lemmas.Bool.{ltb-false}
@@ -90,3 +90,8 @@ set_there xs i x is = ap (slice_set xs i) (sym (get_or_from_slice_get xs i x x i
 
 pub changed_at-None : {A : Type 0} (f : A → A) (xs : List A) (i : ℕ) → slice_get xs i ≡ None → changed_at f xs i ≡ xs
 changed_at-None f xs i e = ap (λ found. option_map_or (λ y. slice_set xs i (f y)) found xs) e
+
+-- from what holds of either part of an answer
+pub match_map : {T E : Type 0} (P Q : T → Type 0) (F G : E → Type 0) (r : Result T E) → MatchResult r P F → ((v : T) → P v → Q v) → ((e : E) → F e → G e) → MatchResult r Q G
+match_map P Q F G (Ok v) holds there other = there v holds
+match_map P Q F G (Err e) holds there other = other e holds

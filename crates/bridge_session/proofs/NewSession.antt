@@ -1,9 +1,10 @@
 -- The opening session.
-use Rattle.std.proofs.Common.{◌≡◌, ◌+◌, ◌-◌, ◌*◌, ℕ, Bool, true, false, cond, List, [], ◌∷◌, length, Option, None, refl, sym, ap, ◌∙◌, subst, arith}
+use Rattle.std.proofs.Common.{◌≡◌, ◌+◌, ◌-◌, ◌*◌, ℕ, Bool, true, false, cond, List, [], ◌∷◌, length, Option, None, refl, sym, ap, ◌∙◌, subst, arith, ◌≤◌}
 use Rattle.std.specs.Prelude.{All, map, replicate, slice_index_or}
 use Rattle.std.specs.List.{range_with_len}
 use Rattle.std.proofs.lemmas.List.{length-map, length-replicate}
 use Rattle.std.proofs.lemmas.List.Elements.{All-map}
+use Rattle.std.proofs.lemmas.List.FromFn.{length-range_with_len}
 use Rattle.bridge_movement.specs.declared.row.Row.{Row}
 use Rattle.bridge_movement.specs.Row.{is_live}
 use Rattle.bridge_movement.specs.Shape.{row_count}
@@ -24,6 +25,15 @@ new_table_tied deals boards false = λ k d within. absurd (omega arith)
 new_row_tied : (deals : List (Option (List ℕ))) (boards : ℕ) (row : Row) → All (IsTiedIn deals) (new_table boards row)
 new_row_tied deals boards row = new_table_tied deals (range_with_len ((row.set - 1) * boards + 1) boards) (is_live row)
 
+-- a new table has a record for each board at most
+new_table_few : (boards : List ℕ) (live : Bool) → length boards ≤ 3 → length (cond live (map new_record boards) []) ≤ 3
+new_table_few boards true few = omega (arith, length-map boards new_record)
+new_table_few boards false few = omega arith
+
+new_row_few : (boards : ℕ) (row : Row) → boards ≤ 3 → length (new_table boards row) ≤ 3
+new_row_few boards row few =
+    new_table_few (range_with_len ((row.set - 1) * boards + 1) boards) (is_live row) (omega (arith, length-range_with_len ((row.set - 1) * boards + 1) boards))
+
 -- what is seen of the new records
 new_seen : (boards : List ℕ) → map plain_of (map new_record boards) ≡ map empty_record boards
 new_seen [] = refl
@@ -41,6 +51,7 @@ rows_seen boards (row ∷ rows) =
 
 -- the parts of a new session
 pub record IsNew (configuration : Configuration) (dealt : List (Option (List ℕ))) (lists : List (List Record)) : Type 0 where
+  pub few : configuration.boards ≤ 3
   pub rows : length configuration.movement.rows ≡ row_count configuration.movement.shape
   pub deals : dealt ≡ replicate (configuration.movement.shape.sets * configuration.boards) None
   pub tables : lists ≡ map (new_table configuration.boards) configuration.movement.rows
@@ -49,6 +60,8 @@ pub new_is_kept : (configuration : Configuration) (deals : List (Option (List �
 new_is_kept configuration deals tables parts = record {
   begun = omega arith;
   boards = ap length parts.deals ∙ length-replicate (configuration.movement.shape.sets * configuration.boards) None;
+  few = subst (All (λ (row : List Record). length row ≤ 3)) (sym parts.tables)
+      (All-map (λ (row : List Record). length row ≤ 3) (new_table configuration.boards) configuration.movement.rows (λ k d within. new_row_few configuration.boards (slice_index_or configuration.movement.rows k d) parts.few));
   rows = ap length parts.tables ∙ length-map configuration.movement.rows (new_table configuration.boards) ∙ parts.rows;
   tied = subst (All (All (IsTiedIn deals))) (sym parts.tables)
       (All-map (All (IsTiedIn deals)) (new_table configuration.boards) configuration.movement.rows (λ k d within. new_row_tied deals configuration.boards (slice_index_or configuration.movement.rows k d)));

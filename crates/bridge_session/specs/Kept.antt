@@ -76,6 +76,7 @@ pub record IsKept (configuration : Configuration) (round : ℕ) (deals : List (O
   pub boards : length deals ≡ configuration.movement.shape.sets * configuration.boards
   pub rows : length tables ≡ row_count configuration.movement.shape
   pub tied : All (All (IsTiedIn deals)) tables
+  pub few : All (λ table. length table ≤ 3) tables
 
 -- a record in which nothing has happened
 abbrev pub new_record : ℕ → Record

@@ -5,6 +5,8 @@ pub mod Deed
 pub mod Correction
 pub mod State
 pub mod Step
+pub mod See
 pub mod Kept
 pub mod Apart
 pub mod Refused
+pub mod Views

@@ -100,6 +100,7 @@ is_closed configuration round = nat_lt configuration.movement.shape.rounds round
 abbrev pub seating_at : Configuration → ℕ → Bool → Place → Seating
 seating_at configuration round first place = record {
   place = row_place configuration.movement.shape round place.table;
+  table = place.table;
   seat = seat_on place.side first;
   set = place.set;
 }

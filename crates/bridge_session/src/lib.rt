@@ -23,6 +23,7 @@ pub mod session;
 mod table;
 #[cfg(test)]
 mod tests;
+pub mod view;
 
 pub use action::{Action, PlayId};
 pub use apart::tables_are_judged_apart;
@@ -32,3 +33,4 @@ pub use outcome::Outcome;
 pub use refused::Refused;
 pub use ruling::Ruling;
 pub use session::Session;
+pub use view::{Trick, View};

@@ -4,6 +4,7 @@ ghost use Rattle.bridge_config.specs.Configuration.{pair_of};
 ghost use Rattle.bridge_config.specs.declared.fields.PairFields.{PairFields as PairType};
 ghost use Rattle.bridge_movement.specs.Shape.{row_count};
 ghost use Rattle.bridge_session.specs.State.{has_key, player_in, player_of, acting_player, director_answer, seat_on, is_closed, seating_of, is_of_set, row_place};
+ghost use Rattle.bridge_session.specs.Numbers.{IsTableNumber};
 ghost use Rattle.bridge_session.specs.Step.{is_row_within};
 
 use crate::numbers::{RoundNumber, TableNumber};
@@ -25,6 +26,8 @@ pub struct Player {
 pub struct Seating {
     /// The place of the table's row among the rows of the movement, from 0.
     pub place: usize,
+    /// The table's number.
+    pub table: u8,
     pub seat: Seat,
     /// The set of boards that the table plays.
     pub set: u8,
@@ -111,6 +114,8 @@ pub fn is_closed(config: &Config, round: u8) -> bool
 pub fn seat_by(config: &Config, round: u8, key: Key) -> Result<Seating, Refused>
     ensures seating { result ≡ seating_of config.now round key.0 }
     ensures within { IfOk result (λ seating. seating.place < row_count config.now.movement.shape) }
+    ensures table { IfOk result (λ seating. IsTableNumber seating.table) }
+    ensures round { IfOk result (λ seating. round ≤ 12) }
 {
     let player = acting_player(config, key)?;
     if is_closed(config, round) {
@@ -121,6 +126,7 @@ pub fn seat_by(config: &Config, round: u8, key: Key) -> Result<Seating, Refused>
     let before = usize::from(round.saturating_sub(1)) * usize::from(movement.shape().tables);
     Ok(Seating {
         place: before + usize::from(place.table - 1),
+        table: place.table,
         seat: seat_on(place.side, player.first),
         set: place.set,
     })

@@ -1,19 +1,24 @@
-ghost use Rattle.std.specs.Prelude.{◌≡◌, IfOk, IfSome};
+ghost use Rattle.std.specs.Prelude.{◌≡◌, IfOk, IfSome, MatchResult, Err};
 ghost use Rattle.std.specs.Option.{option_copied, option_map};
 ghost use Rattle.bridge_session.specs.Record.{bidding_of, play_of};
 ghost use Rattle.bridge_session.specs.Outcome.{outcome_of};
 ghost use Rattle.bridge_session.specs.State.{opening, deal_on};
 ghost use Rattle.bridge_session.specs.Step.{record_of};
+ghost use Rattle.bridge_session.specs.See.{shown_to};
+ghost use Rattle.bridge_session.specs.Views.{IsViewTo};
 ghost use Rattle.bridge_session.specs.Kept.{plain_of, hands_on, IsTiedIn};
 
 use crate::action::PlayId;
 use crate::entry::Entry;
+use crate::numbers::{RoundNumber, TableNumber};
 use crate::opening::{opening_tables, undealt};
 use crate::record::Record;
-use crate::seating::row_of;
+use crate::refused::Refused;
+use crate::seating::{row_of, seat_by};
 use crate::table::record_at;
+use crate::view::{View, view_among};
 use bridge_cards::{BoardNumber, Deal};
-use bridge_config::Config;
+use bridge_config::{Config, Key};
 use std::alloc::{AllocError, Global};
 use std::marker::Model;
 
@@ -107,5 +112,23 @@ impl Session {
             play: record.play.as_ref(),
             outcome: record.outcome(),
         })
+    }
+
+    /// What the player of the key is shown of the current play of the table. Refused are, in this order: `NoKey`,
+    /// `NotAllowed`, `Closed`, `SitsOut`, `NotCurrent` and `NotDealt`.
+    pub fn see(&self, key: Key) -> Result<View<'_>, Refused>
+        ensures { MatchResult result (IsViewTo self.now key.0) (λ refused. shown_to self.now key.0 ≡ Err refused) }
+    {
+        let seating = seat_by(&self.config, self.round, key)?;
+        let round = RoundNumber::new(self.round).unwrap();
+        let number = TableNumber::new(seating.table).unwrap();
+        let table = &self.tables[seating.place];
+        view_among(
+            table.as_slice(),
+            self.deals.as_slice(),
+            round,
+            number,
+            seating.seat,
+        )
     }
 }

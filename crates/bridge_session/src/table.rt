@@ -14,7 +14,7 @@ use crate::refused::Refused;
 use bridge_cards::{BoardNumber, Deal, Seat};
 
 /// The place of the current play: the first that is neither finished nor void.
-fn current(table: &[Record]) -> Option<usize>
+pub fn current(table: &[Record]) -> Option<usize>
     ensures { result ≡ position is_kept_open table.now }
 {
     table.iter().position(|record| record.is_open())

@@ -1,6 +1,7 @@
 //! Worked sessions, each action with its answer.
 mod rows;
 mod script;
+mod views;
 
 use std::fmt::Debug;
 use std::process::Abort;

@@ -3,7 +3,7 @@ use super::script::{CLUB, run, session_of};
 use std::test::Fail;
 
 /// The calls of a contract of 1S by North at table 1.
-const ONE_SPADE: [(&str, u8); 5] = [
+pub const ONE_SPADE: [(&str, u8); 5] = [
     ("DEAL 100 1 ROWS", 0),
     ("CALL 11 1 0 1S", 0),
     ("CALL 31 1 1 P", 0),
@@ -12,7 +12,7 @@ const ONE_SPADE: [(&str, u8); 5] = [
 ];
 
 /// The first trick of that play.
-const FIRST_TRICK: [(&str, u8); 8] = [
+pub const FIRST_TRICK: [(&str, u8); 8] = [
     ("CARD 31 1 0 H7", 0),
     ("CARD 12 1 1 H2", 14),
     ("CARD 11 1 1 S7", 21),

@@ -105,7 +105,7 @@ fn card(word: &str) -> Result<Card, Fail> {
 }
 
 /// The hands of a deal by its name.
-fn hands(word: &str) -> Result<[CardSet; 4], Fail> {
+pub fn hands(word: &str) -> Result<[CardSet; 4], Fail> {
     let text = match word.as_bytes() {
         b"SUITS" => ONE_SUIT_EACH,
         b"ROWS" => CARDS_IN_A_ROW,

@@ -43,7 +43,7 @@ invariant_of-self c =
     let s = c.self.inside in
     let tied = subst (λ deals. All (IsTiedIn deals) c.act_among.new.table) c.as_slice-deals.ensures.value c.act_among.ensures.tied in
     subst (IsKept s.config s.round s.deals.items) (sym (is_changed c).left)
-    (kept_with s.config s.round s.deals.items (lists_in s.tables.items) c.in_ok-seating.seating.place c.act_among.new.table c.self.invariant tied)
+    (kept_with s.config s.round s.deals.items (lists_in s.tables.items) c.in_ok-seating.seating.place c.as_mut_slice.result.now c.act_among.new.table c.self.invariant (is_changed c).row (omega arith) tied)
 
 pub returns-clause-answer : goal.returns-clause-answer
 returns-clause-answer c =

@@ -1,5 +1,8 @@
 use Rattle.std.proofs.Common.{◌≡◌, ◌*◌, None, map, length, sym, ap, ◌∙◌, subst}
 use Rattle.std.specs.Prelude.{replicate}
+use Rattle.std.specs.Prelude.{nat_le}
+use Rattle.std.proofs.lemmas.Bool.{leb-true, and_parts}
+use Rattle.bridge_config.specs.Limits.{IsConfiguration}
 use Rattle.bridge_movement.specs.declared.shape.Shape.{Shape}
 use Rattle.bridge_config.specs.Configuration.{Configuration, configuration_of}
 use Rattle.bridge_session.specs.Kept.{new_table}
@@ -11,11 +14,13 @@ use Rattle.bridge_session.proofs.session.Session.new.Goals.{In_ok-tables}
 is_new : (c : In_ok-tables) → IsNew c.args.config c.in_ok-deals.deals.items (lists_in c.in_ok-tables.tables.items)
 is_new c =
     let fields = c.fields-fields.result.now in
+    let limits = subst IsConfiguration (sym c.fields-fields.ensures.fields) c.fields-fields.ensures.limits in
     let sets = c.from.ensures ∙ ap (λ (shape : Shape). shape.sets) c.shape.ensures.shape in
     let count : c.from.result * c.from-2.result ≡ (configuration_of fields).movement.shape.sets * fields.boards =
     ap (λ n. n * c.from-2.result) sets ∙ ap (λ n. (configuration_of fields).movement.shape.sets * n) c.from-2.ensures in
     subst (λ (configuration : Configuration). IsNew configuration c.in_ok-deals.deals.items (lists_in c.in_ok-tables.tables.items)) c.fields-fields.ensures.fields
     (record {
+      few = leb-true fields.boards 3 (and_parts (nat_le 1 fields.boards) (nat_le fields.boards 3) limits.boards).1;
       rows = ap length (sym c.rows.ensures.rows) ∙ c.rows.ensures.fair.complete.count;
       deals = c.in_ok-deals.ensures ∙ ap (λ n. replicate n None) count;
       tables = c.in_ok-tables.ensures ∙ ap (map (new_table fields.boards)) c.rows.ensures.rows;

@@ -50,7 +50,7 @@ invariant_of-self c =
     (All-changed_at (IsTiedIn deals) (with_kept_ruling c.args.correction) c.as_mut_slice.result.now c.from-at.result (ruling_tied deals c.args.correction) (tied_there c)))
     (λ same. subst (All (IsTiedIn deals)) (sym same) (tied_there c)) in
     subst (IsKept s.config s.round deals) (sym (is_changed c).left)
-    (kept_with s.config s.round deals (lists_in s.tables.items) c.in-Some.place c.rule_among.new.table c.self.invariant tied)
+    (kept_with s.config s.round deals (lists_in s.tables.items) c.in-Some.place c.as_mut_slice.result.now c.rule_among.new.table c.self.invariant (is_changed c).row (omega arith) tied)
 
 -- the record of the play
 record_is : (c : After-self-1) → record_of (state_of c.self.inside.config c.self.inside.round c.self.inside.deals.items (lists_in c.self.inside.tables.items)) c.args.play ≡ slice_get (map plain_of c.as_mut_slice.result.now) c.from-at.result
