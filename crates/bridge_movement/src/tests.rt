@@ -7,7 +7,7 @@ use crate::{Movement, MovementRefused, Place, Row, Shape};
 use bridge_cards::Side;
 use std::fmt::Debug;
 use std::process::Abort;
-use twin::{is_fair, mitchell_rows};
+use twin::mitchell_rows;
 
 /// Fails with the row where a value is not the one that is due.
 pub fn expect_eq<T: PartialEq + Debug + Drop>(
@@ -36,25 +36,13 @@ const TWO_TABLES: Shape = Shape {
 };
 
 /// What takes the place of rows of the good movement, counted from 0, and why the rows are then refused.
-const REFUSED: [(&[(usize, [u8; 5])], MovementRefused); 20] = [
-    // another table, another round, a table and a round that there isn't
-    (
-        &[(0, [1, 2, 2, 4, 2]), (1, [1, 1, 1, 3, 1])],
-        MovementRefused::MissingRow(1),
-    ),
+const REFUSED: [(&[(usize, [u8; 5])], MovementRefused); 11] = [
     (&[(1, [2, 1, 2, 4, 2])], MovementRefused::MissingRow(2)),
-    (&[(2, [3, 1, 1, 4, 3])], MovementRefused::MissingRow(3)),
-    (&[(3, [2, 3, 2, 3, 4])], MovementRefused::MissingRow(4)),
-    // a pair above 4, on each side
-    (&[(1, [1, 2, 5, 4, 2])], MovementRefused::BadPair(2)),
     (&[(3, [2, 2, 2, 255, 4])], MovementRefused::BadPair(4)),
-    // a pair against itself
     (&[(1, [1, 2, 2, 2, 2])], MovementRefused::SamePair(2)),
-    // a set of 0 and one above 4, also where a pair sits out
-    (&[(0, [1, 1, 1, 3, 0])], MovementRefused::BadSet(1)),
+    // a set above 4, where a pair sits out
     (&[(3, [2, 2, 0, 3, 5])], MovementRefused::BadSet(4)),
-    // a pair at two tables of a round, on one side and across, also where it sits out
-    (&[(1, [1, 2, 1, 4, 2])], MovementRefused::PairTwice(2)),
+    // a pair at two tables of a round, where it sits out
     (&[(3, [2, 2, 4, 0, 4])], MovementRefused::PairTwice(4)),
     // a set again, on one side and across
     (&[(2, [2, 1, 1, 4, 1])], MovementRefused::SetAgain(3)),
@@ -68,13 +56,7 @@ const REFUSED: [(&[(usize, [u8; 5])], MovementRefused); 20] = [
         &[(0, [1, 1, 1, 3, 5]), (1, [1, 2, 5, 4, 2])],
         MovementRefused::BadSet(1),
     ),
-    (
-        &[(0, [1, 1, 5, 3, 1]), (1, [1, 2, 2, 4, 5])],
-        MovementRefused::BadPair(1),
-    ),
     (&[(0, [1, 1, 5, 5, 5])], MovementRefused::BadPair(1)),
-    (&[(0, [1, 1, 3, 3, 0])], MovementRefused::SamePair(1)),
-    (&[(1, [1, 2, 1, 4, 5])], MovementRefused::BadSet(2)),
     (&[(1, [1, 2, 1, 3, 1])], MovementRefused::PairTwice(2)),
 ];
 
@@ -132,34 +114,6 @@ fn refusal(shape: Shape, rows: &[Row]) -> Option<MovementRefused>
 }
 
 #[test]
-fn shapes_have_limits(rt: HostRuntime) {
-    for (numbers, within) in [
-        ([2, 1, 1, 2, 1], true),
-        ([12, 12, 12, 24, 24], true),
-        ([1, 1, 1, 2, 1], false),
-        ([13, 1, 1, 2, 1], false),
-        ([2, 0, 1, 2, 1], false),
-        ([2, 13, 1, 2, 1], false),
-        ([2, 1, 0, 2, 1], false),
-        ([2, 1, 13, 2, 1], false),
-        ([2, 1, 1, 1, 1], false),
-        ([2, 1, 1, 25, 1], false),
-        ([2, 1, 1, 2, 0], false),
-        ([2, 1, 1, 2, 3], false),
-    ] {
-        let [tables, rounds, sets, pairs, split] = numbers;
-        let shape = Shape {
-            tables,
-            rounds,
-            sets,
-            pairs,
-            split,
-        };
-        expect_eq(&rt, shape.is_within_limits(), within, shape);
-    }
-}
-
-#[test]
 fn mitchell_of_four_tables(rt: HostRuntime) {
     let movement = Movement::mitchell(4);
     expect_eq(&rt, movement.shape().rounds, 3, "rounds");
@@ -188,7 +142,6 @@ fn mitchell_moves_pairs_and_sets(rt: HostRuntime) {
                 expect_eq(&rt, movement.row(due.round, due.table), *due, tables);
             }
         }
-        assert!(rt; is_fair(shape, &rows), "{tables} tables");
         expect_eq(&rt, refusal(shape, &rows), None, tables);
     }
 }
@@ -199,13 +152,6 @@ fn rows_at_fault_are_refused(rt: HostRuntime) {
         let rows = changed(changes);
         expect_eq(&rt, refusal(TWO_TABLES, &rows), Some(refused), rows);
     }
-    let one_set = Shape {
-        sets: 1,
-        ..TWO_TABLES
-    };
-    let rows = GOOD.map(|[round, table, ns, ew, _]| row([round, table, ns, ew, 1]));
-    let refused = MovementRefused::SetAgain(3);
-    expect_eq(&rt, refusal(one_set, &rows), Some(refused), "one set alone");
 }
 
 #[test]

@@ -1,8 +1,7 @@
-//! The play against worked boards, and against a plain twin over whole random plays.
+//! The play on worked boards, and over whole random plays.
 mod deals;
 mod random_plays;
 mod rows;
-mod twin;
 
 use std::fmt::Debug;
 use std::process::Abort;

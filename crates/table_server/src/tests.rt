@@ -1,10 +1,7 @@
-//! The auction's stream: what is written for what is read, and the faults of readers and writers.
-mod faults;
-mod limits;
-mod once;
+//! The auction's stream: what is written for what is read, when it is shown, and streams that fail once.
 mod rows;
+mod shown;
 mod streams;
-mod turns;
 
 use std::fmt::Debug;
 use std::process::Abort;

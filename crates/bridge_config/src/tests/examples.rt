@@ -1,5 +1,4 @@
 //! The configuration of a club night of five tables, `examples/mitchell.txt`.
-use super::stated::rows_of;
 use crate::tests::expect_eq;
 use crate::{Key, read_config};
 use bridge_movement::{Row, Shape};
@@ -59,8 +58,7 @@ fn movement_of_the_club_night(rt: HostRuntime) -> Result<(), Fail> {
         ew: 10,
         set: 2,
     };
-    let rows = rows_of(rt.alloc(), movement)?;
-    expect_eq(&rt, rows.get(5).copied(), Some(row), "row 5, from 0");
+    expect_eq(&rt, movement.row(2, 1), row, "round 2, table 1");
     Ok(())
 }
 

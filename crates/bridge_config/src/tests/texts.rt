@@ -31,21 +31,21 @@ PAIR 3 Eve 31 Fay 32
 PAIR 4 Gus 41 Hal 42
 ";
 
-/// The text with other words in some lines, which are named by their numbers.
-pub fn with_lines(
+/// The text with these words in the line of that number, from 1.
+pub fn with_line(
     alloc: Global,
     text: &str,
-    changes: &[(u32, &str)],
+    number: u32,
+    words: &str,
 ) -> Result<Vec<u8>, AllocError> {
     let mut changed = Vec::new(alloc);
-    for (place, line) in text.lines().enumerate() {
-        let mut words = line;
-        for (number, other) in changes {
-            if *number as usize == place.wrapping_add(1) {
-                words = other;
-            }
-        }
-        changed.extend_from_slice(words.as_bytes())?;
+    for (index, line) in text.lines().enumerate() {
+        let line = if index.wrapping_add(1) == number as usize {
+            words
+        } else {
+            line
+        };
+        changed.extend_from_slice(line.as_bytes())?;
         changed.push(b'\n')?;
     }
     Ok(changed)
@@ -59,22 +59,4 @@ pub fn first_lines(alloc: Global, text: &str, count: usize) -> Result<Vec<u8>, A
         first.push(b'\n')?;
     }
     Ok(first)
-}
-
-/// The text and what follows it.
-pub fn followed_by(alloc: Global, text: &str, after: &[u8]) -> Result<Vec<u8>, AllocError> {
-    let mut longer = Vec::new(alloc);
-    longer.extend_from_slice(text.as_bytes())?;
-    longer.extend_from_slice(after)?;
-    Ok(longer)
-}
-
-/// A line of that keyword and that many digits 1.
-pub fn long_line(alloc: Global, keyword: &str, digits: usize) -> Result<String, AllocError> {
-    let mut line = String::from_str(alloc, keyword)?;
-    line.push(' ')?;
-    for _ in 0..digits {
-        line.push('1')?;
-    }
-    Ok(line)
 }

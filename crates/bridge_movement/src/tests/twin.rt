@@ -1,45 +1,8 @@
-//! Plain twins: what a movement is, found the slow way.
-ghost use Rattle.std.specs.Prelude.{◌↔◌, ◌≤◌, ◌⊎◌, Any, IsTrue};
-ghost use Rattle.bridge_movement.specs.Fair.{IsFair, HasPairsWithin, HasTwoPairs, HasSetWithin};
-ghost use Rattle.bridge_movement.specs.Row.{SeatPairTwice, PlaySetAgain};
+//! The Mitchell movement as players and boards walk it.
+ghost use Rattle.std.specs.Prelude.{◌≤◌};
 
-use crate::{Row, Shape};
+use crate::Row;
 use arrayvec::ArrayVec;
-
-/// Whether the row's own numbers are good.
-fn is_good(shape: Shape, row: Row) -> bool
-    ensures { IsTrue result ↔ (HasPairsWithin shape row × HasTwoPairs row × HasSetWithin shape row) }
-{
-    row.ns <= shape.pairs
-        && row.ew <= shape.pairs
-        && (row.ns != row.ew || row.ns == 0)
-        && 1 <= row.set
-        && row.set <= shape.sets
-}
-
-/// Whether the row clashes with one of the earlier rows.
-fn clashes(earlier: &[Row], row: Row) -> bool
-    ensures { IsTrue result ↔ Any (λ a. SeatPairTwice a row ⊎ PlaySetAgain a row) earlier.now }
-{
-    earlier
-        .iter()
-        .any(|a| a.seats_pair_twice(row) || a.plays_set_again(row))
-}
-
-/// Whether the rows are fair: each by itself, and each two together.
-pub fn is_fair(shape: Shape, rows: &[Row]) -> bool
-    ensures { IsTrue result ↔ IsFair shape rows.now }
-{
-    for (k, row) in rows.iter().enumerate() {
-        if !is_good(shape, *row) {
-            return false;
-        }
-        if clashes(&rows[..k], *row) {
-            return false;
-        }
-    }
-    true
-}
 
 /// The rows of the Mitchell movement, made by moving the pairs of East and West one table up and the sets one table
 /// down after each round, and the pairs one more after as many rounds as half an even number of tables, which then have

@@ -18,10 +18,6 @@ pub const DIAMOND_VOID: &[u8] =
 pub const LONG_SPADES: &[u8] =
     b"N:873.AKJ9.T4.8754 2.853.K853.AJT63 AQJ.T76.Q976.K92 KT9654.Q42.AJ2.Q";
 
-/// South has no club, and East one spade.
-pub const LONG_DIAMONDS: &[u8] =
-    b"N:K9865.K5.42.AJ54 2.AQJ9.KQ8.QT862 QT74.864.AJT963. AJ3.T732.75.K973";
-
 /// The deal of that text.
 pub fn deal_of(text: &[u8]) -> Result<Deal, Fail> {
     let Ok(deal) = read_deal(text) else {

@@ -174,33 +174,6 @@ fn a_defenders_claim_asks_declarer_alone(rt: HostRuntime) -> Result<(), Fail> {
 }
 
 #[test]
-fn claims_are_spent_after_99(rt: HostRuntime) -> Result<(), Fail> {
-    let mut play = spades_by_north(ONE_SUIT_EACH, 7)?;
-    agree(&rt, &mut play, Seat::East, 0, Err(ConsentRefused::NoClaim));
-    agree(&rt, &mut play, Seat::East, 1, Err(ConsentRefused::Stale));
-    for number in 1..=99 {
-        claim(&rt, &mut play, Seat::North, 13, Ok(()));
-        refuse(&rt, &mut play, Seat::East, number, Ok(()));
-    }
-    expect_eq(&rt, play.claims(), 99, "claims");
-    claim(
-        &rt,
-        &mut play,
-        Seat::North,
-        13,
-        Err(ClaimRefused::ClaimsSpent),
-    );
-    claim(
-        &rt,
-        &mut play,
-        Seat::North,
-        14,
-        Err(ClaimRefused::TooManyTricks),
-    );
-    Ok(())
-}
-
-#[test]
 fn tricks_not_claimed_go_to_the_other_side(rt: HostRuntime) -> Result<(), Fail> {
     let mut play = spades_by_north(ONE_SUIT_EACH, 7)?;
     claim(&rt, &mut play, Seat::North, 10, Ok(()));
@@ -210,5 +183,17 @@ fn tricks_not_claimed_go_to_the_other_side(rt: HostRuntime) -> Result<(), Fail> 
     expect_eq(&rt, tricks(&play), (10, 3), "tricks");
     assert!(rt; play.is_over());
     refuse(&rt, &mut play, Seat::West, 1, Err(ConsentRefused::NoClaim));
+    Ok(())
+}
+
+#[test]
+fn claims_are_spent_after_99(rt: HostRuntime) -> Result<(), Fail> {
+    let mut play = spades_by_north(ONE_SUIT_EACH, 7)?;
+    for number in 1..=99 {
+        claim(&rt, &mut play, Seat::North, 13, Ok(()));
+        refuse(&rt, &mut play, Seat::East, number, Ok(()));
+    }
+    let spent = Err(ClaimRefused::ClaimsSpent);
+    claim(&rt, &mut play, Seat::North, 13, spent);
     Ok(())
 }

@@ -3,7 +3,6 @@ use crate::score;
 use crate::tests::expect_eq;
 use bridge_auction::{Bid, Contract, Denomination, Doubling, Level};
 use bridge_cards::Seat;
-use std::process::Abort;
 use std::test::Fail;
 
 /// The contract of that level by North.
@@ -33,44 +32,22 @@ fn scores_of_the_printed_table(rt: HostRuntime) -> Result<(), Fail> {
         (3, NoTrump, Undoubled, true, 9, 600),
         (1, Spades, Undoubled, false, 11, 200),
     ] {
-        let contract = contract(level, denomination, doubling)?;
-        expect_eq(
-            &rt,
-            score(&contract, vulnerable, tricks),
-            points,
-            (contract, tricks),
-        );
-    }
-    Ok(())
-}
-
-/// The contract scores as the plain table says, vulnerable or not, with each number of tricks.
-fn scores_agree(
-    rt: &impl Abort,
-    level: u8,
-    denomination: Denomination,
-    doubling: Doubling,
-) -> Result<(), Fail> {
-    let contract = contract(level, denomination, doubling)?;
-    for vulnerable in [false, true] {
-        for tricks in 0..14 {
-            expect_eq(
-                rt,
-                score(&contract, vulnerable, tricks),
-                twin::score(level, denomination, doubling, vulnerable, tricks),
-                (contract, vulnerable, tricks),
-            );
-        }
+        let found = score(&contract(level, denomination, doubling)?, vulnerable, tricks);
+        expect_eq(&rt, found, points, (level, denomination, tricks));
     }
     Ok(())
 }
 
 #[test]
 fn every_score_is_the_plain_one(rt: HostRuntime) -> Result<(), Fail> {
-    for level in 1..8 {
-        for denomination in Denomination::ALL {
-            for doubling in [Doubling::Undoubled, Doubling::Doubled, Doubling::Redoubled] {
-                scores_agree(&rt, level, denomination, doubling)?;
+    for bid in 0..35u8 {
+        let denomination = Denomination::ALL[usize::from(bid % 5)];
+        for doubling in [Doubling::Undoubled, Doubling::Doubled, Doubling::Redoubled] {
+            let contract = contract(bid / 5 + 1, denomination, doubling)?;
+            for result in 0..28 {
+                let (vulnerable, tricks) = (result < 14, result % 14);
+                let due = twin::score(&contract, vulnerable, tricks);
+                expect_eq(&rt, score(&contract, vulnerable, tricks), due, (contract, result));
             }
         }
     }

@@ -1,48 +1,76 @@
-//! Readers that cut the stream or fail, and writers with little room.
+//! Streams that fail once and would then go on.
+use std::cell::Cell;
 use std::io::{Error, ErrorKind, Read, Result, Write};
 
-/// Gives the bytes in pieces of at most `step`, and then ends, or fails.
+/// Gives one piece at each read and notes how many bytes were shown before it. An empty piece is an interruption.
 #[derive(Drop)]
 pub struct Pieces<'a> {
-    pub bytes: &'a [u8],
-    pub step: usize,
-    pub fails: bool,
+    pub pieces: &'a [&'static str],
+    pub next: usize,
+    pub shown: &'a Cell<usize>,
+    pub seen: Vec<usize>,
 }
 
 impl Read for Pieces<'_> {
     fn read(&mut self, buf: &mut [u8]) -> Result<usize> {
-        if self.bytes.is_empty() && self.fails {
-            return Err(Error::from(ErrorKind::BrokenPipe));
+        self.seen.push(self.shown.get())?;
+        let Some(piece) = self.pieces.get(self.next) else {
+            return Ok(0);
+        };
+        self.next = self.next.wrapping_add(1);
+        if piece.is_empty() {
+            return Err(Error::from(ErrorKind::Interrupted));
         }
-        let taken = self.step.min(self.bytes.len()).min(buf.len());
-        let (front, rest) = self.bytes.split_at(taken);
+        let taken = piece.len().min(buf.len());
+        let (front, _) = piece.as_bytes().split_at(taken);
         buf[..taken].copy_from_slice(front);
-        self.bytes = rest;
         Ok(taken)
     }
 }
 
-/// Keeps at most `room` bytes, at most `step` at a time, and then fails, or takes none.
-#[derive(Drop)]
-pub struct Room {
-    pub bytes: Vec<u8>,
-    pub room: usize,
-    pub step: usize,
-    pub fails: bool,
+/// How a writer fails.
+#[derive(Clone, Copy, Debug, PartialEq, Eq)]
+pub enum Failing {
+    /// A write is refused.
+    Refuses,
+    /// A write takes no byte.
+    TakesNone,
+    /// A flush is refused.
+    KeepsBack,
 }
 
-impl Write for Room {
+/// Takes `room` bytes, then fails once, and would then take all; what it took is shown when it is flushed.
+#[derive(Drop)]
+pub struct FullOnce<'a> {
+    pub bytes: Vec<u8>,
+    pub room: usize,
+    pub failing: Failing,
+    pub failed: bool,
+    pub shown: &'a Cell<usize>,
+}
+
+impl Write for FullOnce<'_> {
     fn write(&mut self, buf: &[u8]) -> Result<usize> {
         let left = self.room.saturating_sub(self.bytes.len());
-        if left == 0 && self.fails {
-            return Err(Error::from(ErrorKind::BrokenPipe));
+        if self.failed || self.failing == Failing::KeepsBack {
+            self.bytes.extend_from_slice(buf)?;
+            return Ok(buf.len());
         }
-        let taken = left.min(self.step).min(buf.len());
+        let taken = left.min(buf.len());
+        self.failed = taken == 0;
+        if self.failed && self.failing == Failing::Refuses {
+            return Err(Error::from(ErrorKind::Interrupted));
+        }
         self.bytes.extend_from_slice(&buf[..taken])?;
         Ok(taken)
     }
 
     fn flush(&mut self) -> Result<()> {
+        if self.failing == Failing::KeepsBack && self.bytes.len() > self.room && !self.failed {
+            self.failed = true;
+            return Err(Error::from(ErrorKind::StorageFull));
+        }
+        self.shown.set(self.bytes.len());
         Ok(())
     }
 }
