@@ -1,7 +1,6 @@
 //! The auction against worked auctions, and against a plain twin on every short list of calls.
 mod rows;
 mod twin;
-mod twin_agrees;
 
 use std::fmt::Debug;
 use std::process::Abort;

@@ -1,4 +1,4 @@
-use crate::{BoardNumber, Seat, Side, Suit, Vulnerability, dealer, vulnerability_of, vulnerable};
+use crate::{BoardNumber, Seat, Suit, Vulnerability, dealer, vulnerability_of};
 use std::fmt::Debug;
 use std::process::Abort;
 use std::test::Fail;
@@ -60,53 +60,4 @@ fn boards_follow_the_table(rt: HostRuntime) -> Result<(), Fail> {
         }
     }
     Ok(())
-}
-
-#[test]
-fn numbers_outside_1_to_36_are_no_boards(rt: HostRuntime) {
-    for number in [0, 37, 255] {
-        expect_eq(&rt, BoardNumber::new(number), None, number);
-    }
-}
-
-#[test]
-fn sides_are_vulnerable_as_the_board_says(rt: HostRuntime) -> Result<(), Fail> {
-    for (number, north_south, east_west) in [
-        (1, false, false),
-        (2, true, false),
-        (3, false, true),
-        (4, true, true),
-    ] {
-        let board = BoardNumber::new(number).ok_or("a board from 1 to 36")?;
-        expect_eq(
-            &rt,
-            vulnerable(board, Side::NorthSouth),
-            north_south,
-            number,
-        );
-        expect_eq(&rt, vulnerable(board, Side::EastWest), east_west, number);
-    }
-    Ok(())
-}
-
-#[test]
-fn seats_go_clockwise(rt: HostRuntime) {
-    for (places, seat, letter) in [
-        (0, Seat::East, b'E'),
-        (1, Seat::South, b'S'),
-        (2, Seat::West, b'W'),
-        (3, Seat::North, b'N'),
-        (318, Seat::West, b'W'),
-    ] {
-        let there = Seat::East.clockwise(places);
-        expect_eq(&rt, there, seat, places);
-        expect_eq(&rt, there.letter(), letter, places);
-    }
-    expect_eq(&rt, Seat::East.side(), Side::EastWest, "the side of East");
-    expect_eq(
-        &rt,
-        Seat::South.side().other(),
-        Side::EastWest,
-        "the side that is not South's",
-    );
 }

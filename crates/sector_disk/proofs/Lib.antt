@@ -2,4 +2,3 @@ mod Events
 mod Images
 mod Last
 mod MemoryCalls
-mod StagedLemmas

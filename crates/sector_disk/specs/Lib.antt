@@ -5,4 +5,3 @@ pub mod Fuse
 pub mod Held
 pub mod Memory
 pub mod File
-pub mod Staged

@@ -1,5 +1,4 @@
-use super::twin;
-use super::twin_agrees::agrees;
+use super::twin::agrees;
 use crate::tests::expect_eq;
 use crate::{
     Auction, Bid, Call, CallRefused, Contract, Denomination, Doubling, Level, MOST_CALLS,
@@ -60,21 +59,9 @@ fn refusals_come_by_name(rt: HostRuntime) -> Result<(), Fail> {
     for (calls, refused, name) in rows {
         let mut auction = auction_of(Seat::North, calls)?;
         agrees(&rt, auction.calls());
-        let by_twin = twin::is_ended(auction.calls())
-            || !twin::is_admissible(auction.calls(), call(refused)?);
-        assert!(rt; by_twin, "{refused} after {calls:?}");
-        expect_eq(
-            &rt,
-            auction.try_call(call(refused)?),
-            Err(name),
-            (refused, calls),
-        );
-        expect_eq(
-            &rt,
-            auction.calls().len(),
-            calls.len(),
-            "a refused call is not kept",
-        );
+        let answer = auction.try_call(call(refused)?);
+        expect_eq(&rt, answer, Err(name), (refused, calls));
+        expect_eq(&rt, auction.calls().len(), calls.len(), refused);
     }
     Ok(())
 }
@@ -172,11 +159,4 @@ fn the_longest_auction_has_319_calls(rt: HostRuntime) -> Result<(), Fail> {
     expect_eq(&rt, contract.doubling, Doubling::Redoubled, "doubling");
     expect_eq(&rt, contract.declarer, Seat::West, "declarer");
     Ok(())
-}
-
-#[test]
-fn levels_are_1_to_7(rt: HostRuntime) {
-    for (number, valid) in [(0, false), (1, true), (7, true), (8, false), (255, false)] {
-        expect_eq(&rt, Level::new(number).is_some(), valid, number);
-    }
 }

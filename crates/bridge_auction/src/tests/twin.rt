@@ -1,127 +1,123 @@
-//! A plain twin of the auction: slow functions over whole lists of calls, whose contracts are the definitions.
-ghost use Rattle.std.specs.Prelude.{◌≡◌, ◌<◌, ◌↔◌, not, length, IsTrue};
-ghost use Rattle.bridge_auction.specs.Call.{is_pass};
-ghost use Rattle.bridge_auction.specs.Legal.{is_ended, last_place, opponents_call, is_below, is_admissible};
-ghost use Rattle.bridge_auction.specs.Bid.{bid_number};
-ghost use Rattle.std.specs.List.{list_all};
-
-use crate::{Bid, Call, Contract, Denomination, Doubling};
+//! A plain twin of the auction: a referee who walks once through the calls and keeps the last bid, by whom it was made,
+//! its doubling, the passes since, and who bid each denomination first.
+use crate::tests::expect_eq;
+use crate::{Auction, Bid, Call, Contract, Denomination, Doubling, Level};
+use arrayvec::ArrayVec;
 use bridge_cards::{Seat, Side};
+use std::process::Abort;
+use std::test::Fail;
 
-/// Whether the last three of at least four calls are passes.
-pub fn is_ended(calls: &[Call]) -> bool
-    ensures { result ≡ is_ended calls.now }
-{
-    if calls.len() < 4 {
-        return false;
-    }
-    for call in &calls[calls.len() - 3..] {
-        if !call.is_pass() {
-            return false;
-        }
-    }
-    true
-}
-
-/// The last place whose call is no pass, found from the front.
-pub fn last_but_passes(calls: &[Call]) -> Option<usize>
-    ensures { result ≡ last_place (λ call. not (is_pass call)) calls.now }
-{
-    let mut last = None;
-    for (place, call) in calls.iter().enumerate() {
-        if !call.is_pass() {
-            last = Some(place);
-        }
-    }
-    last
-}
-
-/// The last call other than a pass, if an opponent of the next caller made it.
-fn opponents_last(calls: &[Call]) -> Option<Call>
-    ensures { result ≡ opponents_call calls.now }
-{
-    let place = last_but_passes(calls)?;
-    if calls.len() % 2 != place % 2 {
-        calls.get(place).copied()
-    } else {
-        None
-    }
-}
-
-/// Whether a call may be made after these, in an auction that is open.
-pub fn is_admissible(earlier: &[Call], call: Call) -> bool
-    ensures { result ≡ is_admissible earlier.now call }
-{
-    match call {
-        Call::Pass => true,
-        Call::Bid(bid) => are_lower(earlier, bid),
-        Call::Double => matches!(opponents_last(earlier), Some(Call::Bid(_))),
-        Call::Redouble => matches!(opponents_last(earlier), Some(Call::Double)),
-    }
-}
-
-/// Whether each of these calls is no bid, or a lower one.
-fn are_lower(calls: &[Call], bid: Bid) -> bool
-    ensures { result ≡ list_all (is_below (bid_number bid)) calls.now }
-{
-    calls.iter().all(|call| is_lower(*call, bid))
-}
-
-/// Whether a call is no bid, or a lower one, in the order of bids.
-fn is_lower(call: Call, bid: Bid) -> bool
-    ensures { result ≡ is_below (bid_number bid) call }
-{
-    match call {
-        Call::Bid(other) => other.number() < bid.number(),
-        _ => true,
-    }
-}
-
-/// Who bid each denomination first, by side: North and South, then East and West.
 #[derive(Drop)]
-struct FirstBids {
-    seats: [[Option<Seat>; 5]; 2],
+struct Referee {
+    calls: usize,
+    passes: usize,
+    contract: Option<Contract>,
+    /// Who bid each denomination first, by side: North and South, then East and West.
+    firsts: [[Option<Seat>; 5]; 2],
 }
 
-impl FirstBids {
+impl Referee {
+    fn is_ended(&self) -> bool {
+        self.calls >= 4 && self.passes >= 3
+    }
+
+    /// Whether the seat may make the call in an auction that is open (Laws 18 and 19).
+    fn admits(&self, seat: Seat, call: Call) -> bool {
+        match (call, self.contract) {
+            (Call::Pass, _) | (Call::Bid(_), None) => true,
+            (Call::Bid(bid), Some(last)) => bid.number() > last.bid.number(),
+            (_, None) => false,
+            (Call::Double, Some(last)) => {
+                last.doubling == Doubling::Undoubled && last.declarer.side() != seat.side()
+            }
+            (Call::Redouble, Some(last)) => {
+                last.doubling == Doubling::Doubled && last.declarer.side() == seat.side()
+            }
+        }
+    }
+
     /// The first player of the seat's side to bid the denomination, who is this one where there was none before.
     fn declarer(&mut self, seat: Seat, denomination: Denomination) -> Seat {
         let side = match seat.side() {
             Side::NorthSouth => 0,
             Side::EastWest => 1,
         };
-        let place = usize::from(denomination.number());
-        let first = self.seats[side][place].unwrap_or(seat);
-        self.seats[side][place] = Some(first);
+        let index = usize::from(denomination.number());
+        let first = self.firsts[side][index].unwrap_or(seat);
+        self.firsts[side][index] = Some(first);
         first
+    }
+
+    fn takes(&mut self, seat: Seat, call: Call) {
+        self.calls = self.calls.wrapping_add(1);
+        self.passes = match call {
+            Call::Pass => self.passes.wrapping_add(1),
+            _ => 0,
+        };
+        if let Call::Bid(bid) = call {
+            self.contract = Some(Contract {
+                bid,
+                doubling: Doubling::Undoubled,
+                declarer: self.declarer(seat, bid.denomination),
+            });
+        }
+        if let Some(contract) = &mut self.contract {
+            match call {
+                Call::Double => contract.doubling = Doubling::Doubled,
+                Call::Redouble => contract.doubling = Doubling::Redoubled,
+                Call::Pass | Call::Bid(_) => {}
+            }
+        }
     }
 }
 
-/// The contract of the calls, found in one way through them from the front.
-pub fn contract(dealer: Seat, calls: &[Call]) -> Option<Contract> {
-    let mut firsts = FirstBids {
-        seats: [[None; 5]; 2],
+/// The auction takes exactly the calls that the referee admits, and ends with the same contract.
+pub fn agrees(rt: &impl Abort, calls: &[Call]) {
+    let mut auction = Auction::new(Seat::North);
+    let mut referee = Referee {
+        calls: 0,
+        passes: 0,
+        contract: None,
+        firsts: [[None; 5]; 2],
     };
-    let mut contract: Option<Contract> = None;
-    for (place, call) in calls.iter().enumerate() {
-        contract = match (*call, contract) {
-            (Call::Bid(bid), _) => Some(Contract {
-                bid,
-                doubling: Doubling::Undoubled,
-                declarer: firsts.declarer(dealer.clockwise(place), bid.denomination),
-            }),
-            (Call::Double, Some(bid)) => Some(Contract {
-                bid: bid.bid,
-                doubling: Doubling::Doubled,
-                declarer: bid.declarer,
-            }),
-            (Call::Redouble, Some(bid)) => Some(Contract {
-                bid: bid.bid,
-                doubling: Doubling::Redoubled,
-                declarer: bid.declarer,
-            }),
-            (_, so_far) => so_far,
-        };
+    for call in calls {
+        let seat = Seat::North.clockwise(referee.calls);
+        let is_legal = !referee.is_ended() && referee.admits(seat, *call);
+        expect_eq(rt, auction.try_call(*call).is_ok(), is_legal, calls);
+        if is_legal {
+            referee.takes(seat, *call);
+        }
+        let contract = referee.contract.filter(|_| referee.is_ended());
+        expect_eq(rt, auction.is_ended(), referee.is_ended(), calls);
+        expect_eq(rt, auction.contract(), contract, calls);
     }
-    if is_ended(calls) { contract } else { None }
+}
+
+/// The list of five calls that a number stands for, in base 5.
+fn list_of(alphabet: &[Call; 5], number: u32) -> ArrayVec<Call, 5> {
+    let mut calls = ArrayVec::new();
+    let mut rest = number;
+    for _ in 0..5 {
+        let _ = calls.try_push(alphabet[(rest % 5) as usize]);
+        rest /= 5;
+    }
+    calls
+}
+
+#[test]
+fn every_short_list(rt: HostRuntime) -> Result<(), Fail> {
+    let spade = Bid {
+        level: Level::new(1).ok_or("a level")?,
+        denomination: Denomination::Spades,
+    };
+    let two_clubs = Bid {
+        level: Level::new(2).ok_or("a level")?,
+        denomination: Denomination::Clubs,
+    };
+    let [spade, two_clubs] = [spade, two_clubs].map(Call::Bid);
+    let alphabet = [Call::Pass, Call::Double, Call::Redouble, spade, two_clubs];
+    for number in 0..3125 {
+        agrees(&rt, list_of(&alphabet, number).as_slice());
+    }
+    Ok(())
 }

@@ -61,15 +61,3 @@ fn cards_stand_in_order(rt: HostRuntime) -> Result<(), Fail> {
     expect_eq(&rt, all.cards().as_slice(), cards.as_slice(), "cards");
     Ok(())
 }
-
-#[test]
-fn the_deck_has_52_cards_in_order(rt: HostRuntime) -> Result<(), Fail> {
-    let deck = CardSet::from_bits((1 << 52) - 1).ok_or("the deck")?;
-    let mut number = 0;
-    for card in deck.cards().as_slice() {
-        expect_eq(&rt, Card::new(number), Some(*card), number);
-        number = card.number() + 1;
-    }
-    expect_eq(&rt, number, 52, "cards of the deck");
-    Ok(())
-}

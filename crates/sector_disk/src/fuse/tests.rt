@@ -1,91 +1,32 @@
-//! Which call a fuse fails, and what a power cut then leaves.
-ghost use Rattle.std.specs.Prelude.{◌≡◌, ◌<◌};
-
+//! Which calls a fuse fails.
 use super::*;
 use crate::MemoryDisk;
 use crate::tests::expect_eq;
 use std::test::Fail as Failure;
 
-fn put<D: SectorDisk>(disk: &mut D, value: u8) -> Result<(), DiskFault>
-    requires { 0 < D.disk.count disk.old }
-    ensures { D.disk.count disk.new ≡ D.disk.count disk.old }
-{
-    disk.write(0, &[value; 512])
-}
-
-// 5 is written, and then the write of 6 fails.
-#[test]
-fn a_failed_write_did_it_or_nothing(rt: HostRuntime) -> Result<(), Failure> {
-    let rows = [
-        (false, 0, 0),
-        (false, 1, 5),
-        (false, 2, 0),
-        (true, 0, 0),
-        (true, 1, 5),
-        (true, 2, 6),
-    ];
-    for (effect, pick, want) in rows {
-        let mut fuse = Fuse::new(MemoryDisk::new(rt.alloc(), 1)?, 1, Fail::Once, effect);
-        put(&mut fuse, 5)?;
-        expect_eq(
-            &rt,
-            put(&mut fuse, 6),
-            Err(DiskFault::Write),
-            (effect, pick),
-        );
-        let mut disk = fuse.into_inner();
-        disk.crash(&[pick]);
-        let mut bytes = [0; 512];
-        disk.read(0, &mut bytes)?;
-        expect_eq(&rt, bytes[511], want, (effect, pick));
-    }
-    Ok(())
-}
-
-// 5 is written, and then the sync fails.
-#[test]
-fn a_failed_sync_did_it_or_nothing(rt: HostRuntime) -> Result<(), Failure> {
-    for (effect, pick, want) in [(false, 0, 0), (false, 1, 5), (true, 0, 5), (true, 1, 5)] {
-        let mut fuse = Fuse::new(MemoryDisk::new(rt.alloc(), 1)?, 1, Fail::Once, effect);
-        put(&mut fuse, 5)?;
-        expect_eq(&rt, fuse.sync(), Err(DiskFault::Sync), (effect, pick));
-        let mut disk = fuse.into_inner();
-        disk.crash(&[pick]);
-        let mut bytes = [0; 512];
-        disk.read(0, &mut bytes)?;
-        expect_eq(&rt, bytes[0], want, (effect, pick));
-    }
-    Ok(())
-}
-
-// A write, a read, a sync and a write: which of them fail, and how many faults are counted.
+// A write, a read, a sync and a write: which of them fail, and what the disk below then gives.
 #[test]
 fn a_fuse_fails_the_chosen_calls(rt: HostRuntime) -> Result<(), Failure> {
-    let rows = [
-        (0, Fail::Once, [true, false, false, false], 1),
-        (0, Fail::Always, [true, true, true, true], 4),
-        (1, Fail::Once, [false, true, false, false], 1),
-        (1, Fail::Always, [false, true, true, true], 3),
-        (2, Fail::Once, [false, false, true, false], 1),
-        (3, Fail::Always, [false, false, false, true], 1),
-        (4, Fail::Always, [false, false, false, false], 0),
-    ];
-    for (passes, fail, want, faults) in rows {
-        let mut fuse = Fuse::new(MemoryDisk::new(rt.alloc(), 1)?, passes, fail, false);
+    for (passes, fail, effect, want, given) in [
+        (0, Fail::Once, false, [true, false, false, false], 2),
+        (0, Fail::Always, false, [true, true, true, true], 0),
+        (1, Fail::Always, false, [false, true, true, true], 1),
+        (2, Fail::Once, false, [false, false, true, false], 2),
+        (3, Fail::Once, false, [false, false, false, true], 1),
+        (3, Fail::Once, true, [false, false, false, true], 2),
+        (4, Fail::Always, false, [false, false, false, false], 2),
+    ] {
+        let mut fuse = Fuse::new(MemoryDisk::new(rt.alloc(), 1)?, passes, fail, effect);
         let mut bytes = [0; 512];
-        let first = put(&mut fuse, 1);
-        let second = fuse.read(0, &mut bytes);
-        let third = fuse.sync();
-        let fourth = put(&mut fuse, 2);
         let failed = [
-            first == Err(DiskFault::Write),
-            second == Err(DiskFault::Read),
-            third == Err(DiskFault::Sync),
-            fourth == Err(DiskFault::Write),
+            fuse.write(0, &[1; 512]) == Err(DiskFault::Write),
+            fuse.read(0, &mut bytes) == Err(DiskFault::Read),
+            fuse.sync() == Err(DiskFault::Sync),
+            fuse.write(0, &[2; 512]) == Err(DiskFault::Write),
         ];
-        expect_eq(&rt, failed, want, (fail, passes));
-        expect_eq(&rt, fuse.faults, faults, (fail, passes));
-        expect_eq(&rt, fuse.count(), 1, "sectors");
+        expect_eq(&rt, failed, want, (passes, fail, effect));
+        fuse.into_inner().read(0, &mut bytes)?;
+        expect_eq(&rt, bytes[511], given, (passes, fail, effect));
     }
     Ok(())
 }
