@@ -7,11 +7,11 @@ use Rattle.bridge_cards.specs.EachMayFollow.{slice_get-left, slice_get-seam}
 use Rattle.bridge_auction.specs.declared.call.Call.{Call}
 use Rattle.bridge_auction.specs.declared.call.Call.TheVariants.{Pass, Bid, Double, Redouble}
 use Rattle.bridge_auction.specs.Call.{is_pass, is_bid, is_double}
-use Rattle.bridge_auction.specs.Legal.{last_place, later_or_here, is_opponents, opponents_call}
+use Rattle.bridge_auction.specs.Legal.{last_index, later_or_here, is_opponents, opponents_call}
 
 -- the last call that is no pass
 abbrev pub last_call : List Call → Option Call
-last_call calls = option_and_then (slice_get calls) (last_place (λ call. not (is_pass call)) calls)
+last_call calls = option_and_then (slice_get calls) (last_index (λ call. not (is_pass call)) calls)
 
 -- how far that call has come on the way from a bid to its redouble
 abbrev pub steps_of : Option Call → ℕ
@@ -21,52 +21,52 @@ steps_of (Some (Bid _)) = 0
 steps_of (Some Double) = 1
 steps_of (Some Redouble) = 2
 
--- the last place, after one call more
-pub last_place-push : (test : Call → Bool) (calls : List Call) (call : Call) → last_place test (calls ++ call ∷ []) ≡ (if test call then Some (length calls) else last_place test calls)
-last_place-push test [] call = elim (test call) as (λ b. later_or_here None b ≡ (if b then Some 0 else None)) [ true ↦ refl | false ↦ refl ]
-last_place-push test (first ∷ calls) call =
-    rw (last_place-push test calls call)
-    (elim (test call) as (λ b. later_or_here (if b then Some (length calls) else last_place test calls) (test first)
-    ≡ (if b then Some (suc (length calls)) else later_or_here (last_place test calls) (test first))) [ true ↦ refl | false ↦ refl ])
+-- the last index, after one call more
+pub last_index-push : (test : Call → Bool) (calls : List Call) (call : Call) → last_index test (calls ++ call ∷ []) ≡ (if test call then Some (length calls) else last_index test calls)
+last_index-push test [] call = elim (test call) as (λ b. later_or_here None b ≡ (if b then Some 0 else None)) [ true ↦ refl | false ↦ refl ]
+last_index-push test (first ∷ calls) call =
+    rw (last_index-push test calls call)
+    (elim (test call) as (λ b. later_or_here (if b then Some (length calls) else last_index test calls) (test first)
+    ≡ (if b then Some (suc (length calls)) else later_or_here (last_index test calls) (test first))) [ true ↦ refl | false ↦ refl ])
 
--- a place in the rest of a list, or at its head, is within the list
-later_within : (later : Option ℕ) (here : Bool) (n place : ℕ) → ((k : ℕ) → later ≡ Some k → k < n) → later_or_here later here ≡ Some place → place < suc n
-later_within (Some k) here n place within is =
-    let e : suc k ≡ place = cc in
+-- an index in the rest of a list, or at its head, is within the list
+later_within : (later : Option ℕ) (here : Bool) (n index : ℕ) → ((k : ℕ) → later ≡ Some k → k < n) → later_or_here later here ≡ Some index → index < suc n
+later_within (Some k) here n index within is =
+    let e : suc k ≡ index = cc in
     omega (arith, e, within k refl)
-later_within None true n place within is =
-    let e : 0 ≡ place = cc in
+later_within None true n index within is =
+    let e : 0 ≡ index = cc in
     omega (arith, e)
-later_within None false n place within is = cc
+later_within None false n index within is = cc
 
--- the last place is within the list
-pub last_place_within : (test : Call → Bool) (calls : List Call) (place : ℕ) → last_place test calls ≡ Some place → place < length calls
-last_place_within test [] place is = cc
-last_place_within test (call ∷ calls) place is =
-    later_within (last_place test calls) (test call) (length calls) place (last_place_within test calls) is
+-- the last index is within the list
+pub last_index_within : (test : Call → Bool) (calls : List Call) (index : ℕ) → last_index test calls ≡ Some index → index < length calls
+last_index_within test [] index is = cc
+last_index_within test (call ∷ calls) index is =
+    later_within (last_index test calls) (test call) (length calls) index (last_index_within test calls) is
 
--- what stands at a place of the first of two lists
-looked_up : (xs ys : List Call) (at_place : Option ℕ) → ((k : ℕ) → at_place ≡ Some k → k < length xs) → option_and_then (slice_get (xs ++ ys)) at_place ≡ option_and_then (slice_get xs) at_place
+-- what stands at an index of the first of two lists
+looked_up : (xs ys : List Call) (at_index : Option ℕ) → ((k : ℕ) → at_index ≡ Some k → k < length xs) → option_and_then (slice_get (xs ++ ys)) at_index ≡ option_and_then (slice_get xs) at_index
 looked_up xs ys None within = refl
-looked_up xs ys (Some place) within = slice_get-left xs ys place (within place refl)
+looked_up xs ys (Some index) within = slice_get-left xs ys index (within index refl)
 
 -- a pass leaves the last other call as it was
 pub last_call-pass : (calls : List Call) → last_call (calls ++ Pass ∷ []) ≡ last_call calls
 last_call-pass calls =
-    rw (last_place-push (λ call. not (is_pass call)) calls Pass)
-    (looked_up calls (Pass ∷ []) (last_place (λ call. not (is_pass call)) calls) (last_place_within (λ call. not (is_pass call)) calls))
+    rw (last_index-push (λ call. not (is_pass call)) calls Pass)
+    (looked_up calls (Pass ∷ []) (last_index (λ call. not (is_pass call)) calls) (last_index_within (λ call. not (is_pass call)) calls))
 
 -- a call other than a pass is then the last one
 pub last_call-push : (calls : List Call) (call : Call) → is_pass call ≡ false → last_call (calls ++ call ∷ []) ≡ Some call
 last_call-push calls call other =
-    rw (last_place-push (λ call'. not (is_pass call')) calls call, other) (slice_get-seam calls call [])
+    rw (last_index-push (λ call'. not (is_pass call')) calls call, other) (slice_get-seam calls call [])
 
 -- an opponent's call that may be doubled or redoubled is the last one that is no pass
-opponents_last : (calls : List Call) (opponents : ℕ → Bool) (at_place : Option ℕ) (call : Call) → option_and_then (λ place. if opponents place then slice_get calls place else None) at_place ≡ Some call → option_and_then (slice_get calls) at_place ≡ Some call
+opponents_last : (calls : List Call) (opponents : ℕ → Bool) (at_index : Option ℕ) (call : Call) → option_and_then (λ index. if opponents index then slice_get calls index else None) at_index ≡ Some call → option_and_then (slice_get calls) at_index ≡ Some call
 opponents_last calls opponents None call is = is
-opponents_last calls opponents (Some place) call is = given (opponents place) is
+opponents_last calls opponents (Some index) call is = given (opponents index) is
   where
-    given : (b : Bool) → (if b then slice_get calls place else None) ≡ Some call → slice_get calls place ≡ Some call
+    given : (b : Bool) → (if b then slice_get calls index else None) ≡ Some call → slice_get calls index ≡ Some call
     given true h = h
     given false h = cc
 
@@ -79,7 +79,7 @@ passes_some test (Some call) passes = (call, refl, passes)
 pub opponents_passes : (test : Call → Bool) (calls : List Call) → option_map_or test (opponents_call calls) false ≡ true → (call : Call) × (last_call calls ≡ Some call) × (test call ≡ true)
 opponents_passes test calls passes =
     let found = passes_some test (opponents_call calls) passes in
-    (found.0, opponents_last calls (is_opponents calls) (last_place (λ call. not (is_pass call)) calls) found.0 found.1, found.2)
+    (found.0, opponents_last calls (is_opponents calls) (last_index (λ call. not (is_pass call)) calls) found.0 found.1, found.2)
 
 -- before a double the last call is a bid, and before a redouble it is a double
 bid_steps : (call : Call) → is_bid call ≡ true → steps_of (Some call) ≡ 0

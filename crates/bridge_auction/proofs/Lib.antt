@@ -1,4 +1,4 @@
-pub mod Places
+pub mod Indices
 pub mod Legality
 pub mod LastCall
 pub mod LegalLength

@@ -1,9 +1,10 @@
 -- The contract that a list of calls makes (Law 22 and the definitions of contract and declarer).
-use Rattle.std.specs.Prelude.{ℕ, ◌%◌, Bool, false, ◌&&◌, ◌==◌, if◌then◌else◌, List, slice_get, position, Option, Some, None, unwrap_or, option_and_then}
+use Rattle.std.specs.Prelude.{ℕ, Bool, false, ◌&&◌, ◌==◌, if◌then◌else◌, List, slice_get, position, Option, Some, None, unwrap_or, option_and_then}
 use Rattle.std.specs.Option.{option_map}
 use Rattle.std.specs.List.{enumerate_from}
 use Rattle.bridge_cards.specs.declared.seat.Seat.{Seat}
-use Rattle.bridge_cards.specs.Seat.{clockwise_from}
+use Rattle.bridge_cards.specs.declared.seat.Side.{Side}
+use Rattle.bridge_cards.specs.Seat.{clockwise_from, side_of, plays_for}
 use Rattle.bridge_auction.specs.declared.bid.Bid.{Bid as BidType}
 use Rattle.bridge_auction.specs.declared.bid.Denomination.{Denomination}
 use Rattle.bridge_auction.specs.declared.call.Call.{Call}
@@ -13,11 +14,11 @@ use Rattle.bridge_auction.specs.declared.contract.Doubling.{Doubling}
 use Rattle.bridge_auction.specs.declared.contract.Doubling.TheVariants.{Undoubled, Doubled, Redoubled}
 use Rattle.bridge_auction.specs.Bid.{denomination_number}
 use Rattle.bridge_auction.specs.Call.{is_bid, bid_in}
-use Rattle.bridge_auction.specs.Legal.{is_ended, last_place, last_but_passes}
+use Rattle.bridge_auction.specs.Legal.{is_ended, last_index, last_but_passes}
 
--- the bid at that place, if there is one
+-- the bid at that index, if there is one
 abbrev pub bid_at : List Call → ℕ → Option BidType
-bid_at calls place = option_and_then bid_in (slice_get calls place)
+bid_at calls index = option_and_then bid_in (slice_get calls index)
 
 -- the call is a bid of that denomination
 abbrev pub names : Denomination → Call → Bool
@@ -26,10 +27,15 @@ names denomination (Bid bid) = denomination_number bid.denomination == denominat
 names denomination Double = false
 names denomination Redouble = false
 
--- the first place of a bid of that denomination by the side that made the call at `last`
-abbrev pub first_to_name : List Call → ℕ → Denomination → Option ℕ
-first_to_name calls last denomination =
-    position (λ (placed : ℕ × Call). (placed.0 % 2 == last % 2) && names denomination placed.1) (enumerate_from 0 calls)
+-- who makes the call at that index, from 0
+abbrev pub caller_at : Seat → ℕ → Seat
+caller_at dealer index = clockwise_from dealer index
+
+-- the index of the first call by a player of that side that bids that denomination
+abbrev pub first_to_name : Seat → List Call → Side → Denomination → Option ℕ
+first_to_name dealer calls side denomination =
+    position (λ (indexed : ℕ × Call). plays_for side (caller_at dealer indexed.0) && names denomination indexed.1)
+    (enumerate_from 0 calls)
 
 -- the doubling that a call leaves
 abbrev pub doubling_by : Option Call → Doubling
@@ -43,14 +49,14 @@ doubling_by (Some Redouble) = Redoubled
 abbrev pub doubling_of : List Call → Doubling
 doubling_of calls = doubling_by (option_and_then (slice_get calls) (last_but_passes calls))
 
--- the contract whose bid, the last one, stands at that place
+-- the contract whose bid, the last one, stands at that index
 abbrev pub contract_at : Seat → List Call → ℕ → Option Contract
 contract_at dealer calls last = option_map (λ (bid : BidType). record {
   bid = bid;
   doubling = doubling_of calls;
-  declarer = clockwise_from dealer (unwrap_or (first_to_name calls last bid.denomination) last);
+  declarer = caller_at dealer (unwrap_or (first_to_name dealer calls (side_of (caller_at dealer last)) bid.denomination) last);
 }) (bid_at calls last)
 
 -- the contract of a list of calls: none while the auction is open, or where nobody bid
 abbrev pub contract_of : Seat → List Call → Option Contract
-contract_of dealer calls = if is_ended calls then option_and_then (contract_at dealer calls) (last_place is_bid calls) else None
+contract_of dealer calls = if is_ended calls then option_and_then (contract_at dealer calls) (last_index is_bid calls) else None

@@ -1,8 +1,11 @@
 -- Which lists of calls are an auction (Laws 17 to 22).
-use Rattle.std.specs.Prelude.{◌≡◌, ℕ, suc, ◌-◌, ◌%◌, Bool, true, false, not, ◌&&◌, ◌==◌, nat_le, nat_lt, if◌then◌else◌, List, [], ◌∷◌, length, drop, slice_get, Option, Some, None, option_and_then, Result, Ok, Err}
+use Rattle.std.specs.Prelude.{◌≡◌, ℕ, suc, ◌-◌, Bool, true, false, not, ◌&&◌, nat_le, nat_lt, if◌then◌else◌, List, [], ◌∷◌, length, drop, slice_get, Option, Some, None, option_and_then, Result, Ok, Err}
 use Rattle.std.specs.List.{list_all}
 use Rattle.std.specs.Option.{option_map_or}
 use Rattle.bridge_cards.specs.EachMayFollow.{EachMayFollow}
+use Rattle.bridge_cards.specs.declared.seat.Seat.TheVariants.{North}
+use Rattle.bridge_cards.specs.declared.seat.Side.{Side}
+use Rattle.bridge_cards.specs.Seat.{clockwise_from, side_of, same_side}
 use Rattle.bridge_auction.specs.declared.call.Call.{Call}
 use Rattle.bridge_auction.specs.declared.call.Call.TheVariants.{Pass, Bid, Double, Redouble}
 use Rattle.bridge_auction.specs.declared.refused.CallRefused.{CallRefused}
@@ -14,27 +17,32 @@ use Rattle.bridge_auction.specs.Call.{is_pass, is_bid, is_double, IsCall}
 abbrev pub is_ended : List Call → Bool
 is_ended calls = nat_le 4 (length calls) && list_all is_pass (drop (length calls - 3) calls)
 
--- a place in the rest of a list, or else the place before that rest if it passes
+-- an index in the rest of a list, or else the index before that rest if it passes
 abbrev pub later_or_here : Option ℕ → Bool → Option ℕ
 later_or_here (Some later) here = Some (suc later)
 later_or_here None here = if here then Some 0 else None
 
--- the last place whose call passes the test
-abbrev pub last_place : (Call → Bool) → List Call → Option ℕ
-last_place test [] = None
-last_place test (call ∷ calls) = later_or_here (last_place test calls) (test call)
+-- the last index whose call passes the test
+abbrev pub last_index : (Call → Bool) → List Call → Option ℕ
+last_index test [] = None
+last_index test (call ∷ calls) = later_or_here (last_index test calls) (test call)
 
--- the place of the last call other than a pass
+-- the index of the last call other than a pass
 abbrev pub last_but_passes : List Call → Option ℕ
-last_but_passes calls = last_place (λ call. not (is_pass call)) calls
+last_but_passes calls = last_index (λ call. not (is_pass call)) calls
 
--- a call at that place was made by an opponent of the player who calls next, since turns go round by one place at a time
+-- the side of the player who makes the call at that index, from 0, where North deals: whoever deals, turns go clockwise,
+-- and two calls are a side's or of two sides alike
+abbrev pub calling_side : ℕ → Side
+calling_side index = side_of (clockwise_from North index)
+
+-- a call at that index was made by an opponent of the player who calls next
 abbrev pub is_opponents : List Call → ℕ → Bool
-is_opponents calls place = not (place % 2 == length calls % 2)
+is_opponents calls index = not (same_side (calling_side index) (calling_side (length calls)))
 
--- the call at that place, if an opponent of the player who calls next made it
+-- the call at that index, if an opponent of the player who calls next made it
 abbrev pub opponents_call_at : List Call → ℕ → Option Call
-opponents_call_at calls place = if is_opponents calls place then slice_get calls place else None
+opponents_call_at calls index = if is_opponents calls index then slice_get calls index else None
 
 -- the last call that is no pass, if an opponent of the player who calls next made it
 abbrev pub opponents_call : List Call → Option Call

@@ -7,14 +7,14 @@ ghost use Rattle.bridge_auction.specs.Auction.{with_call};
 use crate::call::Call;
 use crate::contract::Contract;
 use crate::longest::MOST_CALLS;
-use crate::look_back;
+use crate::rules;
 use crate::refused::CallRefused;
 use arrayvec::ArrayVec;
 use bridge_cards::Seat;
 use std::marker::Model;
 
 /// The auction of one board: its dealer, and a legal list of calls.
-#[derive(Drop)]
+#[derive(Debug, Drop, PartialEq, Eq)]
 pub struct Auction {
     dealer: Seat,
     calls: ArrayVec<Call, MOST_CALLS>,
@@ -30,6 +30,8 @@ impl Model for Auction {
     ghost view = { λ a. record { dealer = a.dealer; calls = a.calls.items } };
 
     ghost invariant = { λ a. IsLegal a.calls.items };
+
+    ghost inverse = { λ a. record { dealer = a.dealer; calls = record { items = a.calls } } };
 }
 
 impl Auction {
@@ -52,7 +54,7 @@ impl Auction {
         ensures refused { OnErr result (self.new ≡ self.old) }
     {
         let made = call;
-        let answer = look_back::answer(self.calls.as_slice(), call);
+        let answer = rules::answer(self.calls.as_slice(), call);
         if answer.is_ok() {
             self.calls.push(made);
         }
@@ -77,7 +79,7 @@ impl Auction {
     pub fn is_ended(&self) -> bool
         ensures { result ≡ is_ended self.now.calls }
     {
-        look_back::ended(self.calls.as_slice())
+        rules::ended(self.calls.as_slice())
     }
 
     /// The calls so far, a legal list.
@@ -94,17 +96,18 @@ impl Auction {
         ensures { result ≡ contract_of self.now.dealer self.now.calls }
     {
         let calls = self.calls.as_slice();
-        if !look_back::ended(calls) {
+        if !rules::ended(calls) {
             return None;
         }
-        let last = look_back::last_bid(calls)?;
+        let last = rules::last_bid(calls)?;
         match calls.get(last) {
             Some(Call::Bid(bid)) => {
-                let first = look_back::first_to_name(calls, last, bid.denomination).unwrap_or(last);
+                let side = self.dealer.clockwise(last).side();
+                let first = rules::first_to_name(self.dealer, calls, side, bid.denomination);
                 Some(Contract {
                     bid: *bid,
-                    doubling: look_back::doubling(calls),
-                    declarer: self.dealer.clockwise(first),
+                    doubling: rules::doubling(calls),
+                    declarer: self.dealer.clockwise(first.unwrap_or(last)),
                 })
             }
             _ => None,

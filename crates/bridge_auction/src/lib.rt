@@ -13,7 +13,7 @@ pub mod call;
 pub mod contract;
 pub mod level;
 pub mod longest;
-mod look_back;
+mod rules;
 pub mod refused;
 pub mod spelling;
 #[cfg(test)]

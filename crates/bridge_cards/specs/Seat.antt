@@ -44,6 +44,10 @@ same_side NorthSouth EastWest = false
 same_side EastWest NorthSouth = false
 same_side EastWest EastWest = true
 
+-- whether a seat plays for that side
+abbrev pub plays_for : Side → Seat → Bool
+plays_for side seat = same_side (side_of seat) side
+
 -- the letter that stands for a seat, in ASCII
 abbrev pub seat_letter : Seat → ℕ
 seat_letter North = 78

@@ -6,6 +6,7 @@ ghost use Rattle.bridge_cards.specs.Deal.{hand_at, holders, NoneTwice, SomeTwice
 use crate::card_set::CardSet;
 use crate::seat::Seat;
 use std::marker::Model;
+use thiserror::Error;
 
 /// The four hands of a board (Law 1): the deck, 13 cards to each seat.
 #[derive(Clone, Copy, Debug, PartialEq, Eq)]
@@ -27,13 +28,16 @@ impl Model for Deal {
 }
 
 /// Why four hands, or a text, are no deal.
-#[derive(Clone, Copy, Debug, PartialEq, Eq)]
+#[derive(Clone, Copy, Debug, PartialEq, Eq, Error)]
 pub enum BadDeal {
     /// The text is not in the form of a deal text.
+    #[error("the text is not in the form of a deal")]
     Form,
     /// A card is in two hands.
+    #[error("a card is in two hands")]
     Twice,
     /// A hand has more or fewer than 13 cards.
+    #[error("a hand does not have 13 cards")]
     NotThirteen,
 }
 

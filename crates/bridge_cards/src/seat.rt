@@ -102,6 +102,9 @@ impl Seat {
 }
 
 impl Side {
+    /// The two sides, North's first.
+    pub const ALL: [Side; 2] = [Side::NorthSouth, Side::EastWest];
+
     /// The opponents' side.
     pub fn other(self) -> Side
         ensures { result ≡ other_side self }

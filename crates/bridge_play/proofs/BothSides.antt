@@ -8,7 +8,8 @@ use Rattle.bridge_cards.specs.declared.seat.Seat.TheVariants.{North, East, South
 use Rattle.bridge_cards.specs.declared.seat.Side.TheVariants.{NorthSouth, EastWest}
 use Rattle.bridge_auction.specs.declared.contract.Contract.{Contract}
 use Rattle.bridge_play.specs.declared.claim.Claim.{Claim}
-use Rattle.bridge_play.specs.Trick.{leader_of, plays_for, tricks_won}
+use Rattle.bridge_cards.specs.Seat.{plays_for}
+use Rattle.bridge_play.specs.Trick.{leader_of, tricks_won}
 use Rattle.bridge_play.specs.Claims.{all_agreed}
 use Rattle.bridge_play.specs.Play.{Playing, IsPlay, IsClaimIn, is_agreed, claimed_tricks, tricks_of, settled_tricks}
 

@@ -10,14 +10,12 @@ use Rattle.bridge_cards.specs.declared.seat.Seat.TheVariants.{North, East, South
 use Rattle.bridge_cards.specs.Seat.{seat_number, same_seat}
 use Rattle.bridge_auction.specs.declared.contract.Contract.{Contract}
 use Rattle.bridge_play.specs.declared.claim.Claim.{Claim}
-use Rattle.bridge_play.specs.declared.refused.ClaimRefused.TheVariants.{Over, ClaimStands, NotYourTurn, MidTrick, TooManyTricks, ClaimsSpent}
-use Rattle.bridge_play.specs.declared.refused.ConsentRefused.{ConsentRefused}
-use Rattle.bridge_play.specs.declared.refused.ConsentRefused.TheVariants.{NoClaim, NotAsked, Stale}
 use Rattle.bridge_play.specs.Dummy.{dummy_of}
 use Rattle.bridge_play.specs.Claims.{is_asked, has_agreed, all_agreed, consent_to, with_agreed}
 use Rattle.bridge_play.specs.Play.{Playing, IsPlay, IsClaimIn, with_card, with_claim, with_agreement, without_claim, is_over, is_agreed, card_answer, claim_answer, consent_answer, consent_if}
 use Rattle.bridge_play.proofs.Seats.{same_seat-eq, same_seat-self}
 use Rattle.bridge_play.proofs.Legality.{card_legal, card_unclaimed}
+use Rattle.bridge_play.proofs.ClaimLegality.{claim_may, ok_asks, ok_current}
 
 -- where no claim stands, nothing has to hold of it
 none_claimed : (claim : Option Claim) (P : Claim → Type 0) → is_some claim ≡ false → IfSome claim P
@@ -31,32 +29,6 @@ card_keeps play seat card is ok = record {
   few = is.few;
   claimed = none_claimed play.claim (IsClaimIn (with_card play card)) (card_unclaimed play seat card ok);
 }
-
--- no refusal of a claim applies
-record Claims (over claimed dummy whole many spent : Bool) : Type 0 where
-  going_on : over ≡ false
-  player : dummy ≡ false
-  between : whole ≡ true
-  within : many ≡ false
-  left : spent ≡ false
-
--- Ok comes only where no refusal does
-ok_claims : (over claimed dummy whole many spent : Bool) →
-    IsOk {T = Unit {0}} (if over then Err Over else if claimed then Err ClaimStands else if dummy then Err NotYourTurn
-    else if not whole then Err MidTrick else if many then Err TooManyTricks else if spent then Err ClaimsSpent else Ok tt) →
-    Claims over claimed dummy whole many spent
-ok_claims true claimed dummy whole many spent ok = cc
-ok_claims false true dummy whole many spent ok = cc
-ok_claims false false true whole many spent ok = cc
-ok_claims false false false false many spent ok = cc
-ok_claims false false false true true spent ok = cc
-ok_claims false false false true false true ok = cc
-ok_claims false false false true false false ok =
-    record { going_on = refl; player = refl; between = refl; within = refl; left = refl }
-
--- a seat that is not dummy's
-other_seat : (a b : Seat) → same_seat a b ≡ false → a ≢ b
-other_seat a b other same = let itself : same_seat a b ≡ true = ap (same_seat a) (sym same) ∙ same_seat-self a in cc
 
 -- nobody has agreed to a new claim
 none_agreed : (seat claimer : Seat) (tricks : ℕ) → has_agreed (record { claimer = claimer; tricks = tricks; agreed = false ∷ false ∷ false ∷ false ∷ [] }) seat ≡ false
@@ -73,30 +45,19 @@ some_left n agreed tricks over whole within = grind (arith, nat_tests)
 pub claim_keeps : (play : Playing) (seat : Seat) (tricks : ℕ) → IsPlay play → IsOk (claim_answer play seat tricks) → IsPlay (with_claim play seat tricks)
 claim_keeps play seat tricks is ok =
     let n : ℕ = length play.cards in
-    let passes = ok_claims (is_over play) (is_some play.claim) (same_seat seat (dummy_of play.contract)) (n % 4 == 0)
-    (nat_lt 13 (n / 4 + tricks)) (nat_le 99 play.claims) ok in
-    let between : n % 4 ≡ 0 = eqb-true (n % 4) 0 passes.between in
-    let within : n / 4 + tricks ≤ 13 = ltb-false 13 (n / 4 + tricks) passes.within in
-    let left : play.claims < 99 = leb-false 99 play.claims passes.left in
+    let may = claim_may play seat tricks ok in
     record {
       legal = is.legal;
-      few = omega (arith, left);
+      few = omega (arith, may.few);
       claimed = record {
         counted = omega arith;
-        between = between;
-        some_left = some_left n (is_agreed play) tricks passes.going_on between within;
-        claimer = other_seat seat (dummy_of play.contract) passes.player;
-        within = within;
+        between = may.between;
+        some_left = some_left n (is_agreed play) tricks may.going_on may.between may.within;
+        claimer = may.not_dummy;
+        within = may.within;
         asked = λ other agreed. let none = none_agreed other seat tricks in cc;
       };
     }
-
--- a player who may agree is asked
-ok_asked : (all asked agreed : Bool) →
-    IsOk {T = Unit {0}} (if all then Err NoClaim else if not asked || agreed then Err NotAsked else Ok tt) → asked ≡ true
-ok_asked true asked agreed ok = cc
-ok_asked false true agreed ok = refl
-ok_asked false false agreed ok = cc
 
 -- who has agreed is asked, after one agreement more too
 asked_by : (contract : Contract) (claim : Claim) (seat other : Seat) (same : Bool) → same_seat other seat ≡ same → is_asked contract claim.claimer seat ≡ true
@@ -111,7 +72,7 @@ asked_by contract claim seat other false is asked before agreed =
 -- a claim to which one player more agrees
 claim_agreed : (play : Playing) (claim : Claim) (seat : Seat) → IsClaimIn play claim → IsOk (consent_to play.contract claim seat) → IsClaimIn (with_agreement play seat) (with_agreed seat claim)
 claim_agreed play claim seat is ok =
-    let asked = ok_asked (all_agreed play.contract claim) (is_asked play.contract claim.claimer seat) (has_agreed claim seat) ok in
+    let asked = (ok_asks (all_agreed play.contract claim) (is_asked play.contract claim.claimer seat) (has_agreed claim seat) ok).0 in
     record {
       counted = is.counted;
       between = is.between;
@@ -127,18 +88,13 @@ claimed_agreed : (play : Playing) (seat : Seat) (claim : Option Claim) → IfSom
 claimed_agreed play seat None is ok = cc
 claimed_agreed play seat (Some claim) is ok = claim_agreed play claim seat is ok
 
--- an answer is taken only to the claim that was made last
-ok_current : (stale : Bool) (answer : Result (Unit {0}) ConsentRefused) → IsOk (if stale then Err Stale else answer) → IsOk answer
-ok_current true answer ok = cc
-ok_current false answer ok = ok
-
 -- an agreement that is taken
 pub agreement_keeps : (play : Playing) (seat : Seat) (number : ℕ) → IsPlay play → IsOk (consent_answer play seat number) → IsPlay (with_agreement play seat)
 agreement_keeps play seat number is ok = record {
   legal = is.legal;
   few = is.few;
   claimed = claimed_agreed play seat play.claim is.claimed
-      (ok_current (not (number == play.claims)) (consent_if play.contract play.claim seat) ok);
+      (ok_current (not (number == play.claims)) (consent_if play.contract play.claim seat) ok).1;
 }
 
 -- a claim that is dropped

@@ -3,4 +3,5 @@ pub mod Legality
 pub mod BothSides
 pub mod NextTrick
 pub mod CardsLeft
+pub mod ClaimLegality
 pub mod KeptPlay

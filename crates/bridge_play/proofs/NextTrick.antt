@@ -5,7 +5,8 @@ use Rattle.bridge_cards.specs.declared.seat.Seat.{Seat}
 use Rattle.bridge_cards.specs.declared.seat.Side.{Side}
 use Rattle.bridge_cards.specs.Trick.{next_leader}
 use Rattle.bridge_auction.specs.declared.contract.Contract.{Contract}
-use Rattle.bridge_play.specs.Trick.{trump_of, trick_at, leader_of, plays_for, tricks_won}
+use Rattle.bridge_cards.specs.Seat.{plays_for}
+use Rattle.bridge_play.specs.Trick.{trump_of, trick_at, leader_of, tricks_won}
 
 -- the tricks of the front of a list are those of the list
 trick_at-front : (cards rest : List ℕ) (trick : ℕ) → 4 * trick + 4 ≤ length cards → trick_at (cards ++ rest) trick ≡ trick_at cards trick

@@ -12,7 +12,8 @@ use Rattle.bridge_play.specs.declared.refused.ClaimRefused.{ClaimRefused}
 use Rattle.bridge_play.specs.declared.refused.ClaimRefused.TheVariants as claim_refused
 use Rattle.bridge_play.specs.declared.refused.ConsentRefused.{ConsentRefused}
 use Rattle.bridge_play.specs.declared.refused.ConsentRefused.TheVariants as consent_refused
-use Rattle.bridge_play.specs.Trick.{turn_of, plays_for, tricks_won}
+use Rattle.bridge_cards.specs.Seat.{plays_for}
+use Rattle.bridge_play.specs.Trick.{turn_of, tricks_won}
 use Rattle.bridge_play.specs.Legal.{holds, follows, IsLegal}
 use Rattle.bridge_play.specs.CardPlay.{PlayedCards}
 use Rattle.bridge_play.specs.Dummy.{dummy_of, actor_of}
@@ -78,6 +79,16 @@ claim_answer play seat tricks =
     else if nat_le 99 play.claims then Err claim_refused.ClaimsSpent
     else Ok tt
 
+-- The player may claim that many of the tricks left: the play is not over, no claim stands, dummy claims nothing, it is
+-- between tricks, as many tricks are left, and fewer than 99 claims were made (Law 68).
+pub record MayBeClaimed (play : Playing) (seat : Seat) (tricks : ℕ) : Type 0 where
+  pub going_on : is_over play ≡ false
+  pub unclaimed : IsNone play.claim
+  pub not_dummy : seat ≢ dummy_of play.contract
+  pub between : length play.cards % 4 ≡ 0
+  pub within : length play.cards / 4 + tricks ≤ 13
+  pub few : play.claims < 99
+
 -- the same play with one claim more, which stands, and to which nobody has agreed
 abbrev pub with_claim : Playing → Seat → ℕ → Playing
 with_claim play seat tricks = record play {
@@ -94,6 +105,15 @@ consent_if contract (Some claim) seat = consent_to contract claim seat
 abbrev pub consent_answer : Playing → Seat → ℕ → Result (Unit {0}) ConsentRefused
 consent_answer play seat number =
     if not (number == play.claims) then Err consent_refused.Stale else consent_if play.contract play.claim seat
+
+-- The player may answer the claim of that number: it is the last that was made, it was not refused, and the player is
+-- asked and has not agreed to it (Law 68).
+pub record MayAnswer (play : Playing) (seat : Seat) (number : ℕ) : Type 0 where
+  pub current : number ≡ play.claims
+  pub claim : Claim
+  pub stands : play.claim ≡ Some claim
+  pub asked : is_asked play.contract claim.claimer seat ≡ true
+  pub unanswered : has_agreed claim seat ≡ false
 
 -- the same play, where the seat has agreed to the claim
 abbrev pub with_agreement : Playing → Seat → Playing

@@ -3,7 +3,7 @@ use Rattle.std.specs.Prelude.{ℕ, zero, suc, ◌+◌, ◌*◌, ◌/◌, ◌%◌
 use Rattle.bridge_cards.specs.declared.suit.Suit.{Suit}
 use Rattle.bridge_cards.specs.declared.seat.Seat.{Seat}
 use Rattle.bridge_cards.specs.declared.seat.Side.{Side}
-use Rattle.bridge_cards.specs.Seat.{clockwise_from, side_of, same_side}
+use Rattle.bridge_cards.specs.Seat.{clockwise_from, plays_for}
 use Rattle.bridge_cards.specs.Trick.{next_leader}
 use Rattle.bridge_auction.specs.declared.contract.Contract.{Contract}
 use Rattle.bridge_auction.specs.Bid.{denomination_suit}
@@ -25,10 +25,6 @@ leader_of contract cards (suc trick) =
 -- the hand to play after those cards: the leader's, then clockwise
 abbrev pub turn_of : Contract → List ℕ → Seat
 turn_of contract cards = clockwise_from (leader_of contract cards (length cards / 4)) (length cards % 4)
-
--- whether a seat plays for that side
-abbrev pub plays_for : Side → Seat → Bool
-plays_for side seat = same_side (side_of seat) side
 
 -- how many of the first tricks the side's seats won: the winner of a trick leads to the next
 abbrev pub tricks_won : Contract → List ℕ → Side → ℕ → ℕ

@@ -1,6 +1,6 @@
 ghost use Rattle.std.specs.Prelude.{◌≡◌, ◌≢◌, ℕ, ◌+◌, ◌/◌, ◌<◌, ◌≤◌, ◌++◌, ◌∷◌, [], ◌↔◌, length, IsOk, OnOk, OnErr, IfSome, None};
 ghost use Rattle.std.specs.Bool.{OnFalse};
-ghost use Rattle.bridge_play.specs.Play.{with_card, is_over, is_agreed, card_answer, MayBePlayed, claim_answer, with_claim, consent_answer, with_agreement, without_claim, tricks_of, settled_tricks, IsClaimIn};
+ghost use Rattle.bridge_play.specs.Play.{with_card, is_over, is_agreed, card_answer, MayBePlayed, claim_answer, MayBeClaimed, with_claim, consent_answer, MayAnswer, with_agreement, without_claim, tricks_of, settled_tricks, IsClaimIn};
 ghost use Rattle.bridge_play.specs.Dummy.{actor_of, dummy_of};
 ghost use Rattle.bridge_play.specs.Trick.{turn_of, leader_of, tricks_won};
 ghost use Rattle.bridge_play.specs.Legal.{IsLegal, holds};
@@ -196,6 +196,7 @@ impl Play {
     /// It stands until it is refused or agreed (Law 68).
     pub fn try_claim(&mut self, seat: Seat, tricks: u8) -> Result<(), ClaimRefused>
         ensures answer { result ≡ claim_answer self.old seat tricks }
+        ensures accepted { IsOk result ↔ MayBeClaimed self.old seat tricks }
         ensures claimed { OnOk result (self.new ≡ with_claim self.old seat tricks) }
         ensures refused { OnErr result (self.new ≡ self.old) }
     {
@@ -228,6 +229,7 @@ impl Play {
     /// (Law 68).
     pub fn agree(&mut self, seat: Seat, number: u8) -> Result<(), ConsentRefused>
         ensures answer { result ≡ consent_answer self.old seat number }
+        ensures accepted { IsOk result ↔ MayAnswer self.old seat number }
         ensures agreed { OnOk result (self.new ≡ with_agreement self.old seat) }
         ensures refused { OnErr result (self.new ≡ self.old) }
     {
@@ -241,6 +243,7 @@ impl Play {
     /// Refuses the claim of that number, the claims counted from 1, which then stands no longer (Law 68).
     pub fn refuse(&mut self, seat: Seat, number: u8) -> Result<(), ConsentRefused>
         ensures answer { result ≡ consent_answer self.old seat number }
+        ensures accepted { IsOk result ↔ MayAnswer self.old seat number }
         ensures dropped { OnOk result (self.new ≡ without_claim self.old) }
         ensures refused { OnErr result (self.new ≡ self.old) }
     {

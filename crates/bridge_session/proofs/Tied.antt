@@ -9,7 +9,7 @@ use Rattle.bridge_auction.specs.declared.contract.Contract.{Contract}
 use Rattle.bridge_auction.specs.Auction.{Bidding}
 use Rattle.bridge_auction.specs.Call.{is_bid}
 use Rattle.bridge_auction.specs.Contract.{contract_of, contract_at}
-use Rattle.bridge_auction.specs.Legal.{is_ended, last_place}
+use Rattle.bridge_auction.specs.Legal.{is_ended, last_index}
 use Rattle.bridge_play.specs.Play.{Playing, with_card, with_claim, with_agreement, without_claim}
 use Rattle.bridge_session.specs.declared.deed.Deed.{Deed}
 use Rattle.bridge_session.specs.declared.deed.Deed.TheVariants as deed
@@ -45,7 +45,7 @@ plain_begun board auction ruling hands (Some contract) = refl
 -- there is no contract while the auction is open
 pub no_contract : (dealer : Seat) (calls : List Call) → is_ended calls ≡ false → contract_of dealer calls ≡ None
 no_contract dealer calls open_auction =
-    ap (λ ended. cond ended (option_and_then (contract_at dealer calls) (last_place is_bid calls)) None) open_auction
+    ap (λ ended. cond ended (option_and_then (contract_at dealer calls) (last_index is_bid calls)) None) open_auction
 
 -- what a player did, and left
 pub record IsAfter (hands : List ℕ) (seat : Seat) (done : Deed) (kept : Record) : Type 0 where

@@ -3,14 +3,19 @@ ghost use Rattle.std.specs.Prelude.{◌≡◌, ◌<◌, ◌^◌, IfErr};
 ghost use Rattle.sector_disk.specs.Disk.{Disk};
 ghost use Rattle.sector_disk.specs.Calls.{Called, Reads, Writes, Syncs};
 
+use thiserror::Error;
+
 /// Which call of a disk failed.
-#[derive(Clone, Copy, Debug, PartialEq, Eq)]
+#[derive(Clone, Copy, Debug, PartialEq, Eq, Error)]
 pub enum DiskFault {
     /// A read, or the opening of a disk.
+    #[error("a read of the disk failed")]
     Read,
     /// A write, or the making of a disk.
+    #[error("a write of the disk failed")]
     Write,
     /// A sync.
+    #[error("a sync of the disk failed")]
     Sync,
 }
 

@@ -3,13 +3,14 @@ ghost use Rattle.std.specs.Prelude.{◌≡◌, ◌<◌, length, unwrap_or, OnOk}
 ghost use Rattle.std.specs.List.{list_all};
 ghost use Rattle.bridge_auction.specs.Bid.{bid_number, IsBid};
 ghost use Rattle.bridge_auction.specs.Call.{is_pass, is_bid, is_double, IsCall};
-ghost use Rattle.bridge_auction.specs.Legal.{is_ended, last_place, last_but_passes, opponents_call, is_below, is_admissible, answer_to};
+ghost use Rattle.bridge_auction.specs.Legal.{is_ended, last_index, last_but_passes, calling_side, opponents_call, is_below, is_admissible, answer_to};
 ghost use Rattle.bridge_auction.specs.Contract.{first_to_name, names, doubling_of};
 
 use crate::bid::{Bid, Denomination};
 use crate::call::Call;
 use crate::contract::Doubling;
 use crate::refused::CallRefused;
+use bridge_cards::{Seat, Side};
 
 /// Whether each of these calls is a pass.
 fn are_passes(calls: &[Call]) -> bool
@@ -25,16 +26,16 @@ pub fn ended(calls: &[Call]) -> bool
     calls.len() >= 4 && are_passes(&calls[calls.len() - 3..])
 }
 
-/// The place of the last call that is no pass.
+/// The index of the last call that is no pass.
 pub fn last_but_passes(calls: &[Call]) -> Option<usize>
     ensures { result ≡ last_but_passes calls.now }
 {
     calls.iter().rposition(|call| !call.is_pass())
 }
 
-/// The place of the last bid.
+/// The index of the last bid.
 pub fn last_bid(calls: &[Call]) -> Option<usize>
-    ensures { result ≡ last_place is_bid calls.now }
+    ensures { result ≡ last_index is_bid calls.now }
 {
     calls.iter().rposition(|call| call.is_bid())
 }
@@ -44,9 +45,17 @@ pub fn opponents_call(calls: &[Call]) -> Option<Call>
     ensures { result ≡ opponents_call calls.now }
 {
     match last_but_passes(calls) {
-        Some(place) if place % 2 != calls.len() % 2 => calls.get(place).copied(),
+        Some(index) if calling_side(index) != calling_side(calls.len()) => calls.get(index).copied(),
         _ => None,
     }
+}
+
+/// The side of the player who makes the call at that index, where North deals. Who deals makes no difference to whether
+/// two calls are one side's.
+fn calling_side(index: usize) -> Side
+    ensures { result ≡ calling_side index }
+{
+    Seat::North.clockwise(index).side()
 }
 
 /// Whether the call is no bid, or one of a lower number.
@@ -87,11 +96,16 @@ pub fn answer(calls: &[Call], call: Call) -> Result<(), CallRefused>
     }
 }
 
-/// The first place of a bid of that denomination by the side that made the call at `last`.
-pub fn first_to_name(calls: &[Call], last: usize, denomination: Denomination) -> Option<usize>
-    ensures { result ≡ first_to_name calls.now last denomination }
+/// The index of the first call by a player of that side that bids that denomination.
+pub fn first_to_name(
+    dealer: Seat,
+    calls: &[Call],
+    side: Side,
+    denomination: Denomination,
+) -> Option<usize>
+    ensures { result ≡ first_to_name dealer calls.now side denomination }
 {
-    calls.iter().enumerate().position(|(place, call)| place % 2 == last % 2
+    calls.iter().enumerate().position(|(index, call)| dealer.clockwise(index).side() == side
         && names(denomination, *call))
 }
 
@@ -109,7 +123,7 @@ fn names(denomination: Denomination, call: Call) -> bool
 pub fn doubling(calls: &[Call]) -> Doubling
     ensures { result ≡ doubling_of calls.now }
 {
-    match last_but_passes(calls).and_then(|place| calls.get(place).copied()) {
+    match last_but_passes(calls).and_then(|index| calls.get(index).copied()) {
         Some(Call::Double) => Doubling::Doubled,
         Some(Call::Redouble) => Doubling::Redoubled,
         _ => Doubling::Undoubled,

@@ -1,7 +1,0 @@
-use Rattle.std.proofs.Common.{rules}
-use Rattle.bridge_auction.specs.Call.{is_bid}
-use Rattle.bridge_auction.proofs.Places.{last_place_is}
-use Rattle.bridge_auction.proofs.look_back.last_bid.Goals as goal
-
-pub returns : goal.returns
-returns c = last_place_is is_bid c.args.calls.now c.rposition.result (search rules)

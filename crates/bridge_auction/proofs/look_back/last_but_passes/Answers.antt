@@ -1,7 +1,0 @@
-use Rattle.std.proofs.Common.{rules, not}
-use Rattle.bridge_auction.specs.Call.{is_pass}
-use Rattle.bridge_auction.proofs.Places.{last_place_is}
-use Rattle.bridge_auction.proofs.look_back.last_but_passes.Goals as goal
-
-pub returns : goal.returns
-returns c = last_place_is (λ call. not (is_pass call)) c.args.calls.now c.rposition.result (search rules)

@@ -1,0 +1,7 @@
+use Rattle.std.proofs.Common.{rules, not}
+use Rattle.bridge_auction.specs.Call.{is_pass}
+use Rattle.bridge_auction.proofs.Indices.{last_index_is}
+use Rattle.bridge_auction.proofs.rules.last_but_passes.Goals as goal
+
+pub returns : goal.returns
+returns c = last_index_is (λ call. not (is_pass call)) c.args.calls.now c.rposition.result (search rules)
