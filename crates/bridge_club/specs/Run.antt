@@ -6,18 +6,18 @@ use Rattle.table_server.specs.declared.fault.ServeFault.{ServeFault}
 use Rattle.table_server.specs.declared.fault.ServeFault.TheVariants.{Read, Write}
 use Rattle.table_server.specs.Heard.{StopsAt}
 use Rattle.table_server.specs.Replies.{auction_output, byte_limit}
-use Rattle.bridge_club.specs.declared.words.Words.{Words}
-use Rattle.bridge_club.specs.declared.words.Words.TheVariants.{Auction}
-use Rattle.bridge_club.specs.declared.words.WordsFault.{WordsFault}
-use Rattle.bridge_club.specs.declared.words.WordsFault.TheVariants.{Usage, Memory}
+use Rattle.bridge_club.specs.declared.command.Command.{Command}
+use Rattle.bridge_club.specs.declared.command.Command.TheVariants.{Auction}
+use Rattle.bridge_club.specs.declared.command.WordsFault.{WordsFault}
+use Rattle.bridge_club.specs.declared.command.WordsFault.TheVariants.{Usage, Memory}
 
 -- what a command that was done read from standard input and wrote to standard output
-abbrev pub Does : Words → Stream → Stream → Type 0
+abbrev pub Does : Command → Stream → Stream → Type 0
 Does (Auction board) input output = IfSome input.old (λ bytes.
     Takes output (auction_output (dealer_of board) bytes) × Gives input (take byte_limit bytes))
 
 -- a command was done, and nothing stands on standard error
-abbrev pub IsDone : Words → Stream → Stream → Stream → Type 0
+abbrev pub IsDone : Command → Stream → Stream → Stream → Type 0
 IsDone command input output errors = Does command input output × IsUntouched errors
 
 -- the line on standard error that names a fault
@@ -34,11 +34,11 @@ abbrev pub text_line : List ℕ
 text_line = codes "a word of the command line is not UTF-8\n"
 
 -- what a command leaves of standard input and on standard output where it stops at that fault
-abbrev pub StopsBy : Words → ServeFault → Stream → Stream → Type 0
+abbrev pub StopsBy : Command → ServeFault → Stream → Stream → Type 0
 StopsBy (Auction board) fault input output = StopsAt (dealer_of board) input output fault
 
 -- a command stopped at some fault, and standard error took a prefix of that fault's line, no more
-pub record IsStopped (command : Words) (input output errors : Stream) : Type 0 where
+pub record IsStopped (command : Command) (input output errors : Stream) : Type 0 where
   pub fault : ServeFault
   pub stopped : StopsBy command fault input output
   pub named : TakesPrefix errors (fault_line fault)

@@ -4,10 +4,10 @@ use Rattle.std.specs.Str.Parse.{ParsesUnsigned}
 use Rattle.std.specs.declared.num.ParseIntError.{ParseIntError}
 use Rattle.clap.specs.Words.{App, Row, Rule, Text, new_app, new_rule, with_rule, with_subcommand, subcommand_of, one_of, fault_of}
 use Rattle.clap.specs.declared.builder.value_parser.ValueParser.TheVariants as parser
-use Rattle.bridge_club.specs.declared.words.Words.{Words}
-use Rattle.bridge_club.specs.declared.words.Words.TheVariants.{Auction}
-use Rattle.bridge_club.specs.declared.words.WordsFault.{WordsFault}
-use Rattle.bridge_club.specs.declared.words.WordsFault.TheVariants.{Usage, Memory}
+use Rattle.bridge_club.specs.declared.command.Command.{Command}
+use Rattle.bridge_club.specs.declared.command.Command.TheVariants.{Auction}
+use Rattle.bridge_club.specs.declared.command.WordsFault.{WordsFault}
+use Rattle.bridge_club.specs.declared.command.WordsFault.TheVariants.{Usage, Memory}
 
 -- the argument BOARD, which is required: a number from 1 to 36
 abbrev pub board_rule : Rule
@@ -34,12 +34,12 @@ abbrev pub HasNumber : List Row → Text → ℕ → Type 0
 HasNumber rows id number = (text : Text) × (one_of id rows ≡ Some text) × ParsesUnsigned {E = ParseIntError} 8 10 text (Ok number)
 
 -- a subcommand's name and its arguments are those of a command
-abbrev pub IsCommand : Option (Text × List Row) → Words → Type 0
-IsCommand None words = ⊥
+abbrev pub IsCommand : Option (Text × List Row) → Command → Type 0
+IsCommand None command = ⊥
 IsCommand (Some named) (Auction board) = (named.0 ≡ codes "auction") × HasNumber named.1 (codes "BOARD") board
 
 -- clap finds no fault in the texts, and they are the words of the command
-abbrev pub Asks : List Text → Words → Type 0
+abbrev pub Asks : List Text → Command → Type 0
 Asks texts words = (fault_of club_app texts ≡ []) × IsCommand (subcommand_of club_app texts) words
 
 -- clap finds a fault in the texts, or memory was refused

@@ -1,21 +1,18 @@
 //! The server of a duplicate bridge club.
 #![tactic(auto)]
 
+mod command;
 mod read;
 mod run;
 #[cfg(test)]
 mod tests;
-mod words;
 
 use std::process::ExitCode;
 use std::{env, io};
 
 fn main(rt: HostRuntime) -> ExitCode {
-    let status = match run_with(&rt) {
-        Ok(status) => status,
-        Err(error) => run::words_fail(error.kind(), &mut rt.stderr()),
-    };
-    ExitCode::from(status)
+    let outcome = run_with(&rt).map_err(|error| error.kind());
+    ExitCode::from(run::status_of(outcome, &mut rt.stderr()))
 }
 
 /// Hands the program's words and its standard streams to `run_words`.

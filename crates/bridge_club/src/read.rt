@@ -4,16 +4,16 @@ ghost use Rattle.clap.specs.Words.{app_of, shape_of, rule_of, subcommand_rows_of
 ghost use Rattle.clap.specs.declared.builder.command.Command.TheViews.{out-Command as fields_of};
 ghost use Rattle.bridge_club.specs.Words.{board_rule, auction_app, bare_app, club_app, IsCommand, Asks, Faults};
 
-use crate::words::{Words, WordsFault};
+use crate::command::{Command, WordsFault};
 use bridge_cards::BoardNumber;
 use clap::error::ErrorKind;
-use clap::{Arg, ArgMatches, Command};
+use clap::{Arg, ArgMatches};
 use std::alloc::{AllocError, Global};
 
 /// Reads a command from the words after the program's name.
 ///
 /// `Usage` where they are no command or call for help, and `Memory` where memory is refused.
-pub fn read_words<'a>(alloc: Global, words: &'a [&'a str]) -> Result<Words, WordsFault>
+pub fn read_words<'a>(alloc: Global, words: &'a [&'a str]) -> Result<Command, WordsFault>
     ensures ok { IfOk result (Asks (map (λ word. word.now) words.entry.now)) }
     ensures fault { IfErr result (Faults (map (λ word. word.now) words.entry.now)) }
 {
@@ -31,13 +31,13 @@ pub fn read_words<'a>(alloc: Global, words: &'a [&'a str]) -> Result<Words, Word
 }
 
 /// The command that the matches name.
-fn asked(matches: &ArgMatches) -> Option<Words>
+fn asked(matches: &ArgMatches) -> Option<Command>
     ensures { IfSome result (IsCommand (subcommand_rows_of matches.now)) }
 {
     match matches.subcommand()? {
         ("auction", found) => {
             let board = BoardNumber::new(found.get_one::<u8>("BOARD")?)?;
-            Some(Words::Auction(board))
+            Some(Command::Auction(board))
         }
         // clap's checks leave no other name. The contract allows want of memory alone here.
         _ => None,
@@ -45,17 +45,17 @@ fn asked(matches: &ArgMatches) -> Option<Words>
 }
 
 /// The program's command line.
-fn club_command<'a>(alloc: Global) -> Result<Command<'a>, AllocError>
+fn club_command<'a>(alloc: Global) -> Result<clap::Command<'a>, AllocError>
     ensures { IfOk result (λ command. app_of command ≡ club_app) }
 {
     bare_command(alloc)?.subcommand(auction_command(alloc)?)
 }
 
 /// The program's command line without its commands.
-fn bare_command<'a>(alloc: Global) -> Result<Command<'a>, AllocError>
+fn bare_command<'a>(alloc: Global) -> Result<clap::Command<'a>, AllocError>
     ensures { IfOk result (λ command. app_of command ≡ bare_app) }
 {
-    Command::new(alloc, "bridge_club")
+    clap::Command::new(alloc, "bridge_club")
         .about("The server of a duplicate bridge club")
         .no_binary_name(true)
         .subcommand_required(true)
@@ -63,11 +63,11 @@ fn bare_command<'a>(alloc: Global) -> Result<Command<'a>, AllocError>
 }
 
 /// The command `auction BOARD`.
-fn auction_command<'a>(alloc: Global) -> Result<Command<'a>, AllocError>
+fn auction_command<'a>(alloc: Global) -> Result<clap::Command<'a>, AllocError>
     ensures shape { IfOk result (λ command. shape_of command ≡ auction_app.top) }
     ensures local { IfOk result (λ command. (fields_of command).has_globals ≡ false) }
 {
-    Command::new(alloc, "auction")
+    clap::Command::new(alloc, "auction")
         .about("Reads a board's calls from standard input, a line each, and prints the contract")
         .arg(board_argument(alloc))
 }

@@ -1,13 +1,13 @@
 //! Runs the command that the words ask for.
-ghost use Rattle.std.specs.Prelude.{◌≡◌, ◌≢◌, ◌⊎◌, [], map};
+ghost use Rattle.std.specs.Prelude.{◌≡◌, ◌≢◌, ◌⊎◌, [], map, IfOk, IfErr};
 ghost use Rattle.clap.specs.Words.{fault_of};
 ghost use Rattle.bridge_club.specs.Words.{club_app, Asks};
 ghost use Rattle.line_text.specs.Streams.{stream, TakesPrefix, IsUntouched};
 ghost use Rattle.bridge_club.specs.Run.{IsDone, IsStopped, IsWithoutMemory, Refuses, fault_line, memory_line, text_line};
-ghost use Rattle.bridge_club.specs.declared.words.Words.{Words};
+ghost use Rattle.bridge_club.specs.declared.command.Command.{Command};
 
+use crate::command::{Command, WordsFault};
 use crate::read::read_words;
-use crate::words::{Words, WordsFault};
 use line_text::write_text;
 use std::alloc::Global;
 use std::io::{ErrorKind, Read, Write};
@@ -27,6 +27,8 @@ const NOT_TEXT: &str = "a word of the command line is not UTF-8\n";
 
 /// Runs the command that the words after the program's name ask for, and answers the exit status.
 ///
+/// The runtime gives the files that commands open; `auction` opens none.
+///
 /// 0: done. 2: the words are no command, or call for help; clap's text stands on `errors`.
 /// 3: a fault, named on one line of `errors`: `cannot read input`, `cannot write output` or `no memory`.
 pub fn run_words<F: Files, R: Read, W: Write, E: Write>(
@@ -37,7 +39,7 @@ pub fn run_words<F: Files, R: Read, W: Write, E: Write>(
     output: &mut W,
     errors: &mut E,
 ) -> u8
-    ensures done { result ≡ 0 → (command : Words) × Asks (map (λ word. word.now) words.entry.now) command
+    ensures done { result ≡ 0 → (command : Command) × Asks (map (λ word. word.now) words.entry.now) command
         × IsDone command (stream R.remaining input.old input.new)
         (stream W.contents output.old output.new) (stream E.contents errors.old errors.new) }
     ensures usage { result ≡ 2 → (fault_of club_app (map (λ word. word.now) words.entry.now) ≢ [])
@@ -45,7 +47,7 @@ pub fn run_words<F: Files, R: Read, W: Write, E: Write>(
         × IsUntouched (stream W.contents output.old output.new) }
     ensures fault { result ≡ 3 → IsWithoutMemory (stream R.remaining input.old input.new)
         (stream W.contents output.old output.new) (stream E.contents errors.old errors.new)
-        ⊎ ((command : Words) × Asks (map (λ word. word.now) words.entry.now) command
+        ⊎ ((command : Command) × Asks (map (λ word. word.now) words.entry.now) command
         × IsStopped command (stream R.remaining input.old input.new)
         (stream W.contents output.old output.new) (stream E.contents errors.old errors.new)) }
     ensures status { (result ≡ 0) ⊎ ((result ≡ 2) ⊎ (result ≡ 3)) }
@@ -71,7 +73,7 @@ pub fn refuse<E: Write>(fault: WordsFault, errors: &mut E) -> u8
 
 /// Runs a command.
 fn run_command<R: Read, W: Write, E: Write>(
-    command: Words,
+    command: Command,
     input: &mut R,
     output: &mut W,
     errors: &mut E,
@@ -82,25 +84,27 @@ fn run_command<R: Read, W: Write, E: Write>(
         (stream W.contents output.old output.new) (stream E.contents errors.old errors.new) }
     ensures status { (result ≡ 0) ⊎ (result ≡ 3) }
 {
-    let Words::Auction(board) = command;
+    let Command::Auction(board) = command;
     match run_auction(board, input, output) {
         Ok(()) => DONE,
         Err(fault) => fails(fault_text(fault), errors),
     }
 }
 
-/// Says on a line of `errors` why the program's words cannot be had, and answers the exit status.
-///
-/// 3 where memory is refused. 2 at any other error, which is that a word is not UTF-8.
-pub fn words_fail<E: Write>(kind: ErrorKind, errors: &mut E) -> u8
-    ensures memory { kind ≡ ErrorKind.OutOfMemory → (result ≡ 3)
-        × TakesPrefix (stream E.contents errors.old errors.new) memory_line }
-    ensures text { kind ≢ ErrorKind.OutOfMemory → (result ≡ 2)
-        × TakesPrefix (stream E.contents errors.old errors.new) text_line }
+/// The exit status of the program: that of the run, or where its words could not be had, which a line of `errors` says,
+/// 3 where memory is refused, and 2 at any other error, which is that a word is not UTF-8.
+pub fn status_of<E: Write>(outcome: Result<u8, ErrorKind>, errors: &mut E) -> u8
+    ensures run { IfOk outcome (λ status. (result ≡ status)
+        × IsUntouched (stream E.contents errors.old errors.new)) }
+    ensures memory { IfErr outcome (λ kind. kind ≡ ErrorKind.OutOfMemory → (result ≡ 3)
+        × TakesPrefix (stream E.contents errors.old errors.new) memory_line) }
+    ensures text { IfErr outcome (λ kind. kind ≢ ErrorKind.OutOfMemory → (result ≡ 2)
+        × TakesPrefix (stream E.contents errors.old errors.new) text_line) }
 {
-    match kind {
-        ErrorKind::OutOfMemory => fails(NO_MEMORY, errors),
-        _ => {
+    match outcome {
+        Ok(status) => status,
+        Err(ErrorKind::OutOfMemory) => fails(NO_MEMORY, errors),
+        Err(_) => {
             let _ = write_text(errors, NOT_TEXT.as_bytes());
             USAGE
         }

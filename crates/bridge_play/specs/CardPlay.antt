@@ -1,10 +1,16 @@
 -- The cards of a play, and what is kept beside them.
-use Rattle.std.specs.Prelude.{◌≡◌, ℕ, ◌/◌, List, [], ◌∷◌, ◌++◌, length}
+use Rattle.std.specs.Prelude.{◌≡◌, ℕ, ◌/◌, Bool, nat_eq, List, [], ◌∷◌, ◌++◌, length}
 use Rattle.bridge_cards.specs.declared.seat.Seat.{Seat}
 use Rattle.bridge_cards.specs.declared.seat.Side.TheVariants.{NorthSouth}
+use Rattle.std.specs.Cmp.Lexicographic.{pointwise}
+use Rattle.std.specs.Ordering.{on, eq_of_both}
+use Rattle.bridge_cards.specs.Seat.{seat_number}
 use Rattle.bridge_cards.specs.CardSet.{has_card}
 use Rattle.bridge_cards.specs.Deal.{hand_at}
 use Rattle.bridge_auction.specs.declared.contract.Contract.{Contract}
+use Rattle.bridge_auction.specs.declared.contract.Doubling.{Doubling}
+use Rattle.bridge_auction.specs.declared.contract.Doubling.TheVariants.{Undoubled, Doubled, Redoubled}
+use Rattle.bridge_auction.specs.Bid.{denomination_number}
 use Rattle.bridge_play.specs.Trick.{leader_of, tricks_won}
 use Rattle.bridge_play.specs.Legal.{holds}
 
@@ -13,6 +19,25 @@ pub record PlayedCards : Type 0 where
   pub hands : List ℕ
   pub contract : Contract
   pub cards : List ℕ
+
+-- the number of a doubling: how often the stakes were raised
+abbrev pub doubling_number : Doubling → ℕ
+doubling_number Undoubled = 0
+doubling_number Doubled = 1
+doubling_number Redoubled = 2
+
+-- whether two contracts are one
+abbrev pub same_contract : Contract → Contract → Bool
+same_contract =
+    eq_of_both
+    (eq_of_both (on (λ c. c.bid.level) nat_eq) (on (λ c. denomination_number c.bid.denomination) nat_eq))
+    (eq_of_both (on (λ c. doubling_number c.doubling) nat_eq) (on (λ c. seat_number c.declarer) nat_eq))
+
+-- whether two plays have the same deal, contract and cards
+abbrev pub same_cards : PlayedCards → PlayedCards → Bool
+same_cards =
+    eq_of_both (on (λ p. p.hands) (pointwise nat_eq))
+    (eq_of_both (on (λ p. p.contract) same_contract) (on (λ p. p.cards) (pointwise nat_eq)))
 
 -- the same with one card more
 abbrev pub with_next : PlayedCards → ℕ → PlayedCards

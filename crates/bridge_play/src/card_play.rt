@@ -13,7 +13,7 @@ use bridge_cards::{Card, CardSet, Deal, Seat, Side};
 use std::marker::Model;
 
 /// The cards played to a contract, and beside them what makes each question about them cheap.
-#[derive(Drop)]
+#[derive(Debug, Drop)]
 pub struct CardPlay {
     deal: Deal,
     contract: Contract,
@@ -34,6 +34,21 @@ impl Model for CardPlay {
     ghost view = { λ p. record { hands = p.deal; contract = p.contract; cards = p.cards.items } };
 
     ghost invariant = { λ p. IsKept p.deal p.contract p.cards.items p.left p.leader p.won };
+}
+
+/// Two plays are equal where their deals, contracts and cards are: what is kept beside these follows from them.
+impl PartialEq for CardPlay {
+    ghost use Rattle.std.specs.Cmp.Rules.{comparing};
+    ghost use Rattle.std.proofs.Common.{rules};
+    ghost use Rattle.bridge_play.specs.CardPlay.{same_cards};
+
+    ghost eq = { same_cards };
+
+    ghost laws = { Prim.search (comparing, rules) depth 12 };
+
+    fn eq(&self, other: &CardPlay) -> bool {
+        self.deal == other.deal && self.contract == other.contract && self.cards == other.cards
+    }
 }
 
 impl CardPlay {

@@ -16,7 +16,7 @@ use bridge_cards::{Card, CardSet, Deal, Seat, Side};
 use std::marker::Model;
 
 /// The play of one board: the dealt hands, the contract, a legal list of cards, and the claims made.
-#[derive(Drop)]
+#[derive(Debug, Drop, PartialEq)]
 pub struct Play {
     card_play: CardPlay,
     claims: u8,
@@ -31,6 +31,12 @@ impl Model for Play {
     ghost view = { λ p. with_claims p.card_play p.claims p.claim };
 
     ghost invariant = { λ p. IsPlay (with_claims p.card_play p.claims p.claim) };
+
+    ghost inverse = { λ p. record {
+      card_play = record { hands = p.hands; contract = p.contract; cards = p.cards };
+      claims = p.claims;
+      claim = p.claim;
+    } };
 }
 
 impl Play {

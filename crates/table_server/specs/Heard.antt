@@ -7,19 +7,19 @@ use Rattle.table_server.specs.declared.fault.ServeFault.{ServeFault}
 use Rattle.table_server.specs.declared.fault.ServeFault.TheVariants.{Read, Write}
 use Rattle.line_text.specs.Lines.{complete_lines, is_within_line}
 use Rattle.table_server.specs.Replies.{replies_to, calls_after, output_for, auction_output, byte_limit}
-use Rattle.table_server.specs.Desk.{Desk, replies_from, calls_from}
+use Rattle.table_server.specs.AuctionLines.{AuctionLines, replies_from, calls_from}
 use Rattle.line_text.specs.Streams.{Stream, Gives, Takes, TakesPrefix}
 
--- The desk has heard some bytes, which the reader gave, and the replies to their complete lines are written.
-pub record Heard (dealer : Seat) (given rest written_before written : Option (List ℕ)) (desk : Desk) (left : ℕ) : Type 0 where
+-- The auction has heard some bytes, which the reader gave, and the replies to their complete lines are written.
+pub record Heard (dealer : Seat) (given rest written_before written : Option (List ℕ)) (auction_lines : AuctionLines) (left : ℕ) : Type 0 where
   pub bytes : List ℕ
   pub count : length bytes + left ≡ byte_limit
   pub consumed : Consumes given rest bytes
   pub appended : Appends written_before written (replies_to [] (complete_lines bytes))
-  pub replies : (more : List ℕ) → replies_to [] (complete_lines (bytes ++ more)) ≡ replies_to [] (complete_lines bytes) ++ replies_from desk more
-  pub calls : (more : List ℕ) → calls_after [] (complete_lines (bytes ++ more)) ≡ calls_from desk more
-  pub dealt : desk.dealer ≡ dealer
-  pub within : list_all is_within_line desk.line ≡ true
+  pub replies : (more : List ℕ) → replies_to [] (complete_lines (bytes ++ more)) ≡ replies_to [] (complete_lines bytes) ++ replies_from auction_lines more
+  pub calls : (more : List ℕ) → calls_after [] (complete_lines (bytes ++ more)) ≡ calls_from auction_lines more
+  pub dealt : auction_lines.dealer ≡ dealer
+  pub within : list_all is_within_line auction_lines.line ≡ true
 
 -- What was read and written at a fault, of the reader and the writer:
 -- at a read fault the replies to the complete lines; at a write fault a prefix of the output for the bytes read,

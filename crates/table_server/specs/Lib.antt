@@ -1,3 +1,3 @@
 pub mod Replies
-pub mod Desk
+pub mod AuctionLines
 pub mod Heard

@@ -1,7 +1,7 @@
 //! The auction command: lines of calls in, replies and the contract out.
 #![tactic(auto)]
 
-mod desk;
+mod auction_lines;
 mod fault;
 mod reply;
 mod run;

@@ -3,11 +3,11 @@ ghost use Rattle.std.specs.Io.KnownBytes.{IsAtEnd};
 ghost use Rattle.bridge_cards.specs.Board.{dealer_of};
 ghost use Rattle.table_server.specs.Replies.{limit_notice, ending, auction_output};
 ghost use Rattle.line_text.specs.Streams.{stream, Gives, Takes, IsUntouched, Written};
-ghost use Rattle.table_server.specs.Desk.{Answers};
+ghost use Rattle.table_server.specs.AuctionLines.{Answers};
 ghost use Rattle.table_server.specs.Heard.{Heard, StopsAt};
 ghost use Rattle.table_server.specs.declared.fault.ServeFault.TheVariants.{Read as ReadFault, Write as WriteFault};
 
-use crate::desk::{Desk, PIECE_BYTES, REPLIES_BYTES};
+use crate::auction_lines::{AuctionLines, PIECE_BYTES, REPLIES_BYTES};
 use crate::fault::ServeFault;
 use arrayvec::ArrayString;
 use bridge_cards::{BoardNumber, dealer};
@@ -37,25 +37,25 @@ pub fn run_auction<R: Read, W: Write>(
     ensures fault { IfErr result (StopsAt (dealer_of board)
         (stream R.remaining reader.old reader.new) (stream W.contents writer.old writer.new)) }
 {
-    let mut desk = Desk::new(dealer(board));
-    match answer_lines(&mut desk, reader, writer) {
-        Ok(left) => write_ending(&desk, left == 0, writer),
+    let mut auction_lines = AuctionLines::new(dealer(board));
+    match answer_lines(&mut auction_lines, reader, writer) {
+        Ok(left) => write_ending(&auction_lines, left == 0, writer),
         Err(fault) => Err(fault),
     }
 }
 
 /// Answers the lines of the reader's bytes, up to the limit, and says how many bytes were left to it.
 fn answer_lines<R: Read, W: Write>(
-    desk: &mut Desk,
+    auction_lines: &mut AuctionLines,
     reader: &mut R,
     writer: &mut W,
 ) -> Result<usize, ServeFault>
-    requires no_calls { desk.old.calls ≡ [] }
-    requires no_line { desk.old.line ≡ [] }
-    ensures heard { IfOk result (Heard desk.old.dealer (R.remaining reader.old) (R.remaining reader.new)
-        (W.contents writer.old) (W.contents writer.new) desk.new) }
+    requires no_calls { auction_lines.old.calls ≡ [] }
+    requires no_line { auction_lines.old.line ≡ [] }
+    ensures heard { IfOk result (Heard auction_lines.old.dealer (R.remaining reader.old) (R.remaining reader.new)
+        (W.contents writer.old) (W.contents writer.new) auction_lines.new) }
     ensures end { IfOk result (λ left. 0 < left → IsAtEnd (R.remaining reader.new)) }
-    ensures fault { IfErr result (StopsAt desk.old.dealer
+    ensures fault { IfErr result (StopsAt auction_lines.old.dealer
         (stream R.remaining reader.old reader.new) (stream W.contents writer.old writer.new)) }
 {
     let mut piece = [0; PIECE_BYTES];
@@ -66,7 +66,7 @@ fn answer_lines<R: Read, W: Write>(
             return Ok(left);
         }
         left -= taken;
-        answer_piece(desk, &piece[..taken], writer)?;
+        answer_piece(auction_lines, &piece[..taken], writer)?;
     }
     Ok(0)
 }
@@ -88,26 +88,34 @@ fn read_piece<R: Read>(reader: &mut R, piece: &mut [u8], most: usize) -> Result<
 }
 
 /// Writes the replies to the lines that the piece completes.
-fn answer_piece<W: Write>(desk: &mut Desk, piece: &[u8], writer: &mut W) -> Result<(), ServeFault>
+fn answer_piece<W: Write>(
+    auction_lines: &mut AuctionLines,
+    piece: &[u8],
+    writer: &mut W,
+) -> Result<(), ServeFault>
     requires { length piece.now ≤ PIECE_BYTES }
-    ensures written { (text : List ℕ) × Answers desk.old desk.new piece.now text
+    ensures written { (text : List ℕ) × Answers auction_lines.old auction_lines.new piece.now text
         × Written (stream W.contents writer.old writer.new) text result }
     ensures fault { IfErr result (λ fault. fault ≡ WriteFault) }
 {
     let mut out = ArrayString::<REPLIES_BYTES>::new();
-    desk.feed(piece, &mut out);
+    auction_lines.feed(piece, &mut out);
     write_replies(writer, out.as_str())
 }
 
 /// Writes the last line, below a notice where the limit of bytes was reached.
-fn write_ending<W: Write>(desk: &Desk, at_limit: bool, writer: &mut W) -> Result<(), ServeFault>
+fn write_ending<W: Write>(
+    auction_lines: &AuctionLines,
+    at_limit: bool,
+    writer: &mut W,
+) -> Result<(), ServeFault>
     ensures written { Written (stream W.contents writer.old writer.new)
-        (limit_notice at_limit ++ ending desk.now.dealer desk.now.calls) result }
+        (limit_notice at_limit ++ ending auction_lines.now.dealer auction_lines.now.calls) result }
     ensures fault { IfErr result (λ fault. fault ≡ WriteFault) }
 {
     let mut out = ArrayString::<REPLIES_BYTES>::new();
     out.push_str(limit_notice(at_limit));
-    desk.push_ending(&mut out);
+    auction_lines.push_ending(&mut out);
     write_replies(writer, out.as_str())
 }
 

@@ -197,3 +197,21 @@ fn claims_are_spent_after_99(rt: HostRuntime) -> Result<(), Fail> {
     claim(&rt, &mut play, Seat::North, 13, spent);
     Ok(())
 }
+
+#[test]
+fn plays_of_the_same_cards_and_claims_are_equal(rt: HostRuntime) -> Result<(), Fail> {
+    let mut one = spades_by_north(CARDS_IN_A_ROW, 1)?;
+    let mut other = spades_by_north(CARDS_IN_A_ROW, 1)?;
+    expect_eq(&rt, one == other, true, "no cards");
+    take(&rt, &mut one, &["H7"])?;
+    expect_eq(&rt, one == other, false, "one card");
+    take(&rt, &mut other, &["H7"])?;
+    expect_eq(&rt, one == other, true, "the same card");
+    expect_eq(
+        &rt,
+        one == spades_by_north(ONE_SUIT_EACH, 1)?,
+        false,
+        "another deal",
+    );
+    Ok(())
+}

@@ -10,11 +10,27 @@ const ROWS: [(u8, &str, &str); 9] = [
         "1H\nPASS\n4H\nPASS\nPASS\nPASS\nX\n",
         "OK\nOK\nOK\nOK\nOK\nOK\nERR 9 WrongPhase\nCONTRACT 4H N\n",
     ),
-    (1, "PASS\nPASS\nPASS\nPASS\n", "OK\nOK\nOK\nOK\nPASSED OUT\n"),
+    (
+        1,
+        "PASS\nPASS\nPASS\nPASS\n",
+        "OK\nOK\nOK\nOK\nPASSED OUT\n",
+    ),
     (1, "1NT\n1S\n", "OK\nERR 17 InsufficientBid\nUNFINISHED\n"),
-    (1, "1C\nPASS\nX\n", "OK\nOK\nERR 18 InadmissibleDouble\nUNFINISHED\n"),
-    (1, "1H\nX\nPASS\nXX\n", "OK\nOK\nOK\nERR 19 InadmissibleRedouble\nUNFINISHED\n"),
-    (1, "1Z\npass\n", "ERR 30 BadLine\nERR 30 BadLine\nUNFINISHED\n"),
+    (
+        1,
+        "1C\nPASS\nX\n",
+        "OK\nOK\nERR 18 InadmissibleDouble\nUNFINISHED\n",
+    ),
+    (
+        1,
+        "1H\nX\nPASS\nXX\n",
+        "OK\nOK\nOK\nERR 19 InadmissibleRedouble\nUNFINISHED\n",
+    ),
+    (
+        1,
+        "1Z\npass\n",
+        "ERR 30 BadLine\nERR 30 BadLine\nUNFINISHED\n",
+    ),
     // bytes after the last line feed are not answered
     (1, "7NT\r\n1D", "OK\nUNFINISHED\n"),
     // a bad line is bad also after the end

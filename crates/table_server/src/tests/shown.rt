@@ -18,7 +18,12 @@ struct Seen {
 }
 
 /// A run of board 1 over the pieces, with that much room.
-fn run(alloc: Global, pieces: &[&'static str], room: usize, failing: Failing) -> Result<Seen, Fail> {
+fn run(
+    alloc: Global,
+    pieces: &[&'static str],
+    room: usize,
+    failing: Failing,
+) -> Result<Seen, Fail> {
     let board = BoardNumber::new(1).ok_or("a board")?;
     let shown = Cell::new(0);
     let mut reader = Pieces {
@@ -50,7 +55,12 @@ fn replies_are_shown_before_the_next_read(rt: HostRuntime) -> Result<(), Fail> {
     expect_eq(&rt, seen.result, Ok(()), "the run");
     // `OK` and a line feed are 3 bytes, `ERR 19 InadmissibleRedouble` with one is 28, and `UNFINISHED` with one 11
     let due = [0, 3, 3, 6, 37];
-    expect_eq(&rt, seen.reads.as_slice(), due.as_slice(), "shown before each read");
+    expect_eq(
+        &rt,
+        seen.reads.as_slice(),
+        due.as_slice(),
+        "shown before each read",
+    );
     expect_eq(&rt, seen.shown, 48, "shown at the end");
     Ok(())
 }

@@ -4,7 +4,7 @@ use Rattle.table_server.proofs.run.answer_lines.Given as goal
 
 abbrev pub invariant-loop-left : goal.invariant-loop-left
 invariant-loop-left g l = record {
-  heard : Heard l.fn.desk.dealer (g.R.Read.remaining l.fn.reader) (g.R.Read.remaining l.reader) (g.W.Write.contents l.fn.writer) (g.W.Write.contents l.writer) l.desk l.left;
+  heard : Heard l.fn.auction_lines.dealer (g.R.Read.remaining l.fn.reader) (g.R.Read.remaining l.reader) (g.W.Write.contents l.fn.writer) (g.W.Write.contents l.writer) l.auction_lines l.left;
   room : length l.piece ≡ 1024;
 }
 

@@ -1,7 +1,7 @@
 use Rattle.std.proofs.Common.{◌++◌, ap, arith, sym}
 use Rattle.std.proofs.lemmas.Bool.{eqb-true, ne_eqb}
 use Rattle.table_server.proofs.LineLemmas.{replies_fed, calls_fed, long_replies_same, long_calls_same}
-use Rattle.table_server.proofs.desk.Desk.feed_byte.Goals as goal
+use Rattle.table_server.proofs.auction_lines.AuctionLines.feed_byte.Goals as goal
 
 pub returns-then-byte-eq10-clause-replies : goal.returns-then-byte-eq10-clause-replies
 returns-then-byte-eq10-clause-replies c rest =

@@ -3,7 +3,7 @@ use bridge_cards::BoardNumber;
 
 /// A command with its words.
 #[derive(Clone, Copy, Debug, PartialEq, Eq)]
-pub enum Words {
+pub enum Command {
     /// `auction BOARD`: one board's auction, from standard input.
     Auction(BoardNumber),
 }

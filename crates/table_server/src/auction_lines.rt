@@ -2,7 +2,7 @@ ghost use Rattle.std.specs.Prelude.{◌≡◌, ◌+◌, ◌*◌, ◌≤◌, ◌�
 ghost use Rattle.arrayvec.specs.ArrayString.{array_string_len};
 ghost use Rattle.table_server.specs.Replies.{ending, contract_line, line_reply, line_call, calls_with};
 ghost use Rattle.line_text.specs.Lines.{is_within_line};
-ghost use Rattle.table_server.specs.Desk.{replies_from, calls_from};
+ghost use Rattle.table_server.specs.AuctionLines.{replies_from, calls_from};
 ghost use Rattle.std.specs.List.{list_all};
 
 use crate::reply::{REPLY_BYTES, Reply};
@@ -12,7 +12,7 @@ use bridge_cards::Seat;
 use line_text::{LINE_BYTES, without_return};
 use std::marker::Model;
 
-/// The most bytes that a desk is fed at a time.
+/// The most bytes that an auction is fed at a time.
 pub const PIECE_BYTES: usize = 1024;
 
 /// The room for replies: that of the longest for each byte of a piece.
@@ -22,32 +22,32 @@ pub const REPLIES_BYTES: usize = REPLY_BYTES * PIECE_BYTES;
 ///
 /// Of a line that is too long it keeps the first 129 bytes.
 #[derive(Drop)]
-pub struct Desk {
+pub struct AuctionLines {
     auction: Auction,
     line: ArrayVec<u8, 129>,
 }
 
-impl Model for Desk {
+impl Model for AuctionLines {
     ghost use Rattle.std.specs.Prelude.{◌≡◌, true};
     ghost use Rattle.std.specs.List.{list_all};
-    ghost use Rattle.table_server.specs.Desk.{Desk as DeskValue};
+    ghost use Rattle.table_server.specs.AuctionLines.{AuctionLines as LinesValue};
     ghost use Rattle.line_text.specs.Lines.{is_within_line};
 
-    ghost Value = { DeskValue };
+    ghost Value = { LinesValue };
 
     ghost view = { λ d. record { dealer = d.auction.dealer; calls = d.auction.calls; line = d.line.items } };
 
     ghost invariant = { λ d. list_all is_within_line d.line.items ≡ true };
 }
 
-impl Desk {
+impl AuctionLines {
     /// An auction of that dealer before its first line.
-    pub fn new(dealer: Seat) -> Desk
+    pub fn new(dealer: Seat) -> AuctionLines
         ensures dealer { result.dealer ≡ dealer }
         ensures calls { result.calls ≡ [] }
         ensures line { result.line ≡ [] }
     {
-        Desk {
+        AuctionLines {
             auction: Auction::new(dealer),
             line: ArrayVec::new(),
         }
@@ -65,7 +65,7 @@ impl Desk {
         ensures dealer { self.new.dealer ≡ self.old.dealer }
         ensures within { list_all is_within_line self.new.line ≡ true }
     {
-        // Opens the desk, so that its invariant is known also where the piece is empty.
+        // Opens the value, so that its invariant is known also where the piece is empty.
         let _ = &self.line;
         for byte in piece {
             self.feed_byte(*byte, out);

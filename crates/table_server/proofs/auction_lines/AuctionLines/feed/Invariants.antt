@@ -1,8 +1,8 @@
 use Rattle.std.proofs.Common.{◌≡◌, ◌+◌, ◌-◌, ◌*◌, ◌≤◌, ℕ, List, ◌++◌, drop, length, true}
 use Rattle.std.specs.List.{list_all}
 use Rattle.line_text.specs.Lines.{is_within_line}
-use Rattle.table_server.specs.Desk.{replies_from, calls_from}
-use Rattle.table_server.proofs.desk.Desk.feed.Given as goal
+use Rattle.table_server.specs.AuctionLines.{replies_from, calls_from}
+use Rattle.table_server.proofs.auction_lines.AuctionLines.feed.Given as goal
 
 abbrev pub invariant-loop-byte : goal.invariant-loop-byte
 invariant-loop-byte l = record {
