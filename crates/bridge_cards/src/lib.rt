@@ -13,6 +13,7 @@ pub mod shuffle;
 pub mod suit;
 #[cfg(test)]
 mod tests;
+pub mod trick;
 pub mod vulnerability;
 
 pub use board::{BoardNumber, dealer, vulnerability_of, vulnerable};

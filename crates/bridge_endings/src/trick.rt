@@ -1,9 +1,9 @@
 //! A trick that is being played: whose turn it is, and who wins it.
-ghost use Rattle.std.specs.Prelude.{◌≡◌, ◌<◌, ◌≤◌, [], ◌∷◌, ◌++◌, length, slice_get, position};
-ghost use Rattle.bridge_cards.specs.Card.{same_suit};
+ghost use Rattle.std.specs.Prelude.{◌≡◌, ◌<◌, ◌≤◌, [], ◌∷◌, ◌++◌, length, slice_get};
 ghost use Rattle.bridge_cards.specs.Seat.{clockwise_from};
-ghost use Rattle.bridge_cards.specs.Trick.{is_trump, beats, is_or_beats, wins, winning_place, next_leader};
+ghost use Rattle.bridge_cards.specs.Trick.{next_leader};
 
+use bridge_cards::trick::{beats, winning_place};
 use bridge_cards::{Card, Seat, Suit};
 use std::marker::Model;
 
@@ -125,64 +125,4 @@ impl Trick {
     {
         self.leader.clockwise(winning_place(trump, self.so_far()))
     }
-}
-
-/// Whether the cards are of one suit.
-fn same_suit(c: Card, d: Card) -> bool
-    ensures { result ≡ same_suit c d }
-{
-    c.suit() == d.suit()
-}
-
-/// Whether the card is a trump.
-fn is_trump(trump: Option<Suit>, card: Card) -> bool
-    ensures { result ≡ is_trump trump card }
-{
-    match trump {
-        Some(suit) => card.suit().number() == suit.number(),
-        None => false,
-    }
-}
-
-/// Whether card c beats d in a trick to which `led` was led (Law 44).
-fn beats(trump: Option<Suit>, led: Card, c: Card, d: Card) -> bool
-    ensures { result ≡ beats trump led c d }
-{
-    (same_suit(c, d) && d < c)
-        || (is_trump(trump, c) && !is_trump(trump, d))
-        || (same_suit(c, led) && !same_suit(d, led) && !is_trump(trump, d))
-}
-
-/// Whether the card is d, or beats it.
-fn is_or_beats(trump: Option<Suit>, led: Card, c: Card, d: Card) -> bool
-    ensures { result ≡ is_or_beats trump led c d }
-{
-    c == d || beats(trump, led, c, d)
-}
-
-/// Whether the card beats the others of the trick.
-fn wins(trump: Option<Suit>, trick: &[Card], card: Card) -> bool
-    requires { 0 < length trick.now }
-    ensures { result ≡ wins trump trick.now card }
-{
-    let led = trick[0];
-    trick
-        .iter()
-        .all(|other| is_or_beats(trump, led, card, *other))
-}
-
-/// The place of the winner: of different cards one always beats the others.
-fn winning_place(trump: Option<Suit>, trick: &[Card]) -> usize
-    requires { 0 < length trick.now }
-    ensures { result ≡ winning_place trump trick.now }
-{
-    winner(trump, trick).unwrap_or(0)
-}
-
-/// The place in the trick of the card that beats the others.
-fn winner(trump: Option<Suit>, trick: &[Card]) -> Option<usize>
-    requires { 0 < length trick.now }
-    ensures { result ≡ position (wins trump trick.now) trick.now }
-{
-    trick.iter().position(|card| wins(trump, trick, *card))
 }

@@ -6,9 +6,10 @@ ghost use Rattle.bridge_play.specs.Trick.{turn_of, tricks_won};
 ghost use Rattle.bridge_play.specs.Legal.{holds, holds_suit, follows};
 ghost use Rattle.bridge_play.specs.CardPlay.{with_next};
 
-use crate::trick::{next_leader, next_won, same_suit};
+use crate::trick::{next_leader, next_won};
 use arrayvec::ArrayVec;
 use bridge_auction::Contract;
+use bridge_cards::trick::same_suit;
 use bridge_cards::{Card, CardSet, Deal, Seat, Side};
 use std::marker::Model;
 
