@@ -9,8 +9,8 @@ pub record IsAnswered (legal rest : ℕ) (answer : ℕ → Bool) (against : Bool
   pub among : (card : ℕ) → has_card rest card ≡ true → has_card legal card ≡ true
   pub tried : (card : ℕ) → has_card legal card ≡ true → has_card rest card ≡ false → answer card ≡ against
 
-pub answered-init : (legal : ℕ) (answer : ℕ → Bool) (against : Bool) → IsAnswered legal legal answer against
-answered-init legal answer against = record { among = λ card has. has; tried = λ card has not. cc }
+pub answered_init : (legal : ℕ) (answer : ℕ → Bool) (against : Bool) → IsAnswered legal legal answer against
+answered_init legal answer against = record { among = λ card has. has; tried = λ card has not. cc }
 
 module _ (legal rest less card : ℕ) (answer : ℕ → Bool) (against : Bool) (without : (other : ℕ) → has_card less other ≡ (has_card rest other && not (other == card))) (before : IsAnswered legal rest answer against) (now : answer card ≡ against) where
   at : (other : ℕ) (left same : Bool) → has_card rest other ≡ left → (other == card) ≡ same → has_card legal other ≡ true → (left && not same) ≡ false → answer other ≡ against
@@ -18,11 +18,23 @@ module _ (legal rest less card : ℕ) (answer : ℕ → Bool) (against : Bool) (
   at other true false is same may gone = cc
   at other false same is eq may gone = before.tried other may is
 
-  pub answered-step : IsAnswered legal less answer against
-  answered-step = record {
+  pub answered_step : IsAnswered legal less answer against
+  answered_step = record {
     among = λ other has. before.among other ((and_parts (has_card rest other) (not (other == card)) (sym (without other) ∙ has)).0);
     tried = λ other may gone. at other (has_card rest other) (other == card) refl refl may (sym (without other) ∙ gone);
   }
+
+-- others that have the same answer go too
+pub answered_equals : (legal rest gone less : ℕ) (answer : ℕ → Bool) (against : Bool) → IsAnswered legal rest answer against → ((other : ℕ) → has_card less other ≡ (has_card rest other && not (has_card gone other))) → ((other : ℕ) → has_card gone other ≡ true → has_card legal other ≡ true → answer other ≡ against) → IsAnswered legal less answer against
+answered_equals legal rest gone less answer against before difference same = record {
+  among = λ other has. before.among other ((and_parts (has_card rest other) (not (has_card gone other)) (sym (difference other) ∙ has)).0);
+  tried = λ other may lacks. at other (has_card rest other) (has_card gone other) refl refl may (sym (difference other) ∙ lacks);
+}
+  where
+    at : (other : ℕ) (left out : Bool) → has_card rest other ≡ left → has_card gone other ≡ out → has_card legal other ≡ true → (left && not out) ≡ false → answer other ≡ against
+    at other true true is was may lacks = same other was may
+    at other true false is was may lacks = cc
+    at other false out is was may lacks = before.tried other may is
 
 -- what a test of two answers tells
 pub same_answer : (a b : Bool) → beq a b ≡ true → a ≡ b

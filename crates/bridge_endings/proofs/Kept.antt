@@ -7,8 +7,6 @@ use Rattle.lru.specs.LruCache.{LruCache, lru_cache, put_entries}
 use Rattle.lru.proofs.CallerLemmas.{Contains-lookup, Contains-put_entries, lookup-put_entries}
 use Rattle.bridge_cards.specs.declared.suit.Suit.{Suit}
 use Rattle.bridge_cards.specs.declared.suit.Suit.TheVariants.{Clubs, Diamonds, Hearts, Spades}
-use Rattle.bridge_cards.specs.declared.seat.Seat.{Seat}
-use Rattle.bridge_cards.specs.declared.seat.Seat.TheVariants.{North, East, South, West}
 use Rattle.bridge_cards.specs.Suit.{suit_at}
 use Rattle.bridge_cards.specs.Seat.{seat_number, seat_at}
 use Rattle.bridge_endings.specs.declared.bounds.Bounds.{Bounds}
@@ -17,10 +15,11 @@ use Rattle.bridge_endings.specs.Ending.{IsEnding}
 use Rattle.bridge_endings.specs.Worth.{worth_of}
 use Rattle.bridge_endings.specs.Cached.{trump_number, key_of, EachIsTrue}
 use Rattle.bridge_endings.specs.Between.{IsBetween}
+use Rattle.bridge_endings.proofs.Seats.{seat_at-number}
 
 -- ---- a key stands for one ending
 
--- trump suits and seats by their numbers
+-- trump suits by their numbers
 trump_at : ℕ → Option Suit
 trump_at zero = None
 trump_at (suc place) = Some (suit_at place)
@@ -32,12 +31,6 @@ trump_at-number (Some Clubs) = refl
 trump_at-number (Some Diamonds) = refl
 trump_at-number (Some Hearts) = refl
 trump_at-number (Some Spades) = refl
-
-seat_at-number : (seat : Seat) → seat_at (seat_number seat) ≡ seat
-seat_at-number North = refl
-seat_at-number East = refl
-seat_at-number South = refl
-seat_at-number West = refl
 
 -- two lists as long as each other, with two numbers behind each
 same_parts : (xs ys : List ℕ) (a b c d : ℕ) → length xs ≡ length ys → xs ++ a ∷ b ∷ [] ≡ ys ++ c ∷ d ∷ [] → (xs ≡ ys) × (a ≡ c) × (b ≡ d)

@@ -7,3 +7,12 @@ pub mod SearchSteps
 pub mod Root
 pub mod Kept
 pub mod Table
+pub mod Seats
+pub mod Swap
+pub mod SameBest
+pub mod SwappedTrick
+pub mod SwappedWorth
+pub mod EqualWorth
+pub mod Runs
+pub mod Owners
+pub mod EqualSteps

@@ -66,10 +66,10 @@ need_less : (need won worth : ℕ) → nat_le (need - won) worth ≡ nat_le need
 need_less need won worth = grind (arith, nat_tests)
 
 module _ (trump : Option Suit) (worth : (Seat → ℕ → Bool) → Seat → List ℕ → ℕ) (held : Seat → ℕ → Bool) (leader : Seat) (trick : List ℕ) where
-  worth_after-part : length trick < 4 → worth_after trump worth held leader trick ≡ worth held leader trick
+  pub worth_after-part : length trick < 4 → worth_after trump worth held leader trick ≡ worth held leader trick
   worth_after-part part = cond-false (length trick == 4) _ _ (ne_eqb (length trick) 4 (λ e. omega arith))
 
-  worth_after-whole : length trick ≡ 4 → worth_after trump worth held leader trick ≡ trick_for (side_of (next_leader trump leader trick)) + worth held (next_leader trump leader trick) []
+  pub worth_after-whole : length trick ≡ 4 → worth_after trump worth held leader trick ≡ trick_for (side_of (next_leader trump leader trick)) + worth held (next_leader trump leader trick) []
   worth_after-whole whole = cond-true (length trick == 4) _ _ (eq-eqb (length trick) 4 whole)
 
 module _ (trump : Option Suit) (hands : List ℕ) (left rest : ℕ) (leader : Seat) (trick : List ℕ) (card tricks need : ℕ) (without : (other : ℕ) → has_card rest other ≡ (has_card left other && not (other == card))) where

@@ -43,7 +43,7 @@ trick_for_le : (side : Side) → trick_for side ≤ 1
 trick_for_le NorthSouth = omega arith
 trick_for_le EastWest = omega arith
 
-worth_zero : (trump : Option Suit) (held : Seat → ℕ → Bool) (leader : Seat) (trick : List ℕ) → worth_with trump zero held leader trick ≡ 0
+pub worth_zero : (trump : Option Suit) (held : Seat → ℕ → Bool) (leader : Seat) (trick : List ℕ) → worth_with trump zero held leader trick ≡ 0
 unfolding worth_with
 worth_zero trump held leader trick = refl
 

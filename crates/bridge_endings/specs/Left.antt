@@ -1,10 +1,12 @@
 -- What a search asks: of the cards dealt, those that are left, and whether so many tricks are won.
-use Rattle.std.specs.Prelude.{◌≡◌, ℕ, ◌<◌, ◌⊎◌, Bool, true, false, ◌&&◌, List}
+use Rattle.std.specs.Prelude.{◌≡◌, ℕ, ◌<◌, ◌⊎◌, Bool, true, false, ◌&&◌, List, length, slice_index}
 use Rattle.bridge_cards.specs.declared.seat.Seat.{Seat}
 use Rattle.bridge_cards.specs.declared.seat.Side.{Side}
 use Rattle.bridge_cards.specs.declared.seat.Side.TheVariants.{NorthSouth, EastWest}
 use Rattle.bridge_cards.specs.CardSet.{has_card}
+use Rattle.bridge_cards.specs.Seat.{clockwise_from}
 use Rattle.bridge_cards.specs.Deal.{hand_at}
+use Rattle.bridge_endings.specs.Worth.{dealt}
 
 -- whether the seat was dealt the card, and it is left
 abbrev pub left_to : List ℕ → ℕ → Seat → ℕ → Bool
@@ -18,3 +20,7 @@ is_sought EastWest = false
 -- at the start of a trick, no tricks are needed, or more than are left
 abbrev pub IsSettled : ℕ → ℕ → ℕ → Type 0
 IsSettled played tricks need = (played ≡ 0) × ((need ≡ 0) ⊎ (tricks < need))
+
+-- each card of the trick was dealt to the seat that played it
+abbrev pub EachDealt : List ℕ → Seat → List ℕ → Type 0
+EachDealt hands leader trick = (place : ℕ) → place < length trick → dealt hands (clockwise_from leader place) (slice_index trick place) ≡ true

@@ -2,7 +2,9 @@
 use Rattle.std.specs.Prelude.{◌≡◌, ℕ, ◌*◌, List, [], All, Option}
 use Rattle.bridge_cards.specs.declared.suit.Suit.{Suit}
 use Rattle.bridge_endings.specs.declared.found.Found.{Found}
+use Rattle.bridge_endings.specs.Ending.{IsEnding}
 use Rattle.bridge_endings.specs.Worth.{worth_with}
+use Rattle.bridge_endings.specs.Equal.{EachIsEqualTo}
 use Rattle.bridge_endings.specs.Left.{left_to}
 use Rattle.bridge_endings.specs.Between.{IsBetween}
 
@@ -24,3 +26,9 @@ pub record IsNothing (found : Found) : Type 0 where
   pub tricks : found.tricks ≡ 0
   pub least : found.bounds.least ≡ 0
   pub most : found.bounds.most ≡ 0
+
+-- what a search keeps: the hands of an ending, their equal cards, and bounds that are true of what was left
+pub record IsKept (hands : List ℕ) (trump : Option Suit) (equals : List ℕ) (table : List Found) : Type 0 where
+  pub ending : IsEnding hands
+  pub equal : EachIsEqualTo hands equals
+  pub found : EachIsFound hands trump table

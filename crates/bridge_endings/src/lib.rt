@@ -4,6 +4,7 @@
 mod bounds;
 pub mod cache;
 pub mod ending;
+mod equal;
 mod found;
 mod move_order;
 mod search;

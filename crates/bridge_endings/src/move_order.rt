@@ -11,11 +11,11 @@ pub fn next_card(cards: CardSet, trick: &Trick, trump: Option<Suit>) -> Option<C
     ensures card { IfSome result (λ card. IsCard card × IsTrue (has_card cards card)) }
     ensures none { IsNone result ↔ (cards ≡ 0) }
 {
-    let Some(winning) = trick.winning(trump) else {
+    if trick.len() == 0 {
         return highest_rank(cards);
-    };
-    if !winning.is_partners
-        && let Some(card) = lowest_winner(cards, trick, trump, winning.card)
+    }
+    if !trick.partner_wins()
+        && let Some(card) = lowest_winner(cards, trick, trump)
     {
         return Some(card);
     }
@@ -45,12 +45,12 @@ fn higher(card: Card, other: Option<Card>) -> Card
 }
 
 /// The lowest card that beats the one that wins so far.
-fn lowest_winner(cards: CardSet, trick: &Trick, trump: Option<Suit>, winning: Card) -> Option<Card>
+fn lowest_winner(cards: CardSet, trick: &Trick, trump: Option<Suit>) -> Option<Card>
     ensures { IfSome result (λ card. IsCard card × IsTrue (has_card cards card)) }
 {
     let mut rest = cards;
     while let Some(card) = rest.lowest() {
-        if trick.would_win(trump, card, winning) {
+        if trick.would_win(trump, card) {
             return Some(card);
         }
         rest = rest.without(card);

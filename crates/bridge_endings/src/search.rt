@@ -1,15 +1,18 @@
 //! The search: whether North and South win at least so many of the tricks left.
-ghost use Rattle.std.specs.Prelude.{◌≡◌, ℕ, ◌-◌, ◌*◌, ◌<◌, ◌≤◌, nat_le, length, MatchBool, All, ◌++◌, ◌∷◌, []};
+ghost use Rattle.std.specs.Prelude.{◌≡◌, ℕ, ◌-◌, ◌*◌, ◌<◌, ◌≤◌, nat_le, true, length, MatchBool, All, ◌++◌, ◌∷◌, []};
 ghost use Rattle.bridge_cards.specs.Card.{IsCard, card_suit};
 ghost use Rattle.bridge_cards.specs.CardSet.{IsCardSet, has_card};
 ghost use Rattle.bridge_cards.specs.Seat.{clockwise_from, side_of};
 ghost use Rattle.bridge_endings.specs.Worth.{may_play, after_playing, trick_for, worth_with, worth_after};
-ghost use Rattle.bridge_endings.specs.Left.{left_to, is_sought, IsSettled};
+ghost use Rattle.bridge_endings.specs.Ending.{IsEnding};
+ghost use Rattle.bridge_endings.specs.Left.{left_to, is_sought, IsSettled, EachDealt};
+ghost use Rattle.bridge_endings.specs.Equal.{IsEqualTo};
 ghost use Rattle.bridge_endings.specs.Between.{IsBetween};
 ghost use Rattle.bridge_endings.specs.Searched.{IsFound, IsNothing};
 
 use crate::bounds::Bounds;
 use crate::ending::Ending;
+use crate::equal::{DECK, equal_cards};
 use crate::found::Found;
 use crate::move_order::next_card;
 use crate::trick::Trick;
@@ -26,17 +29,19 @@ pub struct Search {
     hands: [CardSet; 4],
     trump: Option<Suit>,
     tried: u64,
+    /// For each card, by its number, cards that are equal to it.
+    equals: [CardSet; DECK],
     table: [Found; PLACES],
 }
 
 impl Model for Search {
-    ghost use Rattle.bridge_endings.specs.Searched.{Searched, EachIsFound};
+    ghost use Rattle.bridge_endings.specs.Searched.{Searched, IsKept};
 
     ghost Value = { Searched };
 
     ghost view = { λ s. record { hands = s.hands; trump = s.trump; tried = s.tried } };
 
-    ghost invariant = { λ s. EachIsFound s.hands s.trump s.table };
+    ghost invariant = { λ s. IsKept s.hands s.trump s.equals s.table };
 }
 
 impl Search {
@@ -46,10 +51,12 @@ impl Search {
         ensures trump { result.trump ≡ ending.now.trump }
         ensures tried { result.tried ≡ tried }
     {
+        let hands = ending.hands();
         Search {
-            hands: ending.hands(),
+            hands,
             trump: ending.trump(),
             tried,
+            equals: equal_cards(&hands),
             table: empty_table(),
         }
     }
@@ -59,6 +66,14 @@ impl Search {
         ensures { result ≡ self.now.trump }
     {
         self.trump
+    }
+
+    /// Cards that are equal to that one, if it is in one of the hands.
+    fn equals(&self, card: Card) -> CardSet
+        ensures equal { IsEqualTo self.now.hands card result }
+        ensures ending { IsEnding self.now.hands }
+    {
+        self.equals[usize::from(card.number())]
     }
 
     /// Counts one card more.
@@ -154,6 +169,7 @@ impl Search {
     fn reaches(&mut self, left: CardSet, trick: &Trick, tricks: u8, need: u8) -> bool
         requires part { length trick.now.cards < 4 }
         requires enough { length trick.now.cards ≤ 4 * tricks }
+        requires dealt { EachDealt self.old.hands trick.now.leader trick.now.cards }
         ensures worth { result ≡ nat_le need (worth_with self.old.trump (4 * tricks - length trick.now.cards)
             (left_to self.old.hands left) trick.now.leader trick.now.cards) }
         ensures hands { self.new.hands ≡ self.old.hands }
@@ -170,7 +186,7 @@ impl Search {
         let sought = is_sought(trick.turn());
         let mut rest = legal;
         while let Some(card) = next_card(rest, trick, self.trump()) {
-            rest = rest.without(card);
+            rest = rest.without(card).difference(self.equals(card));
             if self.reaches_with(left, trick, card, tricks, need) == sought {
                 return sought;
             }
@@ -190,6 +206,8 @@ impl Search {
     ) -> bool
         requires part { length trick.now.cards < 4 }
         requires some { 0 < tricks }
+        requires dealt { EachDealt self.old.hands trick.now.leader trick.now.cards }
+        requires held { left_to self.old.hands left (clockwise_from trick.now.leader (length trick.now.cards)) card ≡ true }
         ensures worth { result ≡ nat_le need (worth_after self.old.trump (worth_with self.old.trump (4 * tricks - length trick.now.cards - 1))
             (after_playing card (left_to self.old.hands left)) trick.now.leader (trick.now.cards ++ card ∷ [])) }
         ensures hands { self.new.hands ≡ self.old.hands }
@@ -197,12 +215,13 @@ impl Search {
         ensures tried { self.old.tried ≤ self.new.tried }
     {
         self.count_card();
+        let trump = self.trump();
         let left = left.without(card);
-        let trick = trick.with(card);
+        let trick = trick.with(card, trump);
         if trick.len() < 4 {
             return self.reaches(left, &trick, tricks, need);
         }
-        let winner = trick.winner(self.trump());
+        let winner = trick.winner(trump);
         let need = need_after(winner, need);
         self.reaches_from(left, winner, tricks - 1, need)
     }

@@ -13,6 +13,9 @@ pub struct Trick {
     leader: Seat,
     cards: [Card; 4],
     played: usize,
+    /// The card that wins so far, and its place. They guide the order in which cards are tried, and no more.
+    winning: Card,
+    winning_at: usize,
 }
 
 impl Model for Trick {
@@ -26,15 +29,6 @@ impl Model for Trick {
     ghost invariant = { λ t. (t.played ≤ 4) × (length t.cards ≡ 4) };
 }
 
-/// The card that wins a trick so far.
-#[derive(Clone, Copy)]
-pub struct Winning {
-    /// The card.
-    pub card: Card,
-    /// Whether the partner of the hand in turn played it.
-    pub is_partners: bool,
-}
-
 impl Trick {
     /// The trick to which nobody has played; that seat leads.
     pub fn new(leader: Seat) -> Trick
@@ -45,6 +39,8 @@ impl Trick {
             leader,
             cards: [Card::default(); 4],
             played: 0,
+            winning: Card::default(),
+            winning_at: 0,
         }
     }
 
@@ -71,18 +67,24 @@ impl Trick {
     }
 
     /// The trick with the card too.
-    pub fn with(&self, card: Card) -> Trick
+    pub fn with(&self, card: Card, trump: Option<Suit>) -> Trick
         requires { length self.now.cards < 4 }
         ensures leader { result.leader ≡ self.now.leader }
         ensures cards { result.cards ≡ self.now.cards ++ card ∷ [] }
     {
-        let mut cards = self.cards;
-        cards[self.played] = card;
-        Trick {
+        let mut trick = Trick {
             leader: self.leader,
-            cards,
+            cards: self.cards,
             played: self.played + 1,
+            winning: self.winning,
+            winning_at: self.winning_at,
+        };
+        trick.cards[self.played] = card;
+        if self.would_win(trump, card) {
+            trick.winning = card;
+            trick.winning_at = self.played;
         }
+        trick
     }
 
     /// The cards, from the one led.
@@ -92,28 +94,15 @@ impl Trick {
         &self.cards[..self.played]
     }
 
-    /// The card that wins so far, if one is played.
-    pub fn winning(&self, trump: Option<Suit>) -> Option<Winning> {
-        let cards = self.so_far();
-        let led = *cards.first()?;
-        let mut card = led;
-        let mut place = 0;
-        for (next, other) in cards.iter().enumerate() {
-            if beats(trump, led, *other, card) {
-                card = *other;
-                place = next;
-            }
-        }
-        Some(Winning {
-            card,
-            is_partners: cards.len() >= 2 && place == cards.len() - 2,
-        })
+    /// Whether the partner of the hand in turn wins so far.
+    pub fn partner_wins(&self) -> bool {
+        self.played >= 2 && self.winning_at == self.played - 2
     }
 
     /// Whether the card would beat the one that wins so far.
-    pub fn would_win(&self, trump: Option<Suit>, card: Card, winning: Card) -> bool {
+    pub fn would_win(&self, trump: Option<Suit>, card: Card) -> bool {
         match self.led() {
-            Some(led) => beats(trump, led, card, winning),
+            Some(led) => beats(trump, led, card, self.winning),
             None => true,
         }
     }

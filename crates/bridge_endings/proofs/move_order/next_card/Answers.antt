@@ -5,6 +5,6 @@ use Rattle.bridge_endings.proofs.move_order.next_card.Goals as goal
 
 pub returns-clause-none : goal.returns-clause-none
 returns-clause-none c =
-    let card = c.in-Some-lowest_winner.card in
-    let has : has_card c.args.cards card ≡ true = c.in-Some-lowest_winner.ensures.1 in
+    let card = c.in-Some.card in
+    let has : has_card c.args.cards card ≡ true = c.in-Some.ensures.1 in
     (λ none. cc, λ empty. let lacks : has_card c.args.cards card ≡ false = ap (λ cards. has_card cards card) empty ∙ has_card-zero card in cc)

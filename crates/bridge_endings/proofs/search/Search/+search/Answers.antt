@@ -1,11 +1,15 @@
-use Rattle.std.proofs.Common.{◌≡◌, ◌-◌, ◌*◌, nat_le, length, refl, ap, ◌∙◌, arith}
+use Rattle.std.proofs.Common.{rules, ◌≡◌, ℕ, ◌-◌, ◌*◌, true, not, nat_le, List, length, refl, sym, ap, ◌∙◌, subst, arith}
 use Rattle.bridge_cards.specs.CardSet.{has_card}
 use Rattle.bridge_cards.proofs.CardSetLaws.{has_card-zero}
-use Rattle.bridge_cards.proofs.CardCounts.{card_count-without}
-use Rattle.bridge_endings.specs.Left.{left_to}
+use Rattle.bridge_cards.specs.declared.seat.Seat.{Seat}
+use Rattle.bridge_cards.specs.Seat.{clockwise_from}
+use Rattle.bridge_endings.specs.Ending.{IsEnding}
+use Rattle.bridge_endings.specs.Left.{left_to, EachDealt}
+use Rattle.bridge_endings.specs.Equal.{IsEqualTo}
 use Rattle.bridge_endings.proofs.WorthSteps.{worth_of_card}
-use Rattle.bridge_endings.proofs.Answered.{same_answer, answer_kept}
+use Rattle.bridge_endings.proofs.Answered.{same_answer, other_answer, answer_kept}
 use Rattle.bridge_endings.proofs.SearchSteps.{settled, none_legal, found, none_found, after_part, after_whole}
+use Rattle.bridge_endings.proofs.EqualSteps.{legal_held, answered_with_equals, fewer}
 use Rattle.bridge_endings.proofs.search.Search.+search.Goals as goal
 
 pub reaches-returns-then-is_settled-clause-worth : goal.reaches-returns-then-is_settled-clause-worth
@@ -24,7 +28,7 @@ reaches-returns-then-reaches_with-sought-clause-worth t c =
 
 pub reaches-loop-card-smaller : goal.reaches-loop-card-smaller
 reaches-loop-card-smaller t c =
-    omega (arith, card_count-without c.loop-card.rest c.without-rest.result c.in-Some.card c.in-Some.ensures.card.0 c.in-Some.ensures.card.1 c.without-rest.ensures)
+    fewer c.loop-card.rest c.without.result c.equals.result c.difference-rest.result c.in-Some.card c.in-Some.ensures.card.0 c.in-Some.ensures.card.1 c.without.ensures c.difference-rest.ensures
 
 pub reaches-returns-clause-worth : goal.reaches-returns-clause-worth
 reaches-returns-clause-worth t c =
@@ -47,7 +51,37 @@ reaches_with-returns-clause-worth t c =
     let told = c.reaches_from.ensures.worth
     ∙ after_whole c.count_card.new.self.trump c.count_card.new.self.hands c.args.left c.without-left.result c.args.trick.now.leader c.args.trick.now.cards c.args.card c.args.tricks c.args.need c.without-left.ensures
     c.with-trick.result.leader c.winner-winner.result c.with-trick.result.cards c.need_after-need.result c.with-trick.ensures.cards c.with-trick.ensures.leader (omega arith) (omega arith)
-    (rw (← c.trump.ensures) c.winner-winner.ensures) c.need_after-need.ensures in
+    (rw (← c.trump-trump.ensures) c.winner-winner.ensures) c.need_after-need.ensures in
     answer_kept c.count_card.new.self.hands c.count_card.new.self.trump c.args.self.now.hands c.args.self.now.trump
     (λ hands trump. c.reaches_from.result ≡ nat_le c.args.need (worth_of_card trump (4 * c.args.tricks - length c.args.trick.now.cards - 1) (left_to hands c.args.left) c.args.trick.now.leader c.args.trick.now.cards c.args.card))
     c.count_card.ensures.hands c.count_card.ensures.trump told
+
+pub reaches-reaches_with-requires : goal.reaches-reaches_with-requires
+reaches-reaches_with-requires t c =
+    let turn : Seat = clockwise_from c.args.trick.now.leader (length c.args.trick.now.cards) in (
+      search rules,
+      (
+        c.requires.part,
+        (
+          omega arith,
+          (
+            subst (λ (hands : List ℕ). EachDealt hands c.args.trick.now.leader c.args.trick.now.cards) (sym c.loop-card.invariant.hands) c.requires.dealt,
+            subst (λ (hands : List ℕ). left_to hands c.args.left turn c.in-Some.card ≡ true) (sym c.loop-card.invariant.hands)
+                (legal_held (left_to c.args.self.now.hands c.args.left turn) c.args.trick.now.cards c.legal_cards-legal.result c.legal_cards-legal.ensures.legal c.in-Some.card (c.loop-card.invariant.answered.among c.in-Some.card c.in-Some.ensures.card.1)),
+          ),
+        ),
+      ),
+    )
+
+pub reaches-loop-card-preserved : goal.reaches-loop-card-preserved
+reaches-loop-card-preserved t c =
+    let told = answer_kept c.loop-card.self.hands c.loop-card.self.trump c.args.self.now.hands c.args.self.now.trump (λ hands trump. c.reaches_with.result ≡ nat_le c.args.need (worth_of_card trump (4 * c.args.tricks - length c.args.trick.now.cards - 1) (left_to hands c.args.left) c.args.trick.now.leader c.args.trick.now.cards c.in-Some.card)) c.loop-card.invariant.hands c.loop-card.invariant.trump c.reaches_with.ensures.worth in
+    record {
+      answered = answered_with_equals c.args.self.now.hands (subst (λ (hands : List ℕ). IsEnding hands) c.loop-card.invariant.hands c.equals.ensures.ending) c.args.self.now.trump (4 * c.args.tricks - length c.args.trick.now.cards - 1) c.args.need c.args.left c.args.trick.now.leader c.args.trick.now.cards c.requires.part c.requires.dealt c.legal_cards-legal.result c.legal_cards-legal.ensures.legal
+          c.loop-card.rest c.without.result c.equals.result c.difference-rest.result c.in-Some.card (not c.is_sought-sought.result) c.loop-card.invariant.answered c.in-Some.ensures.card.1 c.without.ensures c.difference-rest.ensures
+          (subst (λ (hands : List ℕ). IsEqualTo hands c.in-Some.card c.equals.result) c.loop-card.invariant.hands c.equals.ensures.equal)
+          (sym told ∙ other_answer c.reaches_with.result c.is_sought-sought.result c.if-reaches_with-sought.false);
+      hands = c.reaches_with.ensures.hands ∙ c.loop-card.invariant.hands;
+      trump = c.reaches_with.ensures.trump ∙ c.loop-card.invariant.trump;
+      tried = omega (arith, c.reaches_with.ensures.tried, c.loop-card.invariant.tried);
+    }
