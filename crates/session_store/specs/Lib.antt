@@ -9,3 +9,5 @@ pub mod Value
 pub mod Store
 pub mod Answers
 pub mod Opening
+pub mod Counter
+pub mod CounterLaws

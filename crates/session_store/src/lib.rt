@@ -18,6 +18,8 @@ mod sectors;
 mod snapshot;
 mod store;
 mod submitting;
+#[cfg(test)]
+mod tests;
 
 pub use fault::{CheckpointFault, ConfirmFault, PartsFault, StoreFault, SubmitFault};
 pub use formatting::format;
