@@ -44,15 +44,17 @@ module _ {S A R : Type 0} (kept : Keeping S A R) where
       of_take (suc n) t made = made
 
   pub first_snapshot : {D : Type 0} (disk : Disk D) → IsLawful kept → (old new : D) (s : S) → kept.IsState s → disk.honest new
+      → 2048 ≤ disk.count new
       → ((c : Image) → disk.may_leave old c → (k : ℕ) → k < 2048 → c k ≡ replicate 512 0)
       → ((c : Image) → disk.may_leave new c → WithSnapshot kept (disk.may_leave old) 1 s c)
       → IsSoundDisk kept disk new × StandsOnlyFor kept disk s new
-  first_snapshot disk lawful old new s is_state honest zeros written =
+  first_snapshot disk lawful old new s is_state honest large zeros written =
       let settled : (c : Image) → disk.may_leave new c → IsSettled kept 1 s 0 [] c
       = λ c left. with_snapshot-settled kept lawful (disk.may_leave old) 0 1 s c refl (omega arith) is_state
       (λ d before. zeros-nothing_later d (zeros d before)) (written c left) in (
         record {
           honest = honest;
+          large = large;
           stands = λ c left. (s, (settled-only 1 0 s c (omega arith) (settled c left)).0);
           in_order = λ c left. (settled-only 1 0 s c (omega arith) (settled c left)).1;
         },

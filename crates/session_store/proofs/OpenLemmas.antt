@@ -1,7 +1,7 @@
 -- What opening does to a disk.
 use Rattle.std.proofs.Common.{◌≡◌, ◌<◌, ◌≤◌, ◌+◌, ◌-◌, ◌^◌, ℕ, zero, suc, List, [], take, Some, Ok, false, refl, sym, ap, subst, ◌∙◌, arith}
 use Rattle.sector_disk.specs.Disk.{Image, Disk}
-use Rattle.sector_disk.specs.Runs.{EveryMoment, Quiet, weakens, joins}
+use Rattle.sector_disk.specs.Runs.{EveryMoment, Quiet, Remains, now_has, weakens, joins}
 use Rattle.session_store.specs.Keeping.{Keeping, IsLawful, fold}
 use Rattle.session_store.specs.Stands.{recovered}
 use Rattle.session_store.specs.Base.{HasEpoch, IsSettled, StandsForPrefix}
@@ -37,6 +37,26 @@ module _ {D S A R : Type 0} (kept : Keeping S A R) (disk : Disk D) where
         was_there = left;
         stood = (sound.stands c left).1;
       })
+
+  -- and so does any run whose every moment is sound
+  pub still-sound : (old new : D) → IsSoundDisk kept disk old → Remains disk old new
+      → EveryMoment disk old new (IsStillSound kept (disk.may_leave old)) → IsSoundDisk kept disk new
+  still-sound old new sound remains run =
+      let has = now_has disk old new (IsStillSound kept (disk.may_leave old)) run in record {
+        honest = remains.stays_honest sound.honest;
+        large = omega (arith, remains.count, sound.large);
+        stands = λ c left. ((has c left).state, (has c left).stands);
+        in_order = λ c left. (has c left).in_order;
+      }
+
+  -- a sound store has a sound disk
+  pub store-sound : (v : StoreValue D S A) → 2048 ≤ disk.count v.disk → IsSoundStore kept disk v → IsSoundDisk kept disk v.disk
+  store-sound v large sound = record {
+    honest = sound.honest;
+    large = large;
+    stands = λ c left. ((sound.images c left).state, (sound.images c left).stands);
+    in_order = λ c left. (sound.images c left).in_order;
+  }
 
   module _ (old mid : D) (epoch : ℕ) (s : S) (sound : IsSoundDisk kept disk old)
       (settled : (c : Image) → disk.may_leave mid c → c ≡ disk.reads old)

@@ -1,12 +1,12 @@
 -- What opening a disk reads, and why it fails.
-use Rattle.std.proofs.Common.{◌≡◌, ◌-◌, ◌^◌, ℕ, List, Some, None, Result, Ok, Err, inl, inr, refl, sym, ap, subst, ◌∙◌}
-use Rattle.std.proofs.lemmas.Bool.{cond-true, cond-false, eq-eqb, ne_eqb}
+use Rattle.std.proofs.Common.{◌≡◌, ◌⊎◌, ◌-◌, ◌^◌, ℕ, List, Option, Some, None, Result, Ok, Err, inl, inr, refl, sym, ap, subst, ◌∙◌}
+use Rattle.std.proofs.lemmas.Bool.{cond-true, cond-false, eq-eqb, ne_eqb, cases_eq}
 use Rattle.sector_disk.specs.Disk.{Image, Rose}
 use Rattle.session_store.specs.Keeping.{Keeping}
 use Rattle.session_store.specs.Form.{place}
 use Rattle.session_store.specs.declared.reading.Header.{Header}
 use Rattle.session_store.specs.declared.fault.StoreFault.{StoreFault}
-use Rattle.session_store.specs.declared.fault.StoreFault.TheVariants.{Damaged, NotFormatted, EpochsSpent}
+use Rattle.session_store.specs.declared.fault.StoreFault.TheVariants.{Disk as DiskFailed, Damaged, NotFormatted, EpochsSpent, NoMemory}
 use Rattle.session_store.specs.Stands.{header_in, after_state, after_parts, after_header, recovered, replay, parts_from}
 use Rattle.session_store.specs.Opening.{IsCause, reading_from, reading}
 
@@ -54,3 +54,27 @@ module _ {S A R : Type 0} (kept : Keeping S A R) (image : Image) where
         head ∙ cond-false _ _ _ (ne_eqb h.epoch (2 ^ 64 - 1) more)),
     rw (← some) refl,
   )
+
+  reading-not_formatted : None ≡ header_in image → recovered kept image ≡ Err NotFormatted
+  unfolding recovered after_header
+  reading-not_formatted none = rw (← none) refl
+
+  -- an image that stands for a state is opened, unless the epochs are spent
+  reading-stands : (s : S) (fault : StoreFault) → recovered kept image ≡ Ok s → reading kept image ≡ Err fault → fault ≡ EpochsSpent
+  reading-stands s fault stands is = of_header (header_in image) refl
+    where
+      of_header : (o : Option Header) → o ≡ header_in image → fault ≡ EpochsSpent
+      of_header None none = let never : Err NotFormatted ≡ Ok s = sym (reading-not_formatted none) ∙ stands in cc
+      of_header (Some h) some =
+          elim (cases_eq h.epoch (2 ^ 64 - 1)) [
+            | inl last ↦ let same : Err EpochsSpent ≡ Err fault = sym (reading-spent h some last) ∙ is in cc
+            | inr more ↦ let never : Ok s ≡ Err fault = sym stands ∙ sym (reading-some h some more).0 ∙ is in cc
+          ]
+
+  -- so opening it fails from one of three causes
+  pub cause-stands : (s : S) (honest : Type 0) (before now : ℕ) (fault : StoreFault) → honest → recovered kept image ≡ Ok s
+      → IsCause honest before now (reading kept image) fault
+      → (fault ≡ DiskFailed) ⊎ ((fault ≡ EpochsSpent) ⊎ (fault ≡ NoMemory))
+  cause-stands s honest before now fault holds stands (inl failed) = inl failed.0
+  cause-stands s honest before now fault holds stands (inr (inl none)) = inr (inr none)
+  cause-stands s honest before now fault holds stands (inr (inr is)) = inr (inl (reading-stands s fault stands (is.1 holds)))

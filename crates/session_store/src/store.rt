@@ -1,6 +1,8 @@
 //! The store, and what it answers at any time.
 ghost use Rattle.std.specs.Prelude.{◌≡◌, ◌<◌, ◌≤◌, ◌^◌, Some, length};
 ghost use Rattle.session_store.specs.Keeping.{fold};
+ghost use Rattle.session_store.specs.Sound.{IsSoundDisk};
+ghost use Rattle.session_store.specs.Store.{IsSoundStore};
 
 use crate::Kept;
 use arrayvec::ArrayVec;
@@ -77,6 +79,7 @@ impl<D: SectorDisk + Drop, K: Kept> Store<D, K> {
     /// The disk.
     pub fn into_disk(self) -> D
         ensures disk { result ≡ self.disk }
+        ensures sound { IsSoundStore K.kept D.disk self → IsSoundDisk K.kept D.disk result }
         ensures large { 2048 ≤ D.disk.count result }
     {
         let Store { disk, .. } = self;

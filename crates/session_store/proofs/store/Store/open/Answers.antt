@@ -1,6 +1,7 @@
 use Rattle.std.proofs.Common.{◌≤◌, arith}
-use Rattle.sector_disk.specs.Runs.{none_read, quiet}
-use Rattle.session_store.proofs.OpenLemmas.{quiet-still, snapshot-still, opened-sound, opened-stands, opened-store, opened-view}
+use Rattle.sector_disk.specs.Runs.{none_read, quiet, remains_joins}
+use Rattle.session_store.proofs.OpeningLemmas.{cause-stands}
+use Rattle.session_store.proofs.OpenLemmas.{quiet-still, still-sound, snapshot-still, opened-sound, opened-stands, opened-store, opened-view}
 use Rattle.session_store.proofs.store.Store.open.Goals as goal
 
 pub returns-then-count-lt-SECTORS-clause-only_read : goal.returns-then-count-lt-SECTORS-clause-only_read
@@ -55,3 +56,36 @@ returns-in-Ok-write_snapshot-clause-stands g c = λ sound.
     opened-stands g.K.Kept.kept g.D.SectorDisk.disk _ _ c.in-Ok.found.epoch c.in-Ok.found.state sound
     (c.in-Ok.ensures.settled sound.honest) found.1 found.2 g.met.K.Kept.lawful c.in-Ok.ensures.epoch c.write_snapshot.ensures.state
     quietly c.write_snapshot.new.disk honest c.in-Ok-write_snapshot.ensures.written
+
+pub returns-in-Err-clause-opens : goal.returns-in-Err-clause-opens
+returns-in-Err-clause-opens g c = λ sound.
+    let disk = g.D.SectorDisk.disk in
+    let stands = sound.stands (disk.reads c.args.disk) (disk.reads_left c.args.disk sound.honest) in
+    cause-stands g.K.Kept.kept (disk.reads c.args.disk) stands.0 (disk.honest c.args.disk) _ _ c.in-Err.fault sound.honest stands.1
+    c.in-Err.ensures.fault
+
+pub returns-in-Err-clause-stays_sound : goal.returns-in-Err-clause-stays_sound
+returns-in-Err-clause-stays_sound g c = λ sound.
+    let quietly = c.recover_behind_barrier.ensures.quiet in
+    still-sound g.K.Kept.kept g.D.SectorDisk.disk _ _ sound quietly.remains
+    (quiet-still g.K.Kept.kept g.D.SectorDisk.disk _ _ sound quietly)
+
+pub returns-in-Err-write_snapshot-clause-stays_sound : goal.returns-in-Err-write_snapshot-clause-stays_sound
+returns-in-Err-write_snapshot-clause-stays_sound g c = λ sound.
+    let found = c.in-Ok.ensures.found sound.honest in
+    let quietly = c.recover_behind_barrier.ensures.quiet in
+    still-sound g.K.Kept.kept g.D.SectorDisk.disk _ _ sound
+    (remains_joins g.D.SectorDisk.disk _ _ _ quietly.remains c.write_snapshot.ensures.remains)
+    (snapshot-still g.K.Kept.kept g.D.SectorDisk.disk _ _ c.in-Ok.found.epoch c.in-Ok.found.state sound
+    (c.in-Ok.ensures.settled sound.honest) found.1 found.2 g.met.K.Kept.lawful c.in-Ok.ensures.epoch c.write_snapshot.ensures.state
+    quietly _ c.write_snapshot.ensures.any_moment)
+
+pub returns-in-Ok-write_snapshot-clause-stays_sound : goal.returns-in-Ok-write_snapshot-clause-stays_sound
+returns-in-Ok-write_snapshot-clause-stays_sound g c = λ sound.
+    let found = c.in-Ok.ensures.found sound.honest in
+    let quietly = c.recover_behind_barrier.ensures.quiet in
+    still-sound g.K.Kept.kept g.D.SectorDisk.disk _ _ sound
+    (remains_joins g.D.SectorDisk.disk _ _ _ quietly.remains c.write_snapshot.ensures.remains)
+    (snapshot-still g.K.Kept.kept g.D.SectorDisk.disk _ _ c.in-Ok.found.epoch c.in-Ok.found.state sound
+    (c.in-Ok.ensures.settled sound.honest) found.1 found.2 g.met.K.Kept.lawful c.in-Ok.ensures.epoch c.write_snapshot.ensures.state
+    quietly _ c.write_snapshot.ensures.any_moment)
