@@ -1,22 +1,25 @@
 -- A session after a change in one table.
-use Rattle.std.proofs.Common.{◌≡◌, ◌<◌, ◌≤◌, ℕ, Bool, true, cond, List, [], length, Option, Some, None, Result, Ok, Err, refl, sym, ap, ◌∙◌, length-set, subst, arith, Vec, Global}
-use Rattle.std.specs.Prelude.{All, map, slice_get, slice_set, slice_index_or, unwrap_or}
+use Rattle.std.proofs.Common.{◌≡◌, ◌<◌, ◌≤◌, ℕ, Bool, true, cond, List, [], ◌∷◌, length, Option, Some, None, Result, Ok, Err, refl, sym, ap, ◌∙◌, length-set, subst, arith, inl, inr, Vec, Global}
+use Rattle.std.specs.Prelude.{All, map, slice_get, slice_set, slice_index_or, unwrap_or, OnOk, OnErr}
 use Rattle.std.specs.Vec.{with_items}
 use Rattle.std.specs.Option.{option_map}
 use Rattle.std.proofs.lemmas.List.{map-set, length-map, with_items_is}
 use Rattle.std.proofs.lemmas.List.Elements.{All-set}
-use Rattle.std.proofs.lemmas.Option.{slice_get-map, slice_get_read, slice_get_within, get_or_from_slice_get}
+use Rattle.std.proofs.lemmas.Option.{slice_get-map, slice_get_cases, slice_get_read, slice_get_within, get_or_from_slice_get}
 use Rattle.bridge_config.specs.Configuration.{Configuration}
+use Rattle.bridge_cards.specs.declared.seat.Seat.{Seat}
 use Rattle.bridge_session.specs.declared.deed.Deed.{Deed}
+use Rattle.bridge_session.specs.declared.deed.Deed.TheVariants as deed
+use Rattle.bridge_session.specs.Deed.{with_deed}
 use Rattle.bridge_session.specs.declared.record.Record.{Record}
 use Rattle.bridge_session.specs.declared.refused.Refused.{Refused}
 use Rattle.bridge_session.specs.declared.refused.Refused.TheVariants.{NotCurrent}
 use Rattle.bridge_session.specs.declared.seating.Seating.{Seating}
 use Rattle.bridge_session.specs.Record.{PlainRecord}
-use Rattle.bridge_session.specs.State.{State, deal_on, row_at, changed_at, seating_of, is_of_set}
+use Rattle.bridge_session.specs.State.{State, deal_on, row_at, changed_at, current_place, seating_of, is_of_set}
 use Rattle.bridge_session.specs.Step.{seen_by, seen_deal, seen_records, answer_among, answer_seated, player_answer, acted_among, acted_at, acted}
-use Rattle.bridge_session.specs.Kept.{plain_of, state_of, IsTiedIn, IsKept}
-use Rattle.bridge_session.proofs.Lists.{changed_at-Some}
+use Rattle.bridge_session.specs.Kept.{plain_of, board_kept, state_of, IsTiedIn, IsKept}
+use Rattle.bridge_session.proofs.Lists.{changed_at-Some, changed_at-None, set_there, at_result}
 
 -- the answer to a player who sits there
 answer_by : State → ℕ → ℕ → Deed → Result Seating Refused → Result (Unit {0}) Refused
@@ -58,15 +61,20 @@ few_row tables place table few is =
     subst P (get_or_from_slice_get tables place table [] is) (few place [] (slice_get_within tables place table is))
 
 -- the parts are kept
-pub kept_with : (configuration : Configuration) (round : ℕ) (deals : List (Option (List ℕ))) (tables : List (List Record)) (place : ℕ) (table after : List Record) → IsKept configuration round deals tables → slice_get tables place ≡ Some table → length after ≡ length table → All (IsTiedIn deals) after → IsKept configuration round deals (slice_set tables place after)
-kept_with configuration round deals tables place table after kept is long tied = record {
+pub kept_with : (configuration : Configuration) (round : ℕ) (deals : List (Option (List ℕ))) (tables : List (List Record)) (place : ℕ) (table after : List Record) → IsKept configuration round deals tables → slice_get tables place ≡ Some table → map board_kept after ≡ map board_kept table → All (IsTiedIn deals) after → IsKept configuration round deals (slice_set tables place after)
+kept_with configuration round deals tables place table after kept is same tied = record {
   begun = kept.begun;
   boards = kept.boards;
   rows = length-set tables place after ∙ kept.rows;
   tied = All-set (All (IsTiedIn deals)) tables place after tied kept.tied;
   few =
       let were : length table ≤ 3 = few_row tables place table kept.few is in
+      let long : length after ≡ length table = sym (length-map after board_kept) ∙ ap length same ∙ length-map table board_kept in
       All-set (λ (row : List Record). length row ≤ 3) tables place after (omega arith) kept.few;
+  boards_are = map-set (map board_kept) tables place after
+      ∙ set_there (map (map board_kept) tables) place (map board_kept after)
+      (slice_get-map (map board_kept) tables place ∙ ap (option_map (map board_kept)) is ∙ ap Some (sym same))
+      ∙ kept.boards_are;
 }
 
 -- the records of a row are tied
@@ -88,3 +96,37 @@ pub list_changed : (vectors : List (Vec Record Global)) (place : ℕ) (table : V
 list_changed vectors place table after long =
     map-set (λ (t : Vec Record Global). t.items) vectors place (with_items table after)
     ∙ ap (slice_set (lists_in vectors) place) (with_items_is table after long)
+
+-- the boards are those of what is seen
+boards_seen : (table : List Record) → map board_kept table ≡ map (λ (plain : PlainRecord). plain.board) (map plain_of table)
+boards_seen [] = refl
+boards_seen (kept ∷ table) = ap (λ rest. kept.board ∷ rest) (boards_seen table)
+
+-- a change that leaves what is asked for
+pub map-changed_at : {A B : Type 0} (v : A → B) (f : A → A) (xs : List A) (i : ℕ) → ((x : A) → v (f x) ≡ v x) → map v (changed_at f xs i) ≡ map v xs
+map-changed_at v f xs i same =
+    elim (slice_get_cases xs i).1 [
+      | inl (x, within, is, found) ↦
+          ap (map v) (changed_at-Some f xs i x is)
+          ∙ map-set v xs i (f x)
+          ∙ set_there (map v xs) i (v (f x)) (slice_get-map v xs i ∙ ap (option_map v) is ∙ ap Some (sym (same x)))
+      | inr (past, none) ↦ ap (map v) (changed_at-None f xs i none)
+    ]
+
+-- what a player does is on the same board
+deed_board : (seat : Seat) (done : Deed) (plain : PlainRecord) → (with_deed seat done plain).board ≡ plain.board
+deed_board seat (deed.Call call) plain = refl
+deed_board seat (deed.Card card) plain = refl
+deed_board seat (deed.Claim tricks) plain = refl
+deed_board seat deed.Agree plain = refl
+deed_board seat deed.Refuse plain = refl
+
+pub boards_same : (seat : Seat) (done : Deed) (r : Result (Unit {0}) Refused) (before after : List Record) → OnOk r (map plain_of after ≡ acted_among seat done (map plain_of before)) → OnErr r (after ≡ before) → map board_kept after ≡ map board_kept before
+boards_same seat done r before after taken refused =
+    at_result _ _ (map board_kept after ≡ map board_kept before) r taken refused
+    (λ ok left.
+    boards_seen after
+    ∙ ap (map (λ (plain : PlainRecord). plain.board)) left
+    ∙ map-changed_at (λ (plain : PlainRecord). plain.board) (with_deed seat done) (map plain_of before) (current_place (map plain_of before)) (deed_board seat done)
+    ∙ sym (boards_seen before))
+    (λ same. ap (map board_kept) same)

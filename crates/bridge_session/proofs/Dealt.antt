@@ -56,6 +56,7 @@ kept_dealt configuration round deals tables board hands none kept = record {
   boards = length-set deals (board - 1) (Some hands) ∙ kept.boards;
   rows = kept.rows;
   few = kept.few;
+  boards_are = kept.boards_are;
   tied = λ k d within i e inside. tied_dealt deals board hands _ none (kept.tied k d within i e inside);
 }
 

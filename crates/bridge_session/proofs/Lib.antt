@@ -9,3 +9,6 @@ pub mod Ruled
 pub mod Entries
 pub mod SameAnswer
 pub mod Shown
+pub mod SameView
+pub mod Games
+pub mod Gains

@@ -11,43 +11,47 @@ use Rattle.bridge_movement.specs.Shape.{row_count}
 use Rattle.bridge_config.specs.Configuration.{Configuration}
 use Rattle.bridge_session.specs.declared.record.Record.{Record}
 use Rattle.bridge_session.specs.Record.{PlainRecord, empty_record}
-use Rattle.bridge_session.specs.State.{State, opening, opening_row}
-use Rattle.bridge_session.specs.Kept.{plain_of, state_of, new_record, new_table, IsTiedIn, IsKept}
+use Rattle.bridge_session.specs.State.{State, opening, opening_row, row_boards}
+use Rattle.bridge_session.specs.Kept.{plain_of, board_kept, state_of, new_record, new_table, IsTiedIn, IsKept}
 
 -- a new record is tied to whatever is dealt
 new_tied : (deals : List (Option (List ℕ))) (board : ℕ) → IsTiedIn deals (new_record board)
 new_tied deals board = record { tied = record { dealer = refl; play = refl }; undealt = λ none. refl }
 
-new_table_tied : (deals : List (Option (List ℕ))) (boards : List ℕ) (live : Bool) → All (IsTiedIn deals) (cond live (map new_record boards) [])
-new_table_tied deals boards true = All-map (IsTiedIn deals) new_record boards (λ k d within. new_tied deals _)
-new_table_tied deals boards false = λ k d within. absurd (omega arith)
-
 new_row_tied : (deals : List (Option (List ℕ))) (boards : ℕ) (row : Row) → All (IsTiedIn deals) (new_table boards row)
-new_row_tied deals boards row = new_table_tied deals (range_with_len ((row.set - 1) * boards + 1) boards) (is_live row)
+new_row_tied deals boards row = All-map (IsTiedIn deals) new_record (row_boards boards row) (λ k d within. new_tied deals _)
 
--- a new table has a record for each board at most
-new_table_few : (boards : List ℕ) (live : Bool) → length boards ≤ 3 → length (cond live (map new_record boards) []) ≤ 3
-new_table_few boards true few = omega (arith, length-map boards new_record)
-new_table_few boards false few = omega arith
+-- a row plays each board of its set at most
+few_boards : (live : Bool) (boards : List ℕ) → length boards ≤ 3 → length (cond live boards []) ≤ 3
+few_boards true boards few = few
+few_boards false boards few = omega arith
 
 new_row_few : (boards : ℕ) (row : Row) → boards ≤ 3 → length (new_table boards row) ≤ 3
 new_row_few boards row few =
-    new_table_few (range_with_len ((row.set - 1) * boards + 1) boards) (is_live row) (omega (arith, length-range_with_len ((row.set - 1) * boards + 1) boards))
+    let count = few_boards (is_live row) (range_with_len ((row.set - 1) * boards + 1) boards) (omega (arith, length-range_with_len ((row.set - 1) * boards + 1) boards)) in
+    omega (arith, count, length-map (row_boards boards row) new_record)
 
 -- what is seen of the new records
 new_seen : (boards : List ℕ) → map plain_of (map new_record boards) ≡ map empty_record boards
 new_seen [] = refl
 new_seen (board ∷ boards) = ap (λ rest. empty_record board ∷ rest) (new_seen boards)
 
-row_seen : (boards : List ℕ) (live : Bool) → map plain_of (cond live (map new_record boards) []) ≡ cond live (map empty_record boards) []
-row_seen boards true = new_seen boards
-row_seen boards false = refl
-
 rows_seen : (boards : ℕ) (rows : List Row) → map (map plain_of) (map (new_table boards) rows) ≡ map (opening_row boards) rows
 rows_seen boards [] = refl
 rows_seen boards (row ∷ rows) =
-    ap (λ first. first ∷ map (map plain_of) (map (new_table boards) rows)) (row_seen _ (is_live row))
+    ap (λ first. first ∷ map (map plain_of) (map (new_table boards) rows)) (new_seen (row_boards boards row))
     ∙ ap (λ rest. opening_row boards row ∷ rest) (rows_seen boards rows)
+
+-- the boards of the new records
+new_boards : (boards : List ℕ) → map board_kept (map new_record boards) ≡ boards
+new_boards [] = refl
+new_boards (board ∷ boards) = ap (λ rest. board ∷ rest) (new_boards boards)
+
+rows_boards : (boards : ℕ) (rows : List Row) → map (map board_kept) (map (new_table boards) rows) ≡ map (row_boards boards) rows
+rows_boards boards [] = refl
+rows_boards boards (row ∷ rows) =
+    ap (λ first. first ∷ map (map board_kept) (map (new_table boards) rows)) (new_boards (row_boards boards row))
+    ∙ ap (λ rest. row_boards boards row ∷ rest) (rows_boards boards rows)
 
 -- the parts of a new session
 pub record IsNew (configuration : Configuration) (dealt : List (Option (List ℕ))) (lists : List (List Record)) : Type 0 where
@@ -62,6 +66,7 @@ new_is_kept configuration deals tables parts = record {
   boards = ap length parts.deals ∙ length-replicate (configuration.movement.shape.sets * configuration.boards) None;
   few = subst (All (λ (row : List Record). length row ≤ 3)) (sym parts.tables)
       (All-map (λ (row : List Record). length row ≤ 3) (new_table configuration.boards) configuration.movement.rows (λ k d within. new_row_few configuration.boards (slice_index_or configuration.movement.rows k d) parts.few));
+  boards_are = ap (map (map board_kept)) parts.tables ∙ rows_boards configuration.boards configuration.movement.rows;
   rows = ap length parts.tables ∙ length-map configuration.movement.rows (new_table configuration.boards) ∙ parts.rows;
   tied = subst (All (All (IsTiedIn deals))) (sym parts.tables)
       (All-map (All (IsTiedIn deals)) (new_table configuration.boards) configuration.movement.rows (λ k d within. new_row_tied deals configuration.boards (slice_index_or configuration.movement.rows k d)));

@@ -1,6 +1,6 @@
 -- The records that the code keeps, and what contracts see of them.
-use Rattle.std.specs.Prelude.{◌≡◌, ℕ, ◌+◌, ◌-◌, ◌*◌, ◌≤◌, nat_lt, if◌then◌else◌, map, Err, Bool, not, ◌&&◌, List, [], ◌∷◌, ◌++◌, length, Option, None, Some, unwrap_or, All, Result}
-use Rattle.std.specs.List.{range_with_len}
+use Rattle.std.specs.Prelude.{◌≡◌, ℕ, ◌+◌, ◌-◌, ◌*◌, ◌≤◌, nat_lt, if◌then◌else◌, map, flat_map, zip, Err, Bool, not, ◌&&◌, List, [], ◌∷◌, ◌++◌, length, Option, None, Some, unwrap_or, All, Result}
+use Rattle.std.specs.List.{filter_map}
 use Rattle.std.specs.Option.{option_map, option_map_or}
 use Rattle.bridge_cards.specs.declared.seat.Seat.{Seat}
 use Rattle.bridge_cards.specs.Board.{dealer_of}
@@ -16,11 +16,14 @@ use Rattle.bridge_session.specs.declared.refused.Refused.{Refused}
 use Rattle.bridge_session.specs.declared.refused.Refused.TheVariants.{NoSuchPlay, NotYet}
 use Rattle.bridge_session.specs.Correction.{ruling_by, ruling_answer}
 use Rattle.bridge_movement.specs.declared.row.Row.{Row}
-use Rattle.bridge_movement.specs.Row.{is_live}
 use Rattle.bridge_movement.specs.Shape.{row_count}
 use Rattle.bridge_config.specs.Configuration.{Configuration}
-use Rattle.bridge_session.specs.State.{State, deal_on}
+use Rattle.bridge_session.specs.State.{State, deal_on, row_boards}
+use Rattle.bridge_session.specs.declared.game.Game.{Game}
 use Rattle.bridge_session.specs.Record.{PlainRecord, play_of, is_done, is_void}
+use Rattle.bridge_session.specs.Outcome.{outcome_by}
+use Rattle.bridge_session.specs.Ranking.{game_by}
+use Rattle.bridge_score.specs.ScoringTable.{IsScore}
 
 -- the play that is begun with those hands in that contract
 abbrev pub begun_with : List ℕ → Contract → Playing
@@ -70,13 +73,18 @@ pub record IsTiedIn (deals : List (Option (List ℕ))) (kept : Record) : Type 0 
   pub tied : IsTied (hands_on deals kept.board) kept
   pub undealt : deal_on deals kept.board ≡ None → kept.auction.calls ≡ []
 
+abbrev pub board_kept : Record → ℕ
+board_kept kept = kept.board
+
 -- the parts of a session, of which there are as many as the configuration says, and whose records are tied to the deals
+-- and of the boards of their rows
 pub record IsKept (configuration : Configuration) (round : ℕ) (deals : List (Option (List ℕ))) (tables : List (List Record)) : Type 0 where
   pub begun : 1 ≤ round
   pub boards : length deals ≡ configuration.movement.shape.sets * configuration.boards
   pub rows : length tables ≡ row_count configuration.movement.shape
   pub tied : All (All (IsTiedIn deals)) tables
   pub few : All (λ table. length table ≤ 3) tables
+  pub boards_are : map (map board_kept) tables ≡ map (row_boards configuration.boards) configuration.movement.rows
 
 -- a record in which nothing has happened
 abbrev pub new_record : ℕ → Record
@@ -103,4 +111,19 @@ state_of configuration round deals tables = record {
 
 -- the records of a row at the beginning: one for each board of its set where the row is live
 abbrev pub new_table : ℕ → Row → List Record
-new_table boards row = if is_live row then map new_record (range_with_len ((row.set - 1) * boards + 1) boards) else []
+new_table boards row = map new_record (row_boards boards row)
+
+-- the play of a record by the pairs of a row, if it counts
+abbrev pub kept_game : Row → Record → Option Game
+kept_game row kept = game_by row kept.board (outcome_by kept.auction.calls kept.play kept.ruling)
+
+abbrev pub kept_games_in : Row × List Record → List Game
+kept_games_in both = filter_map (kept_game both.0) both.1
+
+-- the plays that count, of the tables of all rows
+abbrev pub kept_games : List Row → List (List Record) → List Game
+kept_games rows tables = flat_map kept_games_in (zip rows tables)
+
+-- the score of a game is within the scoring table
+abbrev pub HasScore : Game → Type 0
+HasScore game = IsScore game.score

@@ -6,7 +6,10 @@ pub mod Correction
 pub mod State
 pub mod Step
 pub mod See
+pub mod Ranking
 pub mod Kept
+pub mod Gains
 pub mod Apart
+pub mod Sight
 pub mod Refused
 pub mod Views

@@ -1,5 +1,5 @@
 -- What came of a play.
-use Rattle.std.specs.Prelude.{if◌then◌else◌, List, [], Option, None, Some}
+use Rattle.std.specs.Prelude.{◌≤◌, if◌then◌else◌, List, [], Option, None, Some}
 use Rattle.std.specs.Option.{option_map_or}
 use Rattle.bridge_cards.specs.Seat.{side_of}
 use Rattle.bridge_auction.specs.declared.call.Call.{Call}
@@ -26,3 +26,10 @@ outcome_by calls play (Some ruling.Void) = Voided
 -- what came of the play of a record; the hands do not matter to it
 abbrev pub outcome_of : PlainRecord → Outcome
 outcome_of plain = outcome_by plain.calls (play_of [] plain) plain.ruling
+
+-- there are 13 tricks in a play
+abbrev pub HasFewTricks : Outcome → Type 0
+HasFewTricks Unfinished = Unit {0}
+HasFewTricks PassedOut = Unit {0}
+HasFewTricks (Played contract tricks) = tricks ≤ 13
+HasFewTricks Voided = Unit {0}

@@ -27,9 +27,13 @@ pub record State : Type 0 where
   pub deals : List (Option (List ℕ))
   pub records : List (List PlainRecord)
 
+-- the boards that a row plays: those of its set where the row is live
+abbrev pub row_boards : ℕ → Row → List ℕ
+row_boards boards row = if is_live row then range_with_len ((row.set - 1) * boards + 1) boards else []
+
 -- the records of a row at the opening
 abbrev pub opening_row : ℕ → Row → List PlainRecord
-opening_row boards row = if is_live row then map empty_record (range_with_len ((row.set - 1) * boards + 1) boards) else []
+opening_row boards row = map empty_record (row_boards boards row)
 
 -- The opening session of a configuration: round 1, no board dealt, and nothing has happened in any play.
 abbrev pub opening : Configuration → State

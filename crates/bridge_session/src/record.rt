@@ -3,7 +3,7 @@ ghost use Rattle.std.specs.Prelude.{◌≡◌, OnOk, OnErr, Some};
 ghost use Rattle.bridge_session.specs.Record.{is_done, is_void};
 ghost use Rattle.bridge_session.specs.Deed.{from_call, from_card, from_claim, from_consent, renamed, call_answer, deed_answer, answer_if_play};
 ghost use Rattle.bridge_session.specs.Correction.{ruling_by};
-ghost use Rattle.bridge_session.specs.Outcome.{outcome_of_play, outcome_by};
+ghost use Rattle.bridge_session.specs.Outcome.{outcome_of_play, outcome_by, HasFewTricks};
 ghost use Rattle.bridge_session.specs.declared.ruling.Ruling.TheVariants as ruling;
 ghost use Rattle.bridge_session.specs.Kept.{new_record, is_kept_open, after_deed, kept_ruling_answer};
 ghost use Rattle.bridge_session.specs.declared.deed.Deed.TheVariants as deed;
@@ -115,7 +115,8 @@ impl Record {
 
     /// What came of the play but for a ruling.
     fn outcome_of_play(&self) -> Outcome
-        ensures { result ≡ outcome_of_play self.now.auction.calls self.now.play }
+        ensures outcome { result ≡ outcome_of_play self.now.auction.calls self.now.play }
+        ensures few { HasFewTricks result }
     {
         match &self.play {
             None if self.auction.is_ended() => Outcome::PassedOut,
@@ -133,7 +134,8 @@ impl Record {
 
     /// What came of the play of which declarer has that many tricks by a ruling.
     fn outcome_ruled(&self, tricks: TrickCount) -> Outcome
-        ensures { result ≡ outcome_by self.now.auction.calls self.now.play (Some (ruling.Tricks tricks)) }
+        ensures outcome { result ≡ outcome_by self.now.auction.calls self.now.play (Some (ruling.Tricks tricks)) }
+        ensures few { HasFewTricks result }
     {
         match &self.play {
             Some(play) => Outcome::Played {
@@ -146,7 +148,8 @@ impl Record {
 
     /// What came of the play.
     pub fn outcome(&self) -> Outcome
-        ensures { result ≡ outcome_by self.now.auction.calls self.now.play self.now.ruling }
+        ensures outcome { result ≡ outcome_by self.now.auction.calls self.now.play self.now.ruling }
+        ensures few { HasFewTricks result }
     {
         match self.ruling {
             None => self.outcome_of_play(),

@@ -5,6 +5,7 @@ ghost use Rattle.bridge_config.specs.declared.fields.PairFields.{PairFields as P
 ghost use Rattle.bridge_movement.specs.Shape.{row_count};
 ghost use Rattle.bridge_session.specs.State.{has_key, player_in, player_of, acting_player, director_answer, seat_on, is_closed, seating_of, is_of_set, row_place};
 ghost use Rattle.bridge_session.specs.Numbers.{IsTableNumber};
+ghost use Rattle.bridge_session.specs.Ranking.{ranking_asker};
 ghost use Rattle.bridge_session.specs.Step.{is_row_within};
 
 use crate::numbers::{RoundNumber, TableNumber};
@@ -87,6 +88,21 @@ pub fn check_director(config: &Config, key: Key) -> Result<(), Refused>
         return Ok(());
     }
     match player_by(config, key) {
+        Some(_) => Err(Refused::NotAllowed),
+        None => Err(Refused::NoKey),
+    }
+}
+
+/// Whether rankings may be seen by the key: `NoKey` where it is nobody's, `NotAllowed` where it is a player's and the session
+/// is not closed.
+pub fn check_asker(config: &Config, round: u8, key: Key) -> Result<(), Refused>
+    ensures { result ≡ ranking_asker config.now round key.0 }
+{
+    if key == config.fields().director {
+        return Ok(());
+    }
+    match player_by(config, key) {
+        Some(_) if is_closed(config, round) => Ok(()),
         Some(_) => Err(Refused::NotAllowed),
         None => Err(Refused::NoKey),
     }

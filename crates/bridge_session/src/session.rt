@@ -6,23 +6,32 @@ ghost use Rattle.bridge_session.specs.State.{opening, deal_on};
 ghost use Rattle.bridge_session.specs.Step.{record_of};
 ghost use Rattle.bridge_session.specs.See.{shown_to};
 ghost use Rattle.bridge_session.specs.Views.{IsViewTo};
+ghost use Rattle.bridge_session.specs.Ranking.{ranking_answer, IsRankingTo};
 ghost use Rattle.bridge_session.specs.Kept.{plain_of, hands_on, IsTiedIn};
 
 use crate::action::PlayId;
 use crate::entry::Entry;
+use crate::field::Field;
+use crate::gain::{has_field, lines_of};
+use crate::game::games_of;
 use crate::numbers::{RoundNumber, TableNumber};
 use crate::opening::{opening_tables, undealt};
 use crate::record::Record;
 use crate::refused::Refused;
-use crate::seating::{row_of, seat_by};
+use crate::seating::{check_asker, row_of, seat_by};
 use crate::table::record_at;
 use crate::view::{View, view_among};
+use arrayvec::ArrayVec;
 use bridge_cards::{BoardNumber, Deal};
 use bridge_config::{Config, Key};
+use bridge_score::{Ranked, rank};
 use std::alloc::{AllocError, Global};
 use std::marker::Model;
 
 mod step;
+
+/// The pairs of a field with their places, by place, then by pair.
+pub type Ranking = ArrayVec<Ranked, 24>;
 
 /// A session: who plays, the round, the boards that are dealt, and a record of each play.
 #[derive(Drop)]
@@ -130,5 +139,25 @@ impl Session {
             number,
             seating.seat,
         )
+    }
+
+    /// The pairs of a field with what they gained in the plays that count, those that are finished and not void, against
+    /// all other scores on the board, of both fields (Law 78). Under matchpoints a pair's place is by its share of what
+    /// was available to it, under IMPs by the sum. It takes no memory.
+    ///
+    /// The director may ask at any time, a player once the session is closed. Refused are, in this order: `NoKey`,
+    /// `NotAllowed`, and `NoSuchPlay` where there is no such field.
+    pub fn ranking(&self, key: Key, field: Field) -> Result<Ranking, Refused>
+        ensures { MatchResult result (λ ranking. IsRankingTo self.now key.0 field ranking.items) (λ refused. ranking_answer self.now key.0 field ≡ Err refused) }
+    {
+        check_asker(&self.config, self.round, key)?;
+        let fields = self.config.fields();
+        let shape = fields.movement.shape();
+        if !has_field(shape, field) {
+            return Err(Refused::NoSuchPlay);
+        }
+        let games = games_of(fields.movement.rows(), self.tables.as_slice());
+        let lines = lines_of(fields.scoring, &games, shape, field);
+        Ok(rank(fields.scoring, &lines))
     }
 }

@@ -1,4 +1,5 @@
 //! Worked sessions, each action with its answer.
+mod rankings;
 mod rows;
 mod script;
 mod views;

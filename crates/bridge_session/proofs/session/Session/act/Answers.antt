@@ -7,7 +7,7 @@ use Rattle.bridge_session.specs.State.{State, deal_on}
 use Rattle.bridge_session.specs.Step.{seen_by, player_answer, answer_among, acted}
 use Rattle.bridge_session.specs.Kept.{plain_of, state_of, IsTiedIn, IsKept}
 use Rattle.bridge_session.proofs.Lists.{map_ok, map_err, set_there}
-use Rattle.bridge_session.proofs.Acted.{seated_answer, row_at_is, acted_state, kept_with, tied_row, lists_in, list_there, list_changed}
+use Rattle.bridge_session.proofs.Acted.{boards_same, seated_answer, row_at_is, acted_state, kept_with, tied_row, lists_in, list_there, list_changed}
 use Rattle.bridge_session.proofs.session.Session.act.Goals as goal
 use Rattle.bridge_session.proofs.session.Session.act.Goals.{After-as_mut_slice, After-self-1}
 
@@ -43,7 +43,8 @@ invariant_of-self c =
     let s = c.self.inside in
     let tied = subst (λ deals. All (IsTiedIn deals) c.act_among.new.table) c.as_slice-deals.ensures.value c.act_among.ensures.tied in
     subst (IsKept s.config s.round s.deals.items) (sym (is_changed c).left)
-    (kept_with s.config s.round s.deals.items (lists_in s.tables.items) c.in_ok-seating.seating.place c.as_mut_slice.result.now c.act_among.new.table c.self.invariant (is_changed c).row (omega arith) tied)
+    (kept_with s.config s.round s.deals.items (lists_in s.tables.items) c.in_ok-seating.seating.place c.as_mut_slice.result.now c.act_among.new.table c.self.invariant (is_changed c).row
+    (boards_same c.in_ok-seating.seating.seat c.args.deed c.act_among.result c.as_mut_slice.result.now c.act_among.new.table c.act_among.ensures.taken c.act_among.ensures.refused) tied)
 
 pub returns-clause-answer : goal.returns-clause-answer
 returns-clause-answer c =

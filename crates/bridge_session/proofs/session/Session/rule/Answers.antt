@@ -5,9 +5,9 @@ use Rattle.bridge_session.specs.declared.refused.Refused.{Refused}
 use Rattle.bridge_session.specs.Record.{PlainRecord}
 use Rattle.bridge_session.specs.State.{State, director_answer, row_place, changed_at}
 use Rattle.bridge_session.specs.Step.{if_allowed, is_row_within, rule_answer, record_of, ruled, with_ruling}
-use Rattle.bridge_session.specs.Kept.{plain_of, state_of, with_kept_ruling, kept_rule_answer, IsTiedIn, IsKept}
+use Rattle.bridge_session.specs.Kept.{plain_of, board_kept, state_of, with_kept_ruling, kept_rule_answer, IsTiedIn, IsKept}
 use Rattle.bridge_session.proofs.Lists.{at_result, map_ok, map_err, set_there}
-use Rattle.bridge_session.proofs.Acted.{changed_row, kept_with, tied_row, lists_in, list_there, list_changed}
+use Rattle.bridge_session.proofs.Acted.{map-changed_at, changed_row, kept_with, tied_row, lists_in, list_there, list_changed}
 use Rattle.bridge_session.proofs.Entries.{record_found}
 use Rattle.bridge_session.proofs.Ruled.{rule_seen, changed_at-map, All-changed_at, ruling_tied, some_if}
 use Rattle.bridge_session.proofs.session.Session.rule.Goals as goal
@@ -49,8 +49,12 @@ invariant_of-self c =
     subst (All (IsTiedIn deals)) (sym taken)
     (All-changed_at (IsTiedIn deals) (with_kept_ruling c.args.correction) c.as_mut_slice.result.now c.from-at.result (ruling_tied deals c.args.correction) (tied_there c)))
     (λ same. subst (All (IsTiedIn deals)) (sym same) (tied_there c)) in
+    let boards : map board_kept c.rule_among.new.table ≡ map board_kept c.as_mut_slice.result.now =
+    at_result _ _ (map board_kept c.rule_among.new.table ≡ map board_kept c.as_mut_slice.result.now) c.rule_among.result c.rule_among.ensures.taken c.rule_among.ensures.refused
+    (λ ok taken. ap (map board_kept) taken ∙ map-changed_at board_kept (with_kept_ruling c.args.correction) c.as_mut_slice.result.now c.from-at.result (λ kept. refl))
+    (λ same. ap (map board_kept) same) in
     subst (IsKept s.config s.round deals) (sym (is_changed c).left)
-    (kept_with s.config s.round deals (lists_in s.tables.items) c.in-Some.place c.as_mut_slice.result.now c.rule_among.new.table c.self.invariant (is_changed c).row (omega arith) tied)
+    (kept_with s.config s.round deals (lists_in s.tables.items) c.in-Some.place c.as_mut_slice.result.now c.rule_among.new.table c.self.invariant (is_changed c).row boards tied)
 
 -- the record of the play
 record_is : (c : After-self-1) → record_of (state_of c.self.inside.config c.self.inside.round c.self.inside.deals.items (lists_in c.self.inside.tables.items)) c.args.play ≡ slice_get (map plain_of c.as_mut_slice.result.now) c.from-at.result

@@ -1,0 +1,127 @@
+-- Two sessions that look alike to a player show the same.
+use Rattle.std.proofs.Common.{◌≡◌, ◌≢◌, ◌+◌, ◌/◌, ◌==◌, ℕ, Bool, true, false, cond, List, [], length, Option, Some, None, Result, Ok, Err, refl, sym, ap, ◌∙◌, subst}
+use Rattle.std.specs.Prelude.{slice_get}
+use Rattle.std.proofs.lemmas.Bool.{eqb-false}
+use Rattle.std.specs.Option.{option_map, option_map_or}
+use Rattle.bridge_cards.specs.declared.seat.Seat.{Seat}
+use Rattle.bridge_cards.specs.declared.seat.Side.TheVariants.{NorthSouth, EastWest}
+use Rattle.bridge_auction.specs.declared.call.Call.{Call}
+use Rattle.bridge_config.specs.Configuration.{Configuration}
+use Rattle.bridge_play.specs.declared.claim.Claim.{Claim}
+use Rattle.bridge_play.specs.Dummy.{dummy_of}
+use Rattle.bridge_play.specs.Play.{Playing}
+use Rattle.bridge_session.specs.declared.refused.Refused.{Refused}
+use Rattle.bridge_session.specs.declared.seating.Seating.{Seating}
+use Rattle.bridge_session.specs.declared.view.View.{View}
+use Rattle.bridge_session.specs.Record.{PlainRecord, play_of}
+use Rattle.bridge_session.specs.State.{State, deal_on, row_at, current_place, seating_of}
+use Rattle.bridge_session.specs.See.{PlainTrick, Shown, ShownPlay, cards_left, shown_dummy, shown_play, shown_of, shown_dealt, shown_current, shown_among, shown_seated, shown_to}
+use Rattle.bridge_session.specs.Views.{IsViewTo}
+use Rattle.bridge_session.specs.Sight.{cards_in, PlaysLookAlike, CardsLookAlike, RecordsLookAlike, DealtLookAlike, CurrentLookAlike, TablesLookAlike, LookAlikeTo}
+
+-- dummy's cards, which are looked at only once a card was played
+dummy_by : (none : Bool) (n : ℕ) (x y : List ℕ) → (n == 0) ≡ none → (n ≢ 0 → x ≡ y) → ◌≡◌ {A = Option (List ℕ)} (cond none None (Some x)) (cond none None (Some y))
+dummy_by true n x y is same = refl
+dummy_by false n x y is same = ap Some (same (eqb-false n 0 is))
+
+dummy_if : (n : ℕ) (x y : List ℕ) → (n ≢ 0 → x ≡ y) → ◌≡◌ {A = Option (List ℕ)} (cond (n == 0) None (Some x)) (cond (n == 0) None (Some y))
+dummy_if n x y same = dummy_by (n == 0) n x y refl same
+
+dummy_same : (p q : Playing) → PlaysLookAlike p q → shown_dummy p ≡ shown_dummy q
+dummy_same p q alike =
+    dummy_if (length p.cards) (cards_left p.hands p.cards (dummy_of p.contract)) (cards_left q.hands q.cards (dummy_of q.contract)) alike.dummy
+    ∙ ap (λ n. cond (n == 0) None (Some (cards_left q.hands q.cards (dummy_of q.contract)))) alike.cards_made
+
+play_same : (p q : Playing) → PlaysLookAlike p q → shown_play p ≡ shown_play q
+play_same p q alike =
+    let dummy = dummy_same p q alike in
+    let ns = alike.tricks NorthSouth in
+    let ew = alike.tricks EastWest in
+    let made : PlainTrick → Option PlainTrick → ℕ → ℕ → Option (List ℕ) → ShownPlay =
+    λ t l n e d. record { trick = t; last = l; tricks_ns = n; tricks_ew = e; dummy = d } in
+    let trick = alike.trick in
+    let last = alike.last in
+    cc
+
+-- what is shown, by its parts
+abbrev shown_by : ℕ → ℕ → List Call → List ℕ → Option Playing → Shown
+shown_by index board calls hand play = record {
+  index = index;
+  board = board;
+  calls = calls;
+  cards_made = length (cards_in play);
+  claims_made = option_map_or (λ (p : Playing). p.claims) play 0;
+  claim = option_map_or (λ (p : Playing). p.claim) play None;
+  hand = hand;
+  play = option_map shown_play play;
+}
+
+by_same : (index board : ℕ) (calls : List Call) (hand : List ℕ) (p q : Option Playing) → CardsLookAlike p q → shown_by index board calls hand p ≡ shown_by index board calls hand q
+by_same index board calls hand None None alike = refl
+by_same index board calls hand None (Some q) alike = absurd alike
+by_same index board calls hand (Some p) None alike = absurd alike
+by_same index board calls hand (Some p) (Some q) alike =
+    let made : ℕ → ℕ → Option Claim → ShownPlay → Shown =
+    λ cards claims claim play. record {
+      index = index;
+      board = board;
+      calls = calls;
+      cards_made = cards;
+      claims_made = claims;
+      claim = claim;
+      hand = hand;
+      play = Some play;
+    } in
+    ap (λ n. made n p.claims p.claim (shown_play p)) alike.cards_made
+    ∙ ap (λ n. made (length q.cards) n p.claim (shown_play p)) alike.claims_made
+    ∙ ap (λ c. made (length q.cards) q.claims c (shown_play p)) alike.claim
+    ∙ ap (made (length q.cards) q.claims q.claim) (play_same p q alike)
+
+of_same : (place : ℕ) (seat : Seat) (hands others : List ℕ) (a b : PlainRecord) → RecordsLookAlike seat hands a others b → shown_of place seat hands a ≡ shown_of place seat others b
+of_same place seat hands others a b alike =
+    let p = play_of hands a in
+    let q = play_of others b in
+    ap (λ hand. shown_by (place + 1) a.board a.calls hand p) alike.hand
+    ∙ by_same (place + 1) a.board a.calls (cards_left others (cards_in q) seat) p q alike.play
+    ∙ ap (λ board. shown_by (place + 1) board a.calls (cards_left others (cards_in q) seat) q) alike.board
+    ∙ ap (λ calls. shown_by (place + 1) b.board calls (cards_left others (cards_in q) seat) q) alike.calls
+
+dealt_same : (seat : Seat) (place : ℕ) (a b : PlainRecord) (hands others : Option (List ℕ)) → DealtLookAlike seat a hands b others → shown_dealt seat place a hands ≡ shown_dealt seat place b others
+dealt_same seat place a b None None alike = refl
+dealt_same seat place a b None (Some others) alike = absurd alike
+dealt_same seat place a b (Some hands) None alike = absurd alike
+dealt_same seat place a b (Some hands) (Some others) alike = ap Ok (of_same place seat hands others a b alike)
+
+current_same : (deals others : List (Option (List ℕ))) (seat : Seat) (place : ℕ) (a b : Option PlainRecord) → CurrentLookAlike seat deals a others b → shown_current deals seat place a ≡ shown_current others seat place b
+current_same deals others seat place None None alike = refl
+current_same deals others seat place None (Some b) alike = absurd alike
+current_same deals others seat place (Some a) None alike = absurd alike
+current_same deals others seat place (Some a) (Some b) alike = dealt_same seat place a b (deal_on deals a.board) (deal_on others b.board) alike
+
+among_same : (deals others : List (Option (List ℕ))) (seat : Seat) (records plays : List PlainRecord) → TablesLookAlike seat deals records others plays → shown_among deals seat records ≡ shown_among others seat plays
+among_same deals others seat records plays alike =
+    current_same deals others seat (current_place records) (slice_get records (current_place records)) (slice_get plays (current_place plays)) alike.current
+    ∙ ap (λ place. shown_current others seat place (slice_get plays (current_place plays))) alike.place
+
+seated_same : (key : ℕ) (s t : State) (sits : Result Seating Refused) → LookAlikeTo key s t → seating_of s.configuration s.round key ≡ sits → shown_seated s sits ≡ shown_seated t sits
+seated_same key s t (Err refused) alike is = refl
+seated_same key s t (Ok seating) alike is =
+    among_same s.deals t.deals seating.seat (row_at s.records seating.place) (row_at t.records seating.place) (alike.table seating is)
+
+-- the player sits in the same place
+sits_same : (key : ℕ) (s t : State) → LookAlikeTo key s t → seating_of s.configuration s.round key ≡ seating_of t.configuration t.round key
+sits_same key s t alike =
+    ap (λ (k : Configuration). seating_of k s.round key) alike.configuration ∙ ap (λ r. seating_of t.configuration r key) alike.round
+
+pub shown_same : (key : ℕ) (s t : State) → LookAlikeTo key s t → shown_to s key ≡ shown_to t key
+shown_same key s t alike =
+    seated_same key s t (seating_of s.configuration s.round key) alike refl ∙ ap (shown_seated t) (sits_same key s t alike)
+
+pub view_same : (key : ℕ) (s t : State) (view : View) → LookAlikeTo key s t → IsViewTo s key view → IsViewTo t key view
+view_same key s t view alike seen = record {
+  seating = seen.seating;
+  sits = sym (sits_same key s t alike) ∙ seen.sits;
+  shown = seen.shown;
+  allowed = sym (shown_same key s t alike) ∙ seen.allowed;
+  fields = let round = alike.round in rw (← round) seen.fields;
+}

@@ -1,0 +1,43 @@
+use Rattle.std.proofs.Common.{◌≡◌, ◌<◌, ◌++◌, ◌*◌, ◌+◌, length, Some, sym, ap, ◌∙◌, subst, arith}
+use Rattle.std.specs.Prelude.{All, flat_map, zip, slice_get}
+use Rattle.std.specs.List.{filter_map}
+use Rattle.std.proofs.lemmas.List.{length-map, take_all}
+use Rattle.std.proofs.lemmas.List.Elements.{All-append}
+use Rattle.std.proofs.lemmas.Option.{get_or_from_slice_get}
+use Rattle.std.proofs.lemmas.Slice.Zip.{length-zip}
+use Rattle.bridge_movement.specs.declared.row.Row.{Row}
+use Rattle.bridge_session.specs.Kept.{HasScore, kept_game, kept_games_in}
+use Rattle.bridge_session.proofs.Acted.{lists_in, list_there}
+use Rattle.bridge_session.proofs.Games.{grown_games}
+use Rattle.bridge_session.proofs.game.games_of.Goals as goal
+
+-- the value that a read past the end would give
+abbrev none : Row
+none = record { round = 0; table = 0; ns = 0; ew = 0; set = 0 }
+
+pub loop-place-preserved : goal.loop-place-preserved
+loop-place-preserved c =
+    let rows = c.args.rows.now in
+    let lists = lists_in c.args.tables.now in
+    let place = c.loop-place.place in
+    let games = c.loop-place.games.items in
+    let table = c.as_slice.result.now in
+    let inside : place < length lists = omega (arith, length-map c.args.tables.now (λ t. t.items), c.requires.count, c.loop-place-test.true) in
+    let there : slice_get lists place ≡ Some table = list_there c.args.tables.now place c.index-tables-place.result inside c.index-tables-place.is ∙ ap Some (sym c.as_slice.ensures.value) in
+    let played = c.deref.ensures.0 ∙ c.games_in-played.ensures.games in
+    let grown : c.try_extend_from_slice.new.self.items ≡ games ++ c.deref.result.now = rw c.unwrap.ensures at c.try_extend_from_slice.ensures.ok in
+    let len = rw c.unwrap.ensures at c.try_extend_from_slice.ensures.len in
+    record {
+      games = grown_games rows lists place none table games c.try_extend_from_slice.new.self.items c.loop-place-test.true inside (get_or_from_slice_get lists place table table there) c.loop-place.invariant.games
+          (grown ∙ ap (λ gs. games ++ gs) played);
+      scores = subst (All HasScore) (sym grown)
+          (All-append HasScore games c.deref.result.now c.loop-place.invariant.scores (subst (All HasScore) (sym c.deref.ensures.0) c.games_in-played.ensures.scores));
+      few = omega (arith, len, c.deref.ensures.1, c.loop-place.invariant.few);
+    }
+
+pub returns-clause-games : goal.returns-clause-games
+returns-clause-games c =
+    let rows = c.args.rows.now in
+    let lists = lists_in c.args.tables.now in
+    c.loop-place.invariant.games
+    ∙ ap (flat_map kept_games_in) (take_all c.loop-place.place (zip rows lists) (omega (arith, length-zip rows lists, c.loop-place-test.false)))
