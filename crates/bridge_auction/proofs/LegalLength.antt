@@ -4,7 +4,7 @@ use Rattle.std.proofs.lemmas.List.{drop-append-le, drop-drop, drop_all}
 use Rattle.std.proofs.lemmas.List.Folds.{list_all-append}
 use Rattle.std.proofs.lemmas.Bool.{and_parts, cases_lt, leb-true, le-leb}
 use Rattle.std.specs.List.{list_all}
-use Rattle.bridge_cards.specs.EachMayFollow.{may_follow_front}
+use Rattle.bridge_cards.proofs.FollowLaws.{may_follow_front}
 use Rattle.bridge_auction.specs.declared.bid.Bid.{Bid as BidType}
 use Rattle.bridge_auction.specs.declared.bid.Denomination.{Denomination}
 use Rattle.bridge_auction.specs.declared.bid.Denomination.TheVariants.{Clubs, Diamonds, Hearts, Spades, NoTrump}

@@ -1,6 +1,6 @@
 -- The answer to a call is Ok exactly where the list with the call is legal.
 use Rattle.std.proofs.Common.{◌≡◌, ◌↔◌, Bool, true, false, if◌then◌else◌, List, [], ◌∷◌, ◌++◌, Result, Ok, Err, IsOk, OnOk, refl}
-use Rattle.bridge_cards.specs.EachMayFollow.{may_follow_front, each_may_follow-push}
+use Rattle.bridge_cards.proofs.FollowLaws.{may_follow_front, each_may_follow-push}
 use Rattle.bridge_auction.specs.declared.call.Call.{Call}
 use Rattle.bridge_auction.specs.declared.call.Call.TheVariants.{Pass, Bid, Double, Redouble}
 use Rattle.bridge_auction.specs.declared.refused.CallRefused.{CallRefused}

@@ -1,6 +1,7 @@
 ghost use Rattle.std.specs.Prelude.{◌≡◌, ◌↔◌, IsSome, IfSome};
 ghost use Rattle.bridge_auction.specs.Level.{IsLevel};
 
+use bridge_cards::OutOfRange;
 use std::marker::Model;
 
 /// The level of a bid: the number of tricks above six that it promises, 1 to 7 (Law 18A).
@@ -41,5 +42,19 @@ impl Level {
         ensures range { IsLevel result }
     {
         self.tricks
+    }
+}
+
+/// As `new`, with the number where it is out of range.
+impl TryFrom<u8> for Level {
+    type Error = OutOfRange;
+
+    ghost use Rattle.std.specs.Prelude.{◌≡◌, ◌↔◌, IsOk, IfOk};
+    ghost use Rattle.bridge_auction.specs.Level.{IsLevel};
+
+    ghost try_from_gives = { λ n r. (IsOk r ↔ IsLevel n) × IfOk r (λ value. value ≡ n) };
+
+    fn try_from(number: u8) -> Result<Level, OutOfRange> {
+        Level::new(number).ok_or(OutOfRange(number))
     }
 }

@@ -13,8 +13,8 @@ pub mod call;
 pub mod contract;
 pub mod level;
 pub mod longest;
-mod rules;
 pub mod refused;
+mod rules;
 pub mod spelling;
 #[cfg(test)]
 mod tests;

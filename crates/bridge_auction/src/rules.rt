@@ -44,8 +44,9 @@ pub fn last_bid(calls: &[Call]) -> Option<usize>
 pub fn opponents_call(calls: &[Call]) -> Option<Call>
     ensures { result ≡ opponents_call calls.now }
 {
+    let next = calls.len();
     match last_but_passes(calls) {
-        Some(index) if calling_side(index) != calling_side(calls.len()) => calls.get(index).copied(),
+        Some(last) if calling_side(last) != calling_side(next) => calls.get(last).copied(),
         _ => None,
     }
 }

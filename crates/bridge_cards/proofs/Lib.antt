@@ -1,3 +1,4 @@
+pub mod FollowLaws
 pub mod CardSetLaws
 pub mod CardCounts
 mod CardBits

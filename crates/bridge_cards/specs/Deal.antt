@@ -30,6 +30,10 @@ pub record IsHand (hand : ℕ) : Type 0 where
 abbrev pub SomeNotThirteen : List ℕ → Type 0
 SomeNotThirteen hands = Any (λ hand. card_count hand ≢ 13) hands
 
+-- no card is in two of the hands, but one has another number of cards than 13
+abbrev pub IsUneven : List ℕ → Type 0
+IsUneven hands = NoneTwice hands × SomeNotThirteen hands
+
 -- a deal: four hands of 13, and no card in two of them
 pub record IsDeal (hands : List ℕ) : Type 0 where
   pub four : length hands ≡ 4

@@ -58,6 +58,18 @@ pub record SpellsDeal (hands : List ℕ) (text : List ℕ) : Type 0 where
   pub begins : text ≡ seat_letter first ∷ colon ∷ rest
   pub clockwise : SpellsFour (hand_at hands first) (hand_at hands (clockwise_from first 1)) (hand_at hands (clockwise_from first 2)) (hand_at hands (clockwise_from first 3)) rest
 
+-- the text states four hands of which this holds
+abbrev pub States : (List ℕ → Type 0) → List ℕ → Type 0
+States P text = (hands : List ℕ) × SpellsDeal hands text × P hands
+
+-- the text states no four hands
+abbrev pub StatesNone : List ℕ → Type 0
+StatesNone text = (hands : List ℕ) → ¬ SpellsDeal hands text
+
+-- the text states these four hands, and no others
+abbrev pub StatesOnly : List ℕ → List ℕ → Type 0
+StatesOnly text hands = (other : List ℕ) → SpellsDeal other text → other ≡ hands
+
 -- the ranks from the ace to the 2
 abbrev pub descending : List ℕ
 descending = 14 ∷ 13 ∷ 12 ∷ 11 ∷ 10 ∷ 9 ∷ 8 ∷ 7 ∷ 6 ∷ 5 ∷ 4 ∷ 3 ∷ 2 ∷ []

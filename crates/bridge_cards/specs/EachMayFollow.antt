@@ -1,42 +1,5 @@
 -- Lists of which each element may follow those before it, as the calls of an auction and the cards of a play.
-use Rattle.std.specs.Prelude.{◌≡◌, ℕ, List, [], ◌∷◌, ◌++◌, length, take, slice_get, Some}
-use Rattle.std.proofs.Common.{zero, suc, ◌<◌, ◌∙◌, inl, inr, refl, sym, ap, arith, length-append}
-use Rattle.std.proofs.Math.Seq.{take-append_seam}
-use Rattle.std.proofs.lemmas.List.{take-append-le}
-use Rattle.std.proofs.lemmas.Option.{slice_get_within}
-use Rattle.std.proofs.lemmas.Bool.{cases_lt}
+use Rattle.std.specs.Prelude.{◌≡◌, ℕ, List, take, slice_get, Some}
 
 abbrev pub EachMayFollow : {X : Type 0} → (List X → X → Type 0) → List X → Type 0
-EachMayFollow {X} May list = (place : ℕ) (x : X) → slice_get list place ≡ Some x → May (take place list) x
-
--- a place in the first of two lists
-pub slice_get-left : {X : Type 0} (xs ys : List X) (i : ℕ) → i < length xs → slice_get (xs ++ ys) i ≡ slice_get xs i
-slice_get-left [] ys i within = absurd (omega arith)
-slice_get-left (x ∷ xs) ys zero within = refl
-slice_get-left (x ∷ xs) ys (suc i) within = slice_get-left xs ys i (omega arith)
-
--- the first place of the second of two lists
-pub slice_get-seam : {X : Type 0} (xs : List X) (y : X) (ys : List X) → slice_get (xs ++ y ∷ ys) (length xs) ≡ Some y
-slice_get-seam [] y ys = refl
-slice_get-seam (x ∷ xs) y ys = slice_get-seam xs y ys
-
-module _ {X : Type 0} (May : List X → X → Type 0) where
-  -- an element may follow the front
-  pub may_follow_front : (front : List X) (x : X) (rest : List X) → EachMayFollow May (front ++ x ∷ rest) → May front x
-  may_follow_front front x rest each =
-      let may = each (length front) x (slice_get-seam front x rest) in
-      rw (take-append_seam front (x ∷ rest)) at may
-
-  -- the list with an element more that may follow it
-  pub each_may_follow-push : (xs : List X) (x : X) → EachMayFollow May xs → May xs x → EachMayFollow May (xs ++ x ∷ [])
-  each_may_follow-push xs x each may place y is =
-      elim (cases_lt place (length xs)) [
-        | inl before ↦
-            rw (take-append-le place xs (x ∷ []) (omega arith)) (each place y (sym (slice_get-left xs (x ∷ []) place before) ∙ is))
-        | inr from ↦
-            let within = slice_get_within (xs ++ x ∷ []) place y is in
-            let last : place ≡ length xs = omega (arith, within, length-append xs (x ∷ [])) in
-            let same : Some y ≡ Some x = sym is ∙ ap (slice_get (xs ++ x ∷ [])) last ∙ slice_get-seam xs x [] in
-            let is_x : y ≡ x = cc in
-            rw (last, take-append_seam xs (x ∷ []), is_x) may
-      ]
+EachMayFollow {X} May list = (index : ℕ) (x : X) → slice_get list index ≡ Some x → May (take index list) x

@@ -2,6 +2,7 @@ ghost use Rattle.std.specs.Prelude.{◌≡◌, ◌↔◌, IsSome, IfSome};
 ghost use Rattle.bridge_cards.specs.Board.{IsBoard, dealer_of, vulnerability_on};
 ghost use Rattle.bridge_cards.specs.Vulnerability.{includes_side};
 
+use crate::out_of_range::OutOfRange;
 use crate::seat::{Seat, Side};
 use crate::vulnerability::Vulnerability;
 use std::fmt;
@@ -87,5 +88,19 @@ impl fmt::Display for BoardNumber {
 
     fn fmt<W: fmt::Write>(&self, f: &mut fmt::Formatter<W>) -> fmt::Result {
         write!(f, "{}", self.number)
+    }
+}
+
+/// As `new`, with the number where it is out of range.
+impl TryFrom<u8> for BoardNumber {
+    type Error = OutOfRange;
+
+    ghost use Rattle.std.specs.Prelude.{◌≡◌, ◌↔◌, IsOk, IfOk};
+    ghost use Rattle.bridge_cards.specs.Board.{IsBoard};
+
+    ghost try_from_gives = { λ n r. (IsOk r ↔ IsBoard n) × IfOk r (λ value. value ≡ n) };
+
+    fn try_from(number: u8) -> Result<BoardNumber, OutOfRange> {
+        BoardNumber::new(number).ok_or(OutOfRange(number))
     }
 }

@@ -2,6 +2,7 @@ ghost use Rattle.std.specs.Prelude.{◌≡◌, ◌≢◌, ◌↔◌, ℕ, IsSome
 ghost use Rattle.bridge_cards.specs.Rank.{IsRank};
 ghost use Rattle.bridge_cards.specs.Card.{IsCard, card_of, card_suit, card_rank, card_text};
 
+use crate::out_of_range::OutOfRange;
 use crate::rank::Rank;
 use crate::suit::Suit;
 use std::fmt;
@@ -112,5 +113,19 @@ impl fmt::Display for Card {
     fn fmt<W: fmt::Write>(&self, f: &mut fmt::Formatter<W>) -> fmt::Result {
         f.write_char(char::from(self.suit().letter()))?;
         f.write_char(char::from(self.rank().letter()))
+    }
+}
+
+/// As `new`, with the number where it is out of range.
+impl TryFrom<u8> for Card {
+    type Error = OutOfRange;
+
+    ghost use Rattle.std.specs.Prelude.{◌≡◌, ◌↔◌, IsOk, IfOk};
+    ghost use Rattle.bridge_cards.specs.Card.{IsCard};
+
+    ghost try_from_gives = { λ n r. (IsOk r ↔ IsCard n) × IfOk r (λ value. value ≡ n) };
+
+    fn try_from(number: u8) -> Result<Card, OutOfRange> {
+        Card::new(number).ok_or(OutOfRange(number))
     }
 }

@@ -1,7 +1,7 @@
 ghost use Rattle.std.specs.Prelude.{◌≡◌, ◌≢◌, ◌↔◌, ◌==◌, ℕ, is_ok, IsOk, IfOk, OnOk, MatchBool, All};
 ghost use Rattle.std.specs.List.{list_all};
 ghost use Rattle.bridge_cards.specs.CardSet.{has_card, card_count};
-ghost use Rattle.bridge_cards.specs.Deal.{hand_at, holders, NoneTwice, SomeTwice, IsHand, SomeNotThirteen, IsDeal, is_each_once, is_dealt_out};
+ghost use Rattle.bridge_cards.specs.Deal.{hand_at, holders, NoneTwice, SomeTwice, IsHand, SomeNotThirteen, IsUneven, IsDeal, is_each_once, is_dealt_out};
 
 use crate::card_set::CardSet;
 use crate::seat::Seat;
@@ -50,7 +50,7 @@ impl Deal {
         ensures test { is_ok result ≡ is_dealt_out hands }
         ensures ok { IsOk result ↔ (NoneTwice hands × All (λ hand. card_count hand ≡ 13) hands) }
         ensures twice { (result ≡ Err BadDeal.Twice) ↔ SomeTwice hands }
-        ensures not_thirteen { (result ≡ Err BadDeal.NotThirteen) ↔ (NoneTwice hands × SomeNotThirteen hands) }
+        ensures not_thirteen { (result ≡ Err BadDeal.NotThirteen) ↔ IsUneven hands }
         ensures form { result ≢ Err BadDeal.Form }
     {
         if !are_disjoint(&hands) {

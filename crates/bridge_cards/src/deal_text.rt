@@ -2,8 +2,8 @@ ghost use Rattle.std.specs.Prelude.{◌≡◌, ◌≢◌, ◌↔◌, ℕ, ◌+�
 ghost use Rattle.bridge_cards.specs.declared.suit.Suit.{Suit};
 ghost use Rattle.bridge_cards.specs.Seat.{clockwise_from};
 ghost use Rattle.bridge_cards.specs.CardSet.{IsCardSet, has_card, is_of_suit};
-ghost use Rattle.bridge_cards.specs.Deal.{hand_at, IsDeal, SomeTwice, NoneTwice, SomeNotThirteen};
-ghost use Rattle.bridge_cards.specs.DealText.{SpellsSuit, SpellsHand, SpellsFour, SpellsDeal, suit_text, hand_text, deal_text};
+ghost use Rattle.bridge_cards.specs.Deal.{hand_at, IsDeal, SomeTwice, IsUneven};
+ghost use Rattle.bridge_cards.specs.DealText.{SpellsSuit, SpellsHand, SpellsFour, SpellsDeal, States, StatesNone, StatesOnly, suit_text, hand_text, deal_text};
 
 use crate::card::Card;
 use crate::card_set::CardSet;
@@ -24,9 +24,8 @@ mod tests;
 /// rank twice in one suit of one hand; the hands need be no deal.
 pub fn read_hands(text: &[u8]) -> Option<[CardSet; 4]>
     ensures hands { IfSome result (λ hands. SpellsDeal hands text.now) }
-    ensures only { IfSome result
-        (λ hands. (other : List ℕ) → SpellsDeal other text.now → other ≡ hands) }
-    ensures none { IfNone result ((hands : List ℕ) → ¬ SpellsDeal hands text.now) }
+    ensures only { IfSome result (StatesOnly text.now) }
+    ensures none { IfNone result (StatesNone text.now) }
 {
     let [letter, b':', clockwise @ ..] = text else {
         return None;
@@ -40,13 +39,11 @@ pub fn read_hands(text: &[u8]) -> Option<[CardSet; 4]>
 /// number of cards than 13.
 pub fn read_deal(text: &[u8]) -> Result<Deal, BadDeal>
     ensures deal { IfOk result (λ deal. IsDeal deal × SpellsDeal deal text.now) }
-    ensures only { IfOk result (λ deal. (other : List ℕ) → SpellsDeal other text.now → other ≡ deal) }
-    ensures ok { IsOk result ↔ ((hands : List ℕ) × SpellsDeal hands text.now × IsDeal hands) }
-    ensures form { (result ≡ Err BadDeal.Form) ↔ ((hands : List ℕ) → ¬ SpellsDeal hands text.now) }
-    ensures twice { (result ≡ Err BadDeal.Twice)
-        ↔ ((hands : List ℕ) × SpellsDeal hands text.now × SomeTwice hands) }
-    ensures not_thirteen { (result ≡ Err BadDeal.NotThirteen)
-        ↔ ((hands : List ℕ) × SpellsDeal hands text.now × NoneTwice hands × SomeNotThirteen hands) }
+    ensures only { IfOk result (StatesOnly text.now) }
+    ensures ok { IsOk result ↔ States IsDeal text.now }
+    ensures form { (result ≡ Err BadDeal.Form) ↔ StatesNone text.now }
+    ensures twice { (result ≡ Err BadDeal.Twice) ↔ States SomeTwice text.now }
+    ensures not_thirteen { (result ≡ Err BadDeal.NotThirteen) ↔ States IsUneven text.now }
 {
     let Some(hands) = read_hands(text) else {
         return Err(BadDeal::Form);
@@ -62,7 +59,8 @@ pub fn print_deal(deal: &Deal, first: Seat, text: &mut ArrayString<69>)
 
     // The text states the deal, and nothing else.
     ensures states { SpellsDeal deal.now text.new.bytes }
-    ensures only { (hands : List ℕ) → SpellsDeal hands text.new.bytes → hands ≡ deal.now }
+    ensures only { StatesOnly text.new.bytes deal.now }
+    ensures deal { IsDeal deal.now }
 {
     text.clear();
     text.push(char::from(first.letter()));

@@ -1,5 +1,12 @@
 //! Suits, seats, boards, cards, deals and shuffles of duplicate bridge (Laws 1, 2 and 6 of the Laws of Duplicate
 //! Bridge 2017).
+//!
+//! ```rust
+//! let board = BoardNumber::new(7)?;
+//! let deal = deal_board(&seed, board);
+//! let ace = Card::of(Suit::Spades, Rank::try_from(14)?);
+//! let is_norths = deal.hand(Seat::North).has(ace);
+//! ```
 #![tactic(auto)]
 
 pub mod board;
@@ -7,6 +14,7 @@ pub mod card;
 pub mod card_set;
 pub mod deal;
 pub mod deal_text;
+pub mod out_of_range;
 pub mod rank;
 pub mod seat;
 pub mod shuffle;
@@ -21,6 +29,7 @@ pub use card::{Card, read_card};
 pub use card_set::CardSet;
 pub use deal::{BadDeal, Deal};
 pub use deal_text::{print_deal, read_deal, read_hands};
+pub use out_of_range::OutOfRange;
 pub use rank::Rank;
 pub use seat::{Seat, Side};
 pub use shuffle::deal_board;

@@ -1,6 +1,7 @@
 ghost use Rattle.std.specs.Prelude.{◌≡◌, ◌≢◌, ◌↔◌, ℕ, ◌+◌, ◌<◌, IsSome, IfSome, IfNone};
 ghost use Rattle.bridge_cards.specs.Rank.{IsRank, rank_letter};
 
+use crate::out_of_range::OutOfRange;
 use std::marker::Model;
 
 /// A rank of cards, from the 2 to the ace (Law 1).
@@ -85,5 +86,19 @@ impl Rank {
             _ => return None,
         };
         Some(Rank { number })
+    }
+}
+
+/// As `new`, with the number where it is out of range.
+impl TryFrom<u8> for Rank {
+    type Error = OutOfRange;
+
+    ghost use Rattle.std.specs.Prelude.{◌≡◌, ◌↔◌, IsOk, IfOk};
+    ghost use Rattle.bridge_cards.specs.Rank.{IsRank};
+
+    ghost try_from_gives = { λ n r. (IsOk r ↔ IsRank n) × IfOk r (λ value. value ≡ n) };
+
+    fn try_from(number: u8) -> Result<Rank, OutOfRange> {
+        Rank::new(number).ok_or(OutOfRange(number))
     }
 }

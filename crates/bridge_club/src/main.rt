@@ -1,4 +1,8 @@
 //! The server of a duplicate bridge club.
+//!
+//! ```sh
+//! bridge_club auction 1 < examples/auction.txt
+//! ```
 #![tactic(auto)]
 
 mod command;

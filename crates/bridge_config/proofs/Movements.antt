@@ -3,7 +3,7 @@ use Rattle.std.proofs.Common.{ℕ, ◌≡◌, ◌/◌, ◌%◌, ◌<◌, List, l
 use Rattle.std.specs.Prelude.{All}
 use Rattle.std.proofs.lemmas.List.{same_lists}
 use Rattle.std.proofs.lemmas.Nat.{div_below, mod_below}
-use Rattle.bridge_movement.specs.Mitchell.{mitchell_within}
+use Rattle.bridge_movement.proofs.MitchellShape.{mitchell_within}
 use Rattle.bridge_movement.specs.declared.row.Row.{Row}
 use Rattle.bridge_movement.specs.declared.shape.Shape.{Shape}
 use Rattle.bridge_movement.specs.Fair.{IsMovement}

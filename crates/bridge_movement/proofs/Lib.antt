@@ -1,3 +1,4 @@
+pub mod MitchellShape
 pub mod Order
 pub mod Faults
 pub mod MitchellFair

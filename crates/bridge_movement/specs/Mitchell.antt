@@ -1,10 +1,7 @@
 -- The Mitchell movement. Rounds, tables and places count from 0 here.
-use Rattle.std.specs.Prelude.{ℕ, ◌≡◌, ◌<◌, ◌≤◌, ◌+◌, ◌*◌, ◌-◌, ◌/◌, ◌%◌, ◌==◌, nat_le, ◌&&◌, if◌then◌else◌, List, length, slice_index_or}
-use Rattle.std.proofs.Common.{arith}
-use Rattle.std.proofs.lemmas.Bool.Decides.{nat_tests}
+use Rattle.std.specs.Prelude.{ℕ, ◌≡◌, ◌<◌, ◌+◌, ◌*◌, ◌-◌, ◌/◌, ◌%◌, ◌==◌, nat_le, ◌&&◌, if◌then◌else◌, List, length, slice_index_or}
 use Rattle.bridge_movement.specs.declared.row.Row.{Row}
 use Rattle.bridge_movement.specs.declared.shape.Shape.{Shape}
-use Rattle.bridge_movement.specs.Shape.{IsShape}
 
 -- one round for each table, less one where the tables are even in number
 abbrev pub mitchell_rounds : ℕ → ℕ
@@ -43,15 +40,3 @@ mitchell_row_at tables place = mitchell_row tables (place / tables) (place % tab
 abbrev pub FollowsMitchell : ℕ → List Row → Type 0
 FollowsMitchell tables rows =
     (place : ℕ) (d : Row) → place < length rows → slice_index_or rows place d ≡ mitchell_row_at tables place
-
--- its shape is within the limits
-pub mitchell_within : (T : ℕ) → 2 ≤ T → T ≤ 12 → IsShape (mitchell_shape T)
-mitchell_within T least most =
-    let rounds : (1 ≤ mitchell_rounds T) × (mitchell_rounds T ≤ 12) = grind (arith, nat_tests) in
-    record {
-      tables = (least, most);
-      rounds = rounds;
-      sets = (omega arith, most);
-      pairs = (omega arith, omega arith);
-      split = (omega arith, omega arith);
-    }

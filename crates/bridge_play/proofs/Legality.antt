@@ -2,7 +2,7 @@
 use Rattle.std.proofs.Common.{◌≡◌, ◌↔◌, ◌∙◌, Bool, true, false, not, if◌then◌else◌, [], ◌∷◌, ◌++◌, ℕ, Result, Ok, Err, IsOk, OnOk, refl, ap}
 use Rattle.std.specs.Prelude.{is_some}
 use Rattle.bridge_cards.specs.declared.seat.Seat.{Seat}
-use Rattle.bridge_cards.specs.EachMayFollow.{may_follow_front, each_may_follow-push}
+use Rattle.bridge_cards.proofs.FollowLaws.{may_follow_front, each_may_follow-push}
 use Rattle.bridge_play.specs.declared.refused.CardRefused.{CardRefused}
 use Rattle.bridge_play.specs.declared.refused.CardRefused.TheVariants.{Over, ClaimStands, NotYourTurn, NotHeld, MustFollow}
 use Rattle.bridge_play.specs.Trick.{turn_of}

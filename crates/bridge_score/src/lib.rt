@@ -1,5 +1,11 @@
 //! The score of a board, and how the scores of a duplicate session are compared (Laws 77 and 78 of the Laws of Duplicate
 //! Bridge 2017). Nothing here takes memory.
+//!
+//! ```rust
+//! let points = score(&contract, vulnerable(board, contract.declarer.side()), tricks);
+//! let earned = matchpoints(&[450, 420, 420, -50], 0);
+//! let ranking = rank(Scoring::MatchPoints, &lines);
+//! ```
 #![tactic(auto)]
 
 pub mod comparison;

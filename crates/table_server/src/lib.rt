@@ -1,4 +1,8 @@
 //! The auction command: lines of calls in, replies and the contract out.
+//!
+//! ```rust
+//! run_auction(board, &mut rt.stdin(), &mut rt.stdout())?;
+//! ```
 #![tactic(auto)]
 
 mod auction_lines;

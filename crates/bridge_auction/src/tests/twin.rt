@@ -7,13 +7,32 @@ use bridge_cards::{Seat, Side};
 use std::process::Abort;
 use std::test::Fail;
 
+/// Who bid each denomination first, by side: North and South, then East and West.
+#[derive(Drop)]
+struct FirstBids {
+    seats: [[Option<Seat>; 5]; 2],
+}
+
+impl FirstBids {
+    /// The first player of the seat's side to bid the denomination, who is this one where there was none before.
+    fn declarer(&mut self, seat: Seat, denomination: Denomination) -> Seat {
+        let side = match seat.side() {
+            Side::NorthSouth => 0,
+            Side::EastWest => 1,
+        };
+        let index = usize::from(denomination.number());
+        let first = self.seats[side][index].unwrap_or(seat);
+        self.seats[side][index] = Some(first);
+        first
+    }
+}
+
 #[derive(Drop)]
 struct Referee {
     calls: usize,
     passes: usize,
     contract: Option<Contract>,
-    /// Who bid each denomination first, by side: North and South, then East and West.
-    firsts: [[Option<Seat>; 5]; 2],
+    firsts: FirstBids,
 }
 
 impl Referee {
@@ -36,49 +55,45 @@ impl Referee {
         }
     }
 
-    /// The first player of the seat's side to bid the denomination, who is this one where there was none before.
-    fn declarer(&mut self, seat: Seat, denomination: Denomination) -> Seat {
-        let side = match seat.side() {
-            Side::NorthSouth => 0,
-            Side::EastWest => 1,
-        };
-        let index = usize::from(denomination.number());
-        let first = self.firsts[side][index].unwrap_or(seat);
-        self.firsts[side][index] = Some(first);
-        first
-    }
-
     fn takes(&mut self, seat: Seat, call: Call) {
         self.calls = self.calls.wrapping_add(1);
         self.passes = match call {
             Call::Pass => self.passes.wrapping_add(1),
             _ => 0,
         };
-        if let Call::Bid(bid) = call {
-            self.contract = Some(Contract {
+        self.contract = match (call, self.contract) {
+            (Call::Bid(bid), _) => Some(Contract {
                 bid,
                 doubling: Doubling::Undoubled,
-                declarer: self.declarer(seat, bid.denomination),
-            });
-        }
-        if let Some(contract) = &mut self.contract {
-            match call {
-                Call::Double => contract.doubling = Doubling::Doubled,
-                Call::Redouble => contract.doubling = Doubling::Redoubled,
-                Call::Pass | Call::Bid(_) => {}
-            }
-        }
+                declarer: self.firsts.declarer(seat, bid.denomination),
+            }),
+            (Call::Double, Some(last)) => Some(doubled(last, Doubling::Doubled)),
+            (Call::Redouble, Some(last)) => Some(doubled(last, Doubling::Redoubled)),
+            (_, last) => last,
+        };
+    }
+}
+
+/// The contract with another doubling.
+fn doubled(contract: Contract, doubling: Doubling) -> Contract {
+    Contract {
+        bid: contract.bid,
+        doubling,
+        declarer: contract.declarer,
     }
 }
 
 /// The auction takes exactly the calls that the referee admits, and ends with the same contract.
 pub fn agrees(rt: &impl Abort, calls: &[Call]) {
     let mut auction = Auction::new(Seat::North);
+    let firsts = FirstBids {
+        seats: [[None; 5]; 2],
+    };
     let mut referee = Referee {
         calls: 0,
         passes: 0,
         contract: None,
-        firsts: [[None; 5]; 2],
+        firsts,
     };
     for call in calls {
         let seat = Seat::North.clockwise(referee.calls);

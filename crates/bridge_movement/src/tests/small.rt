@@ -31,7 +31,7 @@ fn small_movements_taken(rt: HostRuntime) {
             small_row(n / 18 / 18 / 18, 2, 2),
         ];
         if refusal(shape, &rows).is_none() {
-            taken += 1;
+            taken = taken.saturating_add(1);
         }
     }
     // Counted apart from this crate: of the 14 rows that have no pair against itself, the lists of four in which no pair

@@ -1,8 +1,12 @@
+ghost use Rattle.std.specs.Prelude.{◌≡◌};
+
 use crate::tests::expect_eq;
 use crate::{Line, Ranked, Scoring, rank};
 
 /// The line of a pair.
-const fn line(pair: u8, value: i32, available: u32) -> Line {
+const fn line(pair: u8, value: i32, available: u32) -> Line
+    ensures { result ≡ record { pair = pair; value = value; available = available } }
+{
     Line {
         pair,
         value,

@@ -1,7 +1,7 @@
 use Rattle.std.proofs.Common.{◌≡◌, ℕ, List, subst, sym, ◌∙◌}
 use Rattle.std.proofs.lemmas.Result.{IfOk-weaker}
 use Rattle.bridge_cards.specs.DealText.{SpellsDeal}
-use Rattle.bridge_cards.specs.Deal.{IsDeal, SomeTwice, NoneTwice, SomeNotThirteen}
+use Rattle.bridge_cards.specs.Deal.{IsDeal, SomeTwice, IsUneven}
 use Rattle.bridge_cards.proofs.DealLemmas.{deal_once}
 use Rattle.bridge_cards.proofs.deal_text.read_deal.Goals as goal
 
@@ -43,11 +43,9 @@ returns-clause-twice c =
 pub returns-clause-not_thirteen : goal.returns-clause-not_thirteen
 returns-clause-not_thirteen c =
     let spelled = c.in-Some.ensures.hands in (
-      λ not_thirteen.
-          let hands = c.from_hands.ensures.not_thirteen.0 not_thirteen in (c.in-Some.hands, spelled, hands.0, hands.1),
+      λ not_thirteen. (c.in-Some.hands, spelled, c.from_hands.ensures.not_thirteen.0 not_thirteen),
       λ found.
-          let same = deal_once found.0 c.in-Some.hands c.args.text.now found.1 spelled in
-          c.from_hands.ensures.not_thirteen.1 (subst NoneTwice same found.2, subst SomeNotThirteen same found.3),
+          c.from_hands.ensures.not_thirteen.1 (subst IsUneven (deal_once found.0 c.in-Some.hands c.args.text.now found.1 spelled) found.2),
     )
 
 pub returns-clause-only : goal.returns-clause-only

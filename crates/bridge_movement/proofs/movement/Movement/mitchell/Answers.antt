@@ -1,8 +1,9 @@
 use Rattle.std.proofs.Common.{◌≡◌, ◌*◌, length, ap, subst, sym, arith}
 use Rattle.bridge_movement.specs.Fair.{IsMovement}
-use Rattle.bridge_movement.specs.Mitchell.{mitchell_rounds, mitchell_within}
+use Rattle.bridge_movement.specs.Mitchell.{mitchell_rounds}
 use Rattle.bridge_movement.specs.Shape.{IsShape}
 use Rattle.bridge_movement.specs.declared.shape.Shape.{Shape}
+use Rattle.bridge_movement.proofs.MitchellShape.{mitchell_within}
 use Rattle.bridge_movement.proofs.MitchellFair.{mitchell_is_movement, mitchell_meets_once}
 use Rattle.bridge_movement.proofs.movement.Movement.mitchell.Goals as goal
 
