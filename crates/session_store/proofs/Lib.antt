@@ -13,3 +13,4 @@ pub mod PartsLemmas
 pub mod ReplayLemmas
 pub mod OpeningLemmas
 pub mod OpenLemmas
+pub mod CrashLemmas

@@ -78,3 +78,15 @@ module _ {S A R : Type 0} (kept : Keeping S A R) (image : Image) where
   cause-stands s honest before now fault holds stands (inl failed) = inl failed.0
   cause-stands s honest before now fault holds stands (inr (inl none)) = inr (inr none)
   cause-stands s honest before now fault holds stands (inr (inr is)) = inr (inl (reading-stands s fault stands (is.1 holds)))
+
+  -- what is read of an image is what it stands for
+  pub reading-ok : (s : S) → reading kept image ≡ Ok s → recovered kept image ≡ Ok s
+  reading-ok s is = of_header (header_in image) refl
+    where
+      of_header : (o : Option Header) → o ≡ header_in image → recovered kept image ≡ Ok s
+      of_header None none = let never : Err NotFormatted ≡ Ok s = sym (reading-none none) ∙ is in cc
+      of_header (Some h) some =
+          elim (cases_eq h.epoch (2 ^ 64 - 1)) [
+            | inl last ↦ let never : Err EpochsSpent ≡ Ok s = sym (reading-spent h some last) ∙ is in cc
+            | inr more ↦ sym (reading-some h some more).0 ∙ is
+          ]

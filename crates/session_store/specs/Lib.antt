@@ -9,5 +9,6 @@ pub mod Value
 pub mod Store
 pub mod Answers
 pub mod Opening
+pub mod Run
 pub mod Counter
 pub mod CounterLaws

@@ -24,5 +24,5 @@ mod tests;
 pub use fault::{CheckpointFault, ConfirmFault, PartsFault, StoreFault, SubmitFault};
 pub use formatting::format;
 pub use kept::Kept;
-pub use laws::frame_law;
+pub use laws::{crash_law, frame_law};
 pub use store::Store;
