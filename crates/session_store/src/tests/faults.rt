@@ -151,11 +151,10 @@ fn picks() -> [[u32; 2048]; 4] {
     lists
 }
 
-/// A power cut leaves the confirmed actions, and of the others some of the first.
-fn expect_prefix(rt: &impl Abort, alloc: Global, mut disk: MemoryDisk, picks: &[u32], twin: &Twin) {
-    disk.crash(picks);
-    let found = opened(alloc, disk).1.map(|it| it.0);
-    let place = twin.totals.iter().position(|due| Ok(*due) == found);
+/// The store that was opened has the confirmed actions, and of the others some of the first.
+fn expect_prefix(rt: &impl Abort, found: Result<(u16, u64), StoreFault>, twin: &Twin) {
+    let total = found.map(|it| it.0);
+    let place = twin.totals.iter().position(|due| Ok(*due) == total);
     assert!(rt; place.is_some_and(|at| twin.confirmed <= at), "{found:?}");
 }
 
@@ -171,9 +170,10 @@ fn fail_every_call(
             let row = (fail, effect, passes);
             let (disk, mut twin) = prepared(rt, alloc)?;
             let fuse = Fuse::new(disk, passes, fail, effect);
-            let disk = run(rt, alloc, fuse, &mut twin, &[StoreFault::Disk]);
+            let mut disk = run(rt, alloc, fuse, &mut twin, &[StoreFault::Disk]);
             expect_eq(rt, twin.failed, passes < 46, row);
-            expect_prefix(rt, alloc, disk, picks, &twin);
+            disk.crash(picks);
+            expect_prefix(rt, opened(alloc, disk).1, &twin);
         }
     }
     Ok(())
@@ -202,17 +202,16 @@ const FUSES: [(Fail, bool); 4] = [
     (Fail::Always, true),
 ];
 
-// After a `format` that failed, another gives the disk of the new state. Of the 2,048 writes that clear the disk every 31st
-// meets one of the 16 kinds of fault and power cut in turn, each later call all of them.
-#[test]
-fn a_fault_at_every_call_of_formatting(rt: HostRuntime) -> Result<(), Failure> {
+/// After a `format` that failed, another gives the disk of the new state. Each of the 2,048 writes that clear the disk meets
+/// one of the 16 kinds of fault and power cut in turn, each later call all of them.
+fn fail_formatting(rt: &impl Abort, alloc: Global, from: usize, to: usize) -> Result<(), Failure> {
     let lists = picks();
-    let mut disk = formatted(&rt, rt.alloc())?;
-    for turn in 0..67 + 14 * 16 {
-        let passes = if turn < 67 {
-            turn * 31
+    let mut disk = formatted(rt, alloc)?;
+    for turn in from..to {
+        let passes = if turn < 2048 {
+            turn
         } else {
-            2048 + (turn - 67) / 16
+            2048 + (turn - 2048) / 16
         };
         let (fail, effect) = FUSES[turn / 4 % 4];
         let fuse = Fuse::new(disk, passes as u64, fail, effect);
@@ -221,25 +220,28 @@ fn a_fault_at_every_call_of_formatting(rt: HostRuntime) -> Result<(), Failure> {
             Err((fuse, fault)) => (fuse, Some(fault)),
         };
         let failed = passes < 2061;
-        expect_eq(
-            &rt,
-            fault,
-            if failed { Some(StoreFault::Disk) } else { None },
-            turn,
-        );
+        let due = if failed { Some(StoreFault::Disk) } else { None };
+        expect_eq(rt, fault, due, turn);
         disk = fuse.into_inner();
         disk.crash(&lists[turn % 4]);
         if failed {
-            disk = format(disk, &Counter::new(9)).ok().expect(&rt, "formatted");
+            disk = format(disk, &Counter::new(9)).ok().expect(rt, "formatted");
         }
-        let mut store = Store::<MemoryDisk, Counter>::open(rt.alloc(), disk)
-            .ok()
-            .expect(&rt, "opened");
-        expect_eq(&rt, (store.state().total(), store.epoch()), (0, 2), turn);
-        expect_eq(&rt, store.submit(&1).is_ok(), true, turn);
-        disk = store.into_disk();
+        let (left, found) = opened(alloc, disk);
+        expect_eq(rt, found, Ok((0, 2)), turn);
+        disk = left;
     }
     Ok(())
+}
+
+#[test]
+fn a_fault_at_every_early_call_of_formatting(rt: HostRuntime) -> Result<(), Failure> {
+    fail_formatting(&rt, rt.alloc(), 0, 1200)
+}
+
+#[test]
+fn a_fault_at_every_late_call_of_formatting(rt: HostRuntime) -> Result<(), Failure> {
+    fail_formatting(&rt, rt.alloc(), 1200, 2048 + 14 * 16)
 }
 
 // `rt try --test --fail-alloc N` refuses the Nth allocation, and every other run none.
@@ -259,6 +261,14 @@ fn a_store_whose_memory_may_be_refused(rt: HostRuntime) {
     }
     let fuse = Fuse::new(disk, u64::MAX, Fail::Once, false);
     let causes = [StoreFault::Disk, StoreFault::NoMemory];
-    let disk = run(&rt, rt.alloc(), fuse, &mut twin, &causes);
-    expect_prefix(&rt, rt.alloc(), disk, &[1; 2048], &twin);
+    let mut disk = run(&rt, rt.alloc(), fuse, &mut twin, &causes);
+    disk.crash(&[1; 2048]);
+    let (disk, found) = opened(rt.alloc(), disk);
+    match found {
+        Err(fault) => {
+            expect_eq(&rt, causes.contains(&fault), true, fault);
+            expect_prefix(&rt, opened(rt.alloc(), disk).1, &twin);
+        }
+        Ok(_) => expect_prefix(&rt, found, &twin),
+    }
 }
