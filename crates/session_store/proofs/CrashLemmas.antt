@@ -11,10 +11,10 @@ use Rattle.session_store.specs.declared.reading.Header.{Header}
 use Rattle.session_store.specs.declared.fault.StoreFault.TheVariants.{NotFormatted, EpochsSpent}
 use Rattle.session_store.specs.Base.{StandsForPrefix}
 use Rattle.session_store.specs.Sound.{IsSoundDisk, StandsOnlyFor}
-use Rattle.session_store.specs.Opening.{IsStillSound, reading}
+use Rattle.session_store.specs.Opening.{IsStillSound, IsOpened, IsNotOpened, reading}
 use Rattle.session_store.specs.Value.{StoreValue}
 use Rattle.session_store.specs.Store.{IsSoundStore, Continues}
-use Rattle.session_store.specs.Run.{Place, AtRest, AtWork, Doing, Calls, Waits, Closes, Opens, Fails, Event, Done, Cut, Standing, accepts, StandsForAtLeast, IsLongest, IsOpened, IsNotOpened, Does, MayLeave, HoldsOnly, IsCut, Happens, Runs, CrashLaw}
+use Rattle.session_store.specs.Run.{Place, AtRest, AtWork, Doing, Calls, Waits, Closes, Opens, Fails, Event, Done, Cut, Standing, accepts, StandsForAtLeast, IsLongest, Does, MayLeave, HoldsOnly, IsCut, Happens, Runs, CrashLaw}
 use Rattle.session_store.proofs.StandsLemmas.{fold-nil, fold-cons, fold-step}
 use Rattle.session_store.proofs.StoreLemmas.{of_nil}
 use Rattle.session_store.proofs.OpeningLemmas.{reading-ok}

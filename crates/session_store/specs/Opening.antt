@@ -1,11 +1,15 @@
 -- What opening a disk answers.
-use Rattle.std.specs.Prelude.{◌≡◌, ◌≢◌, ◌⊎◌, ◌-◌, ◌^◌, ◌==◌, ℕ, Option, Some, None, Result, Ok, Err, if◌then◌else◌}
-use Rattle.sector_disk.specs.Disk.{Image, Rose}
-use Rattle.session_store.specs.Keeping.{Keeping}
+use Rattle.std.specs.Prelude.{◌≡◌, ◌≢◌, ◌⊎◌, ◌-◌, ◌^◌, ◌==◌, ℕ, [], Option, Some, None, Result, Ok, Err, if◌then◌else◌}
+use Rattle.sector_disk.specs.Disk.{Image, Disk, Rose}
+use Rattle.sector_disk.specs.Runs.{EveryMoment, Remains}
+use Rattle.session_store.specs.Keeping.{Keeping, fold}
 use Rattle.session_store.specs.declared.reading.Header.{Header}
 use Rattle.session_store.specs.declared.fault.StoreFault.{StoreFault}
 use Rattle.session_store.specs.declared.fault.StoreFault.TheVariants.{Disk as DiskFailed, NotFormatted, EpochsSpent, NoMemory}
 use Rattle.session_store.specs.Stands.{header_in, recovered, IsInOrder}
+use Rattle.session_store.specs.Sound.{IsSoundDisk}
+use Rattle.session_store.specs.Value.{StoreValue}
+use Rattle.session_store.specs.Store.{IsSoundStore}
 
 -- Why a call of a disk that is honest, or not, answered this fault: the disk's faults rose in it, memory was refused,
 -- or it is what was found.
@@ -32,3 +36,19 @@ module _ {S A R : Type 0} (kept : Keeping S A R) where
     pub start : Image
     pub was_there : images start
     pub stood : recovered kept start ≡ Ok state
+
+module _ {D S A R : Type 0} (kept : Keeping S A R) (disk : Disk D) where
+  -- opening this disk answered Ok with this store
+  pub record IsOpened (d : D) (v : StoreValue D S A) : Type 0 where
+    pub remains : Remains disk d v.disk
+    pub state : disk.honest d → reading kept (disk.reads d) ≡ Ok v.state
+    pub none_pending : v.pending ≡ []
+    pub accepted : fold kept v.base v.pending ≡ Some v.state
+    pub any_moment : IsSoundDisk kept disk d → EveryMoment disk d v.disk (IsStillSound kept (disk.may_leave d))
+    pub sound : IsSoundDisk kept disk d → IsSoundStore kept disk v
+
+  -- opening it failed, and gave this disk back
+  pub record IsNotOpened (d e : D) : Type 0 where
+    pub remains : Remains disk d e
+    pub any_moment : IsSoundDisk kept disk d → EveryMoment disk d e (IsStillSound kept (disk.may_leave d))
+    pub stays_sound : IsSoundDisk kept disk d → IsSoundDisk kept disk e

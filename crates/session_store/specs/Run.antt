@@ -1,13 +1,13 @@
 -- Runs: what stores, their disks and power cuts make of the actions that were accepted.
 use Rattle.std.specs.Prelude.{◌≡◌, ◌≤◌, ◌+◌, ℕ, List, [], ◌∷◌, ◌++◌, length, take, Some, Ok}
 use Rattle.sector_disk.specs.Disk.{Image, IsSame, Disk}
-use Rattle.sector_disk.specs.Runs.{EveryMoment, Remains}
+use Rattle.sector_disk.specs.Runs.{Remains}
 use Rattle.session_store.specs.Keeping.{Keeping, fold}
 use Rattle.session_store.specs.Stands.{recovered, IsInOrder}
 use Rattle.session_store.specs.Sound.{IsSoundDisk, StandsOnlyFor}
-use Rattle.session_store.specs.Opening.{IsStillSound, reading}
+use Rattle.session_store.specs.Opening.{IsOpened, IsNotOpened}
 use Rattle.session_store.specs.Value.{StoreValue}
-use Rattle.session_store.specs.Store.{IsSoundStore, Continues}
+use Rattle.session_store.specs.Store.{Continues}
 
 -- where a run stands: at a disk that no store has, or at a store
 pub data Place (D S A : Type 0) : Type 0 where
@@ -62,20 +62,6 @@ module _ {D S A R : Type 0} (kept : Keeping S A R) (disk : Disk D) where
     pub longest : (n : ℕ) (t : S) → n ≤ length accepted → fold kept start (take n accepted) ≡ Some t
         → recovered kept image ≡ Ok t → n ≤ count
 
-  -- opening answered Ok
-  pub record IsOpened (d : D) (v : StoreValue D S A) : Type 0 where
-    pub any_moment : IsSoundDisk kept disk d → EveryMoment disk d v.disk (IsStillSound kept (disk.may_leave d))
-    pub sound : IsSoundDisk kept disk d → IsSoundStore kept disk v
-    pub state : disk.honest d → reading kept (disk.reads d) ≡ Ok v.state
-    pub none_pending : v.pending ≡ []
-    pub accepted : fold kept v.base v.pending ≡ Some v.state
-    pub remains : Remains disk d v.disk
-
-  -- opening failed
-  pub record IsNotOpened (d e : D) : Type 0 where
-    pub any_moment : IsSoundDisk kept disk d → EveryMoment disk d e (IsStillSound kept (disk.may_leave d))
-    pub stays_sound : IsSoundDisk kept disk d → IsSoundDisk kept disk e
-
   -- A call that confirms leaves unconfirmed what is pending; opening confirms what the disk reads, and the rest is lost.
   abbrev pub Does : S → Place D S A → List A → ℕ → Doing D S A → Standing D S A → Type 0
   Does start (AtWork v) accepted confirmed (Calls actions w) t = Continues kept disk v actions w × Remains disk v.disk w.disk
@@ -86,9 +72,9 @@ module _ {D S A R : Type 0} (kept : Keeping S A R) (disk : Disk D) where
       (t.place ≡ AtRest v.disk) × (t.accepted ≡ accepted) × (t.confirmed ≡ confirmed)
   Does start (AtWork v) accepted confirmed (Opens _) t = ⊥
   Does start (AtWork v) accepted confirmed (Fails _) t = ⊥
-  Does start (AtRest d) accepted confirmed (Opens w) t = IsOpened d w × IsLongest start accepted (disk.reads d) t.confirmed
+  Does start (AtRest d) accepted confirmed (Opens w) t = IsOpened kept disk d w × IsLongest start accepted (disk.reads d) t.confirmed
       × (t.place ≡ AtWork w) × (t.accepted ≡ take t.confirmed accepted)
-  Does start (AtRest d) accepted confirmed (Fails e) t = IsNotOpened d e
+  Does start (AtRest d) accepted confirmed (Fails e) t = IsNotOpened kept disk d e
       × (t.place ≡ AtRest e) × (t.accepted ≡ accepted) × (t.confirmed ≡ confirmed)
   Does start (AtRest d) accepted confirmed Waits t =
       (t.place ≡ AtRest d) × (t.accepted ≡ accepted) × (t.confirmed ≡ confirmed)

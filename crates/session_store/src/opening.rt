@@ -1,13 +1,11 @@
 //! Opening a store.
-ghost use Rattle.std.specs.Prelude.{◌≡◌, ◌≢◌, ◌⊎◌, ◌<◌, ◌≤◌, ◌-◌, ◌^◌, [], Err, IfErr, IfOk, MatchResult, Ok, OnErr, OnOk, false};
+ghost use Rattle.std.specs.Prelude.{◌≡◌, ◌≢◌, ◌⊎◌, ◌<◌, ◌≤◌, ◌-◌, ◌^◌, Err, IfErr, IfOk, Ok, OnErr, OnOk, false};
 ghost use Rattle.sector_disk.specs.Disk.{Image, Rose};
-ghost use Rattle.sector_disk.specs.Runs.{EveryMoment, OnlyRead, Quiet, Remains};
+ghost use Rattle.sector_disk.specs.Runs.{OnlyRead, Quiet};
 ghost use Rattle.session_store.specs.Base.{HasEpoch};
-ghost use Rattle.session_store.specs.Opening.{IsCause, IsStillSound, reading};
-ghost use Rattle.session_store.specs.Snapshot.{IsSnapshotting, WithSnapshot};
+ghost use Rattle.session_store.specs.Opening.{IsCause, IsNotOpened, IsOpened, reading};
 ghost use Rattle.session_store.specs.Sound.{IsSoundDisk, StandsOnlyFor};
 ghost use Rattle.session_store.specs.Stands.{recovered};
-ghost use Rattle.session_store.specs.Store.{IsSoundStore};
 
 use crate::formatting::SECTORS;
 use crate::recovering::{Recovered, recover};
@@ -56,19 +54,12 @@ impl<D: SectorDisk + Drop, K: Kept> Store<D, K> {
         ensures too_small { D.disk.count disk < 2048 → result ≡ Err (disk, StoreFault.TooSmall) }
         ensures fault { 2048 ≤ D.disk.count disk → IfErr result (λ e. IsCause (D.disk.honest disk) (D.disk.faults disk)
             (D.disk.faults e.0) (reading K.kept (D.disk.reads disk)) e.1) }
-        ensures remains { MatchResult result (λ store. Remains D.disk disk store.disk) (λ e. Remains D.disk disk e.0) }
         ensures only_read { IfErr result (λ e. e.1 ≢ StoreFault.Disk → D.disk.honest disk → OnlyRead D.disk disk e.0) }
         ensures opens { IsSoundDisk K.kept D.disk disk → IfErr result (λ e.
             (e.1 ≡ StoreFault.Disk) ⊎ ((e.1 ≡ StoreFault.EpochsSpent) ⊎ (e.1 ≡ StoreFault.NoMemory))) }
-        ensures state { D.disk.honest disk → IfOk result (λ store.
-            reading K.kept (D.disk.reads disk) ≡ Ok store.state) }
-        ensures begins { IfOk result (λ store. (store.pending ≡ []) × (store.records ≡ 0) × (store.failed ≡ false)) }
-        ensures any_moment { IsSoundDisk K.kept D.disk disk → MatchResult result
-            (λ store. EveryMoment D.disk disk store.disk (IsStillSound K.kept (D.disk.may_leave disk)))
-            (λ e. EveryMoment D.disk disk e.0 (IsStillSound K.kept (D.disk.may_leave disk))) }
-        ensures stays_sound { IsSoundDisk K.kept D.disk disk → MatchResult result
-            (λ store. IsSoundDisk K.kept D.disk store.disk) (λ e. IsSoundDisk K.kept D.disk e.0) }
-        ensures sound { IsSoundDisk K.kept D.disk disk → IfOk result (IsSoundStore K.kept D.disk) }
+        ensures opened { IfOk result (IsOpened K.kept D.disk disk) }
+        ensures begins { IfOk result (λ store. (store.records ≡ 0) × (store.failed ≡ false)) }
+        ensures not_opened { IfErr result (λ e. IsNotOpened K.kept D.disk disk e.0) }
         ensures stands { IsSoundDisk K.kept D.disk disk
             → IfOk result (λ store. StandsOnlyFor K.kept D.disk store.state store.disk) }
     {

@@ -1,5 +1,5 @@
 use Rattle.std.proofs.Common.{◌≤◌, arith}
-use Rattle.sector_disk.specs.Runs.{none_read, quiet, remains_joins}
+use Rattle.sector_disk.specs.Runs.{none_read, quiet, remains, remains_joins}
 use Rattle.session_store.proofs.OpeningLemmas.{cause-stands}
 use Rattle.session_store.proofs.OpenLemmas.{quiet-still, still-sound, snapshot-still, opened-sound, opened-stands, opened-store, opened-view}
 use Rattle.session_store.proofs.store.Store.open.Goals as goal
@@ -7,13 +7,30 @@ use Rattle.session_store.proofs.store.Store.open.Goals as goal
 pub returns-then-count-lt-SECTORS-clause-only_read : goal.returns-then-count-lt-SECTORS-clause-only_read
 returns-then-count-lt-SECTORS-clause-only_read g c = λ other honest. none_read g.D.SectorDisk.disk _ honest
 
-pub returns-then-count-lt-SECTORS-clause-any_moment : goal.returns-then-count-lt-SECTORS-clause-any_moment
-returns-then-count-lt-SECTORS-clause-any_moment g c = λ sound.
-    quiet-still g.K.Kept.kept g.D.SectorDisk.disk _ _ sound (quiet g.D.SectorDisk.disk _)
+pub returns-then-count-lt-SECTORS-clause-not_opened : goal.returns-then-count-lt-SECTORS-clause-not_opened
+returns-then-count-lt-SECTORS-clause-not_opened g c =
+    let disk = g.D.SectorDisk.disk in record {
+      remains = remains disk c.args.disk;
+      any_moment = λ sound. quiet-still g.K.Kept.kept disk c.args.disk c.args.disk sound (quiet disk c.args.disk);
+      stays_sound = λ sound. sound;
+    }
 
-pub returns-in-Err-clause-any_moment : goal.returns-in-Err-clause-any_moment
-returns-in-Err-clause-any_moment g c = λ sound.
-    quiet-still g.K.Kept.kept g.D.SectorDisk.disk _ _ sound c.recover_behind_barrier.ensures.quiet
+pub returns-in-Err-clause-opens : goal.returns-in-Err-clause-opens
+returns-in-Err-clause-opens g c = λ sound.
+    let disk = g.D.SectorDisk.disk in
+    let stands = sound.stands (disk.reads c.args.disk) (disk.reads_left c.args.disk sound.honest) in
+    cause-stands g.K.Kept.kept (disk.reads c.args.disk) stands.0 (disk.honest c.args.disk) _ _ c.in-Err.fault sound.honest stands.1
+    c.in-Err.ensures.fault
+
+pub returns-in-Err-clause-not_opened : goal.returns-in-Err-clause-not_opened
+returns-in-Err-clause-not_opened g c =
+    let kept = g.K.Kept.kept in
+    let disk = g.D.SectorDisk.disk in
+    let quietly = c.recover_behind_barrier.ensures.quiet in record {
+      remains = quietly.remains;
+      any_moment = λ sound. quiet-still kept disk _ _ sound quietly;
+      stays_sound = λ sound. still-sound kept disk _ _ sound quietly.remains (quiet-still kept disk _ _ sound quietly);
+    }
 
 pub invariant_of-result : goal.invariant_of-result
 invariant_of-result g c =
@@ -23,30 +40,49 @@ invariant_of-result g c =
     opened-store g.K.Kept.kept disk c.write_snapshot.new.disk c.in-Ok.found.base c.in-Ok.found.state _ c.in-Ok.found.epoch
     c.in-Ok.ensures.same c.new.ensures large c.in-Ok.ensures.epoch
 
-pub returns-in-Err-write_snapshot-clause-any_moment : goal.returns-in-Err-write_snapshot-clause-any_moment
-returns-in-Err-write_snapshot-clause-any_moment g c = λ sound.
-    let found = c.in-Ok.ensures.found sound.honest in
-    snapshot-still g.K.Kept.kept g.D.SectorDisk.disk _ _ c.in-Ok.found.epoch c.in-Ok.found.state sound
-    (c.in-Ok.ensures.settled sound.honest) found.1 found.2 g.met.K.Kept.lawful c.in-Ok.ensures.epoch c.write_snapshot.ensures.state
-    c.recover_behind_barrier.ensures.quiet _ c.write_snapshot.ensures.any_moment
-
-pub returns-in-Ok-write_snapshot-clause-any_moment : goal.returns-in-Ok-write_snapshot-clause-any_moment
-returns-in-Ok-write_snapshot-clause-any_moment g c = λ sound.
-    let found = c.in-Ok.ensures.found sound.honest in
-    snapshot-still g.K.Kept.kept g.D.SectorDisk.disk _ _ c.in-Ok.found.epoch c.in-Ok.found.state sound
-    (c.in-Ok.ensures.settled sound.honest) found.1 found.2 g.met.K.Kept.lawful c.in-Ok.ensures.epoch c.write_snapshot.ensures.state
-    c.recover_behind_barrier.ensures.quiet _ c.write_snapshot.ensures.any_moment
-
-pub returns-in-Ok-write_snapshot-clause-sound : goal.returns-in-Ok-write_snapshot-clause-sound
-returns-in-Ok-write_snapshot-clause-sound g c = λ sound.
-    let found = c.in-Ok.ensures.found sound.honest in
+pub returns-in-Err-write_snapshot-clause-not_opened : goal.returns-in-Err-write_snapshot-clause-not_opened
+returns-in-Err-write_snapshot-clause-not_opened g c =
+    let kept = g.K.Kept.kept in
+    let disk = g.D.SectorDisk.disk in
     let quietly = c.recover_behind_barrier.ensures.quiet in
-    let honest = c.write_snapshot.ensures.remains.stays_honest (quietly.remains.stays_honest sound.honest) in
-    opened-view g.K.Kept.kept g.D.SectorDisk.disk c.write_snapshot.new.disk c.in-Ok.found.base c.in-Ok.found.state _ c.in-Ok.found.epoch
-    c.in-Ok.ensures.same c.new.ensures
-    (opened-sound g.K.Kept.kept g.D.SectorDisk.disk _ _ c.in-Ok.found.epoch c.in-Ok.found.state sound
-    (c.in-Ok.ensures.settled sound.honest) found.1 found.2 g.met.K.Kept.lawful c.in-Ok.ensures.epoch c.write_snapshot.ensures.state
-    quietly c.write_snapshot.new.disk honest c.in-Ok-write_snapshot.ensures.written)
+    let remain = remains_joins disk _ _ _ quietly.remains c.write_snapshot.ensures.remains in record {
+      remains = remain;
+      any_moment = λ sound.
+          let found = c.in-Ok.ensures.found sound.honest in
+          snapshot-still kept disk _ _ c.in-Ok.found.epoch c.in-Ok.found.state sound (c.in-Ok.ensures.settled sound.honest) found.1 found.2
+          g.met.K.Kept.lawful c.in-Ok.ensures.epoch c.write_snapshot.ensures.state quietly _ c.write_snapshot.ensures.any_moment;
+      stays_sound = λ sound.
+          let found = c.in-Ok.ensures.found sound.honest in
+          still-sound kept disk _ _ sound remain
+          (snapshot-still kept disk _ _ c.in-Ok.found.epoch c.in-Ok.found.state sound (c.in-Ok.ensures.settled sound.honest) found.1 found.2
+          g.met.K.Kept.lawful c.in-Ok.ensures.epoch c.write_snapshot.ensures.state quietly _ c.write_snapshot.ensures.any_moment);
+    }
+
+pub returns-in-Ok-write_snapshot-clause-opened : goal.returns-in-Ok-write_snapshot-clause-opened
+returns-in-Ok-write_snapshot-clause-opened g c =
+    let kept = g.K.Kept.kept in
+    let disk = g.D.SectorDisk.disk in
+    let quietly = c.recover_behind_barrier.ensures.quiet in
+    let remain = remains_joins disk _ _ _ quietly.remains c.write_snapshot.ensures.remains in
+    let large : 2048 ≤ disk.count c.write_snapshot.new.disk
+    = omega (arith, remain.count, c.count.ensures.count, c.if-count-lt-SECTORS.false) in record {
+      remains = remain;
+      state = λ honest. (c.in-Ok.ensures.found honest).0;
+      none_pending = c.new.ensures;
+      accepted = (opened-store kept disk c.write_snapshot.new.disk c.in-Ok.found.base c.in-Ok.found.state _ c.in-Ok.found.epoch
+          c.in-Ok.ensures.same c.new.ensures large c.in-Ok.ensures.epoch).accepted;
+      any_moment = λ sound.
+          let found = c.in-Ok.ensures.found sound.honest in
+          snapshot-still kept disk _ _ c.in-Ok.found.epoch c.in-Ok.found.state sound (c.in-Ok.ensures.settled sound.honest) found.1 found.2
+          g.met.K.Kept.lawful c.in-Ok.ensures.epoch c.write_snapshot.ensures.state quietly _ c.write_snapshot.ensures.any_moment;
+      sound = λ sound.
+          let found = c.in-Ok.ensures.found sound.honest in
+          opened-view kept disk c.write_snapshot.new.disk c.in-Ok.found.base c.in-Ok.found.state _ c.in-Ok.found.epoch c.in-Ok.ensures.same
+          c.new.ensures
+          (opened-sound kept disk _ _ c.in-Ok.found.epoch c.in-Ok.found.state sound (c.in-Ok.ensures.settled sound.honest) found.1 found.2
+          g.met.K.Kept.lawful c.in-Ok.ensures.epoch c.write_snapshot.ensures.state quietly c.write_snapshot.new.disk
+          (remain.stays_honest sound.honest) c.in-Ok-write_snapshot.ensures.written);
+    }
 
 pub returns-in-Ok-write_snapshot-clause-stands : goal.returns-in-Ok-write_snapshot-clause-stands
 returns-in-Ok-write_snapshot-clause-stands g c = λ sound.
@@ -56,36 +92,3 @@ returns-in-Ok-write_snapshot-clause-stands g c = λ sound.
     opened-stands g.K.Kept.kept g.D.SectorDisk.disk _ _ c.in-Ok.found.epoch c.in-Ok.found.state sound
     (c.in-Ok.ensures.settled sound.honest) found.1 found.2 g.met.K.Kept.lawful c.in-Ok.ensures.epoch c.write_snapshot.ensures.state
     quietly c.write_snapshot.new.disk honest c.in-Ok-write_snapshot.ensures.written
-
-pub returns-in-Err-clause-opens : goal.returns-in-Err-clause-opens
-returns-in-Err-clause-opens g c = λ sound.
-    let disk = g.D.SectorDisk.disk in
-    let stands = sound.stands (disk.reads c.args.disk) (disk.reads_left c.args.disk sound.honest) in
-    cause-stands g.K.Kept.kept (disk.reads c.args.disk) stands.0 (disk.honest c.args.disk) _ _ c.in-Err.fault sound.honest stands.1
-    c.in-Err.ensures.fault
-
-pub returns-in-Err-clause-stays_sound : goal.returns-in-Err-clause-stays_sound
-returns-in-Err-clause-stays_sound g c = λ sound.
-    let quietly = c.recover_behind_barrier.ensures.quiet in
-    still-sound g.K.Kept.kept g.D.SectorDisk.disk _ _ sound quietly.remains
-    (quiet-still g.K.Kept.kept g.D.SectorDisk.disk _ _ sound quietly)
-
-pub returns-in-Err-write_snapshot-clause-stays_sound : goal.returns-in-Err-write_snapshot-clause-stays_sound
-returns-in-Err-write_snapshot-clause-stays_sound g c = λ sound.
-    let found = c.in-Ok.ensures.found sound.honest in
-    let quietly = c.recover_behind_barrier.ensures.quiet in
-    still-sound g.K.Kept.kept g.D.SectorDisk.disk _ _ sound
-    (remains_joins g.D.SectorDisk.disk _ _ _ quietly.remains c.write_snapshot.ensures.remains)
-    (snapshot-still g.K.Kept.kept g.D.SectorDisk.disk _ _ c.in-Ok.found.epoch c.in-Ok.found.state sound
-    (c.in-Ok.ensures.settled sound.honest) found.1 found.2 g.met.K.Kept.lawful c.in-Ok.ensures.epoch c.write_snapshot.ensures.state
-    quietly _ c.write_snapshot.ensures.any_moment)
-
-pub returns-in-Ok-write_snapshot-clause-stays_sound : goal.returns-in-Ok-write_snapshot-clause-stays_sound
-returns-in-Ok-write_snapshot-clause-stays_sound g c = λ sound.
-    let found = c.in-Ok.ensures.found sound.honest in
-    let quietly = c.recover_behind_barrier.ensures.quiet in
-    still-sound g.K.Kept.kept g.D.SectorDisk.disk _ _ sound
-    (remains_joins g.D.SectorDisk.disk _ _ _ quietly.remains c.write_snapshot.ensures.remains)
-    (snapshot-still g.K.Kept.kept g.D.SectorDisk.disk _ _ c.in-Ok.found.epoch c.in-Ok.found.state sound
-    (c.in-Ok.ensures.settled sound.honest) found.1 found.2 g.met.K.Kept.lawful c.in-Ok.ensures.epoch c.write_snapshot.ensures.state
-    quietly _ c.write_snapshot.ensures.any_moment)
