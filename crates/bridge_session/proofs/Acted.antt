@@ -114,7 +114,7 @@ map-changed_at v f xs i same =
     ]
 
 -- what a player does is on the same board
-deed_board : (seat : Seat) (done : Deed) (plain : PlainRecord) → (with_deed seat done plain).board ≡ plain.board
+pub deed_board : (seat : Seat) (done : Deed) (plain : PlainRecord) → (with_deed seat done plain).board ≡ plain.board
 deed_board seat (deed.Call call) plain = refl
 deed_board seat (deed.Card card) plain = refl
 deed_board seat (deed.Claim tricks) plain = refl

@@ -27,7 +27,7 @@ without_calls hands others kept tied none =
     record { dealer = tied.dealer; play = tied.play ∙ play hands ∙ sym (play others) }
 
 -- the deals of other boards stay
-other_deal : (deals : List (Option (List ℕ))) (board other : ℕ) (deal : Option (List ℕ)) → other - 1 ≢ board - 1 → deal_on (slice_set deals (board - 1) deal) other ≡ deal_on deals other
+pub other_deal : (deals : List (Option (List ℕ))) (board other : ℕ) (deal : Option (List ℕ)) → other - 1 ≢ board - 1 → deal_on (slice_set deals (board - 1) deal) other ≡ deal_on deals other
 other_deal deals board other deal apart =
     unwrap_or-slice_get (slice_set deals (board - 1) deal) (other - 1) None
     ∙ get_or-set_other deals (board - 1) (other - 1) deal None apart

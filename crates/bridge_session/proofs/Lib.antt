@@ -12,3 +12,9 @@ pub mod Shown
 pub mod SameView
 pub mod Games
 pub mod Gains
+pub mod StaysValid
+pub mod ValidRuling
+pub mod ValidRound
+pub mod ValidDeed
+pub mod ValidPlayer
+pub mod ValidStep

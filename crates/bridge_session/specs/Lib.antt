@@ -9,6 +9,7 @@ pub mod See
 pub mod Ranking
 pub mod Kept
 pub mod Gains
+pub mod Valid
 pub mod Apart
 pub mod Sight
 pub mod Refused

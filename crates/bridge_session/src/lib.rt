@@ -26,6 +26,7 @@ pub mod session;
 mod table;
 #[cfg(test)]
 mod tests;
+pub mod valid;
 pub mod view;
 
 pub use action::{Action, PlayId};
@@ -37,4 +38,5 @@ pub use outcome::Outcome;
 pub use refused::Refused;
 pub use ruling::Ruling;
 pub use session::{Ranking, Session};
+pub use valid::sessions_are_valid;
 pub use view::{Trick, View};
