@@ -16,3 +16,4 @@ pub mod EqualWorth
 pub mod Runs
 pub mod Owners
 pub mod EqualSteps
+pub mod Winning

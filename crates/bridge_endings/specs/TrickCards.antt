@@ -1,7 +1,21 @@
--- What a contract sees of a trick that is being played: the seat that led, and the cards so far.
-use Rattle.std.specs.Prelude.{ℕ, List}
+-- What a contract sees of a trick that is being played: the trump suit, the seat that led, and the cards so far.
+use Rattle.std.specs.Prelude.{◌≡◌, ℕ, ◌<◌, true, false, List, length, slice_index, Option}
+use Rattle.bridge_cards.specs.declared.suit.Suit.{Suit}
 use Rattle.bridge_cards.specs.declared.seat.Seat.{Seat}
+use Rattle.bridge_cards.specs.Trick.{wins}
 
 pub record TrickCards : Type 0 where
+  pub trump : Option Suit
   pub leader : Seat
   pub cards : List ℕ
+
+-- the card at that place beats the others, and none before it does
+pub record IsWinning (trump : Option Suit) (trick : List ℕ) (place : ℕ) : Type 0 where
+  pub within : place < length trick
+  pub wins_there : wins trump trick (slice_index trick place) ≡ true
+  pub first : (k : ℕ) → k < place → wins trump trick (slice_index trick k) ≡ false
+
+-- where a card is played, that card wins so far, at that place
+pub record IsKeptWinner (trump : Option Suit) (trick : List ℕ) (card place : ℕ) : Type 0 where
+  pub winning : 0 < length trick → IsWinning trump trick place
+  pub card_is : 0 < length trick → slice_index trick place ≡ card

@@ -147,13 +147,13 @@ impl Search {
         ensures tried { self.old.tried ≤ self.new.tried }
     {
         if tricks < 2 {
-            return self.reaches(left, &Trick::new(leader), tricks, need);
+            return self.reaches(left, &Trick::new(self.trump(), leader), tricks, need);
         }
         let known = self.bounds(left, leader, tricks);
         if need <= known.least || need > known.most {
             return need <= known.least;
         }
-        let answer = self.reaches(left, &Trick::new(leader), tricks, need);
+        let answer = self.reaches(left, &Trick::new(self.trump(), leader), tricks, need);
         let bounds = narrowed(known, need, answer);
         self.note(Found {
             left,
@@ -169,6 +169,7 @@ impl Search {
     fn reaches(&mut self, left: CardSet, trick: &Trick, tricks: u8, need: u8) -> bool
         requires part { length trick.now.cards < 4 }
         requires enough { length trick.now.cards ≤ 4 * tricks }
+        requires trump { trick.now.trump ≡ self.old.trump }
         requires dealt { EachDealt self.old.hands trick.now.leader trick.now.cards }
         ensures worth { result ≡ nat_le need (worth_with self.old.trump (4 * tricks - length trick.now.cards)
             (left_to self.old.hands left) trick.now.leader trick.now.cards) }
@@ -185,7 +186,7 @@ impl Search {
         }
         let sought = is_sought(trick.turn());
         let mut rest = legal;
-        while let Some(card) = next_card(rest, trick, self.trump()) {
+        while let Some(card) = next_card(rest, trick) {
             rest = rest.without(card).difference(self.equals(card));
             if self.reaches_with(left, trick, card, tricks, need) == sought {
                 return sought;
@@ -206,6 +207,7 @@ impl Search {
     ) -> bool
         requires part { length trick.now.cards < 4 }
         requires some { 0 < tricks }
+        requires trump { trick.now.trump ≡ self.old.trump }
         requires dealt { EachDealt self.old.hands trick.now.leader trick.now.cards }
         requires held { left_to self.old.hands left (clockwise_from trick.now.leader (length trick.now.cards)) card ≡ true }
         ensures worth { result ≡ nat_le need (worth_after self.old.trump (worth_with self.old.trump (4 * tricks - length trick.now.cards - 1))
@@ -215,13 +217,12 @@ impl Search {
         ensures tried { self.old.tried ≤ self.new.tried }
     {
         self.count_card();
-        let trump = self.trump();
         let left = left.without(card);
-        let trick = trick.with(card, trump);
+        let trick = trick.with(card);
         if trick.len() < 4 {
             return self.reaches(left, &trick, tricks, need);
         }
-        let winner = trick.winner(trump);
+        let winner = trick.winner();
         let need = need_after(winner, need);
         self.reaches_from(left, winner, tricks - 1, need)
     }

@@ -2,45 +2,57 @@
 ghost use Rattle.std.specs.Prelude.{◌≡◌, ◌<◌, ◌≤◌, [], ◌∷◌, ◌++◌, length, slice_get};
 ghost use Rattle.bridge_cards.specs.Seat.{clockwise_from};
 ghost use Rattle.bridge_cards.specs.Trick.{next_leader};
+ghost use Rattle.bridge_endings.specs.TrickCards.{IsKeptWinner};
 
-use bridge_cards::trick::{beats, winning_place};
+use bridge_cards::trick::beats;
 use bridge_cards::{Card, Seat, Suit};
 use std::marker::Model;
 
-/// The cards of a trick so far, and the seat that led.
+/// The cards of a trick so far, the seat that led, and the trump suit if there is one.
 #[derive(Drop)]
 pub struct Trick {
+    trump: Option<Suit>,
     leader: Seat,
     cards: [Card; 4],
-    played: usize,
-    /// The card that wins so far, and its place. They guide the order in which cards are tried, and no more.
-    winning: Card,
-    winning_at: usize,
+    played: u8,
+    /// The winner so far, if a card is played.
+    winning: Winning,
+}
+
+/// A card of a trick, and its place from the one led.
+#[derive(Clone, Copy)]
+struct Winning {
+    card: Card,
+    place: u8,
 }
 
 impl Model for Trick {
     ghost use Rattle.std.specs.Prelude.{◌≡◌, ◌≤◌, length, take};
-    ghost use Rattle.bridge_endings.specs.TrickCards.{TrickCards};
+    ghost use Rattle.bridge_endings.specs.TrickCards.{TrickCards, IsKeptWinner};
 
     ghost Value = { TrickCards };
 
-    ghost view = { λ t. record { leader = t.leader; cards = take t.played t.cards } };
+    ghost view = { λ t. record { trump = t.trump; leader = t.leader; cards = take t.played t.cards } };
 
-    ghost invariant = { λ t. (t.played ≤ 4) × (length t.cards ≡ 4) };
+    ghost invariant = { λ t. (t.played ≤ 4) × (length t.cards ≡ 4) × IsKeptWinner t.trump (take t.played t.cards) t.winning.card t.winning.place };
 }
 
 impl Trick {
     /// The trick to which nobody has played; that seat leads.
-    pub fn new(leader: Seat) -> Trick
+    pub fn new(trump: Option<Suit>, leader: Seat) -> Trick
+        ensures trump { result.trump ≡ trump }
         ensures leader { result.leader ≡ leader }
         ensures cards { result.cards ≡ [] }
     {
         Trick {
+            trump,
             leader,
             cards: [Card::default(); 4],
             played: 0,
-            winning: Card::default(),
-            winning_at: 0,
+            winning: Winning {
+                card: Card::default(),
+                place: 0,
+            },
         }
     }
 
@@ -49,14 +61,18 @@ impl Trick {
         ensures length { result ≡ length self.now.cards }
         ensures most { result ≤ 4 }
     {
-        self.played
+        usize::from(self.played)
     }
 
     /// The card led, if one is.
     pub fn led(&self) -> Option<Card>
         ensures { result ≡ slice_get self.now.cards 0 }
     {
-        self.so_far().first().copied()
+        if self.played == 0 {
+            None
+        } else {
+            Some(self.cards[0])
+        }
     }
 
     /// The hand to play.
@@ -67,51 +83,56 @@ impl Trick {
     }
 
     /// The trick with the card too.
-    pub fn with(&self, card: Card, trump: Option<Suit>) -> Trick
+    pub fn with(&self, card: Card) -> Trick
         requires { length self.now.cards < 4 }
+        ensures trump { result.trump ≡ self.now.trump }
         ensures leader { result.leader ≡ self.now.leader }
         ensures cards { result.cards ≡ self.now.cards ++ card ∷ [] }
     {
-        let mut trick = Trick {
+        let mut cards = self.cards;
+        cards[usize::from(self.played)] = card;
+        Trick {
+            trump: self.trump,
             leader: self.leader,
-            cards: self.cards,
+            cards,
             played: self.played + 1,
-            winning: self.winning,
-            winning_at: self.winning_at,
-        };
-        trick.cards[self.played] = card;
-        if self.would_win(trump, card) {
-            trick.winning = card;
-            trick.winning_at = self.played;
+            winning: self.winning_with(card),
         }
-        trick
     }
 
-    /// The cards, from the one led.
-    fn so_far(&self) -> &[Card]
-        ensures { result.now ≡ self.now.cards }
+    /// The winner so far once the card is played.
+    fn winning_with(&self, card: Card) -> Winning
+        requires { length self.now.cards < 4 }
+        ensures { IsKeptWinner self.now.trump (self.now.cards ++ card ∷ []) result.card result.place }
     {
-        &self.cards[..self.played]
+        let Some(led) = self.led() else {
+            return Winning { card, place: 0 };
+        };
+        if beats(self.trump, led, card, self.winning.card) {
+            Winning {
+                card,
+                place: self.played,
+            }
+        } else {
+            self.winning
+        }
     }
 
     /// Whether the partner of the hand in turn wins so far.
     pub fn partner_wins(&self) -> bool {
-        self.played >= 2 && self.winning_at == self.played - 2
+        self.played >= 2 && self.winning.place == self.played - 2
     }
 
     /// Whether the card would beat the one that wins so far.
-    pub fn would_win(&self, trump: Option<Suit>, card: Card) -> bool {
-        match self.led() {
-            Some(led) => beats(trump, led, card, self.winning),
-            None => true,
-        }
+    pub fn would_win(&self, card: Card) -> bool {
+        self.played == 0 || beats(self.trump, self.cards[0], card, self.winning.card)
     }
 
     /// Who wins the trick, and so leads to the next (Law 44).
-    pub fn winner(&self, trump: Option<Suit>) -> Seat
+    pub fn winner(&self) -> Seat
         requires { 0 < length self.now.cards }
-        ensures { result ≡ next_leader trump self.now.leader self.now.cards }
+        ensures { result ≡ next_leader self.now.trump self.now.leader self.now.cards }
     {
-        self.leader.clockwise(winning_place(trump, self.so_far()))
+        self.leader.clockwise(usize::from(self.winning.place))
     }
 }

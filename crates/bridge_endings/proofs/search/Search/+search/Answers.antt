@@ -48,30 +48,22 @@ reaches_with-returns-then-len-lt4-clause-worth t c =
 
 pub reaches_with-returns-clause-worth : goal.reaches_with-returns-clause-worth
 reaches_with-returns-clause-worth t c =
+    let trump_is : c.with-trick.result.trump ≡ c.count_card.new.self.trump = c.with-trick.ensures.trump ∙ c.requires.trump ∙ sym c.count_card.ensures.trump in
     let told = c.reaches_from.ensures.worth
     ∙ after_whole c.count_card.new.self.trump c.count_card.new.self.hands c.args.left c.without-left.result c.args.trick.now.leader c.args.trick.now.cards c.args.card c.args.tricks c.args.need c.without-left.ensures
     c.with-trick.result.leader c.winner-winner.result c.with-trick.result.cards c.need_after-need.result c.with-trick.ensures.cards c.with-trick.ensures.leader (omega arith) (omega arith)
-    (rw (← c.trump-trump.ensures) c.winner-winner.ensures) c.need_after-need.ensures in
+    (rw (← trump_is) c.winner-winner.ensures) c.need_after-need.ensures in
     answer_kept c.count_card.new.self.hands c.count_card.new.self.trump c.args.self.now.hands c.args.self.now.trump
     (λ hands trump. c.reaches_from.result ≡ nat_le c.args.need (worth_of_card trump (4 * c.args.tricks - length c.args.trick.now.cards - 1) (left_to hands c.args.left) c.args.trick.now.leader c.args.trick.now.cards c.args.card))
     c.count_card.ensures.hands c.count_card.ensures.trump told
 
 pub reaches-reaches_with-requires : goal.reaches-reaches_with-requires
 reaches-reaches_with-requires t c =
-    let turn : Seat = clockwise_from c.args.trick.now.leader (length c.args.trick.now.cards) in (
-      search rules,
-      (
-        c.requires.part,
-        (
-          omega arith,
-          (
-            subst (λ (hands : List ℕ). EachDealt hands c.args.trick.now.leader c.args.trick.now.cards) (sym c.loop-card.invariant.hands) c.requires.dealt,
-            subst (λ (hands : List ℕ). left_to hands c.args.left turn c.in-Some.card ≡ true) (sym c.loop-card.invariant.hands)
-                (legal_held (left_to c.args.self.now.hands c.args.left turn) c.args.trick.now.cards c.legal_cards-legal.result c.legal_cards-legal.ensures.legal c.in-Some.card (c.loop-card.invariant.answered.among c.in-Some.card c.in-Some.ensures.card.1)),
-          ),
-        ),
-      ),
-    )
+    let turn : Seat = clockwise_from c.args.trick.now.leader (length c.args.trick.now.cards) in
+    let dealt_too = subst (λ (hands : List ℕ). EachDealt hands c.args.trick.now.leader c.args.trick.now.cards) (sym c.loop-card.invariant.hands) c.requires.dealt in
+    let held_too = subst (λ (hands : List ℕ). left_to hands c.args.left turn c.in-Some.card ≡ true) (sym c.loop-card.invariant.hands)
+    (legal_held (left_to c.args.self.now.hands c.args.left turn) c.args.trick.now.cards c.legal_cards-legal.result c.legal_cards-legal.ensures.legal c.in-Some.card (c.loop-card.invariant.answered.among c.in-Some.card c.in-Some.ensures.card.1)) in
+    (search rules, (c.requires.part, (omega arith, (c.requires.trump ∙ sym c.loop-card.invariant.trump, (dealt_too, held_too)))))
 
 pub reaches-loop-card-preserved : goal.reaches-loop-card-preserved
 reaches-loop-card-preserved t c =

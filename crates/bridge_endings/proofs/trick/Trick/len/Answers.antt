@@ -4,4 +4,4 @@ use Rattle.bridge_endings.proofs.trick.Trick.len.Goals as goal
 
 pub returns-clause-length : goal.returns-clause-length
 returns-clause-length c =
-    sym (length-take-le c.self.inside.played c.self.inside.cards (omega arith)) ∙ ap (λ trick. length trick.cards) c.self.view_is
+    c.from.ensures ∙ sym (length-take-le c.self.inside.played c.self.inside.cards (omega arith)) ∙ ap (λ trick. length trick.cards) c.self.view_is
