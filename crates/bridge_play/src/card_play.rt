@@ -13,12 +13,15 @@ use bridge_cards::trick::same_suit;
 use bridge_cards::{Card, CardSet, Deal, Seat, Side};
 use std::marker::Model;
 
+/// How many cards are dealt.
+pub const DECK: usize = 52;
+
 /// The cards played to a contract, and beside them what makes each question about them cheap.
 #[derive(Debug, Drop)]
 pub struct CardPlay {
     deal: Deal,
     contract: Contract,
-    cards: ArrayVec<Card, 52>,
+    cards: ArrayVec<Card, DECK>,
     /// The cards left in each hand, by the seat's number.
     left: [CardSet; 4],
     /// Who led to the trick that is not whole, or leads to the next.

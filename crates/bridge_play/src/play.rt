@@ -6,7 +6,7 @@ ghost use Rattle.bridge_play.specs.Trick.{turn_of, leader_of, tricks_won};
 ghost use Rattle.bridge_play.specs.Legal.{IsLegal, holds};
 ghost use Rattle.bridge_cards.specs.CardSet.{has_card};
 
-use crate::card_play::CardPlay;
+use crate::card_play::{CardPlay, DECK};
 use crate::claim::{Claim, agreed_by, all_agreed, consent_to};
 use crate::dummy::{actor, dummy};
 use crate::refused::{CardRefused, ClaimRefused, ConsentRefused};
@@ -14,6 +14,12 @@ use crate::trick::leader;
 use bridge_auction::Contract;
 use bridge_cards::{Card, CardSet, Deal, Seat, Side};
 use std::marker::Model;
+
+/// The tricks of a board.
+const TRICKS: usize = 13;
+
+/// The most claims of one play.
+const MOST_CLAIMS: u8 = 99;
 
 /// The play of one board: the dealt hands, the contract, a legal list of cards, and the claims made.
 #[derive(Debug, Drop, PartialEq)]
@@ -109,7 +115,7 @@ impl Play {
         ensures room { OnFalse result (length self.now.cards < 52) }
     {
         let played = self.card_play.cards().len();
-        played == 52 || self.is_agreed()
+        played == DECK || self.is_agreed()
     }
 
     fn is_agreed(&self) -> bool
@@ -189,9 +195,9 @@ impl Play {
             Err(ClaimRefused::NotYourTurn)
         } else if self.card_play.cards().len() % 4 != 0 {
             Err(ClaimRefused::MidTrick)
-        } else if tricks_played + usize::from(tricks) > 13 {
+        } else if tricks_played + usize::from(tricks) > TRICKS {
             Err(ClaimRefused::TooManyTricks)
-        } else if self.claims >= 99 {
+        } else if self.claims >= MOST_CLAIMS {
             Err(ClaimRefused::ClaimsSpent)
         } else {
             Ok(())
@@ -274,7 +280,7 @@ impl Play {
                 if claim.claimer.side() == side {
                     claim.tricks
                 } else {
-                    13 - tricks_played as u8 - claim.tricks
+                    (TRICKS - tricks_played) as u8 - claim.tricks
                 }
             }
             _ => 0,
