@@ -1,7 +1,10 @@
 //! What a configuration states.
 use arrayvec::{ArrayString, ArrayVec};
-use bridge_movement::Movement;
+use bridge_movement::{MOST_PAIRS, Movement};
 use bridge_score::Scoring;
+
+/// The most bytes of a name.
+pub const NAME_BYTES: usize = 24;
 
 /// The key of a player or of the director, any number: who names it acts for its owner.
 #[derive(Clone, Copy, Debug, Default, PartialEq, Eq)]
@@ -11,7 +14,7 @@ pub struct Key(pub u32);
 #[derive(Clone, Copy, Debug, Default, PartialEq, Eq)]
 pub struct PairFields {
     /// The players' names, each of 1 to 24 ASCII letters, digits, dots, hyphens and underscores.
-    pub names: [ArrayString<24>; 2],
+    pub names: [ArrayString<NAME_BYTES>; 2],
     /// The players' keys.
     pub keys: [Key; 2],
 }
@@ -20,9 +23,9 @@ pub struct PairFields {
 #[derive(Debug, Drop)]
 pub struct ConfigFields {
     /// The name of the event, of 1 to 24 ASCII letters, digits, dots, hyphens and underscores.
-    pub event: ArrayString<24>,
+    pub event: ArrayString<NAME_BYTES>,
     /// The name of the site, likewise.
-    pub site: ArrayString<24>,
+    pub site: ArrayString<NAME_BYTES>,
     /// The date, as `2026.03.14`: four digits of a year, the month from 01 to 12 and the day from 01 to 31.
     pub date: ArrayString<10>,
     /// How scores are compared.
@@ -34,5 +37,5 @@ pub struct ConfigFields {
     /// The director's key.
     pub director: Key,
     /// The pairs, by their numbers from 1: as many as the movement has.
-    pub pairs: ArrayVec<PairFields, 24>,
+    pub pairs: ArrayVec<PairFields, MOST_PAIRS>,
 }

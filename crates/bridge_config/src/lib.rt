@@ -16,6 +16,6 @@ pub mod refused;
 mod tests;
 
 pub use config::Config;
-pub use fields::{ConfigFields, Key, PairFields};
+pub use fields::{ConfigFields, Key, NAME_BYTES, PairFields};
 pub use reading::read_config;
 pub use refused::{ConfigFault, ConfigRefused};

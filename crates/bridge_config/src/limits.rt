@@ -4,7 +4,7 @@ ghost use Rattle.std.specs.List.{list_all};
 ghost use Rattle.bridge_config.specs.Configuration.{key_number};
 ghost use Rattle.bridge_config.specs.Limits.{is_name_byte, is_name, is_date_form, is_date_within, two_digits, are_distinct, stands_in};
 
-use crate::fields::Key;
+use crate::fields::{Key, NAME_BYTES};
 use line_text::are_digits;
 
 fn is_name_byte(byte: u8) -> bool
@@ -23,7 +23,7 @@ fn are_name_bytes(text: &[u8]) -> bool
 pub fn is_name(text: &[u8]) -> bool
     ensures { result ≡ is_name text.now }
 {
-    are_name_bytes(text) && !text.is_empty() && text.len() <= 24
+    are_name_bytes(text) && !text.is_empty() && text.len() <= NAME_BYTES
 }
 
 /// Whether the bytes have a date's form: four, two and two digits with dots between.

@@ -8,7 +8,7 @@ ghost use Rattle.line_text.specs.Words.{word_after, words_of};
 ghost use Rattle.line_text.specs.Numeral.{is_numeral};
 ghost use Rattle.bridge_config.specs.Reading.{due_line};
 
-use crate::fields::{Key, PairFields};
+use crate::fields::{Key, NAME_BYTES, PairFields};
 use crate::limits::{is_date_form, is_date_within, is_name, stands_in};
 use crate::refused::{ConfigFault, ConfigRefused};
 use arrayvec::ArrayString;
@@ -71,7 +71,7 @@ impl Line<'_> {
     }
 
     /// The name after a keyword.
-    pub fn name(self, keyword: &[u8]) -> Result<ArrayString<24>, ConfigFault>
+    pub fn name(self, keyword: &[u8]) -> Result<ArrayString<NAME_BYTES>, ConfigFault>
         ensures { Gives (λ name. name.bytes) result (name_line self.entry.number keyword.now self.entry.text.now) }
     {
         match word_after(keyword, self.text) {

@@ -10,11 +10,11 @@ ghost use Rattle.bridge_config.specs.Reading.{heading_in, rows_in, pairs_in, peo
 ghost use Rattle.bridge_config.specs.Parts.{view_of_heading, view_of_people, moved_of};
 
 use crate::config::Config;
-use crate::fields::{ConfigFields, Key, PairFields};
+use crate::fields::{ConfigFields, Key, NAME_BYTES, PairFields};
 use crate::line::{due_line, has_line};
 use crate::refused::{ConfigFault, ConfigRefused};
 use arrayvec::{ArrayString, ArrayVec};
-use bridge_movement::{Movement, Row, Shape};
+use bridge_movement::{MOST_PAIRS, MOST_ROWS, Movement, Row, Shape};
 use bridge_score::Scoring;
 
 /// The most bytes that a text may have.
@@ -23,8 +23,8 @@ const TEXT_BYTES: usize = 16384;
 /// What the first five lines state.
 #[derive(Clone, Copy)]
 struct Heading {
-    event: ArrayString<24>,
-    site: ArrayString<24>,
+    event: ArrayString<NAME_BYTES>,
+    site: ArrayString<NAME_BYTES>,
     date: ArrayString<10>,
     scoring: Scoring,
     boards: u8,
@@ -42,7 +42,7 @@ struct Moved<'a> {
 #[derive(Drop)]
 struct People {
     director: Key,
-    pairs: ArrayVec<PairFields, 24>,
+    pairs: ArrayVec<PairFields, MOST_PAIRS>,
 }
 
 /// Reads the text of a configuration, and names the first fault: the text's length first, and then line by line.
@@ -155,7 +155,7 @@ fn read_movement_rows(shape: Shape, text: &[u8]) -> Result<Moved<'_>, ConfigFaul
 }
 
 /// Reads that many rows, from the seventh line on.
-fn read_rows(count: u32, text: &[u8]) -> Result<(ArrayVec<Row, 144>, &[u8]), ConfigFault>
+fn read_rows(count: u32, text: &[u8]) -> Result<(ArrayVec<Row, MOST_ROWS>, &[u8]), ConfigFault>
     requires { count ≤ 144 }
     ensures { Gives (λ read. (read.0.items, lines read.1.now)) result (rows_in count 7 (lines text.now)) }
 {
@@ -194,7 +194,7 @@ fn read_pairs(
     number: u32,
     director: Key,
     text: &[u8],
-) -> Result<(ArrayVec<PairFields, 24>, &[u8]), ConfigFault>
+) -> Result<(ArrayVec<PairFields, MOST_PAIRS>, &[u8]), ConfigFault>
     requires count { count ≤ 24 }
     requires number { number ≤ 152 }
     ensures { Gives (λ read. (map pair_of read.0.items, lines read.1.now)) result

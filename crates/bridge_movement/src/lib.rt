@@ -21,4 +21,4 @@ pub use movement::Movement;
 pub use place::Place;
 pub use refused::MovementRefused;
 pub use row::Row;
-pub use shape::Shape;
+pub use shape::{MOST_PAIRS, MOST_ROWS, Shape};

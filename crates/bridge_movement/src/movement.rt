@@ -11,7 +11,7 @@ use crate::mitchell;
 use crate::place::{Place, place_in};
 use crate::refused::MovementRefused;
 use crate::row::Row;
-use crate::shape::Shape;
+use crate::shape::{MOST_ROWS, Shape};
 use arrayvec::ArrayVec;
 use std::marker::Model;
 
@@ -20,7 +20,7 @@ use std::marker::Model;
 #[derive(Debug, Drop)]
 pub struct Movement {
     shape: Shape,
-    rows: ArrayVec<Row, 144>,
+    rows: ArrayVec<Row, MOST_ROWS>,
 }
 
 impl Model for Movement {
@@ -36,7 +36,7 @@ impl Model for Movement {
 }
 
 /// The rows, inline.
-fn inline_rows(rows: &[Row]) -> ArrayVec<Row, 144>
+fn inline_rows(rows: &[Row]) -> ArrayVec<Row, MOST_ROWS>
     requires { length rows.now ≤ 144 }
     ensures { result.items ≡ rows.now }
 {

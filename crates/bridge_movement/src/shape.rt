@@ -1,6 +1,12 @@
 ghost use Rattle.std.specs.Prelude.{◌↔◌, ◌≡◌, ◌≤◌, IsTrue};
 ghost use Rattle.bridge_movement.specs.Shape.{IsShape, row_count};
 
+/// The most pairs of a movement.
+pub const MOST_PAIRS: usize = 24;
+
+/// The most rows of a movement: 12 rounds of 12 tables.
+pub const MOST_ROWS: usize = 144;
+
 /// How large a movement is.
 #[derive(Clone, Copy, Debug, PartialEq, Eq)]
 pub struct Shape {
@@ -24,7 +30,7 @@ impl Shape {
         (2..=12).contains(&self.tables)
             && (1..=12).contains(&self.rounds)
             && (1..=12).contains(&self.sets)
-            && (2..=24).contains(&self.pairs)
+            && (2..=MOST_PAIRS as u8).contains(&self.pairs)
             && (1..=self.pairs).contains(&self.split)
     }
 
