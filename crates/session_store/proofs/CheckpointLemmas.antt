@@ -13,7 +13,8 @@ use Rattle.session_store.specs.Answers.{after_fault, after_snapshot}
 use Rattle.session_store.proofs.StandsLemmas.{fold-nil}
 use Rattle.session_store.proofs.BaseLemmas.{settled-stands, settled-same}
 use Rattle.session_store.proofs.SnapshotLemmas.{settled-nothing_later, with_snapshot-settled}
-use Rattle.session_store.proofs.StoreLemmas.{some_is, prefix-more, prefix-all, settled-sound, fault-sound, sound-stands, continues_all, continues_none}
+use Rattle.session_store.specs.Calls.{prefix-longer}
+use Rattle.session_store.proofs.StoreLemmas.{some_is, prefix-all, settled-sound, fault-sound, sound-stands, continues_all, continues_none}
 
 module _ {D S A R : Type 0} (kept : Keeping S A R) (disk : Disk D) where
   -- a store after a snapshot, whose base caught up and whose pending list was cleared
@@ -41,7 +42,7 @@ module _ {D S A R : Type 0} (kept : Keeping S A R) (disk : Disk D) where
       → ((c : Image) → images c → IsSettled kept epoch base n pending c)
       → (c : Image) → IsSnapshotting kept images (epoch + 1) s c → StandsForPrefix kept base (pending ++ more) c
   snapshotting-stands lawful images epoch n base mid s pending more within room is_state made all_made settled c (inl from) =
-      prefix-more kept base pending more c
+      prefix-longer kept base pending more c
       (settled-stands kept epoch n base mid pending c within made
       (settled-same kept epoch n base pending from.0 c from.2 (settled from.0 from.1)))
   snapshotting-stands lawful images epoch n base mid s pending more within room is_state made all_made settled c (inr written) =

@@ -1,6 +1,5 @@
 -- Over whole runs a power cut loses none of the confirmed actions.
 use Rattle.std.proofs.Common.{◌≡◌, ◌≤◌, ◌+◌, ◌-◌, ◌^◌, ℕ, List, [], ◌∷◌, ◌++◌, length, take, drop, Option, Some, None, Ok, Err, inl, inr, refl, sym, ap, subst, ◌∙◌, arith, length-append, append-nil}
-use Rattle.std.proofs.Math.Seq.{take-add}
 use Rattle.std.proofs.lemmas.Bool.{cases_eq}
 use Rattle.std.proofs.lemmas.List.{drop-drop, drop-append-le, take-append-le, take-take, drop_all, length-drop, length-take-le}
 use Rattle.sector_disk.specs.Disk.{Image, image_is, Disk}
@@ -15,24 +14,11 @@ use Rattle.session_store.specs.Opening.{IsStillSound, IsOpened, IsNotOpened, rea
 use Rattle.session_store.specs.Value.{StoreValue}
 use Rattle.session_store.specs.Store.{IsSoundStore, Continues}
 use Rattle.session_store.specs.Run.{Place, AtRest, AtWork, Doing, Calls, Waits, Closes, Opens, Fails, Event, Done, Cut, Standing, accepts, StandsForAtLeast, IsLongest, Does, MayLeave, HoldsOnly, IsCut, Happens, Runs, CrashLaw}
-use Rattle.session_store.proofs.StandsLemmas.{fold-nil, fold-cons, fold-step}
+use Rattle.session_store.specs.Calls.{fold-behind}
+use Rattle.session_store.proofs.StandsLemmas.{fold-nil}
 use Rattle.session_store.proofs.StoreLemmas.{of_nil}
 use Rattle.session_store.proofs.OpeningLemmas.{reading-ok}
 use Rattle.session_store.proofs.OpenLemmas.{store-sound}
-
-module _ {S A R : Type 0} (kept : Keeping S A R) where
-  -- the state after some actions and then others
-  pub fold-append : (xs ys : List A) (s t : S) → fold kept s xs ≡ Some t → fold kept s (xs ++ ys) ≡ fold kept t ys
-  fold-append [] ys s t made = let same : s ≡ t = of_nil kept s t made in ap (λ (x : S). fold kept x ys) same
-  fold-append (a ∷ xs) ys s t made =
-      let first = fold-cons kept s a xs t made in
-      fold-step kept s first.0 a (xs ++ ys) first.1 ∙ fold-append xs ys first.0 t first.2
-
-  -- some of the actions behind k more
-  fold-behind : (start base s : S) (actions : List A) (k n : ℕ) → fold kept start (take k actions) ≡ Some base
-      → fold kept base (take n (drop k actions)) ≡ Some s → fold kept start (take (k + n) actions) ≡ Some s
-  fold-behind start base s actions k n made more =
-      ap (fold kept start) (take-add k n actions) ∙ fold-append (take k actions) (take n (drop k actions)) start base made ∙ more
 
 module _ {D S A R : Type 0} (kept : Keeping S A R) (disk : Disk D) (start : S) where
   -- what stands for the base of the confirmed actions with a prefix of the others

@@ -13,7 +13,8 @@ use Rattle.session_store.specs.Answers.{after_fault, with_record, with_action, r
 use Rattle.std.proofs.lemmas.Bool.{cond-true, cond-false, eq-eqb, ne_eqb}
 use Rattle.session_store.proofs.FormLemmas.{entry_in-record}
 use Rattle.session_store.proofs.BaseLemmas.{settled-stands, settled-more, settled-written}
-use Rattle.session_store.proofs.StoreLemmas.{prefix-more, fold-more, holds_all-more, fault-sound, continues_none}
+use Rattle.session_store.specs.Calls.{prefix-longer}
+use Rattle.session_store.proofs.StoreLemmas.{fold-more, holds_all-more, fault-sound, continues_none}
 
 module _ {D S A R : Type 0} (kept : Keeping S A R) (disk : Disk D) (old : StoreValue D S A) (a : A) (s : S)
     (store : IsStore kept disk old) (accepted : kept.step old.state a ≡ Ok s) where
@@ -71,7 +72,7 @@ module _ {D S A R : Type 0} (kept : Keeping S A R) (disk : Disk D) (old : StoreV
         let n = old.records - length old.pending in
         let count : n + length old.pending ≡ old.records = omega (arith, store.recorded) in
         goes_on disk old.disk old.disk new P result
-        (begins disk old.disk P sound.honest (λ c left. prefix-more kept old.base old.pending (a ∷ []) c (sound.images c left)))
+        (begins disk old.disk P sound.honest (λ c left. prefix-longer kept old.base old.pending (a ∷ []) c (sound.images c left)))
         call.called
         (λ c left. settled-stands kept old.epoch n old.base s more c (omega (arith, more-long, count, few)) more-made
         (record-settled sound n count c left))

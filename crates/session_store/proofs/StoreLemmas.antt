@@ -13,6 +13,7 @@ use Rattle.session_store.specs.Base.{IsSettled, HoldsAll, StandsForPrefix}
 use Rattle.session_store.specs.Sound.{StandsOnlyFor}
 use Rattle.session_store.specs.Value.{StoreValue, IsStore}
 use Rattle.session_store.specs.Store.{IsSoundStore, Continues}
+use Rattle.session_store.specs.Calls.{prefix-longer}
 use Rattle.session_store.specs.Answers.{after_fault, after_confirm}
 use Rattle.session_store.proofs.StandsLemmas.{fold-nil, fold-step, fold-cons, fold-refused}
 use Rattle.session_store.proofs.BaseLemmas.{settled-stands, settled-confirmed}
@@ -61,18 +62,6 @@ module _ {S A R : Type 0} (kept : Keeping S A R) where
   fold-more (x ∷ pending) base s t a made accepted =
       let first = fold-cons kept base x pending s made in
       fold-step kept base first.0 x (pending ++ a ∷ []) first.1 ∙ fold-more pending first.0 s t a first.2 accepted
-
-  -- what stands for the base with a prefix of some actions does so with more of them
-  pub prefix-more : (base : S) (pending more : List A) (c : Image) → StandsForPrefix kept base pending c
-      → StandsForPrefix kept base (pending ++ more) c
-  prefix-more base pending more c from = record {
-    count = from.count;
-    few = simp length-append (omega (arith, from.few));
-    state = from.state;
-    made = ap (fold kept base) (take-append-le from.count pending more from.few) ∙ from.made;
-    stands = from.stands;
-    in_order = from.in_order;
-  }
 
   -- what stands for the state after all of them does too
   pub prefix-all : (base s : S) (actions : List A) (c : Image) → fold kept base actions ≡ Some s → recovered kept c ≡ Ok s
@@ -131,12 +120,6 @@ module _ {D S A R : Type 0} (kept : Keeping S A R) (disk : Disk D) where
         any_moment = moments;
       }
 
-  -- a call that changes nothing
-  pub continues_same : (old : StoreValue D S A) → Continues kept disk old [] old
-  continues_same old = continues_none old old [] refl (sym (append-nil old.pending)) (λ sound. sound)
-      (λ sound. begins disk old.disk (StandsForPrefix kept old.base (old.pending ++ [])) sound.honest
-      (λ c left. prefix-more kept old.base old.pending [] c (sound.images c left)))
-
   -- a store whose disk failed is sound where the images still stand
   pub fault-sound : (v : StoreValue D S A) (new : D) → disk.honest new
       → ((c : Image) → disk.may_leave new c → StandsForPrefix kept v.base v.pending c)
@@ -173,7 +156,7 @@ module _ {D S A R : Type 0} (kept : Keeping S A R) (disk : Disk D) where
   sync-moments v new result more called did sound =
       let P = StandsForPrefix kept v.base (v.pending ++ more) in
       syncs_on disk v.disk v.disk new P result
-      (begins disk v.disk P sound.honest (λ c left. prefix-more kept v.base v.pending more c (sound.images c left))) called (did sound.honest)
+      (begins disk v.disk P sound.honest (λ c left. prefix-longer kept v.base v.pending more c (sound.images c left))) called (did sound.honest)
 
   -- a sync that fails leaves the store sound
   pub sync-fault : {T E : Type 0} (v : StoreValue D S A) (new : D) (result : Result T E)

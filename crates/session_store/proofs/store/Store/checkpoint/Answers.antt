@@ -3,15 +3,15 @@ use Rattle.session_store.specs.Keeping.{fold}
 use Rattle.session_store.specs.Value.{StoreValue, IsStore}
 use Rattle.session_store.specs.Store.{Continues}
 use Rattle.session_store.specs.Sound.{StandsOnlyFor}
-use Rattle.session_store.proofs.StoreLemmas.{continues_same}
+use Rattle.session_store.specs.Calls.{continues_begins}
 use Rattle.session_store.proofs.CheckpointLemmas.{snapshot-continues, snapshot_fault-continues, snapshot-stands, fault-same}
 use Rattle.session_store.proofs.store.Store.checkpoint.Goals as goal
 
 pub returns-then-self-clause-continues : goal.returns-then-self-clause-continues
-returns-then-self-clause-continues g c = continues_same g.K.Kept.kept g.D.SectorDisk.disk c.args.self.now
+returns-then-self-clause-continues g c = continues_begins g.K.Kept.kept g.D.SectorDisk.disk c.args.self.now
 
 pub returns-then-self-2-clause-continues : goal.returns-then-self-2-clause-continues
-returns-then-self-2-clause-continues g c = continues_same g.K.Kept.kept g.D.SectorDisk.disk c.args.self.now
+returns-then-self-2-clause-continues g c = continues_begins g.K.Kept.kept g.D.SectorDisk.disk c.args.self.now
 
 pub returns-in-Ok-clause-continues : goal.returns-in-Ok-clause-continues
 returns-in-Ok-clause-continues g c =

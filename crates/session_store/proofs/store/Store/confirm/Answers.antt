@@ -1,14 +1,15 @@
 use Rattle.std.proofs.Common.{[], refl, sym, ap, ◌∙◌, append-nil}
 use Rattle.std.proofs.lemmas.Bool.{eqb-true}
 use Rattle.session_store.specs.Keeping.{fold}
-use Rattle.session_store.proofs.StoreLemmas.{continues_same, continues_none, sync-moments, sync-fault, idle-same, empty_list, some_is, confirmed-store, confirmed-continues, confirmed-stands}
+use Rattle.session_store.specs.Calls.{continues_begins}
+use Rattle.session_store.proofs.StoreLemmas.{continues_none, sync-moments, sync-fault, idle-same, empty_list, some_is, confirmed-store, confirmed-continues, confirmed-stands}
 use Rattle.session_store.proofs.store.Store.confirm.Goals as goal
 
 pub returns-then-self-clause-continues : goal.returns-then-self-clause-continues
-returns-then-self-clause-continues g c = continues_same g.K.Kept.kept g.D.SectorDisk.disk c.args.self.now
+returns-then-self-clause-continues g c = continues_begins g.K.Kept.kept g.D.SectorDisk.disk c.args.self.now
 
 pub returns-then-is_empty-clause-continues : goal.returns-then-is_empty-clause-continues
-returns-then-is_empty-clause-continues g c = continues_same g.K.Kept.kept g.D.SectorDisk.disk c.args.self.now
+returns-then-is_empty-clause-continues g c = continues_begins g.K.Kept.kept g.D.SectorDisk.disk c.args.self.now
 
 pub returns-then-is_empty-clause-answer : goal.returns-then-is_empty-clause-answer
 returns-then-is_empty-clause-answer g c =

@@ -1,17 +1,17 @@
 use Rattle.std.proofs.Common.{◌≡◌, ◌<◌, ◌-◌, ◌^◌, length, sym, arith, ◌∙◌, refl}
 use Rattle.std.proofs.lemmas.Bool.{eqb-false}
-use Rattle.session_store.proofs.StoreLemmas.{continues_same}
+use Rattle.session_store.specs.Calls.{continues_begins}
 use Rattle.session_store.proofs.RecordLemmas.{room-spent}
 use Rattle.session_store.proofs.store.Store.submit.Goals as goal
 
 pub returns-then-self-clause-continues : goal.returns-then-self-clause-continues
-returns-then-self-clause-continues g c = continues_same g.K.Kept.kept g.D.SectorDisk.disk c.args.self.now
+returns-then-self-clause-continues g c = continues_begins g.K.Kept.kept g.D.SectorDisk.disk c.args.self.now
 
 pub returns-then-is_full-clause-continues : goal.returns-then-is_full-clause-continues
-returns-then-is_full-clause-continues g c = continues_same g.K.Kept.kept g.D.SectorDisk.disk c.args.self.now
+returns-then-is_full-clause-continues g c = continues_begins g.K.Kept.kept g.D.SectorDisk.disk c.args.self.now
 
 pub returns-then-self-2-clause-continues : goal.returns-then-self-2-clause-continues
-returns-then-self-2-clause-continues g c = continues_same g.K.Kept.kept g.D.SectorDisk.disk c.args.self.now
+returns-then-self-2-clause-continues g c = continues_begins g.K.Kept.kept g.D.SectorDisk.disk c.args.self.now
 
 pub returns-then-self-2-clause-answer : goal.returns-then-self-2-clause-answer
 returns-then-self-2-clause-answer g c =

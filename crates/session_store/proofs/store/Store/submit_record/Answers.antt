@@ -1,7 +1,7 @@
 use Rattle.std.proofs.Common.{Ok, [], ◌∷◌, true, ◌∙◌, sym, ap, subst, arith}
 use Rattle.session_store.specs.Value.{StoreValue, IsStore}
 use Rattle.session_store.specs.Store.{Continues}
-use Rattle.session_store.proofs.StoreLemmas.{continues_same}
+use Rattle.session_store.specs.Calls.{continues_begins}
 use Rattle.sector_disk.specs.Disk.{one_more}
 use Rattle.sector_disk.specs.Runs.{Remains, remains, remains_on}
 use Rattle.session_store.proofs.RecordLemmas.{WritesRecord, record-store, record-continues, record_fault-continues, record-view, fault-view, refused-view, after_submit-record, after_failed-record, room-record, room-some}
@@ -19,7 +19,7 @@ pub returns-in-Err-clause-continues : goal.returns-in-Err-clause-continues
 returns-in-Err-clause-continues g c =
     subst (Continues g.K.Kept.kept g.D.SectorDisk.disk c.args.self.now [])
     (sym (refused-view _ c.args.self.now _ c.self.view_is c.in-Err.ensures.refused))
-    (continues_same g.K.Kept.kept g.D.SectorDisk.disk c.args.self.now)
+    (continues_begins g.K.Kept.kept g.D.SectorDisk.disk c.args.self.now)
 
 pub invariant_of-self-in-Ok-write_record : goal.invariant_of-self-in-Ok-write_record
 invariant_of-self-in-Ok-write_record g c =
