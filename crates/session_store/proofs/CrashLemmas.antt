@@ -1,19 +1,16 @@
 -- Over whole runs a power cut loses none of the confirmed actions.
-use Rattle.std.proofs.Common.{◌≡◌, ◌≤◌, ◌+◌, ◌-◌, ◌^◌, ℕ, List, [], ◌∷◌, ◌++◌, length, take, drop, Option, Some, None, Ok, Err, inl, inr, refl, sym, ap, subst, ◌∙◌, arith, length-append, append-nil}
-use Rattle.std.proofs.lemmas.Bool.{cases_eq}
+use Rattle.std.proofs.Common.{◌≡◌, ◌≤◌, ◌+◌, ◌-◌, ℕ, List, [], ◌∷◌, ◌++◌, length, take, drop, Some, Ok, refl, sym, ap, subst, ◌∙◌, arith, length-append, append-nil}
 use Rattle.std.proofs.lemmas.List.{drop-drop, drop-append-le, take-append-le, take-take, drop_all, length-drop, length-take-le}
 use Rattle.sector_disk.specs.Disk.{Image, image_is, Disk}
 use Rattle.sector_disk.specs.Runs.{Remains, now_has}
 use Rattle.session_store.specs.Keeping.{Keeping, fold}
-use Rattle.session_store.specs.Stands.{header_in, recovered, IsInOrder}
-use Rattle.session_store.specs.declared.reading.Header.{Header}
-use Rattle.session_store.specs.declared.fault.StoreFault.TheVariants.{NotFormatted, EpochsSpent}
+use Rattle.session_store.specs.Stands.{recovered, IsInOrder}
 use Rattle.session_store.specs.Base.{StandsForPrefix}
-use Rattle.session_store.specs.Sound.{IsSoundDisk, StandsOnlyFor}
-use Rattle.session_store.specs.Opening.{IsStillSound, IsOpened, IsNotOpened, reading}
+use Rattle.session_store.specs.Sound.{IsSoundDisk}
+use Rattle.session_store.specs.Opening.{IsStillSound, IsOpened}
 use Rattle.session_store.specs.Value.{StoreValue}
 use Rattle.session_store.specs.Store.{IsSoundStore, Continues}
-use Rattle.session_store.specs.Run.{Place, AtRest, AtWork, Doing, Calls, Waits, Closes, Opens, Fails, Event, Done, Cut, Standing, accepts, StandsForAtLeast, IsLongest, Does, MayLeave, HoldsOnly, IsCut, Happens, Runs, CrashLaw}
+use Rattle.session_store.specs.Run.{Place, AtRest, AtWork, Doing, Calls, Waits, Closes, Opens, Fails, Event, Done, Cut, Standing, accepts, StandsForAtLeast, IsLongest, Does, MayLeave, HoldsOnly, Happens, Runs, CrashLaw}
 use Rattle.session_store.specs.Calls.{fold-behind}
 use Rattle.session_store.proofs.StandsLemmas.{fold-nil}
 use Rattle.session_store.proofs.StoreLemmas.{of_nil}

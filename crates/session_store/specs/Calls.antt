@@ -5,11 +5,11 @@ use Rattle.std.proofs.Common.{refl, sym, ap, subst, ◌∙◌, arith, append_ass
 use Rattle.std.proofs.Math.Seq.{take-add}
 use Rattle.std.proofs.lemmas.List.{drop-drop, drop-append-le, take-append-le, length-drop}
 use Rattle.sector_disk.specs.Disk.{Image, Disk}
-use Rattle.sector_disk.specs.Runs.{EveryMoment, begins, weakens, joins}
+use Rattle.sector_disk.specs.Runs.{begins, weakens, joins}
 use Rattle.session_store.specs.Keeping.{Keeping, fold}
 use Rattle.session_store.specs.Base.{StandsForPrefix}
 use Rattle.session_store.specs.Value.{StoreValue}
-use Rattle.session_store.specs.Store.{IsSoundStore, Continues}
+use Rattle.session_store.specs.Store.{Continues}
 
 module _ {S A R : Type 0} (kept : Keeping S A R) where
   -- the state after some actions and then others

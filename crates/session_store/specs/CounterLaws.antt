@@ -1,12 +1,12 @@
 -- The counter of the tests keeps the laws of a state.
-use Rattle.std.proofs.Common.{◌≡◌, ◌<◌, ◌≤◌, ◌+◌, ◌*◌, ◌/◌, ◌%◌, ◌==◌, ◌&&◌, nat_lt, ℕ, zero, suc, Bool, true, false, inl, inr, List, [], ◌∷◌, length, map, replicate, Option, Some, None, Ok, Err, refl, sym, ap, subst, ◌∙◌, arith}
+use Rattle.std.proofs.Common.{◌≡◌, ◌<◌, ◌≤◌, ◌+◌, ◌*◌, ◌/◌, ◌%◌, ◌&&◌, nat_lt, ℕ, zero, suc, Bool, true, inl, inr, List, [], ◌∷◌, length, replicate, Option, Some, None, Ok, Err, refl, sym, ap, subst, ◌∙◌, arith}
 use Rattle.std.proofs.lemmas.Slice.Eq.{bytes_eq-Decides}
 use Rattle.std.proofs.lemmas.Bool.{cond-true, cond-false, cases_Bool, and_parts, lt-ltb, ltb-true}
 use Rattle.std.proofs.lemmas.List.{length-replicate}
 use Rattle.std.proofs.lemmas.List.Elements.{All-replicate}
 use Rattle.std.specs.List.{list_all}
 use Rattle.std.specs.Str.{bytes_eq}
-use Rattle.session_store.specs.Keeping.{Keeping, IsLawful}
+use Rattle.session_store.specs.Keeping.{IsLawful}
 use Rattle.session_store.specs.Counter.{Count, IsCount, total_bytes, total_in, count_from, count_in, add_bytes, add_in, add, counting}
 
 -- an action

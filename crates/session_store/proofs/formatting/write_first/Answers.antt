@@ -1,4 +1,4 @@
-use Rattle.std.proofs.Common.{◌≤◌, arith}
+use Rattle.std.proofs.Common.{arith}
 use Rattle.session_store.proofs.FormatLemmas.{first_snapshot}
 use Rattle.session_store.proofs.formatting.write_first.Goals as goal
 

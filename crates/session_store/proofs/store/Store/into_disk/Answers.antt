@@ -1,4 +1,3 @@
-use Rattle.std.proofs.Common.{◌≡◌}
 use Rattle.session_store.proofs.OpenLemmas.{store-sound}
 use Rattle.session_store.proofs.store.Store.into_disk.Goals as goal
 
