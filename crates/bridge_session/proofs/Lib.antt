@@ -18,3 +18,6 @@ pub mod ValidRound
 pub mod ValidDeed
 pub mod ValidPlayer
 pub mod ValidStep
+pub mod PlainParts
+pub mod PlainStep
+pub mod PlainLaw

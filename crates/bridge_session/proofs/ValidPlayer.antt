@@ -52,11 +52,11 @@ dealt_on : (deal : Option (List ℕ)) (plain : PlainRecord) (seat : Seat) (at : 
 dealt_on None plain seat at done ok = absurd cc
 dealt_on (Some hands) plain seat at done ok = (hands, refl, ok)
 
-passed : (b : Bool) (e : Refused) (r : Result (Unit {0}) Refused) → cond b r (Err e) ≡ Ok tt → (b ≡ true) × (r ≡ Ok tt)
+pub passed : (b : Bool) (e : Refused) (r : Result (Unit {0}) Refused) → cond b r (Err e) ≡ Ok tt → (b ≡ true) × (r ≡ Ok tt)
 passed true e r is = (refl, is)
 passed false e r is = absurd cc
 
-acted_on : (deal : Option (List ℕ)) (board : ℕ) (seat : Seat) (at : ℕ) (done : Deed) (found : Option PlainRecord) → answer_current deal board seat at done found ≡ Ok tt → IsActedOn deal board seat at done found
+pub acted_on : (deal : Option (List ℕ)) (board : ℕ) (seat : Seat) (at : ℕ) (done : Deed) (found : Option PlainRecord) → answer_current deal board seat at done found ≡ Ok tt → IsActedOn deal board seat at done found
 acted_on deal board seat at done None ok = absurd cc
 acted_on deal board seat at done (Some plain) ok =
     let here = passed (plain.board == board) NotCurrent (answer_dealt plain seat at done deal) ok in
@@ -124,7 +124,7 @@ seated_at configuration round (Ok player) seating limits sits =
     (open_session (is_closed configuration round) (ok_or (option_map (seating_at configuration round player.first) (place_of configuration.movement.rows round player.pair)) SitsOut) seating sits)
 
 -- The session after the act
-abbrev answer_at : State → ℕ → ℕ → Deed → Result Seating Refused → Result (Unit {0}) Refused
+abbrev pub answer_at : State → ℕ → ℕ → Deed → Result Seating Refused → Result (Unit {0}) Refused
 answer_at s board at done sits =
     answer_seated (record { configuration = s.configuration; round = s.round; deal = seen_deal s board sits; records = seen_records s sits }) board at done sits
 

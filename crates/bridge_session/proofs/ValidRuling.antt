@@ -88,13 +88,13 @@ not_yet : (b : Bool) (rest : Result (Unit {0}) Refused) → cond b (Err NotYet) 
 not_yet true rest is = absurd cc
 not_yet false rest is = (refl, is)
 
-ruled_on : (now round : ℕ) (made : Correction) (found : Option PlainRecord) → rule_answer now round made found ≡ Ok tt → IsRuledOn now round made found
+pub ruled_on : (now round : ℕ) (made : Correction) (found : Option PlainRecord) → rule_answer now round made found ≡ Ok tt → IsRuledOn now round made found
 ruled_on now round made None is = absurd cc
 ruled_on now round made (Some plain) is =
     let parts = not_yet (nat_lt now round) (ruling_answer plain.calls (play_of [] plain) made (nat_lt round now)) is in
     record { plain = plain; is = refl; past = ltb-false now round parts.0; ok = parts.1 }
 
-found_within : (b : Bool) (o : Option PlainRecord) (x : PlainRecord) → cond b o None ≡ Some x → (b ≡ true) × (o ≡ Some x)
+pub found_within : (b : Bool) (o : Option PlainRecord) (x : PlainRecord) → cond b o None ≡ Some x → (b ≡ true) × (o ≡ Some x)
 found_within true o x is = (refl, is)
 found_within false o x is = absurd cc
 

@@ -30,7 +30,7 @@ pub mod valid;
 pub mod view;
 
 pub use action::{Action, PlayId};
-pub use apart::{hidden_cards_are_not_shown, tables_are_judged_apart};
+pub use apart::{hidden_cards_are_not_shown, records_are_of_own_actions, tables_are_judged_apart};
 pub use entry::Entry;
 pub use field::Field;
 pub use numbers::{BoardIndex, MadeCount, RoundNumber, TableNumber, TrickCount};
