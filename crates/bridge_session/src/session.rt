@@ -7,6 +7,7 @@ ghost use Rattle.bridge_session.specs.Step.{record_of};
 ghost use Rattle.bridge_session.specs.See.{shown_to};
 ghost use Rattle.bridge_session.specs.Views.{IsViewTo};
 ghost use Rattle.bridge_session.specs.Ranking.{ranking_answer, IsRankingTo};
+ghost use Rattle.bridge_session.specs.Valid.{IsValid};
 ghost use Rattle.bridge_session.specs.Kept.{plain_of, hands_on, IsTiedIn};
 
 use crate::action::PlayId;
@@ -61,7 +62,8 @@ impl Session {
     /// The session of the configuration in round 1, with no board dealt. It takes all its memory at once; no other call
     /// takes any.
     pub fn new(alloc: Global, config: Config) -> Result<Session, AllocError>
-        ensures { IfOk result (λ session. session ≡ opening config) }
+        ensures opening { IfOk result (λ session. session ≡ opening config) }
+        ensures valid { IfOk result IsValid }
     {
         let fields = config.fields();
         let count = usize::from(fields.movement.shape().sets) * usize::from(fields.boards);

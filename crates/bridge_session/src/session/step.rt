@@ -8,6 +8,7 @@ ghost use Rattle.bridge_session.specs.Record.{is_open};
 ghost use Rattle.bridge_session.specs.State.{director_answer, row_place};
 ghost use Rattle.bridge_session.specs.Step.{seen_by, player_answer, acted, if_allowed, deal_answer, next_answer, records_of_round, is_row_within, rule_answer, record_of, ruled, step_answer, changed};
 ghost use Rattle.bridge_session.specs.Kept.{is_kept_open};
+ghost use Rattle.bridge_session.specs.Valid.{IsAction, IsValid};
 
 use super::Session;
 use crate::action::{Action, PlayId};
@@ -134,16 +135,8 @@ impl Session {
         rule_among(records.as_mut_slice(), at, now, of_round, correction)
     }
 
-    /// Takes an action, or answers the first refusal that applies, which changes nothing. It takes no memory.
-    ///
-    /// The refusals of each action are, in this order: of all, `NoKey` and `NotAllowed`. Of a player's, `Closed`,
-    /// `SitsOut`, `NotCurrent`, `NotDealt`, `WrongPhase` and `Stale`, and then of a call `NotYourTurn`,
-    /// `InsufficientBid`, `InadmissibleDouble` and `InadmissibleRedouble`; of a card `ClaimStands`, `NotYourTurn`,
-    /// `NotHeld` and `MustFollow`; of a claim `ClaimStands`, `NotYourTurn`, `MidTrick`, `TooManyTricks` and
-    /// `ClaimsSpent`; of an answer to a claim `NoClaim` and `NotAsked`. Of a deal `Closed`, `NoSuchPlay`,
-    /// `AlreadyDealt` and `BadDeal`; of the end of a round `Closed`, `Stale` and `RoundOpen`; of a ruling `NoSuchPlay`
-    /// and `NotYet`, and then of `Tricks` `NoContract` and `NotFinished`, of `Restore` `NotFinished`.
-    pub fn step(&mut self, action: &Action) -> Result<(), Refused>
+    /// Takes an action by its kind.
+    fn take(&mut self, action: &Action) -> Result<(), Refused>
         ensures answer { result ≡ step_answer self.old action.now }
         ensures taken { OnOk result (self.new ≡ changed self.old action.now) }
         ensures refused { OnErr result (self.new ≡ self.old) }
@@ -179,5 +172,23 @@ impl Session {
             Action::Void { key, play } => self.rule(key, play, Correction::Void),
             Action::Restore { key, play } => self.rule(key, play, Correction::Restore),
         }
+    }
+
+    /// Takes an action, or answers the first refusal that applies, which changes nothing. It takes no memory.
+    ///
+    /// The refusals of each action are, in this order: of all, `NoKey` and `NotAllowed`. Of a player's, `Closed`,
+    /// `SitsOut`, `NotCurrent`, `NotDealt`, `WrongPhase` and `Stale`, and then of a call `NotYourTurn`,
+    /// `InsufficientBid`, `InadmissibleDouble` and `InadmissibleRedouble`; of a card `ClaimStands`, `NotYourTurn`,
+    /// `NotHeld` and `MustFollow`; of a claim `ClaimStands`, `NotYourTurn`, `MidTrick`, `TooManyTricks` and
+    /// `ClaimsSpent`; of an answer to a claim `NoClaim` and `NotAsked`. Of a deal `Closed`, `NoSuchPlay`,
+    /// `AlreadyDealt` and `BadDeal`; of the end of a round `Closed`, `Stale` and `RoundOpen`; of a ruling `NoSuchPlay`
+    /// and `NotYet`, and then of `Tricks` `NoContract` and `NotFinished`, of `Restore` `NotFinished`.
+    pub fn step(&mut self, action: &Action) -> Result<(), Refused>
+        ensures answer { result ≡ step_answer self.old action.now }
+        ensures taken { OnOk result (self.new ≡ changed self.old action.now) }
+        ensures refused { OnErr result (self.new ≡ self.old) }
+        ensures valid { IsAction action.now → IsValid self.old → IsValid self.new }
+    {
+        self.take(action)
     }
 }
