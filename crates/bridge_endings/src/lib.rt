@@ -1,4 +1,11 @@
 //! The last tricks of a deal, solved: how many of them North and South win where each of the four sees all the cards.
+//!
+//! ```rust
+//! let ending = Ending::new(read_hands(b"N:AQ... 32... 54... KJ...").ok_or("hands")?, None, Seat::South)?;
+//! let tricks = solve(&ending, None); // South leads through West's king: 2
+//! let mut cache = Cache::new(alloc, 4_096)?;
+//! let again = solve(&ending, Some(&mut cache)); // the same, and from now on without a search
+//! ```
 #![tactic(auto)]
 
 mod bounds;

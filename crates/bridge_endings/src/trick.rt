@@ -1,5 +1,5 @@
 //! A trick that is being played: whose turn it is, and who wins it.
-ghost use Rattle.std.specs.Prelude.{◌≡◌, ◌<◌, ◌≤◌, [], ◌∷◌, ◌++◌, length, slice_get};
+ghost use Rattle.std.specs.Prelude.{◌≡◌, ◌+◌, ◌<◌, ◌≤◌, [], ◌∷◌, ◌++◌, length, take, slice_get};
 ghost use Rattle.bridge_cards.specs.Seat.{clockwise_from};
 ghost use Rattle.bridge_cards.specs.Trick.{next_leader};
 ghost use Rattle.bridge_endings.specs.TrickCards.{IsKeptWinner};
@@ -89,14 +89,27 @@ impl Trick {
         ensures leader { result.leader ≡ self.now.leader }
         ensures cards { result.cards ≡ self.now.cards ++ card ∷ [] }
     {
-        let mut cards = self.cards;
-        cards[usize::from(self.played)] = card;
         Trick {
             trump: self.trump,
             leader: self.leader,
-            cards,
+            cards: self.cards_with(card),
             played: self.played + 1,
             winning: self.winning_with(card),
+        }
+    }
+
+    /// The cards with one more; what stands in the places behind it does not count. Each place is written by itself, since
+    /// an array that is copied just after a place of it was written is slow.
+    fn cards_with(&self, card: Card) -> [Card; 4]
+        requires { length self.now.cards < 4 }
+        ensures { take (length self.now.cards + 1) result ≡ self.now.cards ++ card ∷ [] }
+    {
+        let [first, second, third, _] = self.cards;
+        match self.played {
+            0 => [card, card, card, card],
+            1 => [first, card, card, card],
+            2 => [first, second, card, card],
+            _ => [first, second, third, card],
         }
     }
 

@@ -69,3 +69,16 @@ fn the_least_recently_used_ending_gives_way(rt: HostRuntime) -> Result<(), Fail>
     assert!(rt; cache.tried() > tried, "the second is searched anew");
     Ok(())
 }
+
+/// `rt try --test --fail-alloc N` refuses the Nth allocation: the answers are the same where a cache could not be made, or
+/// could not keep an ending. The gate refuses none: there this is a plain run.
+#[test]
+fn answers_are_the_same_where_memory_is_refused(rt: HostRuntime) -> Result<(), Fail> {
+    for capacity in [1, 16] {
+        let mut cache = Cache::new(rt.alloc(), capacity).ok();
+        for (ending, worth) in turns()?.iter() {
+            expect_eq(&rt, solve(ending, cache.as_mut()), *worth, capacity);
+        }
+    }
+    Ok(())
+}
