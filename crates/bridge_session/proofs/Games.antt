@@ -11,7 +11,6 @@ use Rattle.std.proofs.lemmas.List.Elements.{filter-append}
 use Rattle.bridge_movement.specs.declared.row.Row.{Row}
 use Rattle.bridge_movement.specs.Row.{is_live}
 use Rattle.bridge_session.specs.declared.game.Game.{Game}
-use Rattle.bridge_session.specs.declared.outcome.Outcome.{Outcome}
 use Rattle.bridge_session.specs.declared.record.Record.{Record}
 use Rattle.bridge_session.specs.Outcome.{outcome_by}
 use Rattle.bridge_session.specs.State.{row_boards}

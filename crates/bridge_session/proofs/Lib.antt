@@ -21,3 +21,4 @@ pub mod ValidStep
 pub mod PlainParts
 pub mod PlainStep
 pub mod PlainLaw
+pub mod EqualGains

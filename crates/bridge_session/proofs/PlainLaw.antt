@@ -1,5 +1,5 @@
 -- After any accepted actions the record of a play is the plain record of its own.
-use Rattle.std.proofs.Common.{◌≡◌, ◌+◌, ℕ, List, [], ◌∷◌, Option, Some, None, Ok, refl, sym, ap, ◌∙◌, subst}
+use Rattle.std.proofs.Common.{◌≡◌, ℕ, List, [], ◌∷◌, Option, Some, None, Ok, refl, ap, ◌∙◌}
 use Rattle.bridge_config.specs.Configuration.{Configuration}
 use Rattle.bridge_config.specs.Limits.{IsConfiguration}
 use Rattle.bridge_session.specs.declared.action.Action.{Action}
@@ -13,12 +13,12 @@ use Rattle.std.specs.Prelude.{Result, Err}
 use Rattle.std.specs.List.{cons_option}
 use Rattle.bridge_session.specs.Record.{PlainRecord, empty_record}
 use Rattle.bridge_session.specs.State.{State, opening, seating_of}
-use Rattle.bridge_session.specs.Step.{acted_at, acted, record_of, step_answer, changed}
-use Rattle.bridge_session.specs.Valid.{IsPlayId, IsAction, IsValid}
+use Rattle.bridge_session.specs.Step.{acted_at, record_of, changed}
+use Rattle.bridge_session.specs.Valid.{IsPlayId, IsValid}
 use Rattle.bridge_session.specs.Own.{Done, after, AreAccepted, done_in, round_after, own, plain_record}
 use Rattle.bridge_session.proofs.StaysValid.{opening_valid}
 use Rattle.bridge_session.proofs.ValidStep.{step_valid}
-use Rattle.bridge_session.proofs.PlainParts.{done_to, all_done, all_is, board_step}
+use Rattle.bridge_session.proofs.PlainParts.{all_done, all_is, board_step}
 use Rattle.bridge_session.proofs.PlainStep.{perhaps_done, record_step}
 
 -- the configuration stays, and the round is that after the action

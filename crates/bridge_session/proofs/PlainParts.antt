@@ -10,7 +10,6 @@ use Rattle.bridge_auction.specs.declared.call.Call.{Call}
 use Rattle.bridge_play.specs.declared.claim.Claim.{Claim}
 use Rattle.bridge_play.specs.Claims.{has_agreed, with_agreed}
 use Rattle.bridge_session.specs.declared.correction.Correction.{Correction}
-use Rattle.bridge_session.specs.declared.deed.Deed.{Deed}
 use Rattle.bridge_session.specs.declared.deed.Deed.TheVariants as deed
 use Rattle.bridge_session.specs.declared.ruling.Ruling.{Ruling}
 use Rattle.bridge_session.specs.Correction.{ruling_by}

@@ -1,14 +1,13 @@
 -- What an accepted action does to the record of a play.
-use Rattle.std.proofs.Common.{◌≡◌, ◌≢◌, ◌+◌, ◌-◌, ◌*◌, ◌/◌, ◌==◌, ◌<◌, ◌≤◌, ℕ, zero, suc, Bool, true, false, ◌&&◌, cond, List, [], ◌∷◌, length, map, Option, Some, None, Result, Ok, Err, refl, sym, ap, ◌∙◌, subst, arith, inl, inr}
-use Rattle.std.specs.Prelude.{slice_get, slice_set, unwrap_or}
+use Rattle.std.proofs.Common.{◌≡◌, ◌≢◌, ◌+◌, ◌-◌, ◌*◌, ◌/◌, ◌==◌, ◌≤◌, ℕ, Bool, true, false, ◌&&◌, cond, List, [], map, Option, Some, None, Result, Ok, Err, refl, sym, ap, ◌∙◌, arith, inl, inr}
+use Rattle.std.specs.Prelude.{slice_get, unwrap_or}
 use Rattle.std.specs.List.{range_with_len}
 use Rattle.std.specs.Option.{option_map}
 use Rattle.std.proofs.lemmas.Bool.{cases_eq, eqb-true, eqb-false, eq-eqb, false≢true, leb-true, and_parts}
 use Rattle.std.proofs.lemmas.Nat.{div-mul-add}
-use Rattle.std.proofs.lemmas.Option.{slice_get-map, slice_get_cases, slice_get_within, slice_get-get_or, get_or_from_slice_get}
+use Rattle.std.proofs.lemmas.Option.{slice_get-map, slice_get_cases, slice_get_within, get_or_from_slice_get}
 use Rattle.std.proofs.lemmas.List.FromFn.{length-range_with_len, get_or-range_with_len}
 use Rattle.bridge_cards.specs.declared.seat.Seat.{Seat}
-use Rattle.bridge_config.specs.Configuration.{Configuration}
 use Rattle.bridge_movement.specs.declared.row.Row.{Row}
 use Rattle.bridge_movement.specs.declared.shape.Shape.{Shape}
 use Rattle.bridge_movement.specs.Row.{is_live}
@@ -27,7 +26,7 @@ use Rattle.bridge_session.specs.Record.{PlainRecord}
 use Rattle.bridge_session.specs.State.{State, deal_on, row_at, row_place, row_boards, changed_at, current_place, director_answer, seating_of, is_of_set}
 use Rattle.bridge_session.specs.Step.{seen_by, answer_among, player_answer, acted_at, acted, is_row_within, record_of, rule_answer, with_ruling, ruled, step_answer, changed}
 use Rattle.bridge_session.specs.Valid.{board_of, IsPlayId, IsAction, IsValid}
-use Rattle.bridge_session.specs.Own.{Done, ByPlayer, ByDirector, done_by, same_play, ruled_in, done_in, round_after}
+use Rattle.bridge_session.specs.Own.{Done, ByPlayer, ByDirector, done_by, same_play, ruled_in, done_in}
 use Rattle.bridge_session.proofs.Lists.{changed_at-Some, changed_at-None}
 use Rattle.bridge_session.proofs.StaysValid.{set_read, set_other, row_found, mapped_from}
 use Rattle.bridge_session.proofs.ValidRuling.{allowed_ok, ruled_on, found_within}

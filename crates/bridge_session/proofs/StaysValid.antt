@@ -1,6 +1,6 @@
 -- Sessions stay valid: the opening, and a change of one record.
-use Rattle.std.proofs.Common.{◌≡◌, ◌≢◌, ◌+◌, ◌-◌, ◌*◌, ◌/◌, ◌<◌, ◌≤◌, ℕ, zero, suc, Bool, true, false, cond, List, [], ◌∷◌, length, Option, Some, None, refl, sym, ap, ◌∙◌, subst, arith, inl, inr, ◌⊎◌, length-set, replicate}
-use Rattle.std.specs.Prelude.{All, map, slice_get, slice_set, unwrap_or, IfSome}
+use Rattle.std.proofs.Common.{◌≡◌, ◌≢◌, ◌+◌, ◌*◌, ◌/◌, ◌<◌, ◌≤◌, ℕ, List, [], ◌∷◌, length, Option, Some, None, refl, sym, ap, ◌∙◌, subst, arith, inl, inr, ◌⊎◌, length-set, replicate}
+use Rattle.std.specs.Prelude.{All, map, slice_get, slice_set, unwrap_or}
 use Rattle.std.specs.Option.{option_map}
 use Rattle.std.proofs.lemmas.Bool.{cases_eq}
 use Rattle.std.proofs.lemmas.List.{length-replicate, get_or-replicate, get_or-set_same, get_or-set_other}
@@ -9,8 +9,8 @@ use Rattle.bridge_config.specs.Configuration.{Configuration}
 use Rattle.bridge_config.specs.Limits.{IsConfiguration}
 use Rattle.bridge_movement.specs.declared.row.Row.{Row}
 use Rattle.bridge_session.specs.Record.{PlainRecord, empty_record}
-use Rattle.bridge_session.specs.State.{State, opening, opening_row, deal_on, row_at, row_boards, changed_at}
-use Rattle.bridge_session.specs.Valid.{board_of, IsUnplayed, IsValidRecord, IsDealOrNone, IsValid}
+use Rattle.bridge_session.specs.State.{State, opening, opening_row, row_at, row_boards, changed_at}
+use Rattle.bridge_session.specs.Valid.{board_of, IsValidRecord, IsDealOrNone, IsValid}
 use Rattle.bridge_session.proofs.Lists.{changed_at-Some, changed_at-None}
 use Rattle.bridge_session.proofs.Acted.{map-changed_at}
 

@@ -1,6 +1,6 @@
 -- A record stays valid where a player acts in it.
-use Rattle.std.proofs.Common.{◌≡◌, ◌≢◌, ◌+◌, ◌-◌, ◌*◌, ◌/◌, ◌%◌, ◌==◌, ◌<◌, ◌≤◌, ℕ, Bool, true, false, not, ◌&&◌, ◌||◌, cond, List, [], ◌∷◌, ◌++◌, length, Option, Some, None, Result, Ok, Err, refl, sym, ap, ◌∙◌, subst, arith, inl, inr, get_or-set_other}
-use Rattle.std.specs.Prelude.{slice_get, slice_set, slice_index_or, nat_lt, nat_le, is_some, unwrap_or, IfSome}
+use Rattle.std.proofs.Common.{◌≡◌, ◌≢◌, ◌+◌, ◌/◌, ◌%◌, ◌==◌, ◌<◌, ◌≤◌, ℕ, Bool, true, false, not, ◌&&◌, ◌||◌, cond, List, [], ◌∷◌, length, Option, Some, None, Result, Ok, Err, refl, sym, ap, ◌∙◌, subst, arith, inl, inr, get_or-set_other}
+use Rattle.std.specs.Prelude.{slice_index_or, nat_lt, nat_le, is_some, unwrap_or, IfSome}
 use Rattle.std.specs.Option.{option_map}
 use Rattle.std.proofs.lemmas.Bool.{eqb-true, eqb-false, eq-eqb, ltb-false, leb-false, false≢true, cases_eq}
 use Rattle.bridge_cards.specs.declared.seat.Seat.{Seat}
@@ -28,10 +28,9 @@ use Rattle.bridge_play.specs.Trick.{turn_of}
 use Rattle.bridge_session.specs.declared.deed.Deed.{Deed}
 use Rattle.bridge_session.specs.declared.deed.Deed.TheVariants as deed
 use Rattle.bridge_session.specs.declared.refused.Refused.{Refused}
-use Rattle.bridge_session.specs.declared.refused.Refused.TheVariants.{WrongPhase, Stale, NotYourTurn, NotFinished}
+use Rattle.bridge_session.specs.declared.refused.Refused.TheVariants.{WrongPhase, Stale, NotYourTurn}
 use Rattle.bridge_session.specs.declared.ruling.Ruling.{Ruling}
 use Rattle.bridge_session.specs.declared.ruling.Ruling.TheVariants as ruling
-use Rattle.bridge_session.specs.Correction.{tricks_answer}
 use Rattle.bridge_session.specs.Deed.{renamed, from_call, from_card, from_claim, from_consent, counted, deed_answer, answer_if_play, answer_in_play, with_deed}
 use Rattle.bridge_session.specs.Record.{PlainRecord, bidding_of, contract_in, playing_in, play_of, is_finished, is_void, is_open}
 use Rattle.bridge_session.specs.State.{deal_on}

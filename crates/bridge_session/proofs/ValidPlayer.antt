@@ -1,5 +1,5 @@
 -- A session stays valid where a player acts.
-use Rattle.std.proofs.Common.{◌≡◌, ◌+◌, ◌-◌, ◌*◌, ◌/◌, ◌%◌, ◌==◌, ◌<◌, ◌≤◌, ℕ, suc, Bool, true, false, not, ◌&&◌, cond, List, [], ◌∷◌, length, Option, Some, None, Result, Ok, Err, refl, sym, ap, ◌∙◌, subst, arith}
+use Rattle.std.proofs.Common.{◌≡◌, ◌+◌, ◌%◌, ◌==◌, ◌<◌, ◌≤◌, ℕ, suc, Bool, true, false, not, cond, List, [], ◌∷◌, Option, Some, None, Result, Ok, Err, refl, sym, ap, ◌∙◌, subst, arith}
 use Rattle.std.specs.Prelude.{slice_get, ok_or}
 use Rattle.std.specs.List.{position_or_len}
 use Rattle.std.specs.Option.{option_map, option_or}
@@ -14,7 +14,7 @@ use Rattle.bridge_movement.specs.declared.row.Row.{Row}
 use Rattle.bridge_movement.specs.Seating.{seat_of, place_of}
 use Rattle.bridge_session.specs.declared.deed.Deed.{Deed}
 use Rattle.bridge_session.specs.declared.refused.Refused.{Refused}
-use Rattle.bridge_session.specs.declared.refused.Refused.TheVariants.{NotCurrent, NotDealt, Closed, SitsOut}
+use Rattle.bridge_session.specs.declared.refused.Refused.TheVariants.{NotCurrent, Closed, SitsOut}
 use Rattle.bridge_session.specs.declared.seating.Player.{Player}
 use Rattle.bridge_session.specs.declared.seating.Seating.{Seating}
 use Rattle.bridge_session.specs.Deed.{deed_answer, with_deed}
@@ -22,7 +22,7 @@ use Rattle.bridge_session.specs.Record.{PlainRecord, bidding_of, play_of, is_ope
 use Rattle.bridge_session.specs.State.{State, deal_on, row_at, row_place, current_place, acting_player, is_closed, seating_at, seated, seating_of, is_of_set}
 use Rattle.bridge_session.specs.Step.{seen_by, seen_deal, seen_records, answer_dealt, answer_current, answer_among, answer_seated, player_answer, acted_at, acted}
 use Rattle.bridge_session.specs.Valid.{IsValid}
-use Rattle.bridge_session.proofs.StaysValid.{none_of, round_due, valid_change}
+use Rattle.bridge_session.proofs.StaysValid.{none_of, valid_change}
 use Rattle.bridge_session.proofs.ValidRuling.{row_round}
 use Rattle.bridge_session.proofs.ValidDeed.{IsDeed, deed_valid}
 use Rattle.bridge_session.proofs.Acted.{deed_board}

@@ -1,6 +1,6 @@
 -- A session stays valid where a board is dealt, and where a round ends.
-use Rattle.std.proofs.Common.{◌≡◌, ◌+◌, ◌-◌, ◌*◌, ◌/◌, ◌%◌, ◌==◌, ◌<◌, ◌≤◌, ℕ, zero, suc, Bool, true, false, not, ◌||◌, cond, List, [], ◌∷◌, length, take, drop, Option, Some, None, Result, Ok, Err, refl, sym, ap, ◌∙◌, subst, arith, inl, inr, length-set}
-use Rattle.std.specs.Prelude.{All, slice_get, slice_set, nat_lt, nat_le, is_some, unwrap_or, IfSome}
+use Rattle.std.proofs.Common.{◌≡◌, ◌+◌, ◌-◌, ◌*◌, ◌/◌, ◌%◌, ◌==◌, ◌<◌, ◌≤◌, ℕ, zero, suc, Bool, true, false, not, ◌||◌, cond, List, [], ◌∷◌, take, drop, Option, Some, None, Result, Ok, Err, refl, sym, ap, ◌∙◌, subst, arith, inl, inr, length-set}
+use Rattle.std.specs.Prelude.{slice_get, slice_set, nat_le, is_some, unwrap_or, IfSome}
 use Rattle.std.specs.List.{list_any}
 use Rattle.std.specs.Option.{option_map}
 use Rattle.std.proofs.lemmas.Bool.{ltb-false, cases_lt, cases_eq}
@@ -10,11 +10,10 @@ use Rattle.bridge_cards.specs.Board.{dealer_of}
 use Rattle.bridge_cards.specs.Deal.{is_dealt_out}
 use Rattle.bridge_auction.specs.Legal.{is_ended}
 use Rattle.bridge_movement.specs.declared.row.Row.{Row}
-use Rattle.bridge_play.specs.Play.{Playing, IsPlay}
-use Rattle.bridge_session.specs.declared.refused.Refused.{Refused}
+use Rattle.bridge_play.specs.Play.{IsPlay}
 use Rattle.bridge_session.specs.declared.refused.Refused.TheVariants.{Closed, Stale, RoundOpen, NoSuchPlay, AlreadyDealt, BadDeal}
-use Rattle.bridge_session.specs.Record.{PlainRecord, playing_in, contract_in, play_of, is_open}
-use Rattle.bridge_session.specs.State.{State, deal_on, row_at, is_closed}
+use Rattle.bridge_session.specs.Record.{PlainRecord, playing_in, play_of, is_open}
+use Rattle.bridge_session.specs.State.{State, deal_on, is_closed}
 use Rattle.bridge_session.specs.Step.{deal_answer, next_answer, records_of_round}
 use Rattle.bridge_session.specs.Kept.{hands_on}
 use Rattle.bridge_session.specs.Valid.{IsValidRecord, IsDealOrNone, IsValid}

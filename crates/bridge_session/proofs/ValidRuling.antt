@@ -1,13 +1,12 @@
 -- A session stays valid where a ruling is made.
-use Rattle.std.proofs.Common.{◌≡◌, ◌+◌, ◌-◌, ◌*◌, ◌/◌, ◌<◌, ◌≤◌, ℕ, Bool, true, false, not, ◌&&◌, cond, List, [], length, Option, Some, None, Result, Ok, Err, refl, sym, ap, ◌∙◌, subst, arith}
-use Rattle.std.specs.Prelude.{slice_get, nat_lt, IfSome}
+use Rattle.std.proofs.Common.{◌≡◌, ◌+◌, ◌-◌, ◌*◌, ◌/◌, ◌≤◌, ℕ, Bool, true, false, not, ◌&&◌, cond, List, [], Option, Some, None, Result, Ok, Err, refl, sym, ap, ◌∙◌, subst, arith}
+use Rattle.std.specs.Prelude.{slice_get, nat_lt}
 use Rattle.std.proofs.lemmas.Bool.{ltb-false, lt-ltb, leb-true, and_parts}
 use Rattle.std.proofs.lemmas.Nat.{div-mul-add}
 use Rattle.bridge_auction.specs.declared.call.Call.{Call}
 use Rattle.bridge_config.specs.Configuration.{Configuration}
 use Rattle.bridge_config.specs.Limits.{IsConfiguration}
 use Rattle.bridge_movement.specs.declared.row.Row.{Row}
-use Rattle.bridge_movement.specs.declared.shape.Shape.{Shape}
 use Rattle.bridge_play.specs.Play.{Playing, is_over}
 use Rattle.bridge_session.specs.declared.action.PlayId.{PlayId}
 use Rattle.bridge_session.specs.declared.correction.Correction.{Correction}
@@ -15,11 +14,10 @@ use Rattle.bridge_session.specs.declared.correction.Correction.TheVariants as co
 use Rattle.bridge_session.specs.declared.refused.Refused.{Refused}
 use Rattle.bridge_session.specs.declared.refused.Refused.TheVariants.{NotFinished, NotYet}
 use Rattle.bridge_session.specs.Correction.{tricks_answer, ruling_answer}
-use Rattle.bridge_session.specs.Record.{PlainRecord, play_of, is_done, is_finished, is_open}
+use Rattle.bridge_session.specs.Record.{PlainRecord, play_of, is_done, is_open}
 use Rattle.bridge_session.specs.State.{State, row_at, row_place}
 use Rattle.bridge_session.specs.Step.{if_allowed, is_row_within, record_of, rule_answer, with_ruling, ruled}
 use Rattle.bridge_session.specs.Valid.{IsPlayId, IsValidRecord, IsValid}
-use Rattle.bridge_session.proofs.Lists.{not_refused}
 use Rattle.bridge_session.proofs.StaysValid.{round_due, valid_change}
 
 -- an action that is accepted is allowed

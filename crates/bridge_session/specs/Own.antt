@@ -1,5 +1,5 @@
 -- The record of a play as its own actions make it, whatever other tables do in between.
-use Rattle.std.specs.Prelude.{◌≡◌, ℕ, ◌+◌, ◌==◌, Bool, true, false, ◌&&◌, ◌||◌, if◌then◌else◌, List, [], ◌∷◌, ◌++◌, length, map, option_and_then, Option, Some, None, Result, Ok, Err}
+use Rattle.std.specs.Prelude.{◌≡◌, ℕ, ◌+◌, ◌==◌, Bool, true, false, ◌&&◌, if◌then◌else◌, List, [], ◌∷◌, length, map, option_and_then, Option, Some, None, Result, Ok, Err}
 use Rattle.std.specs.List.{cons_option, filter_map, list_any}
 use Rattle.std.specs.Option.{option_map, option_or}
 use Rattle.bridge_cards.specs.declared.seat.Seat.{Seat}
@@ -16,7 +16,6 @@ use Rattle.bridge_session.specs.declared.correction.Correction.TheVariants as co
 use Rattle.bridge_session.specs.declared.deed.Deed.{Deed}
 use Rattle.bridge_session.specs.declared.deed.Deed.TheVariants as deed
 use Rattle.bridge_session.specs.declared.refused.Refused.{Refused}
-use Rattle.bridge_session.specs.declared.ruling.Ruling.{Ruling}
 use Rattle.bridge_session.specs.declared.seating.Seating.{Seating}
 use Rattle.bridge_session.specs.Correction.{ruling_by}
 use Rattle.bridge_session.specs.Record.{PlainRecord}

@@ -1,5 +1,5 @@
 -- The ranking of a session: which plays count, what a pair gains in them, and the pairs of a field in order (Law 78).
-use Rattle.std.specs.Prelude.{◌≡◌, ℕ, ◌+◌, ◌-◌, ◌*◌, ◌≤◌, ◌==◌, nat_lt, Bool, true, if◌then◌else◌, is_some, List, length, map, filter, position, sum_by, flat_map, zip, ℤ, pos, neg_ℤ, Option, Some, None, Result, Ok, Err, AllPairs, IsPermutation}
+use Rattle.std.specs.Prelude.{◌≡◌, ℕ, ◌+◌, ◌-◌, ◌*◌, ◌==◌, nat_lt, Bool, true, if◌then◌else◌, is_some, List, length, map, filter, position, sum_by, flat_map, zip, ℤ, pos, neg_ℤ, Option, Some, None, Result, Ok, Err, AllPairs, IsPermutation}
 use Rattle.std.specs.List.{filter_map, range_with_len}
 use Rattle.std.specs.Option.{option_map, option_map_or}
 use Rattle.std.specs.Ordering.{int_eq}

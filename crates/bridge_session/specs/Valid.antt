@@ -1,5 +1,5 @@
 -- What a valid session is.
-use Rattle.std.specs.Prelude.{◌≡◌, ℕ, ◌+◌, ◌*◌, ◌<◌, ◌≤◌, Bool, true, false, map, List, [], length, slice_get, Option, Some, None, Ok, IfSome, All}
+use Rattle.std.specs.Prelude.{◌≡◌, ℕ, ◌+◌, ◌*◌, ◌<◌, ◌≤◌, true, false, map, List, [], length, slice_get, Option, Some, None, Ok, IfSome, All}
 use Rattle.bridge_cards.specs.Deal.{is_dealt_out}
 use Rattle.bridge_auction.specs.Call.{IsCall}
 use Rattle.bridge_auction.specs.Legal.{IsLegal}

@@ -1,5 +1,10 @@
 //! Worked sessions: each action with the number of its answer.
-use super::script::{CLUB, run, session_of};
+use super::expect_eq;
+use super::script::{CLUB, play, run, session_of};
+use crate::{Action, MadeCount, Outcome, Session, TrickCount};
+use bridge_cards::BoardNumber;
+use bridge_config::Key;
+use std::process::Abort;
 use std::test::Fail;
 
 /// The calls of a contract of 1S by North at table 1.
@@ -139,7 +144,57 @@ fn claims(rt: HostRuntime) -> Result<(), Fail> {
             ("AGREE 31 1 2", 0),
             ("AGREE 32 1 2", 0),
             ("CALL 11 1 4 P", 7),
-            ("TRICKS 100 1 1 1 7", 0),
+        ],
+    )?;
+    expect_tricks(&rt, &session, 11)?;
+    run(&rt, &mut session, &[("TRICKS 100 1 1 1 7", 0)])?;
+    expect_tricks(&rt, &session, 7)
+}
+
+/// Declarer of the first play has that many tricks.
+fn expect_tricks(rt: &impl Abort, session: &Session, due: u8) -> Result<(), Fail> {
+    let Some(entry) = session.entry(play("1", "1", "1")?) else {
+        return Err(Fail::from("a play"));
+    };
+    let Outcome::Played { tricks, .. } = entry.outcome else {
+        return Err(Fail::from("an outcome"));
+    };
+    expect_eq(rt, tricks, due, "tricks");
+    Ok(())
+}
+
+/// The hundredth claim of a play is refused, after all other causes.
+#[test]
+fn a_hundredth_claim(rt: HostRuntime) -> Result<(), Fail> {
+    let mut session = session_of(rt.alloc(), CLUB)?;
+    run(&rt, &mut session, &ONE_SPADE)?;
+    run(&rt, &mut session, &FIRST_TRICK)?;
+    let board = BoardNumber::new(1).ok_or("a board")?;
+    let tricks = TrickCount::new(12).ok_or("tricks")?;
+    for claims in 0..99 {
+        let claim = Action::Claim {
+            key: Key(31),
+            board,
+            at: MadeCount::new(claims).ok_or("a number")?,
+            tricks,
+        };
+        expect_eq(&rt, session.step(&claim).is_ok(), true, claims);
+        let refusal = Action::Refuse {
+            key: Key(11),
+            board,
+            at: MadeCount::new(claims + 1).ok_or("a number")?,
+        };
+        expect_eq(&rt, session.step(&refusal).is_ok(), true, claims);
+    }
+    run(
+        &rt,
+        &mut session,
+        &[
+            ("CLAIM 12 1 99 5", 14),
+            ("CLAIM 31 1 99 13", 16),
+            ("CLAIM 31 1 99 12", 28),
+            ("CARD 32 1 4 HK", 0),
+            ("CLAIM 11 1 99 3", 15),
         ],
     )
 }

@@ -1,7 +1,5 @@
 use Rattle.std.proofs.Common.{sym, ap, ◌∙◌, pos, ℤ, rules}
-use Rattle.std.specs.Prelude.{position}
 use Rattle.std.specs.Option.{option_map_or}
-use Rattle.std.specs.Ordering.{int_eq}
 use Rattle.std.proofs.lemmas.Int.{to_z-of_z}
 use mir.Syntax.{w32}
 use mir.Val.{SFits}

@@ -1,12 +1,12 @@
-use Rattle.std.proofs.Common.{◌≡◌, ◌+◌, ◌≤◌, ◌+ℤ◌, ℕ, ℤ, pos, take, sum_by, sym, ap, ◌∙◌, subst, arith}
+use Rattle.std.proofs.Common.{◌+◌, ◌≤◌, ◌+ℤ◌, ℕ, ℤ, pos, take, sum_by, sym, ap, ◌∙◌, subst, arith}
 use Rattle.std.proofs.lemmas.Int.{to_z-of_z}
 use Rattle.std.proofs.lemmas.List.Sums.{sum_by_more}
 use mir.Syntax.{w32}
-use mir.Val.{SFits, to_z, of_z}
+use mir.Val.{SFits, to_z}
 use Rattle.bridge_session.specs.declared.game.Game.{Game}
 use Rattle.bridge_session.specs.Ranking.{value_in, available_in}
 use Rattle.bridge_session.specs.Gains.{IsGainWithin}
-use Rattle.bridge_session.proofs.Gains.{IsSmall, within_both, within_small, small_fits, code_sum, summed}
+use Rattle.bridge_session.proofs.Gains.{within_both, within_small, small_fits, code_sum, summed}
 use Rattle.bridge_session.proofs.gain.line_of.Goals as goal
 
 -- the value that a read past the end would give

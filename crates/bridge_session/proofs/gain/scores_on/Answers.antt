@@ -8,7 +8,7 @@ use mir.Syntax.{w32}
 use mir.Val.{to_z, of_z}
 use Rattle.bridge_score.specs.ScoringTable.{IsScore}
 use Rattle.bridge_session.specs.declared.game.Game.{Game}
-use Rattle.bridge_session.specs.Ranking.{is_on, score_for, scores_on}
+use Rattle.bridge_session.specs.Ranking.{is_on, score_for}
 use Rattle.bridge_session.proofs.Gains.{scored, room_for, score_fits}
 use Rattle.bridge_session.proofs.gain.scores_on.Goals as goal
 use Rattle.bridge_session.proofs.gain.scores_on.Goals.{then-game-board, else-game-board}

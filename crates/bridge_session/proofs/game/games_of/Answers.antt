@@ -1,12 +1,11 @@
-use Rattle.std.proofs.Common.{◌≡◌, ◌<◌, ◌++◌, ◌*◌, ◌+◌, length, Some, sym, ap, ◌∙◌, subst, arith}
+use Rattle.std.proofs.Common.{◌≡◌, ◌<◌, ◌++◌, length, Some, sym, ap, ◌∙◌, subst, arith}
 use Rattle.std.specs.Prelude.{All, flat_map, zip, slice_get}
-use Rattle.std.specs.List.{filter_map}
 use Rattle.std.proofs.lemmas.List.{length-map, take_all}
 use Rattle.std.proofs.lemmas.List.Elements.{All-append}
 use Rattle.std.proofs.lemmas.Option.{get_or_from_slice_get}
 use Rattle.std.proofs.lemmas.Slice.Zip.{length-zip}
 use Rattle.bridge_movement.specs.declared.row.Row.{Row}
-use Rattle.bridge_session.specs.Kept.{HasScore, kept_game, kept_games_in}
+use Rattle.bridge_session.specs.Kept.{HasScore, kept_games_in}
 use Rattle.bridge_session.proofs.Acted.{lists_in, list_there}
 use Rattle.bridge_session.proofs.Games.{grown_games}
 use Rattle.bridge_session.proofs.game.games_of.Goals as goal

@@ -1,4 +1,4 @@
-use Rattle.std.proofs.Common.{◌≡◌, ◌≤◌, ℕ, Bool, true, cond, List, length, filter, Ok, Err, Result, Vec, Global, get_or, refl, sym, ap, ◌∙◌, subst, arith, map}
+use Rattle.std.proofs.Common.{◌≡◌, ◌≤◌, Bool, true, cond, List, length, filter, Ok, Err, Result, Vec, Global, get_or, sym, ap, ◌∙◌, subst, arith, map}
 use Rattle.std.specs.Prelude.{All, IsPermutation}
 use Rattle.std.proofs.lemmas.List.{length-map, get_or_default}
 use Rattle.bridge_config.specs.Configuration.{Configuration}
