@@ -17,3 +17,4 @@ pub mod Runs
 pub mod Owners
 pub mod EqualSteps
 pub mod Winning
+pub mod LastTrick

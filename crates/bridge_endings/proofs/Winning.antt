@@ -1,7 +1,7 @@
 -- The place that wins a trick, when one card more is played: the new card's where it beats the winner, else the winner's.
-use Rattle.std.proofs.Common.{◌≡◌, ℕ, zero, suc, ◌+◌, ◌/◌, ◌<◌, ◌≤◌, ◌⊎◌, inl, inr, Bool, true, false, not, ◌&&◌, ◌||◌, ◌==◌, cond, nat_lt, List, [], ◌∷◌, ◌++◌, length, get_or, slice_get, Option, Some, None, unwrap_or, position, refl, sym, ap, ◌∙◌, arith, length-append}
+use Rattle.std.proofs.Common.{◌≡◌, ℕ, ◌<◌, Bool, true, false, ◌&&◌, ◌||◌, ◌==◌, cond, nat_lt, List, [], ◌∷◌, ◌++◌, length, get_or, slice_get, Option, Some, None, unwrap_or, refl, ap, ◌∙◌, arith, length-append}
 use Rattle.std.specs.List.{list_all, position_or_len}
-use Rattle.std.proofs.lemmas.Bool.{cases_eq, cases_lt, eqb-true, eq-eqb, and_parts}
+use Rattle.std.proofs.lemmas.Bool.{eq-eqb}
 use Rattle.std.proofs.Math.Seq.{get_or-append_seam}
 use Rattle.std.proofs.lemmas.Bool.{lt-ltb}
 use Rattle.std.proofs.lemmas.Bool.Decides.{nat_tests}
@@ -9,8 +9,7 @@ use Rattle.std.proofs.lemmas.List.{get_or_append_left, get_or_default}
 use Rattle.std.proofs.lemmas.List.Folds.{list_all-append}
 use Rattle.std.proofs.lemmas.List.Sums.{AllPass-from_list_all, list_all-from_AllPass, position_or_len_is}
 use Rattle.bridge_cards.specs.declared.suit.Suit.{Suit}
-use Rattle.bridge_cards.specs.declared.suit.Suit.TheVariants.{Clubs, Diamonds, Hearts, Spades}
-use Rattle.bridge_cards.specs.Trick.{is_trump, beats, is_or_beats, wins, winning_place}
+use Rattle.bridge_cards.specs.Trick.{beats, is_or_beats, wins, winning_place}
 use Rattle.bridge_endings.specs.TrickCards.{IsWinning, IsKeptWinner}
 
 or_true : (a b : Bool) → b ≡ true → (a || b) ≡ true
@@ -89,10 +88,10 @@ module _ (trump : Option Suit) (trick : List ℕ) (card place : ℕ) (is : IsWin
       within = omega (arith, length-append trick (card ∷ []));
       wins_there = rw (get_or-append_seam trick card [] 0) (wins_more card ∙ ap (λ b. b && is_or_beats trump led card card) wins_all ∙ itself card);
       first = λ k within.
-      rw (get_or_append_left trick (card ∷ []) 0 k within) (
-      wins_more (get_or trick k 0)
-      ∙ ap (λ b. wins trump trick (get_or trick k 0) && b) (asymmetric trump led card (get_or trick k 0) (beats_each k within))
-      ∙ and_false (wins trump trick (get_or trick k 0)));
+          rw (get_or_append_left trick (card ∷ []) 0 k within) (
+          wins_more (get_or trick k 0)
+          ∙ ap (λ b. wins trump trick (get_or trick k 0) && b) (asymmetric trump led card (get_or trick k 0) (beats_each k within))
+          ∙ and_false (wins trump trick (get_or trick k 0)));
     }
 
   -- it does not
@@ -100,12 +99,12 @@ module _ (trump : Option Suit) (trick : List ℕ) (card place : ℕ) (is : IsWin
   winning_kept not_beaten = record {
     within = omega (arith, is.within, length-append trick (card ∷ []));
     wins_there = rw (get_or_append_left trick (card ∷ []) 0 place is.within) (
-    wins_more winner
-    ∙ ap (λ b. b && is_or_beats trump led winner card) is.wins_there
-    ∙ total trump led winner card (beaten 0 (omega (arith, is.within))) not_beaten);
+        wins_more winner
+        ∙ ap (λ b. b && is_or_beats trump led winner card) is.wins_there
+        ∙ total trump led winner card (beaten 0 (omega (arith, is.within))) not_beaten);
     first = λ k less.
-    let within : k < length trick = omega (arith, is.within) in
-    rw (get_or_append_left trick (card ∷ []) 0 k within) (wins_more (get_or trick k 0) ∙ ap (λ b. b && is_or_beats trump led (get_or trick k 0) card) (is.first k less));
+        let within : k < length trick = omega (arith, is.within) in
+        rw (get_or_append_left trick (card ∷ []) 0 k within) (wins_more (get_or trick k 0) ∙ ap (λ b. b && is_or_beats trump led (get_or trick k 0) card) (is.first k less));
   }
 
 -- ---- the winner that a trick keeps

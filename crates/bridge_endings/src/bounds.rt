@@ -1,3 +1,7 @@
+//! Two bounds of a worth, and how an answer brings them closer.
+ghost use Rattle.std.specs.Prelude.{◌≡◌, ℕ, ◌<◌, nat_le};
+ghost use Rattle.bridge_endings.specs.Between.{IsBetween};
+
 /// Two bounds of the worth of an ending.
 #[derive(Clone, Copy, Debug, PartialEq, Eq)]
 pub struct Bounds {
@@ -5,4 +9,22 @@ pub struct Bounds {
     pub least: u8,
     /// At most so many.
     pub most: u8,
+}
+
+/// The bounds once it is known whether so many tricks are reached.
+pub fn narrowed(known: Bounds, need: u8, answer: bool) -> Bounds
+    requires { known.least < need }
+    ensures { (worth : ℕ) → IsBetween worth known → answer ≡ nat_le need worth → IsBetween worth result }
+{
+    if answer {
+        Bounds {
+            least: need,
+            most: known.most,
+        }
+    } else {
+        Bounds {
+            least: known.least,
+            most: need - 1,
+        }
+    }
 }

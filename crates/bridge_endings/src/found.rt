@@ -1,7 +1,12 @@
+//! What a search has found, and the table that keeps it.
+ghost use Rattle.std.specs.Prelude.{◌<◌, All};
 ghost use Rattle.bridge_endings.specs.Searched.{IsNothing};
 
 use crate::bounds::Bounds;
 use bridge_cards::{CardSet, Seat};
+
+/// How many places the table has; it lies on the stack.
+pub const PLACES: usize = 1024;
 
 /// What was found of the cards left at the start of a trick.
 #[derive(Clone, Copy)]
@@ -28,4 +33,19 @@ impl Found {
             bounds: Bounds { least: 0, most: 0 },
         }
     }
+}
+
+/// The table in which nothing is found yet.
+pub fn empty_table() -> [Found; PLACES]
+    ensures { All IsNothing result }
+{
+    [Found::nothing(); PLACES]
+}
+
+/// The place in the table of what is left.
+pub fn place(left: CardSet, leader: Seat) -> usize
+    ensures { result < PLACES }
+{
+    let mixed = (left.bits() ^ u64::from(leader.number())).wrapping_mul(0x9e37_79b9_7f4a_7c15);
+    (mixed >> 32) as usize % PLACES
 }

@@ -1,5 +1,5 @@
 //! The search: whether North and South win at least so many of the tricks left.
-ghost use Rattle.std.specs.Prelude.{◌≡◌, ℕ, ◌-◌, ◌*◌, ◌<◌, ◌≤◌, nat_le, true, length, MatchBool, All, ◌++◌, ◌∷◌, []};
+ghost use Rattle.std.specs.Prelude.{◌≡◌, ℕ, ◌-◌, ◌*◌, ◌<◌, ◌≤◌, nat_le, ◌==◌, true, length, IfSome, MatchBool, ◌++◌, ◌∷◌, []};
 ghost use Rattle.bridge_cards.specs.Card.{IsCard, card_suit};
 ghost use Rattle.bridge_cards.specs.CardSet.{IsCardSet, has_card};
 ghost use Rattle.bridge_cards.specs.Seat.{clockwise_from, side_of};
@@ -8,19 +8,16 @@ ghost use Rattle.bridge_endings.specs.Ending.{IsEnding};
 ghost use Rattle.bridge_endings.specs.Left.{left_to, is_sought, IsSettled, EachDealt};
 ghost use Rattle.bridge_endings.specs.Equal.{IsEqualTo};
 ghost use Rattle.bridge_endings.specs.Between.{IsBetween};
-ghost use Rattle.bridge_endings.specs.Searched.{IsFound, IsNothing};
+ghost use Rattle.bridge_endings.specs.Searched.{IsFound};
 
-use crate::bounds::Bounds;
+use crate::bounds::{Bounds, narrowed};
 use crate::ending::Ending;
 use crate::equal::{DECK, equal_cards};
-use crate::found::Found;
+use crate::found::{Found, PLACES, empty_table, place};
 use crate::move_order::next_card;
 use crate::trick::Trick;
 use bridge_cards::{Card, CardSet, Seat, Side, Suit};
 use std::marker::Model;
-
-/// How many places the table has; it lies on the stack.
-const PLACES: usize = 1024;
 
 /// A search of an ending, and how many cards it has tried. Its table has bounds of what was left at the start of a trick;
 /// a later entry replaces the one in its place.
@@ -138,6 +135,39 @@ impl Search {
         if suited.is_empty() { held } else { suited }
     }
 
+    /// The card that the hand in turn has to play, where it has no choice.
+    fn only_card(&self, left: CardSet, trick: &Trick) -> Option<Card>
+        ensures card { IfSome result IsCard }
+        ensures only { IfSome result (λ card. (other : ℕ) →
+            may_play (left_to self.now.hands left (clockwise_from trick.now.leader (length trick.now.cards))) trick.now.cards other ≡ (other == card)) }
+    {
+        let legal = self.legal_cards(left, trick);
+        let card = legal.lowest()?;
+        if legal.without(card).is_empty() {
+            Some(card)
+        } else {
+            None
+        }
+    }
+
+    /// Who wins the last trick, where each hand has one card.
+    fn last_winner(&mut self, left: CardSet, leader: Seat) -> Option<Seat>
+        ensures worth { IfSome result (λ winner. worth_with self.old.trump 4 (left_to self.old.hands left) leader [] ≡ trick_for (side_of winner)) }
+        ensures hands { self.new.hands ≡ self.old.hands }
+        ensures trump { self.new.trump ≡ self.old.trump }
+        ensures tried { self.old.tried ≤ self.new.tried }
+    {
+        let mut rest = left;
+        let mut trick = Trick::new(self.trump(), leader);
+        for place in 0..4_usize {
+            let card = self.only_card(rest, &trick)?;
+            self.count_card();
+            rest = rest.without(card);
+            trick = trick.with(card);
+        }
+        Some(trick.winner())
+    }
+
     /// Whether North and South win at least `need` of so many tricks left, to the first of which that seat leads.
     #[cycle(search)]
     pub fn reaches_from(&mut self, left: CardSet, leader: Seat, tricks: u8, need: u8) -> bool
@@ -146,6 +176,11 @@ impl Search {
         ensures trump { self.new.trump ≡ self.old.trump }
         ensures tried { self.old.tried ≤ self.new.tried }
     {
+        if tricks == 1
+            && let Some(winner) = self.last_winner(left, leader)
+        {
+            return need_after(winner, need) == 0;
+        }
         if tricks < 2 {
             return self.reaches(left, &Trick::new(self.trump(), leader), tricks, need);
         }
@@ -235,39 +270,6 @@ fn is_settled(trick: &Trick, tricks: u8, need: u8) -> bool
     ensures { MatchBool result (IsSettled (length trick.now.cards) tricks need) (length trick.now.cards < 4 * tricks) }
 {
     trick.len() == 0 && (need == 0 || need > tricks)
-}
-
-/// The table in which nothing is found yet.
-fn empty_table() -> [Found; PLACES]
-    ensures { All IsNothing result }
-{
-    [Found::nothing(); PLACES]
-}
-
-/// The bounds once it is known whether so many tricks are reached.
-fn narrowed(known: Bounds, need: u8, answer: bool) -> Bounds
-    requires { known.least < need }
-    ensures { (worth : ℕ) → IsBetween worth known → answer ≡ nat_le need worth → IsBetween worth result }
-{
-    if answer {
-        Bounds {
-            least: need,
-            most: known.most,
-        }
-    } else {
-        Bounds {
-            least: known.least,
-            most: need - 1,
-        }
-    }
-}
-
-/// The place in the table of what is left.
-fn place(left: CardSet, leader: Seat) -> usize
-    ensures { result < PLACES }
-{
-    let mixed = (left.bits() ^ u64::from(leader.number())).wrapping_mul(0x9e37_79b9_7f4a_7c15);
-    (mixed >> 32) as usize % PLACES
 }
 
 /// The suit of a card.

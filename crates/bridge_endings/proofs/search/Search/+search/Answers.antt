@@ -62,7 +62,7 @@ reaches-reaches_with-requires t c =
     let turn : Seat = clockwise_from c.args.trick.now.leader (length c.args.trick.now.cards) in
     let dealt_too = subst (λ (hands : List ℕ). EachDealt hands c.args.trick.now.leader c.args.trick.now.cards) (sym c.loop-card.invariant.hands) c.requires.dealt in
     let held_too = subst (λ (hands : List ℕ). left_to hands c.args.left turn c.in-Some.card ≡ true) (sym c.loop-card.invariant.hands)
-        (legal_held (left_to c.args.self.now.hands c.args.left turn) c.args.trick.now.cards c.legal_cards-legal.result c.legal_cards-legal.ensures.legal c.in-Some.card (c.loop-card.invariant.answered.among c.in-Some.card c.in-Some.ensures.card.1)) in
+    (legal_held (left_to c.args.self.now.hands c.args.left turn) c.args.trick.now.cards c.legal_cards-legal.result c.legal_cards-legal.ensures.legal c.in-Some.card (c.loop-card.invariant.answered.among c.in-Some.card c.in-Some.ensures.card.1)) in
     (search rules, (c.requires.part, (omega arith, (c.requires.trump ∙ sym c.loop-card.invariant.trump, (dealt_too, held_too)))))
 
 pub reaches-loop-card-preserved : goal.reaches-loop-card-preserved

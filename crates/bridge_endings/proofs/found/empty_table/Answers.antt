@@ -1,6 +1,6 @@
 use Rattle.std.proofs.lemmas.List.Elements.{All-replicate}
 use Rattle.bridge_endings.specs.Searched.{IsNothing}
-use Rattle.bridge_endings.proofs.search.empty_table.Goals as goal
+use Rattle.bridge_endings.proofs.found.empty_table.Goals as goal
 
 pub returns : goal.returns
 returns c = All-replicate IsNothing 1024 c.nothing.result c.nothing.ensures
