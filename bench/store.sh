@@ -1,0 +1,70 @@
+#!/bin/sh
+# A store on a disk in a file, beside the same calls of that disk alone, by one program.
+#
+#     bench/store.sh [ROUNDS] [BATCHES]     (20 and 300 when left out)
+#
+# Taking actions: 64 submitted and confirmed, 300 times, of a counter of 9 parts; every 16th batch fills the journal, and the
+# next action makes a checkpoint. Beside it 64 sectors written and a sync, 300 times. The goal is 0.8 of that pace.
+# Opening: a disk of 494 parts and 1,024 records. Beside it the same sectors read and written, and synced as often. The goal
+# is at most twice its time.
+# Prints the middle of the rounds. In each round all four run, every other round in the other order, so that what else the
+# machine does falls on all. The files lie in the folder BENCH_DIR, or else in a new one beside this script; it should be
+# on a real device. The program is proved before it is built, from nothing where its crates have not been checked; PROGRAM
+# names one that was built before.
+set -eu
+here=$(cd "$(dirname "$0")" && pwd)
+top=$(cd "$here/.." && pwd)
+rounds=${1:-20}
+batches=${2:-300}
+work=$(mktemp -d "$here/store_bench.XXXXXX")
+trap 'rm -rf "$work"' EXIT
+
+# The program is built in a repository of its own, so that the gate does not prove it. Its counter is that of the tests.
+build() {
+    crates=$work/repo/crates
+    mkdir -p "$crates/store_bench/src" "$crates/store_bench/proofs/counter/read_counter"
+    cp -r "$top/crates/sector_disk" "$top/crates/session_store" "$crates"
+    cp "$here/store/program.txt" "$crates/store_bench/src/main.rt"
+    sed 's/use crate::{Kept/use session_store::{Kept/' "$crates/session_store/src/tests/counter.rt" \
+        > "$crates/store_bench/src/counter.rt"
+    answers=counter/read_counter/Answers.antt
+    sed 's/session_store\.proofs\.tests/store_bench.proofs/' "$crates/session_store/proofs/tests/$answers" \
+        > "$crates/store_bench/proofs/$answers"
+    printf 'sector_disk:\nsession_store: sector_disk arrayvec\n' > "$work/repo/crates.txt"
+    echo 'store_bench: anyhow arrayvec sector_disk session_store' >> "$work/repo/crates.txt"
+    echo 'Handles allowed: none.' > "$work/repo/HANDLES"
+    echo "building" >&2
+    if ! (cd "$crates/store_bench" && rt run -- "$work/first.disk" submit 1) > "$work/build.log" 2>&1; then
+        cat "$work/build.log" >&2
+        exit 1
+    fi
+    program=$crates/store_bench/out/store_bench
+}
+
+program=${PROGRAM:-}
+if [ -z "$program" ]; then build; fi
+files=${BENCH_DIR:-$work}
+
+run() {
+    "$program" "$files/store.disk" "$1" "$batches" >> "$work/$1"
+}
+
+round=0
+while [ "$round" -lt "$rounds" ]; do
+    round=$((round + 1))
+    if [ $((round % 2)) = 0 ]; then order="submit write open scan"; else order="scan open write submit"; fi
+    for what in $order; do run "$what"; done
+done
+rm -f "$files/store.disk"
+
+middle() {
+    sort -g "$work/$1" | sed -n "$(((rounds + 1) / 2))p"
+}
+awk -v n="$batches" -v ours="$(middle submit)" -v bare="$(middle write)" -v open="$(middle open)" -v scan="$(middle scan)" 'BEGIN {
+    printf "64 actions submitted and confirmed     %8.1f us a batch\n", ours / n / 1000
+    printf "64 sectors written, and a sync         %8.1f us a batch\n", bare / n / 1000
+    printf "pace beside it                         %8.2f\n", bare / ours
+    printf "opening a full disk                    %8.1f us\n", open / 1000
+    printf "its sectors read and written           %8.1f us\n", scan / 1000
+    printf "time beside it                         %8.2f\n", open / scan
+}'
