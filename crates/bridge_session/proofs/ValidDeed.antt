@@ -6,7 +6,7 @@ use Rattle.std.proofs.lemmas.Bool.{eqb-true, eqb-false, eq-eqb, ltb-false, leb-f
 use Rattle.bridge_cards.specs.declared.seat.Seat.{Seat}
 use Rattle.bridge_cards.specs.declared.seat.Seat.TheVariants.{North, East, South, West}
 use Rattle.bridge_cards.specs.Board.{dealer_of}
-use Rattle.bridge_cards.specs.EachMayFollow.{each_may_follow-push}
+use Rattle.bridge_cards.proofs.FollowLaws.{each_may_follow-push}
 use Rattle.bridge_cards.specs.Seat.{seat_number, same_seat, clockwise_from}
 use Rattle.bridge_auction.specs.declared.call.Call.{Call}
 use Rattle.bridge_auction.specs.declared.call.Call.TheVariants as call
