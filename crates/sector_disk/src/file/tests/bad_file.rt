@@ -1,4 +1,6 @@
 //! A file that notes what is asked of it, and behaves badly.
+ghost use Rattle.std.specs.Prelude.{◌≤◌};
+
 use super::super::*;
 use std::cell::RefCell;
 use std::fmt::Write;
@@ -41,7 +43,9 @@ impl BadFile<'_> {
     }
 
     /// How many of that many bytes from there on it gives or takes.
-    fn taken(&self, offset: u64, length: usize) -> usize {
+    fn taken(&self, offset: u64, length: usize) -> usize
+        ensures { result ≤ length }
+    {
         let left = self.length.saturating_sub(offset);
         let left = usize::try_from(left).unwrap_or(usize::MAX);
         length.min(self.most).min(left)
