@@ -32,7 +32,11 @@ fn scores_of_the_printed_table(rt: HostRuntime) -> Result<(), Fail> {
         (3, NoTrump, Undoubled, true, 9, 600),
         (1, Spades, Undoubled, false, 11, 200),
     ] {
-        let found = score(&contract(level, denomination, doubling)?, vulnerable, tricks);
+        let found = score(
+            &contract(level, denomination, doubling)?,
+            vulnerable,
+            tricks,
+        );
         expect_eq(&rt, found, points, (level, denomination, tricks));
     }
     Ok(())
@@ -47,7 +51,12 @@ fn every_score_is_the_plain_one(rt: HostRuntime) -> Result<(), Fail> {
             for result in 0..28 {
                 let (vulnerable, tricks) = (result < 14, result % 14);
                 let due = twin::score(&contract, vulnerable, tricks);
-                expect_eq(&rt, score(&contract, vulnerable, tricks), due, (contract, result));
+                expect_eq(
+                    &rt,
+                    score(&contract, vulnerable, tricks),
+                    due,
+                    (contract, result),
+                );
             }
         }
     }

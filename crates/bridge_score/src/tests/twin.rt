@@ -43,9 +43,13 @@ fn overtrick(contract: &Contract, vulnerable: bool) -> i32 {
 /// What the other side scores for 1 to 13 undertricks, doubled.
 fn down_doubled(undertricks: u8, vulnerable: bool) -> i32 {
     let penalties = if vulnerable {
-        [200, 500, 800, 1100, 1400, 1700, 2000, 2300, 2600, 2900, 3200, 3500, 3800]
+        [
+            200, 500, 800, 1100, 1400, 1700, 2000, 2300, 2600, 2900, 3200, 3500, 3800,
+        ]
     } else {
-        [100, 300, 500, 800, 1100, 1400, 1700, 2000, 2300, 2600, 2900, 3200, 3500]
+        [
+            100, 300, 500, 800, 1100, 1400, 1700, 2000, 2300, 2600, 2900, 3200, 3500,
+        ]
     };
     let place = usize::from(undertricks).saturating_sub(1);
     penalties.get(place).copied().unwrap_or(0)
