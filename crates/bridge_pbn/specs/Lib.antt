@@ -1,0 +1,5 @@
+pub mod Lines
+pub mod Tags
+pub mod Sections
+pub mod Games
+pub mod Written

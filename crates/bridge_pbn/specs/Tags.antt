@@ -1,0 +1,90 @@
+-- The tag pairs of a game: what was played where and by whom, and what came of it.
+use Rattle.std.specs.Prelude.{ℕ, ◌-◌, List, [], ◌∷◌, ◌++◌, codes, slice_get, unwrap_or, option_and_then}
+use Rattle.std.specs.Fmt.{decimal}
+use Rattle.bridge_cards.specs.declared.vulnerability.Vulnerability.{Vulnerability}
+use Rattle.bridge_cards.specs.declared.vulnerability.Vulnerability.TheVariants.{Neither, NorthSouth, EastWest, Both}
+use Rattle.bridge_cards.specs.Board.{dealer_of, vulnerability_on}
+use Rattle.bridge_cards.specs.Seat.{seat_letter}
+use Rattle.bridge_cards.specs.DealText.{deal_text}
+use Rattle.bridge_auction.specs.declared.contract.Contract.{Contract}
+use Rattle.bridge_auction.specs.Spelling.{bid_text, doubling_text}
+use Rattle.bridge_movement.specs.declared.row.Row.{Row}
+use Rattle.bridge_score.specs.declared.ranking.Scoring.{Scoring}
+use Rattle.bridge_score.specs.declared.ranking.Scoring.TheVariants.{MatchPoints, Imps}
+use Rattle.bridge_config.specs.Configuration.{Configuration, Pair}
+use Rattle.bridge_session.specs.declared.outcome.Outcome.{Outcome}
+use Rattle.bridge_session.specs.declared.outcome.Outcome.TheVariants.{Unfinished, PassedOut, Played, Voided}
+use Rattle.bridge_pbn.specs.Lines.{tag}
+
+-- the name of a pair's first player, at place 0, or second, at place 1
+abbrev pub player_name : List Pair → ℕ → ℕ → List ℕ
+player_name pairs pair place = unwrap_or (option_and_then (λ (p : Pair). slice_get p.names place) (slice_get pairs (pair - 1))) []
+
+abbrev pub vulnerability_text : Vulnerability → List ℕ
+vulnerability_text Neither = codes "None"
+vulnerability_text NorthSouth = codes "NS"
+vulnerability_text EastWest = codes "EW"
+vulnerability_text Both = codes "All"
+
+abbrev pub scoring_text : Scoring → List ℕ
+scoring_text MatchPoints = codes "MP"
+scoring_text Imps = codes "IMP"
+
+-- where and when the session was held, and the board
+abbrev pub event_tags : Configuration → ℕ → List (List ℕ)
+event_tags configuration board =
+    tag (codes "Event") configuration.event
+    ∷ tag (codes "Site") configuration.site
+    ∷ tag (codes "Date") configuration.date
+    ∷ tag (codes "Board") (decimal board)
+    ∷ []
+
+-- Who sat where: of a pair, the first player North or East, the second South or West.
+abbrev pub player_tags : List Pair → Row → List (List ℕ)
+player_tags pairs row =
+    tag (codes "West") (player_name pairs row.ew 1)
+    ∷ tag (codes "North") (player_name pairs row.ns 0)
+    ∷ tag (codes "East") (player_name pairs row.ew 0)
+    ∷ tag (codes "South") (player_name pairs row.ns 1)
+    ∷ []
+
+-- the dealer, the vulnerability and the hands of the board, the dealer's first, and how scores are compared
+abbrev pub board_tags : ℕ → List ℕ → Scoring → List (List ℕ)
+board_tags board hands scoring =
+    tag (codes "Dealer") (seat_letter (dealer_of board) ∷ [])
+    ∷ tag (codes "Vulnerable") (vulnerability_text (vulnerability_on board))
+    ∷ tag (codes "Deal") (deal_text hands (dealer_of board))
+    ∷ tag (codes "Scoring") (scoring_text scoring)
+    ∷ []
+
+abbrev pub declarer_text : Outcome → List ℕ
+declarer_text Unfinished = []
+declarer_text PassedOut = []
+declarer_text (Played contract tricks) = seat_letter contract.declarer ∷ []
+declarer_text Voided = []
+
+-- the last bid and its doubling, or that nobody bid
+abbrev pub contract_text : Outcome → List ℕ
+contract_text Unfinished = []
+contract_text PassedOut = codes "Pass"
+contract_text (Played contract tricks) = bid_text contract.bid ++ doubling_text contract.doubling
+contract_text Voided = []
+
+-- declarer's tricks, those of a ruling where there is one
+abbrev pub result_text : Outcome → List ℕ
+result_text Unfinished = []
+result_text PassedOut = []
+result_text (Played contract tricks) = decimal tricks
+result_text Voided = []
+
+-- what came of the play
+abbrev pub outcome_tags : Outcome → List (List ℕ)
+outcome_tags outcome =
+    tag (codes "Declarer") (declarer_text outcome)
+    ∷ tag (codes "Contract") (contract_text outcome)
+    ∷ tag (codes "Result") (result_text outcome)
+    ∷ []
+
+-- where in the movement the board was played
+abbrev pub table_tags : Row → List (List ℕ)
+table_tags row = tag (codes "Round") (decimal row.round) ∷ tag (codes "Table") (decimal row.table) ∷ []

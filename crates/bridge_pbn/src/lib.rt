@@ -1,0 +1,18 @@
+//! The results of a session in Portable Bridge Notation 2.1. Nothing here takes memory.
+//!
+//! ```rust
+//! write_pbn(&session, &mut writer)?;
+//! ```
+#![tactic(auto)]
+
+mod auction_section;
+mod game;
+mod names;
+mod play_section;
+mod tags;
+#[cfg(test)]
+mod tests;
+mod text;
+mod write;
+
+pub use write::write_pbn;

@@ -1,0 +1,68 @@
+//! The short texts of which the values of tag pairs are made.
+ghost use Rattle.std.specs.Prelude.{◌≡◌, ◌≤◌, ◌∷◌, [], length, map};
+ghost use Rattle.bridge_cards.specs.Seat.{seat_letter};
+ghost use Rattle.bridge_config.specs.Configuration.{pair_of};
+ghost use Rattle.bridge_pbn.specs.Tags.{vulnerability_text, scoring_text, player_name};
+
+use bridge_cards::{Seat, Vulnerability};
+use bridge_config::PairFields;
+use bridge_score::Scoring;
+
+/// The seat's letter.
+pub fn seat_text(seat: Seat) -> &'static str
+    ensures text { result.now ≡ seat_letter seat ∷ [] }
+    ensures short { length result.now ≤ 1 }
+{
+    match seat {
+        Seat::North => "N",
+        Seat::East => "E",
+        Seat::South => "S",
+        Seat::West => "W",
+    }
+}
+
+/// `None`, `NS`, `EW` or `All`.
+pub fn vulnerability_text(vulnerability: Vulnerability) -> &'static str
+    ensures text { result.now ≡ vulnerability_text vulnerability }
+    ensures short { length result.now ≤ 4 }
+{
+    match vulnerability {
+        Vulnerability::Neither => "None",
+        Vulnerability::NorthSouth => "NS",
+        Vulnerability::EastWest => "EW",
+        Vulnerability::Both => "All",
+    }
+}
+
+/// `MP` or `IMP`.
+pub fn scoring_text(scoring: Scoring) -> &'static str
+    ensures text { result.now ≡ scoring_text scoring }
+    ensures short { length result.now ≤ 3 }
+{
+    match scoring {
+        Scoring::MatchPoints => "MP",
+        Scoring::Imps => "IMP",
+    }
+}
+
+/// The name of a pair's first player.
+pub fn first_name(pairs: &[PairFields], pair: u8) -> &str
+    ensures name { result.now ≡ player_name (map pair_of pairs.now) pair 0 }
+    ensures short { length result.now ≤ 24 }
+{
+    match pairs.get(usize::from(pair.saturating_sub(1))) {
+        Some(found) => found.names[0].as_str(),
+        None => "",
+    }
+}
+
+/// The name of a pair's second player.
+pub fn second_name(pairs: &[PairFields], pair: u8) -> &str
+    ensures name { result.now ≡ player_name (map pair_of pairs.now) pair 1 }
+    ensures short { length result.now ≤ 24 }
+{
+    match pairs.get(usize::from(pair.saturating_sub(1))) {
+        Some(found) => found.names[1].as_str(),
+        None => "",
+    }
+}

@@ -1,0 +1,3 @@
+//! Worked sessions and their texts, and a writer that fails.
+mod script;
+mod texts;
