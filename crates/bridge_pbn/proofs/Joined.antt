@@ -1,13 +1,13 @@
 -- Lines and games, one after another.
-use Rattle.std.proofs.Common.{◌≡◌, ℕ, ◌+◌, Bool, true, false, List, [], ◌∷◌, ◌++◌, length, drop, refl, sym, ap, ◌∙◌, append_assoc, append-nil}
-use Rattle.std.specs.Prelude.{flat_map, if◌then◌else◌, ◌==◌, Option, Result, Ok, Err}
+use Rattle.std.proofs.Common.{◌≡◌, ℕ, Bool, true, false, List, [], ◌∷◌, ◌++◌, refl, sym, ap, ◌∙◌, append_assoc, append-nil}
+use Rattle.std.specs.Prelude.{flat_map, if◌then◌else◌, Option}
 use Rattle.std.proofs.lemmas.List.Concat.{flat_map-append}
 use Rattle.line_text.specs.Streams.{between, TakesPrefix}
 use Rattle.line_text.proofs.Streams.{takes_prefix, prefix_longer}
 use Rattle.std.specs.Io.KnownBytes.{Appends}
 use Rattle.std.proofs.KnownBytes.{Appends-trans}
 use Rattle.bridge_pbn.specs.Lines.{lines_text, parted}
-use Rattle.bridge_pbn.specs.Written.{games_after, has_begun, WrittenGames}
+use Rattle.bridge_pbn.specs.Written.{games_after, has_begun}
 
 -- the text of two lists of lines
 pub lines_append : (xs ys : List (List ℕ)) → lines_text (xs ++ ys) ≡ lines_text xs ++ lines_text ys

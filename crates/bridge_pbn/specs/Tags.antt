@@ -6,7 +6,6 @@ use Rattle.bridge_cards.specs.declared.vulnerability.Vulnerability.TheVariants.{
 use Rattle.bridge_cards.specs.Board.{dealer_of, vulnerability_on}
 use Rattle.bridge_cards.specs.Seat.{seat_letter}
 use Rattle.bridge_cards.specs.DealText.{deal_text}
-use Rattle.bridge_auction.specs.declared.contract.Contract.{Contract}
 use Rattle.bridge_auction.specs.Spelling.{bid_text, doubling_text}
 use Rattle.bridge_movement.specs.declared.row.Row.{Row}
 use Rattle.bridge_score.specs.declared.ranking.Scoring.{Scoring}

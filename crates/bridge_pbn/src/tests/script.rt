@@ -71,7 +71,10 @@ pub fn board_of(number: u8) -> Result<BoardNumber, Fail> {
 }
 
 fn made(count: usize) -> Result<MadeCount, Fail> {
-    Ok(MadeCount::new(count as u16).ok_or("a count")?)
+    let Ok(count) = u16::try_from(count) else {
+        return Err(Fail::from("a count"));
+    };
+    Ok(MadeCount::new(count).ok_or("a count")?)
 }
 
 pub fn play_of(round: u8, table: u8, index: u8) -> Result<PlayId, Fail> {

@@ -23,10 +23,10 @@ impl Write for Pen {
             return Err(Error::from(ErrorKind::BrokenPipe));
         }
         let count = self.room.min(7).min(buf.len());
+        self.room -= count;
         for byte in &buf[..count] {
             let _ = self.taken.try_push(*byte);
         }
-        self.room -= count;
         Ok(count)
     }
 
