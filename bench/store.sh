@@ -30,8 +30,8 @@ build() {
     answers=counter/read_counter/Answers.antt
     sed 's/session_store\.proofs\.tests/store_bench.proofs/' "$crates/session_store/proofs/tests/$answers" \
         > "$crates/store_bench/proofs/$answers"
-    printf 'sector_disk:\nsession_store: sector_disk arrayvec\n' > "$work/repo/crates.txt"
-    echo 'store_bench: anyhow arrayvec sector_disk session_store' >> "$work/repo/crates.txt"
+    printf 'sector_disk: thiserror\nsession_store: sector_disk arrayvec\n' > "$work/repo/crates.txt"
+    echo 'store_bench: anyhow arrayvec thiserror sector_disk session_store' >> "$work/repo/crates.txt"
     echo 'Handles allowed: none.' > "$work/repo/HANDLES"
     echo "building" >&2
     if ! (cd "$crates/store_bench" && rt run -- "$work/first.disk" submit 1) > "$work/build.log" 2>&1; then
