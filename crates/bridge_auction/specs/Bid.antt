@@ -1,5 +1,5 @@
 -- Bids in order (Law 18).
-use Rattle.std.specs.Prelude.{ℕ, ◌+◌, ◌-◌, ◌*◌, Option, Some, None}
+use Rattle.std.specs.Prelude.{ℕ, ◌+◌, ◌-◌, ◌*◌, ◌/◌, ◌%◌, ◌==◌, nat_lt, if◌then◌else◌, Option, Some, None}
 use Rattle.bridge_cards.specs.declared.suit.Suit.{Suit}
 use Rattle.bridge_cards.specs.declared.suit.Suit.TheVariants as suit
 use Rattle.bridge_auction.specs.declared.bid.Denomination.{Denomination}
@@ -30,3 +30,13 @@ bid_number bid = 5 * (bid.level - 1) + denomination_number bid.denomination
 -- a bid of a level from 1 to 7
 abbrev pub IsBid : Bid → Type 0
 IsBid bid = IsLevel bid.level
+
+-- the denomination at that place in their order, from 0
+abbrev pub denomination_at : ℕ → Denomination
+denomination_at place =
+    if place == 0 then Clubs else if place == 1 then Diamonds else if place == 2 then Hearts else if place == 3 then Spades else NoTrump
+
+-- the bid at that place in their order, from 0, of which there are 35
+abbrev pub bid_at : ℕ → Option Bid
+bid_at place =
+    if nat_lt place 35 then Some (record { level = place / 5 + 1; denomination = denomination_at (place % 5) }) else None

@@ -1,5 +1,5 @@
 ghost use Rattle.std.specs.Prelude.{◌≡◌, ◌≤◌, ◌<◌};
-ghost use Rattle.bridge_auction.specs.Bid.{denomination_number, denomination_suit, bid_number, IsBid};
+ghost use Rattle.bridge_auction.specs.Bid.{denomination_number, denomination_suit, denomination_at, bid_number, bid_at, IsBid};
 
 use crate::level::Level;
 use crate::spelling::denomination_text;
@@ -75,6 +75,32 @@ impl Bid {
         ensures bid { IsBid self }
     {
         5 * (self.level.number() - 1) + self.denomination.number()
+    }
+
+    /// The bid at that place in their order, or `None` from 35 on.
+    pub fn from_number(number: u8) -> Option<Bid>
+        ensures value { result ≡ bid_at number }
+    {
+        let level = Level::new(number / 5 + 1)?;
+        let denomination = denomination_at(number % 5);
+        Some(Bid {
+            level,
+            denomination,
+        })
+    }
+}
+
+/// The denomination at that place in their order.
+fn denomination_at(number: u8) -> Denomination
+    requires { number < 5 }
+    ensures { result ≡ denomination_at number }
+{
+    match number {
+        0 => Denomination::Clubs,
+        1 => Denomination::Diamonds,
+        2 => Denomination::Hearts,
+        3 => Denomination::Spades,
+        _ => Denomination::NoTrump,
     }
 }
 

@@ -1,5 +1,5 @@
-ghost use Rattle.std.specs.Prelude.{◌≡◌};
-ghost use Rattle.bridge_auction.specs.Call.{is_pass, is_bid, IsCall};
+ghost use Rattle.std.specs.Prelude.{◌≡◌, ◌≢◌, ◌<◌, IfSome, IfNone};
+ghost use Rattle.bridge_auction.specs.Call.{is_pass, is_bid, IsCall, call_number, call_at};
 
 use crate::bid::Bid;
 use std::fmt;
@@ -26,6 +26,35 @@ impl Call {
         ensures { result ≡ is_bid self }
     {
         matches!(self, Call::Bid(_))
+    }
+
+    /// The number of the call: 0 for a pass, 1 for a double, 2 for a redouble, and from 3 on the bids in their order, 37
+    /// for seven no trump.
+    pub fn number(self) -> u8
+        ensures number { result ≡ call_number self }
+        ensures range { result < 38 }
+        ensures call { IsCall self }
+    {
+        match self {
+            Call::Pass => 0,
+            Call::Double => 1,
+            Call::Redouble => 2,
+            Call::Bid(bid) => 3 + bid.number(),
+        }
+    }
+
+    /// The call of that number, or `None` from 38 on.
+    pub fn from_number(number: u8) -> Option<Call>
+        ensures value { result ≡ call_at number }
+        ensures numbered { IfSome result (λ call. call_number call ≡ number) }
+        ensures other { IfNone result ((call : Call) → IsCall call → call_number call ≢ number) }
+    {
+        match number {
+            0 => Some(Call::Pass),
+            1 => Some(Call::Double),
+            2 => Some(Call::Redouble),
+            _ => Bid::from_number(number - 3).map(Call::Bid),
+        }
     }
 }
 
