@@ -2,3 +2,4 @@ pub mod Indices
 pub mod Legality
 pub mod LastCall
 pub mod LegalLength
+pub mod CallNumbers

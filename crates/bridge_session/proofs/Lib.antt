@@ -22,3 +22,4 @@ pub mod PlainParts
 pub mod PlainStep
 pub mod PlainLaw
 pub mod EqualGains
+pub mod ActionLaws

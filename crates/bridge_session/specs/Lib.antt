@@ -15,3 +15,5 @@ pub mod Apart
 pub mod Sight
 pub mod Refused
 pub mod Views
+pub mod ActionRange
+pub mod ActionBytes

@@ -8,6 +8,8 @@
 #![tactic(auto)]
 
 pub mod action;
+pub mod action_bytes;
+pub mod action_read;
 pub mod apart;
 mod correction;
 mod deed;
