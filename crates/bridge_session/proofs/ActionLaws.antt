@@ -161,32 +161,32 @@ player_is kind key board at rest a is_key is_turn is =
           (ap (turn_bytes board at) (only_is rest byte.0 byte.1 ∙ ap (λ x. x ∷ []) (sym known.1)))
           found.2 (is_key, is_turn, known.0) refl
       | inr other ↦ elim (if_is (kind == 3) _ _ (Some a) other.1) [
+        | inl here ↦
+            let found = map_is (Card key board at) _ a here.1 in
+            let last = last_is 0 51 rest found.0 found.1 in
+            reads kind 3 key (turn_bytes board at rest) (turn_bytes board at (found.0 ∷ [])) (Card key board at found.0) a
+            (eqb-true kind 3 here.0) (ap (turn_bytes board at) last.0) found.2 (is_key, is_turn, omega (arith, last.2)) refl
+        | inr other ↦ elim (if_is (kind == 4) _ _ (Some a) other.1) [
           | inl here ↦
-              let found = map_is (Card key board at) _ a here.1 in
-              let last = last_is 0 51 rest found.0 found.1 in
-              reads kind 3 key (turn_bytes board at rest) (turn_bytes board at (found.0 ∷ [])) (Card key board at found.0) a
-              (eqb-true kind 3 here.0) (ap (turn_bytes board at) last.0) found.2 (is_key, is_turn, omega (arith, last.2)) refl
-          | inr other ↦ elim (if_is (kind == 4) _ _ (Some a) other.1) [
+              let found = map_is (Claim key board at) _ a here.1 in
+              let last = last_is 0 13 rest found.0 found.1 in
+              reads kind 4 key (turn_bytes board at rest) (turn_bytes board at (found.0 ∷ [])) (Claim key board at found.0) a
+              (eqb-true kind 4 here.0) (ap (turn_bytes board at) last.0) found.2 (is_key, is_turn, last.2) refl
+          | inr other ↦ elim (if_is (kind == 5) _ _ (Some a) other.1) [
+            | inl here ↦
+                let found = end_is rest (Agree key board at) a here.1 in
+                reads kind 5 key (turn_bytes board at rest) (turn_bytes board at []) (Agree key board at) a
+                (eqb-true kind 5 here.0) (ap (turn_bytes board at) found.0) found.1 (is_key, is_turn) refl
+            | inr other ↦ elim (if_is (kind == 6) _ _ (Some a) other.1) [
               | inl here ↦
-                  let found = map_is (Claim key board at) _ a here.1 in
-                  let last = last_is 0 13 rest found.0 found.1 in
-                  reads kind 4 key (turn_bytes board at rest) (turn_bytes board at (found.0 ∷ [])) (Claim key board at found.0) a
-                  (eqb-true kind 4 here.0) (ap (turn_bytes board at) last.0) found.2 (is_key, is_turn, last.2) refl
-              | inr other ↦ elim (if_is (kind == 5) _ _ (Some a) other.1) [
-                  | inl here ↦
-                      let found = end_is rest (Agree key board at) a here.1 in
-                      reads kind 5 key (turn_bytes board at rest) (turn_bytes board at []) (Agree key board at) a
-                      (eqb-true kind 5 here.0) (ap (turn_bytes board at) found.0) found.1 (is_key, is_turn) refl
-                  | inr other ↦ elim (if_is (kind == 6) _ _ (Some a) other.1) [
-                      | inl here ↦
-                          let found = end_is rest (Refuse key board at) a here.1 in
-                          reads kind 6 key (turn_bytes board at rest) (turn_bytes board at []) (Refuse key board at) a
-                          (eqb-true kind 6 here.0) (ap (turn_bytes board at) found.0) found.1 (is_key, is_turn) refl
-                      | inr other ↦ let none : None ≡ Some a = other.1 in absurd cc
-                    ]
-                ]
+                  let found = end_is rest (Refuse key board at) a here.1 in
+                  reads kind 6 key (turn_bytes board at rest) (turn_bytes board at []) (Refuse key board at) a
+                  (eqb-true kind 6 here.0) (ap (turn_bytes board at) found.0) found.1 (is_key, is_turn) refl
+              | inr other ↦ let none : None ≡ Some a = other.1 in absurd cc
             ]
+          ]
         ]
+      ]
     ]
 
 two_bytes : (a b : ℕ) → a < 256 → b < 256 → AreBytes (a ∷ b ∷ [])
@@ -252,18 +252,18 @@ ruled_is kind key play rest a is_key is_play is =
           reads kind 8 key (play_bytes play rest) (play_bytes play (found.0 ∷ [])) (Tricks key play found.0) a
           (eqb-true kind 8 here.0) (ap (play_bytes play) last.0) found.2 (is_key, is_play, last.2) refl
       | inr other ↦ elim (if_is (kind == 9) _ _ (Some a) other.1) [
+        | inl here ↦
+            let found = end_is rest (Void key play) a here.1 in
+            reads kind 9 key (play_bytes play rest) (play_bytes play []) (Void key play) a
+            (eqb-true kind 9 here.0) (ap (play_bytes play) found.0) found.1 (is_key, is_play) refl
+        | inr other ↦ elim (if_is (kind == 10) _ _ (Some a) other.1) [
           | inl here ↦
-              let found = end_is rest (Void key play) a here.1 in
-              reads kind 9 key (play_bytes play rest) (play_bytes play []) (Void key play) a
-              (eqb-true kind 9 here.0) (ap (play_bytes play) found.0) found.1 (is_key, is_play) refl
-          | inr other ↦ elim (if_is (kind == 10) _ _ (Some a) other.1) [
-              | inl here ↦
-                  let found = end_is rest (Restore key play) a here.1 in
-                  reads kind 10 key (play_bytes play rest) (play_bytes play []) (Restore key play) a
-                  (eqb-true kind 10 here.0) (ap (play_bytes play) found.0) found.1 (is_key, is_play) refl
-              | inr other ↦ let none : None ≡ Some a = other.1 in absurd cc
-            ]
+              let found = end_is rest (Restore key play) a here.1 in
+              reads kind 10 key (play_bytes play rest) (play_bytes play []) (Restore key play) a
+              (eqb-true kind 10 here.0) (ap (play_bytes play) found.0) found.1 (is_key, is_play) refl
+          | inr other ↦ let none : None ≡ Some a = other.1 in absurd cc
         ]
+      ]
     ]
 
 ruling_is : (kind : ℕ) (key : Key) (bytes : List ℕ) (a : Action) → IsKey key → ruling_in kind key bytes ≡ Some a
@@ -335,16 +335,16 @@ kind_is kind key bytes a are is_key is =
           let known = deal_is key bytes a are is_key here.1 in
           (known.0, known.1 ∙ ap (λ k. headed k key.0 bytes) (sym (eqb-true kind 1 here.0)))
       | inr other ↦ elim (if_is (kind == 7) _ _ (Some a) other.1) [
-          | inl here ↦
-              let found = map_is (NextRound key) _ a here.1 in
-              let last = last_is 1 12 bytes found.0 found.1 in
-              reads kind 7 key bytes (found.0 ∷ []) (NextRound key found.0) a (eqb-true kind 7 here.0) last.0 found.2
-              (is_key, (last.1, last.2)) refl
-          | inr other ↦ elim (if_is (nat_le kind 6) _ _ (Some a) other.1) [
-              | inl here ↦ turn_is kind key bytes a are is_key here.1
-              | inr other ↦ ruling_is kind key bytes a is_key other.1
-            ]
+        | inl here ↦
+            let found = map_is (NextRound key) _ a here.1 in
+            let last = last_is 1 12 bytes found.0 found.1 in
+            reads kind 7 key bytes (found.0 ∷ []) (NextRound key found.0) a (eqb-true kind 7 here.0) last.0 found.2
+            (is_key, (last.1, last.2)) refl
+        | inr other ↦ elim (if_is (nat_le kind 6) _ _ (Some a) other.1) [
+          | inl here ↦ turn_is kind key bytes a are is_key here.1
+          | inr other ↦ ruling_is kind key bytes a is_key other.1
         ]
+      ]
     ]
 
 -- an action that is read is within its ranges, and the bytes are those of the action

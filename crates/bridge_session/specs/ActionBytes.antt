@@ -102,7 +102,7 @@ abbrev pub hands_in : List ℕ → Option (List ℕ)
 hands_in bytes =
     if length bytes == 32 then
     option_and_then (λ n. option_and_then (λ e. option_and_then (λ s. option_map (λ w. n ∷ e ∷ s ∷ w ∷ [])
-        (hand_in (drop 24 bytes))) (hand_in (take 8 (drop 16 bytes)))) (hand_in (take 8 (drop 8 bytes)))) (hand_in (take 8 bytes))
+    (hand_in (drop 24 bytes))) (hand_in (take 8 (drop 16 bytes)))) (hand_in (take 8 (drop 8 bytes)))) (hand_in (take 8 bytes))
     else None
 
 -- the deal by the bytes behind the key

@@ -85,7 +85,9 @@ fn push_turn(kind: u8, key: Key, board: BoardNumber, at: MadeCount, bytes: &mut 
 {
     push_head(kind, key, bytes);
     bytes.push(board.number());
-    bytes.try_extend_from_slice(&at.number().to_be_bytes()).unwrap();
+    bytes
+        .try_extend_from_slice(&at.number().to_be_bytes())
+        .unwrap();
 }
 
 /// Adds the kind, the key and the play.

@@ -86,13 +86,7 @@ fn read_turn(kind: u8, key: Key, bytes: &[u8]) -> Option<Action>
 }
 
 /// A player's action of that kind, by the bytes behind the count.
-fn read_deed(
-    kind: u8,
-    key: Key,
-    board: BoardNumber,
-    at: MadeCount,
-    bytes: &[u8],
-) -> Option<Action>
+fn read_deed(kind: u8, key: Key, board: BoardNumber, at: MadeCount, bytes: &[u8]) -> Option<Action>
     ensures { result ≡ player_action kind key board at bytes.now }
 {
     match kind {

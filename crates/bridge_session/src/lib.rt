@@ -8,8 +8,8 @@
 #![tactic(auto)]
 
 pub mod action;
-pub mod action_bytes;
-pub mod action_read;
+mod action_bytes;
+mod action_read;
 pub mod apart;
 mod correction;
 mod deed;
@@ -33,6 +33,8 @@ pub mod valid;
 pub mod view;
 
 pub use action::{Action, PlayId};
+pub use action_bytes::write_action;
+pub use action_read::read_action;
 pub use apart::{hidden_cards_are_not_shown, records_are_of_own_actions, tables_are_judged_apart};
 pub use entry::Entry;
 pub use even::equal_scores_gain_the_same;

@@ -1,4 +1,5 @@
 //! Worked sessions, each action with its answer.
+mod action_bytes;
 mod rankings;
 mod rows;
 mod script;
