@@ -30,7 +30,7 @@ build() {
     answers=counter/read_counter/Answers.antt
     sed 's/session_store\.proofs\.tests/store_bench.proofs/' "$crates/session_store/proofs/tests/$answers" \
         > "$crates/store_bench/proofs/$answers"
-    printf 'sector_disk: thiserror\nsession_store: sector_disk arrayvec\n' > "$work/repo/crates.txt"
+    printf 'sector_disk: thiserror\nsession_store: sector_disk arrayvec thiserror\n' > "$work/repo/crates.txt"
     echo 'store_bench: anyhow arrayvec thiserror sector_disk session_store' >> "$work/repo/crates.txt"
     echo 'Handles allowed: none.' > "$work/repo/HANDLES"
     echo "building" >&2

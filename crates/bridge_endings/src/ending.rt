@@ -5,6 +5,7 @@ ghost use Rattle.bridge_endings.specs.Ending.{tricks_in, AllEqual, SomeUnequal, 
 use bridge_cards::deal::are_disjoint;
 use bridge_cards::{CardSet, Seat, Suit};
 use std::marker::Model;
+use thiserror::Error;
 
 /// Four hands with as many cards each, at most six, the trump suit if there is one, and the seat to lead.
 #[derive(Clone, Copy, Debug, PartialEq, Eq)]
@@ -29,13 +30,16 @@ impl Model for Ending {
 }
 
 /// Why four hands are no ending.
-#[derive(Clone, Copy, Debug, PartialEq, Eq)]
+#[derive(Clone, Copy, Debug, PartialEq, Eq, Error)]
 pub enum EndingRefused {
     /// A hand has more or fewer cards than another.
+    #[error("Unequal")]
     Unequal,
     /// Each hand has more than six cards.
+    #[error("TooLong")]
     TooLong,
     /// A card is in two hands.
+    #[error("Overlap")]
     Overlap,
 }
 

@@ -1,28 +1,37 @@
 //! Why a call of a store fails.
+use thiserror::Error;
 
 /// Why a disk was not formatted or not opened.
-#[derive(Clone, Copy, Debug, PartialEq, Eq)]
+#[derive(Clone, Copy, Debug, PartialEq, Eq, Error)]
 pub enum StoreFault {
     /// The disk has fewer than 2,048 sectors.
+    #[error("disk too small")]
     TooSmall,
     /// A call of the disk failed.
+    #[error("disk fault")]
     Disk,
     /// Neither snapshot has a header.
+    #[error("not formatted")]
     NotFormatted,
     /// The sector of this number is out of form, or what it holds is not of a state.
+    #[error("damaged sector {0}")]
     Damaged(u32),
     /// The epoch is 2^64 - 1, and there is none after it.
+    #[error("epochs spent")]
     EpochsSpent,
     /// Out of memory.
+    #[error("no memory")]
     NoMemory,
 }
 
 /// Why no state was made of parts.
-#[derive(Clone, Copy, Debug, PartialEq, Eq)]
+#[derive(Clone, Copy, Debug, PartialEq, Eq, Error)]
 pub enum PartsFault {
     /// They are not the parts of a state.
+    #[error("bad parts")]
     Bad,
     /// Out of memory.
+    #[error("no memory")]
     Memory,
 }
 
@@ -42,21 +51,26 @@ pub enum SubmitFault<R> {
 }
 
 /// Why pending actions were not confirmed.
-#[derive(Clone, Copy, Debug, PartialEq, Eq)]
+#[derive(Clone, Copy, Debug, PartialEq, Eq, Error)]
 pub enum ConfirmFault {
     /// A call of the disk had failed before.
+    #[error("the disk had failed before")]
     Failed,
     /// A call of the disk failed.
+    #[error("disk fault")]
     Disk,
 }
 
 /// Why no checkpoint was made.
-#[derive(Clone, Copy, Debug, PartialEq, Eq)]
+#[derive(Clone, Copy, Debug, PartialEq, Eq, Error)]
 pub enum CheckpointFault {
     /// A call of the disk had failed before.
+    #[error("the disk had failed before")]
     Failed,
     /// The epoch is 2^64 - 1, and there is none after it.
+    #[error("epochs spent")]
     EpochsSpent,
     /// A call of the disk failed.
+    #[error("disk fault")]
     Disk,
 }

@@ -1,146 +1,140 @@
 //! Disks that a test wrote, and what opening them answers.
-use super::{Sector, expect_eq, opened, opened_behind, opened_until, put, put_snapshot, written};
+use super::{expect_eq, opened, opened_behind, opened_until, put, put_snapshot, written};
 use crate::StoreFault;
-use sector_disk::{DiskFault, Fail, Fuse, MemoryDisk};
+use sector_disk::{Fail, Fuse, MemoryDisk};
 use std::test::Fail as Failure;
 
-const NONE: &[u8; 4] = b"\0\0\0\0";
+const HEADER: &[u8; 4] = b"BD1H";
 
 const PART: &[u8; 4] = b"BD1P";
 
 const RECORD: &[u8; 4] = b"BD1R";
 
-const HEADER: &[u8; 4] = b"BD1H";
+const NONE: &[u8; 4] = b"\0\0\0\0";
 
-fn put_all(disk: &mut MemoryDisk, sectors: &[Sector]) -> Result<(), DiskFault> {
-    for sector in sectors {
-        put(disk, *sector)?;
-    }
-    Ok(())
-}
+/// Its place, its mark, the epoch, its number and the payload.
+type Written = (u32, &'static [u8; 4], u64, u32, &'static [u8]);
 
-// A snapshot of epoch 1 with total 65,000, and over it these sectors.
+/// A snapshot of epoch 1 with total 65,000 in which these sectors were written over, and what opening the disk answers: the
+/// total and the epoch.
+const ROWS: [(&str, &[Written], Result<(u16, u64), StoreFault>); 20] = [
+    ("no records", &[], Ok((65_000, 2))),
+    (
+        "no record 2",
+        &[
+            (1024, RECORD, 1, 0, b"\x01\x02"),
+            (1025, RECORD, 1, 1, b"\x01\x03"),
+            (1027, RECORD, 1, 3, b"\x01\x04"),
+        ],
+        Ok((65_005, 2)),
+    ),
+    (
+        "number 2 on record 1",
+        &[
+            (1024, RECORD, 1, 0, b"\x01\x02"),
+            (1025, RECORD, 1, 2, b"\x01\x03"),
+        ],
+        Ok((65_002, 2)),
+    ),
+    (
+        "a record of another epoch",
+        &[(1024, RECORD, 2, 0, b"\x01\x02")],
+        Ok((65_000, 2)),
+    ),
+    (
+        "a part in the journal",
+        &[(1024, PART, 1, 0, b"\x01\x02")],
+        Ok((65_000, 2)),
+    ),
+    (
+        "no action",
+        &[(1024, RECORD, 1, 0, b"\x63\x02")],
+        Err(StoreFault::Damaged(1024)),
+    ),
+    (
+        "an action that is refused",
+        &[
+            (1024, RECORD, 1, 0, b"\x01\xff"),
+            (1025, RECORD, 1, 1, b"\x01\xff"),
+            (1026, RECORD, 1, 2, b"\x01\xff"),
+        ],
+        Err(StoreFault::Damaged(1026)),
+    ),
+    (
+        "no part 3",
+        &[(4, NONE, 0, 0, b"")],
+        Err(StoreFault::Damaged(4)),
+    ),
+    (
+        "part 3 of another epoch",
+        &[(4, PART, 3, 3, b"\xfd\xe8")],
+        Err(StoreFault::Damaged(4)),
+    ),
+    (
+        "number 4 on part 3",
+        &[(4, PART, 1, 4, b"\xfd\xe8")],
+        Err(StoreFault::Damaged(4)),
+    ),
+    (
+        "another counter's part 3",
+        &[(4, PART, 1, 3, b"\0\0")],
+        Err(StoreFault::Damaged(0)),
+    ),
+    (
+        "a part, then a record",
+        &[(9, NONE, 0, 0, b""), (1024, RECORD, 1, 0, b"\x63\x02")],
+        Err(StoreFault::Damaged(9)),
+    ),
+    (
+        "no header",
+        &[(0, NONE, 0, 0, b"")],
+        Err(StoreFault::NotFormatted),
+    ),
+    (
+        "a header with a payload",
+        &[(0, HEADER, 1, 9, b"\0")],
+        Err(StoreFault::NotFormatted),
+    ),
+    (
+        "headers in each other's place",
+        &[(0, HEADER, 2, 9, b""), (512, HEADER, 1, 9, b"")],
+        Err(StoreFault::NotFormatted),
+    ),
+    (
+        "a header of no parts",
+        &[(0, HEADER, 1, 0, b"")],
+        Err(StoreFault::NotFormatted),
+    ),
+    (
+        "a header of 495 parts",
+        &[(0, HEADER, 1, 495, b"")],
+        Err(StoreFault::NotFormatted),
+    ),
+    (
+        "a later header, no parts",
+        &[(512, HEADER, 2, 9, b"")],
+        Err(StoreFault::Damaged(513)),
+    ),
+    (
+        "a header of epoch 0",
+        &[(512, HEADER, 0, 9, b"")],
+        Ok((65_000, 2)),
+    ),
+    (
+        "the last epoch, damaged",
+        &[(0, HEADER, u64::MAX, 9, b"")],
+        Err(StoreFault::EpochsSpent),
+    ),
+];
+
 #[test]
 fn what_opening_answers(rt: HostRuntime) -> Result<(), Failure> {
-    let rows: [(&str, &[Sector], Result<(u16, u64), StoreFault>); 20] = [
-        ("no records", &[], Ok((65_000, 2))),
-        (
-            "records 0, 1 and 3",
-            &[
-                written(1024, RECORD, 1, 0, &[1, 2]),
-                written(1025, RECORD, 1, 1, &[1, 3]),
-                written(1027, RECORD, 1, 3, &[1, 4]),
-            ],
-            Ok((65_005, 2)),
-        ),
-        (
-            "record 1 has record 2's number",
-            &[
-                written(1024, RECORD, 1, 0, &[1, 2]),
-                written(1025, RECORD, 1, 2, &[1, 3]),
-            ],
-            Ok((65_002, 2)),
-        ),
-        (
-            "a record of another epoch",
-            &[written(1024, RECORD, 2, 0, &[1, 2])],
-            Ok((65_000, 2)),
-        ),
-        (
-            "a part's mark in the journal",
-            &[written(1024, PART, 1, 0, &[1, 2])],
-            Ok((65_000, 2)),
-        ),
-        (
-            "no action",
-            &[written(1024, RECORD, 1, 0, &[99, 2])],
-            Err(StoreFault::Damaged(1024)),
-        ),
-        (
-            "an action that is refused",
-            &[
-                written(1024, RECORD, 1, 0, &[1, 255]),
-                written(1025, RECORD, 1, 1, &[1, 255]),
-                written(1026, RECORD, 1, 2, &[1, 255]),
-            ],
-            Err(StoreFault::Damaged(1026)),
-        ),
-        (
-            "no part 3",
-            &[written(4, NONE, 0, 0, &[])],
-            Err(StoreFault::Damaged(4)),
-        ),
-        (
-            "part 3 of another epoch",
-            &[written(4, PART, 3, 3, &[253, 232])],
-            Err(StoreFault::Damaged(4)),
-        ),
-        (
-            "part 3 with part 4's number",
-            &[written(4, PART, 1, 4, &[253, 232])],
-            Err(StoreFault::Damaged(4)),
-        ),
-        (
-            "part 3 of another counter",
-            &[written(4, PART, 1, 3, &[0, 0])],
-            Err(StoreFault::Damaged(0)),
-        ),
-        (
-            "a damaged part before a damaged record",
-            &[
-                written(9, NONE, 0, 0, &[]),
-                written(1024, RECORD, 1, 0, &[99, 2]),
-            ],
-            Err(StoreFault::Damaged(9)),
-        ),
-        (
-            "no header",
-            &[written(0, NONE, 0, 0, &[])],
-            Err(StoreFault::NotFormatted),
-        ),
-        (
-            "a header with a payload",
-            &[written(0, HEADER, 1, 9, &[0])],
-            Err(StoreFault::NotFormatted),
-        ),
-        (
-            "headers in each other's place",
-            &[
-                written(0, HEADER, 2, 9, &[]),
-                written(512, HEADER, 1, 9, &[]),
-            ],
-            Err(StoreFault::NotFormatted),
-        ),
-        (
-            "a header of no parts",
-            &[written(0, HEADER, 1, 0, &[])],
-            Err(StoreFault::NotFormatted),
-        ),
-        (
-            "a header of 495 parts",
-            &[written(0, HEADER, 1, 495, &[])],
-            Err(StoreFault::NotFormatted),
-        ),
-        (
-            "a header of a later epoch without its parts",
-            &[written(512, HEADER, 2, 9, &[])],
-            Err(StoreFault::Damaged(513)),
-        ),
-        (
-            "a header of epoch 0",
-            &[written(512, HEADER, 0, 9, &[])],
-            Ok((65_000, 2)),
-        ),
-        (
-            "the epochs are spent, and a part is damaged",
-            &[written(0, HEADER, u64::MAX, 9, &[])],
-            Err(StoreFault::EpochsSpent),
-        ),
-    ];
-    for (name, sectors, due) in rows {
+    for (name, sectors, due) in ROWS {
         let mut disk = MemoryDisk::new(rt.alloc(), 2048)?;
         put_snapshot(&mut disk, 0, 1, 65_000)?;
-        put_all(&mut disk, sectors)?;
+        for (at, mark, epoch, number, payload) in sectors {
+            put(&mut disk, written(*at, mark, *epoch, *number, payload))?;
+        }
         expect_eq(&rt, opened(rt.alloc(), disk).1, due, name);
     }
     for (count, due) in [

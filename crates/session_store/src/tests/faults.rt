@@ -235,13 +235,23 @@ fn fail_formatting(rt: &impl Abort, alloc: Global, from: usize, to: usize) -> Re
 }
 
 #[test]
-fn a_fault_at_every_early_call_of_formatting(rt: HostRuntime) -> Result<(), Failure> {
-    fail_formatting(&rt, rt.alloc(), 0, 1200)
+fn a_fault_at_each_of_the_first_calls_of_formatting(rt: HostRuntime) -> Result<(), Failure> {
+    fail_formatting(&rt, rt.alloc(), 0, 600)
 }
 
 #[test]
-fn a_fault_at_every_late_call_of_formatting(rt: HostRuntime) -> Result<(), Failure> {
-    fail_formatting(&rt, rt.alloc(), 1200, 2048 + 14 * 16)
+fn a_fault_at_each_of_the_next_calls_of_formatting(rt: HostRuntime) -> Result<(), Failure> {
+    fail_formatting(&rt, rt.alloc(), 600, 1200)
+}
+
+#[test]
+fn a_fault_at_each_of_the_later_calls_of_formatting(rt: HostRuntime) -> Result<(), Failure> {
+    fail_formatting(&rt, rt.alloc(), 1200, 1800)
+}
+
+#[test]
+fn a_fault_at_each_of_the_last_calls_of_formatting(rt: HostRuntime) -> Result<(), Failure> {
+    fail_formatting(&rt, rt.alloc(), 1800, 2048 + 14 * 16)
 }
 
 // `rt try --test --fail-alloc N` refuses the Nth allocation, and every other run none.
