@@ -51,13 +51,12 @@ count_one card (suc k) a low high = sum_by-cons (λ x. cond (x == card) 1 0) a (
 
 -- ---- how many cards a set has
 
--- one card taken from a set
-pub card_count-without : (cards rest card : ℕ) → card < 52 → has_card cards card ≡ true → ((other : ℕ) → has_card rest other ≡ (has_card cards other && not (other == card)))
-    → card_count cards ≡ card_count rest + 1
-unfolding card_count deck
-card_count-without cards rest card inside has without =
-    count_either (has_card rest) (λ x. x == card) (has_card cards) (λ x. either x (cases_eq x card)) (λ x. apart (has_card cards x) (x == card) (has_card rest x) (without x)) (range_with_len 0 52)
-    ∙ ap (λ n. count_by (has_card rest) (range_with_len 0 52) + n) (count_one card 52 0 (omega arith) (omega arith))
+-- one card of the deck, of those that pass a test, passes it no longer
+pub count_by-without : (p q : ℕ → Bool) (card : ℕ) → card < 52 → p card ≡ true → ((other : ℕ) → q other ≡ (p other && not (other == card))) → count_by p deck ≡ count_by q deck + 1
+unfolding deck
+count_by-without p q card inside has without =
+    count_either q (λ x. x == card) p (λ x. either x (cases_eq x card)) (λ x. apart (p x) (x == card) (q x) (without x)) (range_with_len 0 52)
+    ∙ ap (λ n. count_by q (range_with_len 0 52) + n) (count_one card 52 0 (omega arith) (omega arith))
   where
     apart : (a b c : Bool) → c ≡ (a && not b) → (c && b) ≡ false
     apart true true c e = ap (λ x. x && true) e
@@ -70,9 +69,15 @@ card_count-without cards rest card inside has without =
     both true false c e f = sym (ap (λ x. x || false) e)
     both false false c e f = sym (ap (λ x. x || false) e)
 
-    either : (x : ℕ) → (x ≡ card) ⊎ (x ≡ card → ⊥) → has_card cards x ≡ (has_card rest x || (x == card))
-    either x (inl e) = ap (has_card cards) e ∙ has ∙ sym (ap (λ b. has_card rest x || b) (eq-eqb x card e) ∙ or_right (has_card rest x) true refl)
-    either x (inr ne) = both (has_card cards x) (x == card) (has_card rest x) (without x) (ne_eqb x card ne)
+    either : (x : ℕ) → (x ≡ card) ⊎ (x ≡ card → ⊥) → p x ≡ (q x || (x == card))
+    either x (inl e) = ap p e ∙ has ∙ sym (ap (λ b. q x || b) (eq-eqb x card e) ∙ or_right (q x) true refl)
+    either x (inr ne) = both (p x) (x == card) (q x) (without x) (ne_eqb x card ne)
+
+-- one card taken from a set
+pub card_count-without : (cards rest card : ℕ) → card < 52 → has_card cards card ≡ true → ((other : ℕ) → has_card rest other ≡ (has_card cards other && not (other == card)))
+    → card_count cards ≡ card_count rest + 1
+unfolding card_count
+card_count-without cards rest = count_by-without (has_card cards) (has_card rest)
 
 -- the list of a set's cards is as long as they are many
 pub length-cards_of : (cards : ℕ) → length (cards_of cards) ≡ card_count cards

@@ -1,6 +1,7 @@
 pub mod FollowLaws
 pub mod CardSetLaws
 pub mod CardCounts
+pub mod OneHolder
 mod CardBits
 mod OnesCounted
 mod SuitText

@@ -10,6 +10,7 @@ use Rattle.bridge_cards.specs.Seat.{seat_number, clockwise_from, same_seat}
 use Rattle.bridge_cards.specs.Card.{suit_number_of}
 use Rattle.bridge_cards.specs.CardSet.{has_card}
 use Rattle.bridge_cards.specs.Deal.{hand_at}
+use Rattle.bridge_cards.proofs.OneHolder.{seat_few}
 use Rattle.bridge_endings.specs.Ending.{IsEnding}
 use Rattle.bridge_endings.specs.Worth.{dealt, after_playing, worth_after, worth_with}
 use Rattle.bridge_endings.specs.Left.{left_to, EachDealt}
@@ -83,12 +84,6 @@ module _ (c d : ℕ) (suit : suit_number_of c ≡ suit_number_of d) (held : Seat
       (apart_after c d suit turn held leader trick is c has_c) (omega (arith, length-append trick (c ∷ []))) (cases_eq (length (trick ++ c ∷ [])) 4)
 
 -- ---- inside an ending
-
-pub seat_few : (seat : Seat) → seat_number seat < 4
-seat_few North = omega arith
-seat_few East = omega arith
-seat_few South = omega arith
-seat_few West = omega arith
 
 dealt_card : (hands : List ℕ) → IsEnding hands → (s : Seat) (card : ℕ) → dealt hands s card ≡ true → card < 52
 dealt_card hands ending s card has =

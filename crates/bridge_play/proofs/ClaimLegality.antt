@@ -1,5 +1,5 @@
 -- A claim is answered by Ok exactly where it may be made, and a player's answer to it exactly where he may give one.
-use Rattle.std.proofs.Common.{◌≡◌, ◌≢◌, ◌↔◌, ◌+◌, ◌/◌, ◌%◌, ◌<◌, ◌≤◌, ◌==◌, ℕ, Bool, true, false, not, if◌then◌else◌, length, Result, Ok, Err, IsOk, refl, sym, ap, ◌∙◌, arith}
+use Rattle.std.proofs.Common.{◌≡◌, ◌≢◌, ◌↔◌, ◌+◌, ◌/◌, ◌%◌, ◌==◌, ℕ, Bool, true, false, not, if◌then◌else◌, length, Result, Ok, Err, IsOk, refl, sym, ap, ◌∙◌}
 use Rattle.std.specs.Prelude.{Option, Some, None, is_some, nat_lt, nat_le, ◌||◌, ◌&&◌}
 use Rattle.std.proofs.lemmas.Bool.{eqb-true, eq-eqb, ltb-false, le-ltb, leb-false, lt-leb}
 use Rattle.bridge_cards.specs.declared.seat.Seat.{Seat}
@@ -12,7 +12,7 @@ use Rattle.bridge_play.specs.declared.refused.ClaimRefused.TheVariants.{Over, Cl
 use Rattle.bridge_play.specs.declared.refused.ConsentRefused.{ConsentRefused}
 use Rattle.bridge_play.specs.declared.refused.ConsentRefused.TheVariants.{NoClaim, NotAsked, Stale}
 use Rattle.bridge_play.specs.Dummy.{dummy_of}
-use Rattle.bridge_play.specs.Claims.{is_asked, has_agreed, needs_no_answer, all_agreed, consent_to}
+use Rattle.bridge_play.specs.Claims.{is_asked, has_agreed, needs_no_answer, all_agreed}
 use Rattle.bridge_play.specs.Play.{Playing, is_over, claim_answer, consent_answer, consent_if, MayBeClaimed, MayAnswer}
 use Rattle.bridge_play.proofs.Seats.{same_seat-eq, same_seat-self}
 

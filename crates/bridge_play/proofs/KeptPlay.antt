@@ -1,7 +1,7 @@
 -- A play stays one over each card, claim and answer to a claim that is taken.
-use Rattle.std.proofs.Common.{◌≡◌, ◌≢◌, ◌+◌, ◌/◌, ◌%◌, ◌<◌, ◌≤◌, ◌==◌, ℕ, Bool, true, false, not, if◌then◌else◌, [], ◌∷◌, length, Result, Ok, Err, IsOk, IfSome, refl, sym, ap, ◌∙◌, arith}
-use Rattle.std.specs.Prelude.{Option, Some, None, is_some, nat_lt, nat_le, ◌||◌}
-use Rattle.std.proofs.lemmas.Bool.{eqb-true, eqb-false, ltb-false, leb-false}
+use Rattle.std.proofs.Common.{◌≡◌, ◌+◌, ◌/◌, ◌%◌, ◌<◌, ◌≤◌, ◌==◌, ℕ, Bool, true, false, not, [], ◌∷◌, length, IsOk, IfSome, refl, sym, ◌∙◌, arith}
+use Rattle.std.specs.Prelude.{Option, Some, None, is_some, ◌||◌}
+use Rattle.std.proofs.lemmas.Bool.{eqb-false}
 use Rattle.std.proofs.lemmas.List.{get_or-set_other}
 use Rattle.std.proofs.lemmas.Bool.Decides.{nat_tests}
 use Rattle.std.specs.Option.{option_map}
@@ -10,10 +10,9 @@ use Rattle.bridge_cards.specs.declared.seat.Seat.TheVariants.{North, East, South
 use Rattle.bridge_cards.specs.Seat.{seat_number, same_seat}
 use Rattle.bridge_auction.specs.declared.contract.Contract.{Contract}
 use Rattle.bridge_play.specs.declared.claim.Claim.{Claim}
-use Rattle.bridge_play.specs.Dummy.{dummy_of}
 use Rattle.bridge_play.specs.Claims.{is_asked, has_agreed, all_agreed, consent_to, with_agreed}
-use Rattle.bridge_play.specs.Play.{Playing, IsPlay, IsClaimIn, with_card, with_claim, with_agreement, without_claim, is_over, is_agreed, card_answer, claim_answer, consent_answer, consent_if}
-use Rattle.bridge_play.proofs.Seats.{same_seat-eq, same_seat-self}
+use Rattle.bridge_play.specs.Play.{Playing, IsPlay, IsClaimIn, with_card, with_claim, with_agreement, without_claim, is_agreed, card_answer, claim_answer, consent_answer, consent_if}
+use Rattle.bridge_play.proofs.Seats.{same_seat-eq}
 use Rattle.bridge_play.proofs.Legality.{card_legal, card_unclaimed}
 use Rattle.bridge_play.proofs.ClaimLegality.{claim_may, ok_asks, ok_current}
 

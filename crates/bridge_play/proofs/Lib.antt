@@ -5,3 +5,4 @@ pub mod NextTrick
 pub mod CardsLeft
 pub mod ClaimLegality
 pub mod KeptPlay
+pub mod HandsLeft

@@ -1,5 +1,5 @@
 -- Tricks (Laws 41 to 45): who leads and who wins, by the whole list of cards. A card is its number.
-use Rattle.std.specs.Prelude.{ℕ, zero, suc, ◌+◌, ◌*◌, ◌/◌, ◌%◌, Bool, if◌then◌else◌, List, length, take, drop, Option}
+use Rattle.std.specs.Prelude.{ℕ, zero, suc, ◌+◌, ◌*◌, ◌/◌, ◌%◌, if◌then◌else◌, List, length, take, drop, Option}
 use Rattle.bridge_cards.specs.declared.suit.Suit.{Suit}
 use Rattle.bridge_cards.specs.declared.seat.Seat.{Seat}
 use Rattle.bridge_cards.specs.declared.seat.Side.{Side}

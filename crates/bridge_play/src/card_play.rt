@@ -1,7 +1,7 @@
-ghost use Rattle.std.specs.Prelude.{◌≡◌, ℕ, ◌/◌, ◌<◌, ◌≤◌, ◌&&◌, ◌==◌, not, [], length};
+ghost use Rattle.std.specs.Prelude.{◌≡◌, ℕ, ◌*◌, ◌/◌, ◌<◌, ◌≤◌, ◌&&◌, ◌==◌, not, [], length, take};
 ghost use Rattle.bridge_cards.specs.Card.{IsCard};
 ghost use Rattle.bridge_cards.specs.CardSet.{has_card};
-ghost use Rattle.bridge_cards.specs.Deal.{hand_at};
+ghost use Rattle.bridge_cards.specs.Deal.{hand_at, IsDeal};
 ghost use Rattle.bridge_play.specs.Trick.{turn_of, tricks_won};
 ghost use Rattle.bridge_play.specs.Legal.{holds, holds_suit, follows};
 ghost use Rattle.bridge_play.specs.CardPlay.{with_next};
@@ -140,6 +140,21 @@ impl CardPlay {
         }
     }
 
+    /// The cards that each seat held when so many tricks were whole, by the seat's number.
+    pub fn left_after(&self, tricks: usize) -> [CardSet; 4]
+        requires { tricks ≤ length self.now.cards / 4 }
+        ensures four { length result ≡ 4 }
+        ensures left { (seat : Seat) (card : ℕ) → has_card (hand_at result seat) card ≡ holds self.now.hands (take (4 * tricks) self.now.cards) seat card }
+        ensures deal { IsDeal self.now.hands }
+    {
+        let (played, _) = self.cards().split_at(4 * tricks);
+        let mut left = dealt(&self.deal);
+        for card in played {
+            left = without(&left, *card);
+        }
+        left
+    }
+
     /// Adds a card, which no hand has then.
     pub fn push(&mut self, card: Card)
         requires { length self.old.cards < 52 }
@@ -156,7 +171,9 @@ impl CardPlay {
 
 /// The hands as they were dealt, by the seat's number.
 fn dealt(deal: &Deal) -> [CardSet; 4]
-    ensures { (seat : Seat) → hand_at result seat ≡ hand_at deal.now seat }
+    ensures four { length result ≡ 4 }
+    ensures hands { (seat : Seat) → hand_at result seat ≡ hand_at deal.now seat }
+    ensures deal { IsDeal deal.now }
 {
     [
         deal.hand(Seat::North),
@@ -168,7 +185,8 @@ fn dealt(deal: &Deal) -> [CardSet; 4]
 
 /// The hands without the card.
 fn without(hands: &[CardSet; 4], card: Card) -> [CardSet; 4]
-    ensures { (seat : Seat) (other : ℕ) → has_card (hand_at result seat) other ≡ (has_card (hand_at hands.now seat) other && not (other == card)) }
+    ensures four { length result ≡ 4 }
+    ensures hands { (seat : Seat) (other : ℕ) → has_card (hand_at result seat) other ≡ (has_card (hand_at hands.now seat) other && not (other == card)) }
 {
     [
         hands[0].without(card),

@@ -1,10 +1,11 @@
-ghost use Rattle.std.specs.Prelude.{◌≡◌, ◌≢◌, ℕ, ◌+◌, ◌/◌, ◌<◌, ◌≤◌, ◌++◌, ◌∷◌, [], ◌↔◌, length, IsOk, OnOk, OnErr, IfSome, None};
+ghost use Rattle.std.specs.Prelude.{◌≡◌, ◌≢◌, ℕ, ◌+◌, ◌*◌, ◌/◌, ◌<◌, ◌≤◌, ◌++◌, ◌∷◌, [], ◌↔◌, length, take, IsOk, OnOk, OnErr, IfSome, None, All};
 ghost use Rattle.std.specs.Bool.{OnFalse};
 ghost use Rattle.bridge_play.specs.Play.{with_card, is_over, is_agreed, card_answer, MayBePlayed, claim_answer, MayBeClaimed, with_claim, consent_answer, MayAnswer, with_agreement, without_claim, tricks_of, settled_tricks, IsClaimIn};
 ghost use Rattle.bridge_play.specs.Dummy.{actor_of, dummy_of};
 ghost use Rattle.bridge_play.specs.Trick.{turn_of, leader_of, tricks_won};
 ghost use Rattle.bridge_play.specs.Legal.{IsLegal, holds};
-ghost use Rattle.bridge_cards.specs.CardSet.{has_card};
+ghost use Rattle.bridge_cards.specs.CardSet.{has_card, card_count};
+ghost use Rattle.bridge_cards.specs.Deal.{hand_at, NoneTwice};
 
 use crate::card_play::{CardPlay, DECK};
 use crate::claim::{Claim, agreed_by, all_agreed, consent_to};
@@ -293,5 +294,17 @@ impl Play {
         ensures { (card : ℕ) → has_card result card ≡ holds self.now.hands self.now.cards seat card }
     {
         self.card_play.remaining(seat)
+    }
+
+    /// The four hands, North's first and then clockwise, as they were when so many tricks were whole. Each has as many
+    /// cards, 13 without those tricks, and no card is in two of them.
+    pub fn hands_after(&self, tricks: usize) -> [CardSet; 4]
+        requires { tricks ≤ length self.now.cards / 4 }
+        ensures four { length result ≡ 4 }
+        ensures cards { (seat : Seat) (card : ℕ) → has_card (hand_at result seat) card ≡ holds self.now.hands (take (4 * tricks) self.now.cards) seat card }
+        ensures equal { All (λ hand. card_count hand + tricks ≡ 13) result }
+        ensures once { NoneTwice result }
+    {
+        self.card_play.left_after(tricks)
     }
 }
