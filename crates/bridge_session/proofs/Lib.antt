@@ -23,3 +23,4 @@ pub mod PlainStep
 pub mod PlainLaw
 pub mod EqualGains
 pub mod ActionLaws
+pub mod LeftEndings

@@ -17,3 +17,4 @@ pub mod Refused
 pub mod Views
 pub mod ActionRange
 pub mod ActionBytes
+pub mod Ending

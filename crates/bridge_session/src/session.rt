@@ -29,6 +29,7 @@ use bridge_score::{Ranked, rank};
 use std::alloc::{AllocError, Global};
 use std::marker::Model;
 
+mod ending;
 mod step;
 
 /// The pairs of a field with their places, by place, then by pair.

@@ -1,5 +1,6 @@
 //! Worked sessions, each action with its answer.
 mod action_bytes;
+mod endings;
 mod rankings;
 mod rows;
 mod script;

@@ -7,6 +7,22 @@ use bridge_config::Key;
 use std::process::Abort;
 use std::test::Fail;
 
+/// Three tables, three rounds, one board in each of three sets.
+pub const THREE_TABLES: &str = "EVENT Club-Night
+SITE Town-Hall
+DATE 2026.03.14
+SCORING MP
+BOARDS 1
+MITCHELL 3
+DIRECTOR 100
+PAIR 1 Ann 11 Bob 12
+PAIR 2 Cat 21 Dan 22
+PAIR 3 Eve 31 Fay 32
+PAIR 4 Gus 41 Hal 42
+PAIR 5 Ida 51 Jan 52
+PAIR 6 Kim 61 Lea 62
+";
+
 /// The calls of a contract of 1S by North at table 1.
 pub const ONE_SPADE: [(&str, u8); 5] = [
     ("DEAL 100 1 ROWS", 0),
@@ -93,21 +109,7 @@ fn a_ruling_that_may_not_be_taken_back(rt: HostRuntime) -> Result<(), Fail> {
 
 #[test]
 fn a_round_that_has_not_begun(rt: HostRuntime) -> Result<(), Fail> {
-    let text = "EVENT Club-Night
-SITE Town-Hall
-DATE 2026.03.14
-SCORING MP
-BOARDS 1
-MITCHELL 3
-DIRECTOR 100
-PAIR 1 Ann 11 Bob 12
-PAIR 2 Cat 21 Dan 22
-PAIR 3 Eve 31 Fay 32
-PAIR 4 Gus 41 Hal 42
-PAIR 5 Ida 51 Jan 52
-PAIR 6 Kim 61 Lea 62
-";
-    let mut session = session_of(rt.alloc(), text)?;
+    let mut session = session_of(rt.alloc(), THREE_TABLES)?;
     run(&rt, &mut session, &[("VOID 100 2 1 1", 5)])
 }
 
