@@ -1,6 +1,6 @@
 //! The texts of worked sessions.
 use super::script::{
-    CARDS_IN_A_ROW, CLUB, EVENING, ONE_SUIT_EACH, bid, claim, deal, lay, play_of, session_of, take,
+    CARDS_IN_A_ROW, CLUB, ONE_SUIT_EACH, bid, claim, deal, lay, play_of, session_of, take,
 };
 use crate::write_pbn;
 use arrayvec::ArrayVec;
@@ -43,7 +43,7 @@ fn pen_with(room: usize) -> Pen {
 }
 
 /// Writes the session whole and finds that text.
-fn expect_text(rt: &impl Abort, session: &Session, due: &str) {
+pub fn expect_text(rt: &impl Abort, session: &Session, due: &str) {
     let mut writer = pen_with(8192);
     assert!(rt; write_pbn(session, &mut writer).is_ok());
     let found = str::from_utf8(writer.taken.as_slice()).unwrap_or("");
