@@ -8,6 +8,10 @@ pub record Bidding : Type 0 where
   pub dealer : Seat
   pub calls : List Call
 
+-- the auction of those calls
+abbrev pub bidding : Seat → List Call → Bidding
+bidding dealer calls = record { dealer = dealer; calls = calls }
+
 -- the same auction with one call more
 abbrev pub with_call : Bidding → Call → Bidding
 with_call auction call = record auction { calls = auction.calls ++ call ∷ [] }

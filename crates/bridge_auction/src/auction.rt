@@ -1,8 +1,8 @@
-ghost use Rattle.std.specs.Prelude.{◌≡◌, ◌≤◌, ◌∷◌, ◌++◌, [], ◌↔◌, length, IsOk, OnOk, OnErr};
+ghost use Rattle.std.specs.Prelude.{◌≡◌, ◌≤◌, ◌∷◌, ◌++◌, [], ◌↔◌, length, IsOk, OnOk, OnErr, IsSome, IfSome};
 ghost use Rattle.bridge_cards.specs.Seat.{clockwise_from};
 ghost use Rattle.bridge_auction.specs.Legal.{is_ended, answer_to, IsLegal};
 ghost use Rattle.bridge_auction.specs.Contract.{contract_of};
-ghost use Rattle.bridge_auction.specs.Auction.{with_call};
+ghost use Rattle.bridge_auction.specs.Auction.{bidding, with_call};
 
 use crate::call::Call;
 use crate::contract::Contract;
@@ -44,6 +44,20 @@ impl Auction {
             dealer,
             calls: ArrayVec::new(),
         }
+    }
+
+    /// The auction of these calls, or `None` where they are no legal list.
+    pub fn from_calls(dealer: Seat, calls: &[Call]) -> Option<Auction>
+        ensures legal { IsSome result ↔ IsLegal calls.now }
+        ensures auction { IfSome result (λ auction. auction ≡ bidding dealer calls.now) }
+    {
+        let mut auction = Auction::new(dealer);
+        for call in calls {
+            if auction.try_call(*call).is_err() {
+                return None;
+            }
+        }
+        Some(auction)
     }
 
     /// Adds a call to the auction where the list with it is legal, and else says why not.

@@ -1,8 +1,8 @@
 -- Lists of which each element may follow those before it, taken apart and made longer.
 use Rattle.std.specs.Prelude.{◌≡◌, ℕ, List, [], ◌∷◌, ◌++◌, length, take, slice_get, Some}
-use Rattle.std.proofs.Common.{zero, suc, ◌<◌, ◌∙◌, inl, inr, refl, sym, ap, arith, length-append}
-use Rattle.std.proofs.Math.Seq.{take-append_seam}
-use Rattle.std.proofs.lemmas.List.{take-append-le}
+use Rattle.std.proofs.Common.{zero, suc, ◌+◌, ◌<◌, ◌∙◌, inl, inr, refl, sym, ap, subst, arith, length-append, get_or, drop}
+use Rattle.std.proofs.Math.Seq.{take-append_seam, take-suc}
+use Rattle.std.proofs.lemmas.List.{take-append-le, take-append-drop}
 use Rattle.std.proofs.lemmas.Option.{slice_get_within}
 use Rattle.std.proofs.lemmas.Bool.{cases_lt}
 use Rattle.bridge_cards.specs.EachMayFollow.{EachMayFollow}
@@ -38,3 +38,17 @@ module _ {X : Type 0} (May : List X → X → Type 0) where
             let is_x : y ≡ x = cc in
             rw (last, take-append_seam xs (x ∷ []), is_x) may
       ]
+
+  -- the front of a list
+  pub each_may_follow-front : (front rest : List X) → EachMayFollow May (front ++ rest) → EachMayFollow May front
+  each_may_follow-front front rest each index x is =
+      let within = slice_get_within front index x is in
+      let may = each index x (slice_get-left front rest index within ∙ is) in
+      rw (take-append-le index front rest (omega (arith, within))) at may
+
+  -- the elements before an index, and the one there
+  pub each_may_follow-next : (xs : List X) (index : ℕ) (x : X) → EachMayFollow May xs → index < length xs → x ≡ get_or xs index x → EachMayFollow May (take index xs ++ x ∷ [])
+  each_may_follow-next xs index x each within is =
+      let whole : take (suc index) xs ++ drop (suc index) xs ≡ xs = take-append-drop (suc index) xs in
+      let front = each_may_follow-front (take (suc index) xs) (drop (suc index) xs) (subst (EachMayFollow May) (sym whole) each) in
+      subst (EachMayFollow May) (take-suc xs index x within ∙ ap (λ y. take index xs ++ y ∷ []) (sym is)) front

@@ -6,3 +6,5 @@ pub mod CardsLeft
 pub mod ClaimLegality
 pub mod KeptPlay
 pub mod HandsLeft
+pub mod LegalCards
+pub mod RegularClaim

@@ -20,6 +20,10 @@ pub record PlayedCards : Type 0 where
   pub contract : Contract
   pub cards : List ℕ
 
+-- those cards of the deal, played to the contract
+abbrev pub played : List ℕ → Contract → List ℕ → PlayedCards
+played hands contract cards = record { hands = hands; contract = contract; cards = cards }
+
 -- the number of a doubling: how often the stakes were raised
 abbrev pub doubling_number : Doubling → ℕ
 doubling_number Undoubled = 0

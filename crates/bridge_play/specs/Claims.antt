@@ -27,6 +27,16 @@ all_agreed contract claim =
     needs_no_answer contract claim North && (needs_no_answer contract claim East
     && (needs_no_answer contract claim South && needs_no_answer contract claim West))
 
+-- the seat is asked, or has not agreed
+abbrev pub agrees_if_asked : Contract → Claim → Seat → Bool
+agrees_if_asked contract claim seat = is_asked contract claim.claimer seat || not (has_agreed claim seat)
+
+-- nobody has agreed who is not asked
+abbrev pub only_asked_agree : Contract → Claim → Bool
+only_asked_agree contract claim =
+    agrees_if_asked contract claim North && (agrees_if_asked contract claim East
+    && (agrees_if_asked contract claim South && agrees_if_asked contract claim West))
+
 -- the answer to a player who agrees to that claim, or refuses it
 abbrev pub consent_to : Contract → Claim → Seat → Result (Unit {0}) ConsentRefused
 consent_to contract claim seat =

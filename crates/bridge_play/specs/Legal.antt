@@ -30,6 +30,11 @@ abbrev pub follows : List ℕ → List ℕ → Seat → ℕ → Bool
 follows hands cards seat card =
     length cards % 4 == 0 || (same_suit card (led_to cards) || not (holds_suit hands cards seat (led_to cards)))
 
+-- whether the hand to play may play the card after those
+abbrev pub may_play : List ℕ → Contract → List ℕ → ℕ → Bool
+may_play hands contract cards card =
+    holds hands cards (turn_of contract cards) card && follows hands cards (turn_of contract cards) card
+
 -- the card may be played after those cards
 pub record MayPlay (hands : List ℕ) (contract : Contract) (earlier : List ℕ) (card : ℕ) : Type 0 where
   pub held : holds hands earlier (turn_of contract earlier) card ≡ true

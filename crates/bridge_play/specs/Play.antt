@@ -1,5 +1,5 @@
 -- What a contract sees of a play; the answers to a card, a claim and a player who is asked; and the tricks of each side.
-use Rattle.std.specs.Prelude.{◌≡◌, ◌≢◌, ℕ, ◌+◌, ◌-◌, ◌/◌, ◌%◌, ◌<◌, ◌≤◌, nat_lt, nat_le, Bool, true, false, not, ◌||◌, ◌==◌, if◌then◌else◌, List, [], ◌∷◌, ◌++◌, length, Option, Some, None, IsNone, IfSome, is_some, Result, Ok, Err}
+use Rattle.std.specs.Prelude.{◌≡◌, ◌≢◌, ℕ, ◌+◌, ◌-◌, ◌/◌, ◌%◌, ◌<◌, ◌≤◌, nat_lt, nat_le, Bool, true, false, not, ◌&&◌, ◌||◌, ◌==◌, if◌then◌else◌, List, [], ◌∷◌, ◌++◌, length, Option, Some, None, IsNone, IfSome, is_some, Result, Ok, Err}
 use Rattle.std.specs.Option.{option_map, option_map_or}
 use Rattle.bridge_cards.specs.declared.seat.Seat.{Seat}
 use Rattle.bridge_cards.specs.declared.seat.Side.{Side}
@@ -15,9 +15,9 @@ use Rattle.bridge_play.specs.declared.refused.ConsentRefused.TheVariants as cons
 use Rattle.bridge_cards.specs.Seat.{plays_for}
 use Rattle.bridge_play.specs.Trick.{turn_of, tricks_won}
 use Rattle.bridge_play.specs.Legal.{holds, follows, IsLegal}
-use Rattle.bridge_play.specs.CardPlay.{PlayedCards}
+use Rattle.bridge_play.specs.CardPlay.{PlayedCards, played}
 use Rattle.bridge_play.specs.Dummy.{dummy_of, actor_of}
-use Rattle.bridge_play.specs.Claims.{is_asked, has_agreed, all_agreed, consent_to, with_agreed}
+use Rattle.bridge_play.specs.Claims.{is_asked, has_agreed, all_agreed, consent_to, only_asked_agree, with_agreed}
 
 -- the dealt hands, the contract, the cards so far, how many claims were made, and the claim that stands or was agreed
 pub record Playing : Type 0 where
@@ -36,6 +36,10 @@ with_claims played claims claim = record {
   claims = claims;
   claim = claim;
 }
+
+-- the play of that deal in the contract, with those cards, so many claims, and the claim that stands or was agreed
+abbrev pub playing : List ℕ → Contract → List ℕ → ℕ → Option Claim → Playing
+playing hands contract cards claims claim = with_claims (played hands contract cards) claims claim
 
 -- the same play with one card more
 abbrev pub with_card : Playing → ℕ → Playing
@@ -132,6 +136,13 @@ pub record IsClaimIn (play : Playing) (claim : Claim) : Type 0 where
   pub claimer : claim.claimer ≢ dummy_of play.contract
   pub within : length play.cards / 4 + claim.tricks ≤ 13
   pub asked : (seat : Seat) → has_agreed claim seat ≡ true → is_asked play.contract claim.claimer seat ≡ true
+
+-- whether the claim is one that stands or was agreed
+abbrev pub is_claim_in : Playing → Claim → Bool
+is_claim_in play claim =
+    nat_le 1 play.claims && (length play.cards % 4 == 0 && (nat_lt (length play.cards) 52
+    && (not (same_seat claim.claimer (dummy_of play.contract)) && (nat_le (length play.cards / 4 + claim.tricks) 13
+    && only_asked_agree play.contract claim))))
 
 -- what each play is: a legal list of cards, at most 99 claims, and a claim that was made by the rules, if there is one
 pub record IsPlay (play : Playing) : Type 0 where

@@ -1,10 +1,10 @@
-ghost use Rattle.std.specs.Prelude.{◌≡◌, ℕ, ◌*◌, ◌/◌, ◌<◌, ◌≤◌, ◌&&◌, ◌==◌, not, [], length, take};
+ghost use Rattle.std.specs.Prelude.{◌≡◌, ℕ, ◌*◌, ◌/◌, ◌<◌, ◌≤◌, ◌&&◌, ◌==◌, not, [], length, take, ◌↔◌, IsSome, IfSome};
 ghost use Rattle.bridge_cards.specs.Card.{IsCard};
 ghost use Rattle.bridge_cards.specs.CardSet.{has_card};
 ghost use Rattle.bridge_cards.specs.Deal.{hand_at, IsDeal};
 ghost use Rattle.bridge_play.specs.Trick.{turn_of, tricks_won};
-ghost use Rattle.bridge_play.specs.Legal.{holds, holds_suit, follows};
-ghost use Rattle.bridge_play.specs.CardPlay.{with_next};
+ghost use Rattle.bridge_play.specs.Legal.{holds, holds_suit, follows, may_play, IsLegal};
+ghost use Rattle.bridge_play.specs.CardPlay.{played, with_next};
 
 use crate::trick::{next_leader, next_won};
 use arrayvec::ArrayVec;
@@ -61,6 +61,7 @@ impl CardPlay {
         ensures hands { result.hands ≡ deal.now }
         ensures contract { result.contract ≡ contract }
         ensures cards { result.cards ≡ [] }
+        ensures deal { IsDeal deal.now }
     {
         let leader = contract.declarer.clockwise(1);
         CardPlay {
@@ -71,6 +72,24 @@ impl CardPlay {
             leader,
             won: 0,
         }
+    }
+
+    /// Those cards of the deal, or `None` where they are no legal list.
+    pub fn from_cards(deal: &Deal, contract: Contract, cards: &[Card]) -> Option<CardPlay>
+        ensures legal { IsSome result ↔ IsLegal deal.now contract cards.now }
+        ensures cards { IfSome result (λ play. play ≡ played deal.now contract cards.now) }
+    {
+        let mut play = CardPlay::new(deal, contract);
+        if cards.len() > DECK {
+            return None;
+        }
+        for card in cards {
+            if !play.may_play(*card) {
+                return None;
+            }
+            play.push(*card);
+        }
+        Some(play)
     }
 
     /// The contract.
@@ -127,6 +146,14 @@ impl CardPlay {
         }
         let led = cards[4 * (cards.len() / 4)];
         same_suit(card, led) || !self.holds_suit(seat, led)
+    }
+
+    /// Whether the hand to play may play the card.
+    fn may_play(&self, card: Card) -> bool
+        ensures { result ≡ may_play self.now.hands self.now.contract self.now.cards card }
+    {
+        let hand = self.turn();
+        self.holds(hand, card) && self.follows(hand, card)
     }
 
     /// How many of the whole tricks the side won.

@@ -1,5 +1,5 @@
 ghost use Rattle.std.specs.Prelude.{◌≡◌};
-ghost use Rattle.bridge_play.specs.Claims.{is_asked, has_agreed, needs_no_answer, all_agreed, consent_to, with_agreed};
+ghost use Rattle.bridge_play.specs.Claims.{is_asked, has_agreed, needs_no_answer, all_agreed, agrees_if_asked, only_asked_agree, consent_to, with_agreed};
 ghost use Rattle.std.specs.Option.{option_map};
 
 use crate::refused::ConsentRefused;
@@ -36,6 +36,13 @@ impl Claim {
         self.agreed[usize::from(seat.number())]
     }
 
+    /// Whether all have agreed whom the claim asks in the play of that contract.
+    pub fn is_agreed(&self, contract: &Contract) -> bool
+        ensures { result ≡ all_agreed contract.now self.now }
+    {
+        all_agreed(contract, self)
+    }
+
     /// The claim, to which the seat has agreed too.
     fn with_agreed(self, seat: Seat) -> Claim
         ensures { result ≡ with_agreed seat self }
@@ -65,6 +72,23 @@ pub(crate) fn all_agreed(contract: &Contract, claim: &Claim) -> bool
         && needs_no_answer(contract, claim, Seat::East)
         && needs_no_answer(contract, claim, Seat::South)
         && needs_no_answer(contract, claim, Seat::West)
+}
+
+/// Whether the seat is asked, or has not agreed.
+fn agrees_if_asked(contract: &Contract, claim: &Claim, seat: Seat) -> bool
+    ensures { result ≡ agrees_if_asked contract.now claim.now seat }
+{
+    is_asked(contract, claim.claimer, seat) || !claim.has_agreed(seat)
+}
+
+/// Whether nobody has agreed who is not asked.
+pub(crate) fn only_asked_agree(contract: &Contract, claim: &Claim) -> bool
+    ensures { result ≡ only_asked_agree contract.now claim.now }
+{
+    agrees_if_asked(contract, claim, Seat::North)
+        && agrees_if_asked(contract, claim, Seat::East)
+        && agrees_if_asked(contract, claim, Seat::South)
+        && agrees_if_asked(contract, claim, Seat::West)
 }
 
 /// The answer to a player who agrees to that claim, or refuses it.

@@ -1,6 +1,6 @@
-ghost use Rattle.std.specs.Prelude.{◌≡◌, ◌≢◌, ℕ, ◌+◌, ◌*◌, ◌/◌, ◌<◌, ◌≤◌, ◌++◌, ◌∷◌, [], ◌↔◌, length, take, IsOk, OnOk, OnErr, IfSome, None, All};
+ghost use Rattle.std.specs.Prelude.{◌≡◌, ◌≢◌, ℕ, ◌+◌, ◌*◌, ◌/◌, ◌<◌, ◌≤◌, ◌++◌, ◌∷◌, [], ◌↔◌, length, take, IsOk, OnOk, OnErr, IfSome, None, All, IsSome};
 ghost use Rattle.std.specs.Bool.{OnFalse};
-ghost use Rattle.bridge_play.specs.Play.{with_card, is_over, is_agreed, card_answer, MayBePlayed, claim_answer, MayBeClaimed, with_claim, consent_answer, MayAnswer, with_agreement, without_claim, tricks_of, settled_tricks, IsClaimIn};
+ghost use Rattle.bridge_play.specs.Play.{with_card, is_over, is_agreed, card_answer, MayBePlayed, claim_answer, MayBeClaimed, with_claim, consent_answer, MayAnswer, with_agreement, without_claim, tricks_of, settled_tricks, IsClaimIn, IsPlay, playing, with_claims, is_claim_in};
 ghost use Rattle.bridge_play.specs.Dummy.{actor_of, dummy_of};
 ghost use Rattle.bridge_play.specs.Trick.{turn_of, leader_of, tricks_won};
 ghost use Rattle.bridge_play.specs.Legal.{IsLegal, holds};
@@ -8,7 +8,7 @@ ghost use Rattle.bridge_cards.specs.CardSet.{has_card, card_count};
 ghost use Rattle.bridge_cards.specs.Deal.{hand_at, NoneTwice};
 
 use crate::card_play::{CardPlay, DECK};
-use crate::claim::{Claim, agreed_by, all_agreed, consent_to};
+use crate::claim::{Claim, agreed_by, all_agreed, consent_to, only_asked_agree};
 use crate::dummy::{actor, dummy};
 use crate::refused::{CardRefused, ClaimRefused, ConsentRefused};
 use crate::trick::leader;
@@ -21,6 +21,20 @@ const TRICKS: usize = 13;
 
 /// The most claims of one play.
 const MOST_CLAIMS: u8 = 99;
+
+/// Whether after those cards and so many claims the claim is one that stands or was agreed.
+fn is_claim_in(played: &CardPlay, claims: u8, claim: Claim) -> bool
+    ensures { result ≡ is_claim_in (with_claims played.now claims (Some claim)) claim }
+{
+    let contract = played.contract();
+    let cards = played.cards().len();
+    claims >= 1
+        && cards % 4 == 0
+        && cards < DECK
+        && claim.claimer != dummy(contract)
+        && cards / 4 + usize::from(claim.tricks) <= TRICKS
+        && only_asked_agree(contract, &claim)
+}
 
 /// The play of one board: the dealt hands, the contract, a legal list of cards, and the claims made.
 #[derive(Debug, Drop, PartialEq)]
@@ -60,6 +74,37 @@ impl Play {
             claims: 0,
             claim: None,
         }
+    }
+
+    /// The play of the deal in the contract with those cards, so many claims made, and the claim that stands or was agreed.
+    /// `None` where the cards are no legal list, more than 99 claims were made, or the claim is not one that the other parts
+    /// allow: it is made between tricks, not by dummy, for no more tricks than are left, and nobody agrees who is not asked.
+    pub fn from_parts(
+        deal: &Deal,
+        contract: Contract,
+        cards: &[Card],
+        claims: u8,
+        claim: Option<Claim>,
+    ) -> Option<Play>
+        ensures accepted { IsSome result ↔ IsPlay (playing deal.now contract cards.now claims claim) }
+        ensures play { IfSome result (λ play. play ≡ playing deal.now contract cards.now claims claim) }
+    {
+        if claims > MOST_CLAIMS {
+            return None;
+        }
+        let Some(card_play) = CardPlay::from_cards(deal, contract, cards) else {
+            return None;
+        };
+        if let Some(made) = &claim {
+            if !is_claim_in(&card_play, claims, *made) {
+                return None;
+            }
+        }
+        Some(Play {
+            card_play,
+            claims,
+            claim,
+        })
     }
 
     /// The contract that is played.

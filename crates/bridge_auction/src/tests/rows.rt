@@ -160,3 +160,15 @@ fn the_longest_auction_has_319_calls(rt: HostRuntime) -> Result<(), Fail> {
     expect_eq(&rt, contract.declarer, Seat::West, "declarer");
     Ok(())
 }
+
+#[test]
+fn calls_make_an_auction_where_they_are_legal(rt: HostRuntime) -> Result<(), Fail> {
+    let passed_out = Auction::from_calls(Seat::East, &[Call::Pass; 4]).ok_or("a legal list")?;
+    expect_eq(&rt, passed_out.calls().len(), 4, "calls");
+    expect_eq(&rt, passed_out.dealer(), Seat::East, "dealer");
+    assert!(rt; Auction::from_calls(Seat::East, &[Call::Pass; 5]).is_none());
+    assert!(rt; Auction::from_calls(Seat::East, &[Call::Double; 1]).is_none());
+    let same_bid_twice = [call("1C")?; 2];
+    assert!(rt; Auction::from_calls(Seat::East, &same_bid_twice).is_none());
+    Ok(())
+}

@@ -1,6 +1,8 @@
+ghost use Rattle.std.specs.Prelude.{◌≡◌, Some};
+
 use super::deals::{CARDS_IN_A_ROW, ONE_SUIT_EACH, contract_of, deal_of};
 use crate::tests::expect_eq;
-use crate::{CardRefused, ClaimRefused, ConsentRefused, Play};
+use crate::{CardRefused, Claim, ClaimRefused, ConsentRefused, Play};
 use bridge_auction::Denomination;
 use bridge_cards::{Card, Seat, Side, read_card};
 use std::process::Abort;
@@ -213,5 +215,48 @@ fn plays_of_the_same_cards_and_claims_are_equal(rt: HostRuntime) -> Result<(), F
         false,
         "another deal",
     );
+    Ok(())
+}
+
+/// A claim of so many tricks, to which these seats have agreed.
+fn claimed(claimer: Seat, tricks: u8, agreed: [bool; 4]) -> Option<Claim>
+    ensures { result ≡ Some (record { claimer = claimer; tricks = tricks; agreed = agreed }) }
+{
+    Some(Claim {
+        claimer,
+        tricks,
+        agreed,
+    })
+}
+
+/// Whether a whole trick, so many claims and a claim are a play of the deal with each hand's cards in a row.
+fn is_play(claims: u8, claim: Option<Claim>) -> Result<bool, Fail> {
+    let deal = deal_of(CARDS_IN_A_ROW)?;
+    let contract = contract_of(1, Denomination::Spades, Seat::North)?;
+    let mut cards = [Card::default(); 4];
+    for (place, text) in cards.iter_mut().zip(["H7", "H2", "HA", "H8"]) {
+        *place = read_card(text.as_bytes()).ok_or("a card")?;
+    }
+    Ok(Play::from_parts(&deal, contract, &cards, claims, claim).is_some())
+}
+
+#[test]
+fn parts_make_a_play_where_they_are_one(rt: HostRuntime) -> Result<(), Fail> {
+    let none = [false; 4];
+    let east = [false, true, false, false];
+    for (claims, claim, accepted) in [
+        (0, None, true),
+        (99, None, true),
+        (100, None, false),
+        (1, claimed(Seat::North, 12, none), true),
+        (1, claimed(Seat::North, 12, east), true),
+        (0, claimed(Seat::North, 12, none), false),
+        (1, claimed(Seat::North, 13, none), false),
+        (1, claimed(Seat::South, 12, none), false),
+        (1, claimed(Seat::East, 12, east), false),
+        (1, claimed(Seat::West, 5, none), true),
+    ] {
+        expect_eq(&rt, is_play(claims, claim)?, accepted, (claims, claim));
+    }
     Ok(())
 }

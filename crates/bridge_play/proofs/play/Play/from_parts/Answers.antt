@@ -1,0 +1,69 @@
+use Rattle.std.proofs.Common.{◌≡◌, ◌↔◌, ◌≤◌, ℕ, Bool, List, not, true, false, refl, sym, ap, subst, ◌∙◌, arith}
+use Rattle.std.specs.Prelude.{Option, Some, None, IfSome}
+use Rattle.bridge_auction.specs.declared.contract.Contract.{Contract}
+use Rattle.bridge_play.specs.declared.claim.Claim.{Claim}
+use Rattle.bridge_play.specs.CardPlay.{PlayedCards, played}
+use Rattle.bridge_play.specs.Legal.{IsLegal}
+use Rattle.bridge_play.specs.Play.{Playing, IsPlay, IsClaimIn, with_claims, playing, is_claim_in}
+use Rattle.bridge_play.proofs.RegularClaim.{regular_claim, claim_regular}
+use Rattle.bridge_play.proofs.play.Play.from_parts.Goals as goal
+use Rattle.bridge_play.proofs.play.Play.from_parts.Goals.{In-Some, in-Some-claim+else-not-is_claim_in, in_default-claim}
+
+-- the claim of a play, where there is one, holds what a claim must
+claimed_by : (play : Playing) (claim : Option Claim) (made : Claim) → claim ≡ Some made → is_claim_in play made ≡ true → IfSome claim (IsClaimIn play)
+claimed_by play claim made is test = subst (λ (o : Option Claim). IfSome o (IsClaimIn play)) (sym is) (regular_claim play made test)
+
+unclaimed : (play : Playing) (claim : Option Claim) → claim ≡ None → IfSome claim (IsClaimIn play)
+unclaimed play claim is = subst (λ (o : Option Claim). IfSome o (IsClaimIn play)) (sym is) tt
+
+-- what a play has of its claim
+claim_of : (play : Playing) (made : Claim) → IsPlay play → play.claim ≡ Some made → is_claim_in play made ≡ true
+claim_of play made is same = claim_regular play made (subst (λ (o : Option Claim). IfSome o (IsClaimIn play)) same is.claimed)
+
+-- a claim that stands or was agreed, by its test
+tested : (play : PlayedCards) (claims : ℕ) (claim : Option Claim) (made : Claim) → claim ≡ Some made
+    → is_claim_in (with_claims play claims (Some made)) made ≡ is_claim_in (with_claims play claims claim) made
+tested play claims claim made is = ap (λ (o : Option Claim). is_claim_in (with_claims play claims o) made) (sym is)
+
+test_holds : (b : Bool) → not b ≡ false → b ≡ true
+test_holds true is = refl
+test_holds false is = cc
+
+pub returns-then-not-is_claim_in-clause-accepted : goal.returns-then-not-is_claim_in-clause-accepted
+returns-then-not-is_claim_in-clause-accepted c = (
+  λ some. cc,
+  λ is.
+      let play = playing c.args.deal.now c.args.contract c.args.cards.now c.args.claims c.args.claim in
+      let cards = c.in-Some.ensures.cards in
+      let regular = claim_of play c.in-Some-claim.made is c.in-Some-claim.is in
+      sym c.if-not-is_claim_in.true ∙ c.is_claim_in.ensures
+      ∙ tested c.in-Some.card_play c.args.claims c.args.claim c.in-Some-claim.made c.in-Some-claim.is
+      ∙ ap (λ (kept : PlayedCards). is_claim_in (with_claims kept c.args.claims c.args.claim) c.in-Some-claim.made) cards
+      ∙ regular,
+)
+
+is_play : (c : goal.Joined-claim) → IsPlay (with_claims c.in-Some.card_play c.args.claims c.args.claim)
+is_play c =
+    let play = with_claims c.in-Some.card_play c.args.claims c.args.claim in
+    let cards = c.in-Some.ensures.cards in
+    record {
+      legal = subst (λ (kept : PlayedCards). IsLegal kept.hands kept.contract kept.cards) (sym cards) (c.in-Some.ensures.legal.0 refl);
+      few = c.if-claims-gt-MOST_CLAIMS.false;
+      claimed = elim c.match-claim.branch [
+        | in-Some-claim+else-not-is_claim_in w ↦
+            let test = sym (tested c.in-Some.card_play c.args.claims c.args.claim w.in-Some-claim.made w.in-Some-claim.is)
+            ∙ sym w.is_claim_in.ensures ∙ w.if-not-is_claim_in.false in
+            claimed_by play c.args.claim w.in-Some-claim.made w.in-Some-claim.is test
+        | in_default-claim w ↦ unclaimed play c.args.claim w.in_default-claim.is
+      ];
+    }
+
+pub invariant_of-result : goal.invariant_of-result
+invariant_of-result c = is_play c
+
+pub returns-clause-accepted : goal.returns-clause-accepted
+returns-clause-accepted c = (
+  λ some.
+      subst IsPlay (ap (λ (cards : PlayedCards). with_claims cards c.args.claims c.args.claim) c.in-Some.ensures.cards) (is_play c),
+  λ is. refl,
+)
