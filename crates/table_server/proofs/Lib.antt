@@ -1,2 +1,5 @@
 pub mod LineLemmas
 pub mod Heard
+pub mod CardWords
+pub mod FirstWords
+pub mod CommandLaws

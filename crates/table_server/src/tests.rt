@@ -1,4 +1,6 @@
-//! The auction's stream: what is written for what is read, when it is shown, and streams that fail once.
+//! The lines of the protocol. The auction's stream: what is written for what is read, when it is shown, and streams that
+//! fail once.
+mod commands;
 mod rows;
 mod shown;
 mod streams;

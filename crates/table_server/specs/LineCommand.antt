@@ -1,0 +1,201 @@
+-- Which line states which command.
+use Rattle.std.specs.Prelude.{◌≡◌, ℕ, Bool, true, false, if◌then◌else◌, List, [], ◌∷◌, codes, Option, Some, None}
+use Rattle.std.specs.Str.{bytes_eq}
+use Rattle.line_text.specs.Words.{spaced, spaced_words, only_word}
+use Rattle.bridge_cards.specs.DealText.{SpellsDeal, StatesOnly, StatesNone}
+use Rattle.bridge_auction.specs.Spelling.{call_of}
+use Rattle.bridge_config.specs.declared.fields.Key.{Key}
+use Rattle.bridge_session.specs.declared.action.PlayId.{PlayId}
+use Rattle.table_server.specs.declared.command.Command.{Command}
+use Rattle.table_server.specs.declared.command.Command.TheVariants.{Deal, Shuffle, Call, Card, Claim, Agree, Refuse, Next, Tricks, Void, Restore, Sync, See, Rank, Solve, Pbn}
+use Rattle.table_server.specs.LineWords.{◌>>=◌, first_of, key_of, board_of, made_of, tricks_of, round_of, table_of, index_of, cards_of_word, field_of, card_of_word, seed_of}
+
+-- Each line by the words after its first.
+
+-- a key, a board and 64 hexadecimal digits
+unfoldable pub shuffle_line : List (List ℕ) → Option Command
+shuffle_line words = do
+  key ← first_of key_of words
+  board ← first_of board_of key.1
+  word ← only_word board.1
+  seed ← seed_of word
+  Some (Shuffle key.0 board.0 seed)
+
+-- a key, a board, how many calls were made, and a call
+unfoldable pub call_line : List (List ℕ) → Option Command
+call_line words = do
+  key ← first_of key_of words
+  board ← first_of board_of key.1
+  at ← first_of made_of board.1
+  word ← only_word at.1
+  call ← call_of word
+  Some (Call key.0 board.0 at.0 call)
+
+unfoldable pub card_line : List (List ℕ) → Option Command
+card_line words = do
+  key ← first_of key_of words
+  board ← first_of board_of key.1
+  at ← first_of made_of board.1
+  word ← only_word at.1
+  card ← card_of_word word
+  Some (Card key.0 board.0 at.0 card)
+
+unfoldable pub claim_line : List (List ℕ) → Option Command
+claim_line words = do
+  key ← first_of key_of words
+  board ← first_of board_of key.1
+  at ← first_of made_of board.1
+  word ← only_word at.1
+  tricks ← tricks_of word
+  Some (Claim key.0 board.0 at.0 tricks)
+
+unfoldable pub agree_line : List (List ℕ) → Option Command
+agree_line words = do
+  key ← first_of key_of words
+  board ← first_of board_of key.1
+  word ← only_word board.1
+  at ← made_of word
+  Some (Agree key.0 board.0 at)
+
+unfoldable pub refuse_line : List (List ℕ) → Option Command
+refuse_line words = do
+  key ← first_of key_of words
+  board ← first_of board_of key.1
+  word ← only_word board.1
+  at ← made_of word
+  Some (Refuse key.0 board.0 at)
+
+unfoldable pub next_line : List (List ℕ) → Option Command
+next_line words = do
+  key ← first_of key_of words
+  word ← only_word key.1
+  round ← round_of word
+  Some (Next key.0 round)
+
+-- a round, a table and the index of a board in its set
+unfoldable pub play_words : List (List ℕ) → Option PlayId
+play_words words = do
+  round ← first_of round_of words
+  table ← first_of table_of round.1
+  word ← only_word table.1
+  index ← index_of word
+  Some (record { round = round.0; table = table.0; index = index })
+
+-- the same, and a word after them
+unfoldable pub play_and_word : List (List ℕ) → Option (PlayId × List ℕ)
+play_and_word words = do
+  round ← first_of round_of words
+  table ← first_of table_of round.1
+  index ← first_of index_of table.1
+  word ← only_word index.1
+  Some (record { round = round.0; table = table.0; index = index.0 }, word)
+
+unfoldable pub void_line : List (List ℕ) → Option Command
+void_line words = do
+  key ← first_of key_of words
+  play ← play_words key.1
+  Some (Void key.0 play)
+
+unfoldable pub restore_line : List (List ℕ) → Option Command
+restore_line words = do
+  key ← first_of key_of words
+  play ← play_words key.1
+  Some (Restore key.0 play)
+
+unfoldable pub tricks_line : List (List ℕ) → Option Command
+tricks_line words = do
+  key ← first_of key_of words
+  play ← play_and_word key.1
+  tricks ← tricks_of play.1
+  Some (Tricks key.0 play.0 tricks)
+
+unfoldable pub solve_line : List (List ℕ) → Option Command
+solve_line words = do
+  key ← first_of key_of words
+  play ← play_and_word key.1
+  cards ← cards_of_word play.1
+  Some (Solve key.0 play.0 cards)
+
+unfoldable pub see_line : List (List ℕ) → Option Command
+see_line words = do
+  word ← only_word words
+  key ← key_of word
+  Some (See key)
+
+unfoldable pub rank_line : List (List ℕ) → Option Command
+rank_line words = do
+  key ← first_of key_of words
+  word ← only_word key.1
+  field ← field_of word
+  Some (Rank key.0 field)
+
+unfoldable pub pbn_line : List (List ℕ) → Option Command
+pbn_line words = do
+  word ← only_word words
+  key ← key_of word
+  Some (Pbn key)
+
+-- The lines by their first word, all but those of `DEAL`.
+
+abbrev pub reading_line : List ℕ → List (List ℕ) → Option Command
+reading_line keyword words =
+    if bytes_eq keyword (codes "SEE") then see_line words
+    else if bytes_eq keyword (codes "RANK") then rank_line words
+    else if bytes_eq keyword (codes "SOLVE") then solve_line words
+    else if bytes_eq keyword (codes "PBN") then pbn_line words
+    else None
+
+abbrev pub director_line : List ℕ → List (List ℕ) → Option Command
+director_line keyword words =
+    if bytes_eq keyword (codes "SHUFFLE") then shuffle_line words
+    else if bytes_eq keyword (codes "NEXT") then next_line words
+    else if bytes_eq keyword (codes "TRICKS") then tricks_line words
+    else if bytes_eq keyword (codes "VOID") then void_line words
+    else if bytes_eq keyword (codes "RESTORE") then restore_line words
+    else reading_line keyword words
+
+abbrev pub plain_line : List ℕ → List (List ℕ) → Option Command
+plain_line keyword words =
+    if bytes_eq keyword (codes "CALL") then call_line words
+    else if bytes_eq keyword (codes "CARD") then card_line words
+    else if bytes_eq keyword (codes "CLAIM") then claim_line words
+    else if bytes_eq keyword (codes "AGREE") then agree_line words
+    else if bytes_eq keyword (codes "REFUSE") then refuse_line words
+    else director_line keyword words
+
+-- what a line that deals names: the key, the board, and the text of the hands, the rest of the line
+pub record Dealing : Type 0 where
+  pub key : Key
+  pub board : ℕ
+  pub text : List ℕ
+
+unfoldable pub deal_words : List (List ℕ) → Option Dealing
+deal_words words = do
+  key ← first_of key_of words
+  board ← first_of board_of key.1
+  Some (record { key = key.0; board = board.0; text = spaced board.1 })
+
+-- the hands that the text states, and no others
+pub record DealsHands (dealing : Dealing) (command : Command) : Type 0 where
+  pub hands : List ℕ
+  pub states : SpellsDeal hands dealing.text
+  pub only : StatesOnly dealing.text hands
+  pub deals : command ≡ Deal dealing.key dealing.board hands
+
+abbrev pub Deals : Option Dealing → Option Command → Type 0
+Deals None found = found ≡ None
+Deals (Some dealing) None = StatesNone dealing.text
+Deals (Some dealing) (Some command) = DealsHands dealing command
+
+abbrev pub ReadsAfter : Bool → List ℕ → List (List ℕ) → Option Command → Type 0
+ReadsAfter true keyword words found = Deals (deal_words words) found
+ReadsAfter false keyword words found = found ≡ plain_line keyword words
+
+abbrev pub ReadsWords : List (List ℕ) → Option Command → Type 0
+ReadsWords [] found = found ≡ None
+ReadsWords (keyword ∷ []) found = found ≡ (if bytes_eq keyword (codes "SYNC") then Some Sync else None)
+ReadsWords (keyword ∷ word ∷ words) found = ReadsAfter (bytes_eq keyword (codes "DEAL")) keyword (word ∷ words) found
+
+-- the command that the line states, if it states one
+abbrev pub Reads : List ℕ → Option Command → Type 0
+Reads line found = ReadsWords (spaced_words line) found

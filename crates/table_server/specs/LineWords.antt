@@ -1,0 +1,86 @@
+-- What the words of a line of the protocol state.
+use Rattle.std.specs.Prelude.{◌≡◌, ℕ, ◌+◌, ◌-◌, ◌*◌, ◌==◌, nat_le, Bool, ◌&&◌, ◌||◌, if◌then◌else◌, List, [], ◌∷◌, length, slice_index, map, position, codes, Option, Some, None}
+use Rattle.std.specs.List.{list_all, range_with_len}
+use Rattle.std.specs.Option.{option_map}
+use Rattle.std.specs.Char.{is_ascii_digit}
+use Rattle.std.specs.Str.{bytes_eq}
+use Rattle.std.specs.Str.Parse.{digits_value}
+use Rattle.line_text.specs.Numeral.{is_numeral}
+use Rattle.bridge_cards.specs.Card.{card_text}
+use Rattle.bridge_config.specs.declared.fields.Key.{Key}
+use Rattle.bridge_config.specs.Limits.{is_between}
+use Rattle.bridge_session.specs.declared.field.Field.{Field}
+use Rattle.bridge_session.specs.declared.field.Field.TheVariants.{First, Second}
+
+infixl 10 ◌>>=◌
+abbrev pub ◌>>=◌ : {A B : Type 0} → Option A → (A → Option B) → Option B
+(Some value) >>= f = f value
+None >>= f = None
+
+-- what a function found, seen by view, is what reading gives
+abbrev pub Gives : {X Y : Type 0} → (X → Y) → Option X → Option Y → Type 0
+Gives view (Some value) read = read ≡ Some (view value)
+Gives view None read = read ≡ None
+
+-- the number of a numeral, from low to high
+abbrev pub number_of : ℕ → ℕ → List ℕ → Option ℕ
+number_of low high word =
+    if is_numeral word && is_between low high (digits_value 10 word) then Some (digits_value 10 word) else None
+
+abbrev pub key_numbered : ℕ → Key
+key_numbered number = record { 0 = number }
+
+abbrev pub key_of : List ℕ → Option Key
+key_of word = option_map key_numbered (number_of 0 4294967295 word)
+
+abbrev pub board_of : List ℕ → Option ℕ
+board_of word = number_of 1 36 word
+
+-- how many calls, cards or claims were made
+abbrev pub made_of : List ℕ → Option ℕ
+made_of word = number_of 0 999 word
+
+abbrev pub tricks_of : List ℕ → Option ℕ
+tricks_of word = number_of 0 13 word
+
+abbrev pub round_of : List ℕ → Option ℕ
+round_of word = number_of 1 12 word
+
+abbrev pub table_of : List ℕ → Option ℕ
+table_of word = number_of 1 12 word
+
+abbrev pub index_of : List ℕ → Option ℕ
+index_of word = number_of 1 3 word
+
+-- how many cards were played before an ending
+abbrev pub cards_of_word : List ℕ → Option ℕ
+cards_of_word word = number_of 0 52 word
+
+abbrev pub field_of : List ℕ → Option Field
+field_of word = if bytes_eq word (codes "1") then Some First else if bytes_eq word (codes "2") then Some Second else None
+
+-- the card that has this text
+abbrev pub card_of_word : List ℕ → Option ℕ
+card_of_word word = position (λ card. bytes_eq (card_text card) word) (range_with_len 0 52)
+
+-- 0 to 9, and a to f
+abbrev pub is_lower_hex : ℕ → Bool
+is_lower_hex digit = is_ascii_digit digit || (nat_le 97 digit && nat_le digit 102)
+
+abbrev pub hex_value : ℕ → ℕ
+hex_value digit = if is_ascii_digit digit then digit - 48 else digit - 87
+
+-- the byte of the pair of digits at a place, the pairs counted from 0
+abbrev pub hex_byte : List ℕ → ℕ → ℕ
+hex_byte word place = 16 * hex_value (slice_index word (2 * place)) + hex_value (slice_index word (2 * place + 1))
+
+-- the 32 bytes that 64 digits state
+abbrev pub seed_of : List ℕ → Option (List ℕ)
+seed_of word =
+    if length word == 64 && list_all is_lower_hex word then Some (map (hex_byte word) (range_with_len 0 32)) else None
+
+-- the first of several words, read, and the words after it
+abbrev pub first_of : {A : Type 0} → (List ℕ → Option A) → List (List ℕ) → Option (A × List (List ℕ))
+first_of read [] = None
+first_of read (word ∷ []) = None
+first_of read (word ∷ next ∷ words) = option_map (λ value. (value, next ∷ words)) (read word)

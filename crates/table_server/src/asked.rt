@@ -1,0 +1,130 @@
+//! What complete lines ask for.
+ghost use Rattle.std.specs.Prelude.{◌≡◌};
+ghost use Rattle.table_server.specs.Asked.{AsksFor, Asks};
+
+use crate::command::Command;
+use crate::line_command::read_line_command;
+use bridge_cards::{CardSet, Deal, Seat, deal_board};
+use bridge_config::Key;
+use bridge_session::{Action, Field, PlayId};
+use line_text::{LINE_BYTES, without_return};
+
+/// What a line asks to be told.
+#[derive(Clone, Copy, Debug, PartialEq, Eq)]
+pub enum Question {
+    /// That all that was accepted is confirmed.
+    Sync,
+    /// The view of a player.
+    See { key: Key },
+    /// The ranking of a field.
+    Rank { key: Key, field: Field },
+    /// The worth of a play's ending after so many cards.
+    Solve { key: Key, play: PlayId, cards: u8 },
+    /// The results in Portable Bridge Notation.
+    Pbn { key: Key },
+}
+
+/// What a complete line asks for.
+#[derive(Clone, Copy, Debug, PartialEq, Eq)]
+pub enum Asked {
+    /// A change of the session.
+    Change(Action),
+    /// To be told something, which changes nothing.
+    Told(Question),
+    /// Nothing: the line states no command.
+    BadLine,
+    /// Nothing: the line has more than 128 bytes.
+    LongLine,
+}
+
+/// The hands of a deal, North's first and then clockwise.
+fn hands_of(deal: &Deal) -> [CardSet; 4]
+    ensures { result ≡ deal.now }
+{
+    [
+        deal.hand(Seat::North),
+        deal.hand(Seat::East),
+        deal.hand(Seat::South),
+        deal.hand(Seat::West),
+    ]
+}
+
+impl Command {
+    /// What the command asks for. `SHUFFLE` asks for the deal of its board by the shuffle of its seed.
+    pub fn asks(self) -> Asked
+        ensures { AsksFor self result }
+    {
+        match self {
+            Command::Deal { key, board, hands } => Asked::Change(Action::Deal {
+                key,
+                board,
+                hands,
+            }),
+            Command::Shuffle { key, board, seed } => {
+                let hands = hands_of(&deal_board(&seed, board));
+                Asked::Change(Action::Deal { key, board, hands })
+            }
+            Command::Call {
+                key,
+                board,
+                at,
+                call,
+            } => Asked::Change(Action::Call {
+                key,
+                board,
+                at,
+                call,
+            }),
+            Command::Card {
+                key,
+                board,
+                at,
+                card,
+            } => Asked::Change(Action::Card {
+                key,
+                board,
+                at,
+                card,
+            }),
+            Command::Claim {
+                key,
+                board,
+                at,
+                tricks,
+            } => Asked::Change(Action::Claim {
+                key,
+                board,
+                at,
+                tricks,
+            }),
+            Command::Agree { key, board, at } => Asked::Change(Action::Agree { key, board, at }),
+            Command::Refuse { key, board, at } => Asked::Change(Action::Refuse { key, board, at }),
+            Command::Next { key, round } => Asked::Change(Action::NextRound { key, round }),
+            Command::Tricks { key, play, tricks } => {
+                Asked::Change(Action::Tricks { key, play, tricks })
+            }
+            Command::Void { key, play } => Asked::Change(Action::Void { key, play }),
+            Command::Restore { key, play } => Asked::Change(Action::Restore { key, play }),
+            Command::Sync => Asked::Told(Question::Sync),
+            Command::See { key } => Asked::Told(Question::See { key }),
+            Command::Rank { key, field } => Asked::Told(Question::Rank { key, field }),
+            Command::Solve { key, play, cards } => {
+                Asked::Told(Question::Solve { key, play, cards })
+            }
+            Command::Pbn { key } => Asked::Told(Question::Pbn { key }),
+        }
+    }
+}
+
+/// What a complete line asks for, without its line feed. One carriage return at its end is dropped from what is read.
+pub fn asked_by(line: &[u8]) -> Asked
+    ensures { Asks line.now result }
+{
+    if line.len() > LINE_BYTES {
+        return Asked::LongLine;
+    }
+    match read_line_command(without_return(line)) {
+        Ok(command) => command.asks(),
+        Err(_) => Asked::BadLine,
+    }
+}

@@ -1,0 +1,222 @@
+//! What the words of a line of the protocol state.
+ghost use Rattle.std.specs.Prelude.{◌≡◌, ◌+◌, ◌*◌, ◌<◌, ◌≤◌, IfSome, length, map, true};
+ghost use Rattle.std.specs.List.{list_all, range_with_len};
+ghost use Rattle.line_text.specs.Words.{spaced_words};
+ghost use Rattle.table_server.specs.LineWords.{Gives, number_of, key_of, board_of, made_of, tricks_of, round_of, table_of, index_of, cards_of_word, field_of, card_of_word, is_lower_hex, hex_value, hex_byte, seed_of, first_of};
+
+use bridge_cards::{BoardNumber, Card, read_card};
+use bridge_config::Key;
+use bridge_session::{BoardIndex, Field, MadeCount, RoundNumber, TableNumber, TrickCount};
+use line_text::{first_word, is_numeral, value_of};
+
+/// The number of a numeral, from low to high.
+fn read_number(low: u32, high: u32, word: &[u8]) -> Option<u32>
+    ensures value { result ≡ number_of low high word.now }
+    ensures least { IfSome result (λ number. low ≤ number) }
+    ensures most { IfSome result (λ number. number ≤ high) }
+{
+    if !is_numeral(word) {
+        return None;
+    }
+    match value_of(word) {
+        Some(value) if (low..=high).contains(&value) => Some(value),
+        _ => None,
+    }
+}
+
+/// A key, 0 to 4,294,967,295.
+pub fn read_key(word: &[u8]) -> Option<Key>
+    ensures { result ≡ key_of word.now }
+{
+    let number = read_number(0, u32::MAX, word)?;
+    Some(Key(number))
+}
+
+/// A board, 1 to 36.
+pub fn read_board(word: &[u8]) -> Option<BoardNumber>
+    ensures { result ≡ board_of word.now }
+{
+    let number = read_number(1, 36, word)?;
+    Some(BoardNumber::new(number as u8).unwrap())
+}
+
+/// How many calls, cards or claims were made, 0 to 999.
+pub fn read_made(word: &[u8]) -> Option<MadeCount>
+    ensures { result ≡ made_of word.now }
+{
+    let number = read_number(0, 999, word)?;
+    Some(MadeCount::new(number as u16).unwrap())
+}
+
+/// A number of tricks, 0 to 13.
+pub fn read_tricks(word: &[u8]) -> Option<TrickCount>
+    ensures { result ≡ tricks_of word.now }
+{
+    let number = read_number(0, 13, word)?;
+    Some(TrickCount::new(number as u8).unwrap())
+}
+
+/// A round, 1 to 12.
+pub fn read_round(word: &[u8]) -> Option<RoundNumber>
+    ensures { result ≡ round_of word.now }
+{
+    let number = read_number(1, 12, word)?;
+    Some(RoundNumber::new(number as u8).unwrap())
+}
+
+/// A table, 1 to 12.
+pub fn read_table(word: &[u8]) -> Option<TableNumber>
+    ensures { result ≡ table_of word.now }
+{
+    let number = read_number(1, 12, word)?;
+    Some(TableNumber::new(number as u8).unwrap())
+}
+
+/// The index of a board in its set, 1 to 3.
+pub fn read_index(word: &[u8]) -> Option<BoardIndex>
+    ensures { result ≡ index_of word.now }
+{
+    let number = read_number(1, 3, word)?;
+    Some(BoardIndex::new(number as u8).unwrap())
+}
+
+/// How many cards were played before an ending, 0 to 52.
+pub fn read_cards(word: &[u8]) -> Option<u8>
+    ensures { result ≡ cards_of_word word.now }
+{
+    let number = read_number(0, 52, word)?;
+    Some(number as u8)
+}
+
+/// A field, `1` or `2`.
+pub fn read_field(word: &[u8]) -> Option<Field>
+    ensures { result ≡ field_of word.now }
+{
+    if word == b"1".as_slice() {
+        Some(Field::First)
+    } else if word == b"2".as_slice() {
+        Some(Field::Second)
+    } else {
+        None
+    }
+}
+
+/// A card, as `SK` or `HT`.
+pub fn read_card_word(word: &[u8]) -> Option<Card>
+    ensures { result ≡ card_of_word word.now }
+{
+    read_card(word)
+}
+
+/// Whether the byte is a digit from `0` to `9` or from `a` to `f`.
+fn is_lower_hex(digit: u8) -> bool
+    ensures { result ≡ is_lower_hex digit }
+{
+    digit.is_ascii_digit() || (b'a'..=b'f').contains(&digit)
+}
+
+fn are_lower_hex(word: &[u8]) -> bool
+    ensures { result ≡ list_all is_lower_hex word.now }
+{
+    word.iter().all(|digit| is_lower_hex(*digit))
+}
+
+/// The value of a hexadecimal digit.
+fn hex_value(digit: u8) -> u8
+    requires { is_lower_hex digit ≡ true }
+    ensures value { result ≡ hex_value digit }
+    ensures most { result ≤ 15 }
+{
+    if digit.is_ascii_digit() {
+        digit - b'0'
+    } else {
+        digit - (b'a' - 10)
+    }
+}
+
+/// The byte of the pair of digits at that place, the pairs counted from 0.
+fn hex_byte(word: &[u8], place: usize) -> u8
+    requires digits { list_all is_lower_hex word.now ≡ true }
+    requires within { 2 * place + 1 < length word.now }
+    ensures { result ≡ hex_byte word.now place }
+{
+    16 * hex_value(word[2 * place]) + hex_value(word[2 * place + 1])
+}
+
+/// The bytes of 64 digits.
+fn seed_bytes(word: &[u8]) -> [u8; 32]
+    requires digits { list_all is_lower_hex word.now ≡ true }
+    requires count { length word.now ≡ 64 }
+    ensures { result ≡ map (hex_byte word.now) (range_with_len 0 32) }
+{
+    let mut seed = [0; 32];
+    for place in 0..32 {
+        seed[place] = hex_byte(word, place);
+    }
+    seed
+}
+
+/// A seed: 64 digits from `0` to `9` or from `a` to `f`, two a byte.
+pub fn read_seed(word: &[u8]) -> Option<[u8; 32]>
+    ensures { result ≡ seed_of word.now }
+{
+    if word.len() == 64 && are_lower_hex(word) {
+        Some(seed_bytes(word))
+    } else {
+        None
+    }
+}
+
+/// The key that several words begin with, and the words after it.
+pub fn first_key(text: &[u8]) -> Option<(Key, &[u8])>
+    ensures { Gives (λ read. (read.0, spaced_words read.1.now)) result (first_of key_of (spaced_words text.now)) }
+{
+    let (word, rest) = first_word(text)?;
+    let key = read_key(word)?;
+    Some((key, rest))
+}
+
+/// The board that several words begin with, and the words after it.
+pub fn first_board(text: &[u8]) -> Option<(BoardNumber, &[u8])>
+    ensures { Gives (λ read. (read.0, spaced_words read.1.now)) result (first_of board_of (spaced_words text.now)) }
+{
+    let (word, rest) = first_word(text)?;
+    let board = read_board(word)?;
+    Some((board, rest))
+}
+
+/// How many calls, cards or claims were made, where several words begin with it, and the words after it.
+pub fn first_made(text: &[u8]) -> Option<(MadeCount, &[u8])>
+    ensures { Gives (λ read. (read.0, spaced_words read.1.now)) result (first_of made_of (spaced_words text.now)) }
+{
+    let (word, rest) = first_word(text)?;
+    let made = read_made(word)?;
+    Some((made, rest))
+}
+
+/// The round that several words begin with, and the words after it.
+pub fn first_round(text: &[u8]) -> Option<(RoundNumber, &[u8])>
+    ensures { Gives (λ read. (read.0, spaced_words read.1.now)) result (first_of round_of (spaced_words text.now)) }
+{
+    let (word, rest) = first_word(text)?;
+    let round = read_round(word)?;
+    Some((round, rest))
+}
+
+/// The table that several words begin with, and the words after it.
+pub fn first_table(text: &[u8]) -> Option<(TableNumber, &[u8])>
+    ensures { Gives (λ read. (read.0, spaced_words read.1.now)) result (first_of table_of (spaced_words text.now)) }
+{
+    let (word, rest) = first_word(text)?;
+    let table = read_table(word)?;
+    Some((table, rest))
+}
+
+/// The index of a board that several words begin with, and the words after it.
+pub fn first_index(text: &[u8]) -> Option<(BoardIndex, &[u8])>
+    ensures { Gives (λ read. (read.0, spaced_words read.1.now)) result (first_of index_of (spaced_words text.now)) }
+{
+    let (word, rest) = first_word(text)?;
+    let index = read_index(word)?;
+    Some((index, rest))
+}
