@@ -3,4 +3,7 @@ pub mod AuctionLines
 pub mod Heard
 pub mod LineWords
 pub mod LineCommand
+pub mod ReplyTexts
 pub mod Asked
+pub mod PbnReply
+pub mod ViewText

@@ -1,4 +1,5 @@
-//! Tables at play: the lines of the protocol, and the auction command: lines of calls in, replies and the contract out.
+//! Tables at play: the lines of the protocol and the replies to them, and the auction command: lines of calls in, replies
+//! and the contract out.
 //!
 //! ```rust
 //! let command = read_line_command(b"CALL 11 1 0 1NT")?;
@@ -10,15 +11,26 @@ pub mod asked;
 mod auction_lines;
 pub mod command;
 mod fault;
+mod hand_text;
 mod line_command;
 mod line_words;
+pub mod pbn_reply;
+pub mod ranking_reply;
 mod reply;
+pub mod reply_text;
 mod run;
+pub mod short_reply;
 #[cfg(test)]
 mod tests;
+pub mod view_reply;
 
 pub use asked::{Asked, Question, asked_by};
 pub use command::{BadLine, Command};
 pub use fault::ServeFault;
 pub use line_command::read_line_command;
+pub use pbn_reply::write_pbn_reply;
+pub use ranking_reply::push_ranking;
+pub use reply_text::{ReplyText, push_solved, push_too_much};
 pub use run::{MOST_BYTES, run_auction};
+pub use short_reply::ShortReply;
+pub use view_reply::push_view;

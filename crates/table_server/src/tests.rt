@@ -1,5 +1,6 @@
 //! The lines of the protocol. The auction's stream: what is written for what is read, when it is shown, and streams that
 //! fail once.
+mod club;
 mod commands;
 mod rows;
 mod shown;

@@ -1,0 +1,76 @@
+-- The replies of the protocol as text. Each line ends with a line feed.
+use Rattle.std.specs.Prelude.{ℕ, ◌/◌, ◌%◌, ◌+◌, List, [], ◌∷◌, ◌++◌, codes, map, flat_map, unsigned_abs, int_le, nat_le, pos, Bool, ◌&&◌, if◌then◌else◌, Option, Some, None}
+use Rattle.std.specs.Fmt.{decimal, signed_decimal}
+use Rattle.line_text.specs.Refusal.{refusal_line}
+use Rattle.bridge_score.specs.declared.ranking.Ranked.{Ranked}
+use Rattle.bridge_score.specs.declared.ranking.Scoring.{Scoring}
+use Rattle.bridge_score.specs.declared.ranking.Scoring.TheVariants.{MatchPoints, Imps}
+use Rattle.bridge_score.specs.Percent.{percent_hundredths_of}
+use Rattle.bridge_pbn.specs.Lines.{lines_text}
+use Rattle.bridge_session.specs.Refused.{refusal_number, refusal_name}
+use Rattle.table_server.specs.declared.short_reply.ShortReply.{ShortReply}
+use Rattle.table_server.specs.declared.short_reply.ShortReply.TheVariants.{Done, Refused, BadLine, LongLine, Disk, EpochsSpent}
+
+-- `OK`, or `ERR`, the refusal's number and its name
+abbrev pub short_text : ShortReply → List ℕ
+short_text Done = codes "OK\n"
+short_text (Refused refused) = refusal_line (refusal_number refused) (refusal_name refused)
+short_text BadLine = refusal_line 30 (codes "BadLine")
+short_text LongLine = refusal_line 31 (codes "LongLine")
+short_text Disk = refusal_line 40 (codes "Disk")
+short_text EpochsSpent = refusal_line 41 (codes "EpochsSpent")
+
+-- what follows the complete lines where as many bytes were read as may be
+abbrev pub too_much_text : List ℕ
+too_much_text = refusal_line 32 (codes "TooMuch")
+
+-- the words, each after a space
+abbrev pub each_spaced : List (List ℕ) → List ℕ
+each_spaced words = flat_map (λ word. 32 ∷ word) words
+
+-- a first word and others, with single spaces between
+abbrev pub line_of : List ℕ → List (List ℕ) → List ℕ
+line_of first words = first ++ each_spaced words
+
+-- `OK`, lines, and a full stop on a line of its own
+abbrev pub listed : List (List ℕ) → List ℕ
+listed lines = lines_text (codes "OK" ∷ (lines ++ codes "." ∷ []))
+
+-- the tricks of both sides
+abbrev pub solved_text : ℕ → ℕ → List ℕ
+solved_text ns ew = lines_text (line_of (codes "OK") (decimal ns ∷ decimal ew ∷ []) ∷ [])
+
+-- a number below 100 in two digits
+abbrev pub two_digits : ℕ → List ℕ
+two_digits number = (48 + number / 10) ∷ (48 + number % 10) ∷ []
+
+-- a percentage with two decimals, as `33.33`, or `-` where nothing was available
+abbrev pub percent_text : Option ℕ → List ℕ
+percent_text None = codes "-"
+percent_text (Some hundredths) = (decimal (hundredths / 100) ++ codes ".") ++ two_digits (hundredths % 100)
+
+-- what a pair gained, of what was available to it
+abbrev pub share_text : Ranked → List ℕ
+share_text ranked = (signed_decimal ranked.value ++ codes "/") ++ decimal ranked.available
+
+-- what was gained lies between nothing and all that was available
+abbrev pub is_share : Ranked → Bool
+is_share ranked =
+    int_le (pos 0) ranked.value && nat_le (unsigned_abs ranked.value) ranked.available && nat_le ranked.available 10000000
+
+-- the share in hundredths of a per cent, where it is one
+abbrev pub share_percent : Ranked → Option ℕ
+share_percent ranked =
+    if is_share ranked then percent_hundredths_of (unsigned_abs ranked.value) ranked.available else None
+
+-- under matchpoints the share, and the same as a percentage; under IMPs the sum
+abbrev pub gain_words : Scoring → Ranked → List (List ℕ)
+gain_words MatchPoints ranked = share_text ranked ∷ percent_text (share_percent ranked) ∷ []
+gain_words Imps ranked = signed_decimal ranked.value ∷ []
+
+-- the place, the pair, and what it gained
+abbrev pub rank_line : Scoring → Ranked → List ℕ
+rank_line scoring ranked = line_of (decimal ranked.place) (decimal ranked.pair ∷ gain_words scoring ranked)
+
+abbrev pub ranking_text : Scoring → List Ranked → List ℕ
+ranking_text scoring ranking = listed (map (rank_line scoring) ranking)

@@ -1,0 +1,119 @@
+//! The reply to a question for the ranking of a field.
+ghost use Rattle.std.specs.Prelude.{◌≡◌, ◌+◌, ◌*◌, ◌/◌, ◌%◌, ◌<◌, ◌≤◌, ◌≤ℤ◌, ◌∷◌, ◌++◌, [], codes, length, map, pos, All};
+ghost use Rattle.std.specs.Fmt.{decimal};
+ghost use Rattle.arrayvec.specs.ArrayString.{array_string_len};
+ghost use Rattle.bridge_pbn.specs.Lines.{lines_text};
+ghost use Rattle.bridge_score.specs.declared.ranking.Scoring.TheVariants.{MatchPoints};
+ghost use Rattle.table_server.specs.ReplyTexts.{two_digits, percent_text, each_spaced, gain_words, rank_line, ranking_text, share_percent};
+
+use crate::reply_text::{ReplyText, TEXT_BYTES, push_number, push_word};
+use bridge_score::{Ranked, Scoring, percent_hundredths};
+use itoa::Buffer;
+
+/// The most bytes of a line of a ranking.
+pub const RANK_BYTES: usize = 80;
+
+/// The most that may be available to a pair.
+const MOST_AVAILABLE: u32 = 10_000_000;
+
+/// Adds a number below 100 in two digits.
+fn push_two_digits(text: &mut ReplyText, number: u32)
+    requires small { number < 100 }
+    requires room { array_string_len text.old + 2 ≤ TEXT_BYTES }
+    ensures text { text.new.bytes ≡ text.old.bytes ++ two_digits number }
+    ensures room { array_string_len text.new ≤ array_string_len text.old + 2 }
+{
+    text.push(char::from(b'0' + (number / 10) as u8));
+    text.push(char::from(b'0' + (number % 10) as u8));
+}
+
+/// Adds a percentage with two decimals, or `-` where there is none.
+fn push_percent(text: &mut ReplyText, hundredths: Option<u32>)
+    requires { array_string_len text.old + 13 ≤ TEXT_BYTES }
+    ensures text { text.new.bytes ≡ text.old.bytes ++ percent_text hundredths }
+    ensures room { array_string_len text.new ≤ array_string_len text.old + 13 }
+{
+    match hundredths {
+        None => text.push_str("-"),
+        Some(hundredths) => {
+            text.push_str(Buffer::new().format(hundredths / 100));
+            text.push_str(".");
+            push_two_digits(text, hundredths % 100);
+        }
+    }
+}
+
+/// The share of a pair in hundredths of a per cent. `None` where nothing was available, or the share is none.
+fn share_percent(ranked: &Ranked) -> Option<u32>
+    ensures { result ≡ share_percent ranked.now }
+{
+    let earned = ranked.value.unsigned_abs();
+    if ranked.value >= 0 && earned <= ranked.available && ranked.available <= MOST_AVAILABLE {
+        percent_hundredths(earned, ranked.available)
+    } else {
+        None
+    }
+}
+
+/// Adds the share of a pair: its matchpoints, those available to it, and the percentage.
+fn push_share(text: &mut ReplyText, ranked: &Ranked)
+    requires { array_string_len text.old + 66 ≤ TEXT_BYTES }
+    ensures text { text.new.bytes ≡ text.old.bytes ++ each_spaced (gain_words MatchPoints ranked.now) }
+    ensures room { array_string_len text.new ≤ array_string_len text.old + 66 }
+{
+    push_word(text, Buffer::new().format(ranked.value));
+    text.push_str("/");
+    text.push_str(Buffer::new().format(ranked.available));
+    text.push_str(" ");
+    push_percent(text, share_percent(ranked));
+}
+
+/// Adds what a pair gained.
+fn push_gain(text: &mut ReplyText, scoring: Scoring, ranked: &Ranked)
+    requires { array_string_len text.old + 66 ≤ TEXT_BYTES }
+    ensures text { text.new.bytes ≡ text.old.bytes ++ each_spaced (gain_words scoring ranked.now) }
+    ensures room { array_string_len text.new ≤ array_string_len text.old + 66 }
+{
+    match scoring {
+        Scoring::MatchPoints => push_share(text, ranked),
+        Scoring::Imps => push_word(text, Buffer::new().format(ranked.value)),
+    }
+}
+
+/// Adds the line of a pair: its place, its number, and what it gained.
+fn push_ranked(text: &mut ReplyText, scoring: Scoring, ranked: &Ranked)
+    requires { array_string_len text.old + RANK_BYTES ≤ TEXT_BYTES }
+    ensures line { text.new.bytes ≡ text.old.bytes ++ (rank_line scoring ranked.now ++ 10 ∷ []) }
+    ensures room { array_string_len text.new ≤ array_string_len text.old + RANK_BYTES }
+{
+    text.push_str(Buffer::new().format(ranked.place));
+    push_word(text, Buffer::new().format(ranked.pair));
+    push_gain(text, scoring, ranked);
+    text.push_str("\n");
+}
+
+/// Adds the lines of the pairs.
+fn push_pairs(text: &mut ReplyText, scoring: Scoring, ranking: &[Ranked])
+    requires few { length ranking.now ≤ 24 }
+    requires room { array_string_len text.old + 24 * RANK_BYTES ≤ TEXT_BYTES }
+    ensures lines { text.new.bytes ≡ text.old.bytes ++ lines_text (map (rank_line scoring) ranking.now) }
+    ensures room { array_string_len text.new ≤ array_string_len text.old + 24 * RANK_BYTES }
+{
+    for ranked in ranking {
+        push_ranked(text, scoring, ranked);
+    }
+}
+
+/// Adds the reply to a question for a ranking: `OK`, a line for each pair, and a full stop.
+///
+/// A line is the place, the pair, and under matchpoints what it gained of what was available, as `3/6`, and the percentage
+/// with two decimals, or `-` where nothing was available; under IMPs the sum.
+pub fn push_ranking(text: &mut ReplyText, scoring: Scoring, ranking: &[Ranked])
+    requires few { length ranking.now ≤ 24 }
+    requires empty { text.old.bytes ≡ [] }
+    ensures { text.new.bytes ≡ ranking_text scoring ranking.now }
+{
+    text.push_str("OK\n");
+    push_pairs(text, scoring, ranking);
+    text.push_str(".\n");
+}
