@@ -1,5 +1,6 @@
 pub mod LineLemmas
 pub mod Heard
+pub mod FeedLemmas
 pub mod CardWords
 pub mod FirstWords
 pub mod CommandLaws

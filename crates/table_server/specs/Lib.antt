@@ -5,5 +5,6 @@ pub mod LineWords
 pub mod LineCommand
 pub mod ReplyTexts
 pub mod Asked
+pub mod LineFeed
 pub mod PbnReply
 pub mod ViewText

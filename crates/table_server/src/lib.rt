@@ -13,6 +13,7 @@ pub mod command;
 mod fault;
 mod hand_text;
 mod line_command;
+mod line_feed;
 mod line_words;
 pub mod pbn_reply;
 pub mod ranking_reply;
