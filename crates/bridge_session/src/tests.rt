@@ -1,9 +1,15 @@
 //! Worked sessions, each action with its answer.
 mod action_bytes;
 mod endings;
+mod memory;
+mod movements;
+mod random_actions;
+mod random_sessions;
 mod rankings;
 mod rows;
 mod script;
+mod story;
+mod twin;
 mod views;
 
 use std::fmt::Debug;
