@@ -24,3 +24,7 @@ pub mod PlainLaw
 pub mod EqualGains
 pub mod ActionLaws
 pub mod LeftEndings
+pub mod PartLemmas
+pub mod PartPlaces
+pub mod PlayPlaces
+pub mod PartCount

@@ -10,6 +10,7 @@ pub mod Ranking
 pub mod Kept
 pub mod Gains
 pub mod Valid
+pub mod Parts
 pub mod Own
 pub mod Apart
 pub mod Sight

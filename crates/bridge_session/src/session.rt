@@ -30,6 +30,7 @@ use std::alloc::{AllocError, Global};
 use std::marker::Model;
 
 mod ending;
+mod parts;
 mod step;
 
 /// The pairs of a field with their places, by place, then by pair.

@@ -5,6 +5,7 @@ mod memory;
 mod movements;
 mod random_actions;
 mod random_sessions;
+mod parts;
 mod rankings;
 mod rows;
 mod script;

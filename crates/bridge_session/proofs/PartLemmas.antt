@@ -1,0 +1,41 @@
+-- Lists that are written element by element, and the places of parts.
+use Rattle.std.proofs.Common.{◌≡◌, ◌+◌, ◌*◌, ◌/◌, ◌%◌, ◌<◌, ℕ, zero, suc, List, [], ◌∷◌, ◌++◌, length, take, get_or, map, refl, sym, ap, ◌∙◌, arith, add-one, length-append}
+use Rattle.std.specs.Prelude.{flat_map}
+use Rattle.std.proofs.Math.Seq.{take-suc}
+use Rattle.std.proofs.Math.Nat.{div-lt_iff_lt-mul, mod-lt}
+use Rattle.std.proofs.lemmas.Nat.{div-add-mod'}
+use Rattle.std.proofs.lemmas.List.{map-append, append-nil, length-take-le}
+use Rattle.std.proofs.lemmas.Grind.{flat_map-append}
+use Rattle.std.proofs.lemmas.List.Concat.{get_or-flat_map}
+
+module _ {X : Type 0} where
+  -- the elements before an index, and the one there
+  pub next_taken : (xs : List X) (i : ℕ) (x : X) → i < length xs → x ≡ get_or xs i x → take (i + 1) xs ≡ take i xs ++ x ∷ []
+  next_taken xs i x within is = ap (λ n. take n xs) (add-one i) ∙ take-suc xs i x within ∙ ap (λ y. take i xs ++ y ∷ []) (sym is)
+
+  pub map_next : (f : X → ℕ) (xs : List X) (i : ℕ) (x : X) → i < length xs → x ≡ get_or xs i x → map f (take (i + 1) xs) ≡ map f (take i xs) ++ f x ∷ []
+  map_next f xs i x within is = ap (map f) (next_taken xs i x within is) ∙ map-append f (take i xs) (x ∷ [])
+
+  pub flat_next : {Y : Type 0} (f : X → List Y) (xs : List X) (i : ℕ) (x : X) → i < length xs → x ≡ get_or xs i x → flat_map f (take (i + 1) xs) ≡ flat_map f (take i xs) ++ f x
+  flat_next f xs i x within is =
+      ap (flat_map f) (next_taken xs i x within is) ∙ flat_map-append f (take i xs) (x ∷ [])
+      ∙ ap (λ last. flat_map f (take i xs) ++ last) (append-nil (f x))
+
+  -- lists of one length, one after the other
+  module _ {Y : Type 0} (f : X → List Y) (n : ℕ) (fixed : (x : X) → length (f x) ≡ n) where
+    pub length-flat_fixed : (xs : List X) → length (flat_map f xs) ≡ length xs * n
+    length-flat_fixed [] = omega arith
+    length-flat_fixed (x ∷ xs) =
+        let rest = length-flat_fixed xs in
+        omega (arith, length-append (f x) (flat_map f xs), fixed x, rest)
+
+    pub flat_fixed_place : (xs : List X) (place : ℕ) (e : X) (d : Y) → 0 < n → place < length xs * n → get_or (flat_map f xs) place d ≡ get_or (f (get_or xs (place / n) e)) (place % n) d
+    flat_fixed_place xs place e d some within =
+        let q : ℕ = place / n in
+        let r : ℕ = place % n in
+        let inside : q < length xs = (div-lt_iff_lt-mul some).1 within in
+        let before : length (flat_map f (take q xs)) ≡ q * n
+        = length-flat_fixed (take q xs) ∙ ap (λ k. k * n) (length-take-le q xs (omega (arith, inside))) in
+        let here : place ≡ length (flat_map f (take q xs)) + r = sym (div-add-mod' place n) ∙ ap (λ k. k + r) (sym before) in
+        let rest : r < n = mod-lt place some in
+        ap (λ k. get_or (flat_map f xs) k d) here ∙ get_or-flat_map f xs q r e d inside (omega (arith, rest, fixed (get_or xs q e)))

@@ -1,0 +1,59 @@
+-- How many parts a session has, and which stands at which place.
+use Rattle.std.proofs.Common.{◌≡◌, ◌+◌, ◌-◌, ◌*◌, ◌/◌, ◌%◌, ◌<◌, ◌≤◌, ℕ, List, [], ◌∷◌, ◌++◌, length, get_or, map, refl, sym, ap, ◌∙◌, arith, length-append}
+use Rattle.std.specs.Prelude.{Option, slice_index_or}
+use Rattle.std.proofs.Math.Nat.{mod-lt}
+use Rattle.std.proofs.lemmas.List.{length-map, get_or-map, get_or_append_left, get_or-append_right}
+use Rattle.std.proofs.lemmas.List.FromFn.{length-map-range_with_len, get_or-map-range_with_len}
+use Rattle.bridge_config.specs.Configuration.{Pair}
+use Rattle.bridge_session.specs.Record.{PlainRecord}
+use Rattle.bridge_session.specs.State.{State}
+use Rattle.bridge_session.specs.Parts.{deal_part, pair_part, record_part, record_or_empty, row_parts, play_parts, board_parts, pair_parts, parts_of}
+use Rattle.bridge_session.proofs.PartLemmas.{length-flat_fixed, flat_fixed_place}
+
+row_length : (boards : ℕ) (records : List PlainRecord) → length (row_parts boards records) ≡ boards
+row_length boards records = length-map-range_with_len (λ index. record_part (record_or_empty records index)) 0 boards
+
+module _ (s : State) where
+  pub count_plays : length (play_parts s) ≡ length s.records * s.configuration.boards
+  count_plays = length-flat_fixed (row_parts s.configuration.boards) s.configuration.boards (row_length s.configuration.boards) s.records
+
+  pub count_boards : length (board_parts s) ≡ length s.deals + length s.records * s.configuration.boards
+  count_boards = omega (arith, length-append (map deal_part s.deals) (play_parts s), length-map s.deals deal_part, count_plays)
+
+  pub count_pairs : length (pair_parts s) ≡ length s.configuration.pairs + length s.deals + length s.records * s.configuration.boards
+  count_pairs =
+      omega (arith, length-append (map pair_part s.configuration.pairs) (board_parts s), length-map s.configuration.pairs pair_part, count_boards)
+
+  pub count_parts : length (parts_of s) ≡ 2 + length s.configuration.pairs + length s.deals + length s.records * s.configuration.boards
+  count_parts = omega (arith, count_pairs)
+
+  -- the part of a pair
+  pub place_of_pair : (place : ℕ) (pair : Pair) → place < length s.configuration.pairs → slice_index_or (pair_parts s) place [] ≡ pair_part (slice_index_or s.configuration.pairs place pair)
+  place_of_pair place pair within =
+      get_or_append_left (map pair_part s.configuration.pairs) (board_parts s) [] place (omega (arith, within, length-map s.configuration.pairs pair_part))
+      ∙ get_or-map pair_part s.configuration.pairs place pair [] within
+
+  pub place_after_pairs : (place : ℕ) → length s.configuration.pairs ≤ place → slice_index_or (pair_parts s) place [] ≡ slice_index_or (board_parts s) (place - length s.configuration.pairs) []
+  place_after_pairs place from =
+      get_or-append_right (map pair_part s.configuration.pairs) (board_parts s) (length s.configuration.pairs) place []
+      (length-map s.configuration.pairs pair_part) from
+
+  -- the part of a board
+  pub place_of_deal : (place : ℕ) (deal : Option (List ℕ)) → place < length s.deals → slice_index_or (board_parts s) place [] ≡ deal_part (slice_index_or s.deals place deal)
+  place_of_deal place deal within =
+      get_or_append_left (map deal_part s.deals) (play_parts s) [] place (omega (arith, within, length-map s.deals deal_part))
+      ∙ get_or-map deal_part s.deals place deal [] within
+
+  pub place_after_deals : (place : ℕ) → length s.deals ≤ place → slice_index_or (board_parts s) place [] ≡ slice_index_or (play_parts s) (place - length s.deals) []
+  place_after_deals place from =
+      get_or-append_right (map deal_part s.deals) (play_parts s) (length s.deals) place [] (length-map s.deals deal_part) from
+
+  -- the part of a play
+  pub place_of_play : (place : ℕ) (row : List PlainRecord) → 0 < s.configuration.boards → place < length s.records * s.configuration.boards
+      → slice_index_or (play_parts s) place [] ≡ record_part (record_or_empty (slice_index_or s.records (place / s.configuration.boards) row) (place % s.configuration.boards))
+  place_of_play place row some within =
+      let boards : ℕ = s.configuration.boards in
+      let records : List PlainRecord = slice_index_or s.records (place / boards) row in
+      flat_fixed_place (row_parts boards) boards (row_length boards) s.records place row [] some within
+      ∙ get_or-map-range_with_len (λ index. record_part (record_or_empty records index)) 0 boards (place % boards) (place % boards) []
+      (mod-lt place some) (omega arith)

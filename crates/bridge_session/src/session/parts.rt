@@ -1,0 +1,92 @@
+//! The parts of a session, as they stand on a disk.
+ghost use Rattle.std.specs.Prelude.{◌≡◌, ◌<◌, ◌≤◌, [], length, slice_index_or, unwrap_or, IfSome};
+ghost use Rattle.std.specs.Option.{option_copied, option_map};
+ghost use Rattle.bridge_cards.specs.Board.{dealer_of};
+ghost use Rattle.bridge_session.specs.Record.{empty_record};
+ghost use Rattle.bridge_session.specs.Kept.{plain_of};
+ghost use Rattle.bridge_session.specs.Parts.{parts_of, pair_parts, board_parts, play_parts, record_part};
+
+use super::Session;
+use crate::config_bytes::{write_configuration, write_deal, write_movement, write_pair};
+use crate::record::Record;
+use crate::record_bytes::{write_empty, write_record};
+use crate::table::record_at;
+use arrayvec::ArrayVec;
+
+impl Session {
+    /// The number of the session's parts, 1 to 494: the configuration, the movement, one for each pair, one for each board,
+    /// and one for each board of each row's set.
+    pub fn parts(&self) -> u32
+        ensures count { result ≡ length (parts_of self.now) }
+        ensures some { 1 ≤ result }
+        ensures few { result ≤ 494 }
+    {
+        let fields = self.config.fields();
+        let plays = self.tables.len() * usize::from(fields.boards);
+        (2 + fields.pairs.len() + self.deals.len() + plays) as u32
+    }
+
+    /// The record of a play by its place among the plays, if its row is live.
+    fn play_at(&self, place: usize) -> Option<&Record>
+        requires { place < length (play_parts self.now) }
+        ensures part { record_part (unwrap_or (option_map plain_of (option_copied result)) (empty_record 0)) ≡ slice_index_or (play_parts self.now) place [] }
+        ensures dealer { IfSome (option_copied result) (λ kept. kept.auction.dealer ≡ dealer_of kept.board) }
+    {
+        let boards = usize::from(self.config.fields().boards);
+        let table = &self.tables[place / boards];
+        record_at(table.as_slice(), place % boards)
+    }
+
+    /// Writes the part of a play by its place among the plays into an empty list.
+    fn write_play(&self, place: usize, part: &mut ArrayVec<u8, 480>)
+        requires within { place < length (play_parts self.now) }
+        requires empty { part.old.items ≡ [] }
+        ensures { part.new.items ≡ slice_index_or (play_parts self.now) place [] }
+    {
+        match self.play_at(place) {
+            Some(kept) => write_record(kept, part),
+            None => write_empty(part),
+        }
+    }
+
+    /// Writes the part of a board or a play by its place among these into an empty list.
+    fn write_board(&self, place: usize, part: &mut ArrayVec<u8, 480>)
+        requires within { place < length (board_parts self.now) }
+        requires empty { part.old.items ≡ [] }
+        ensures { part.new.items ≡ slice_index_or (board_parts self.now) place [] }
+    {
+        let boards = self.deals.len();
+        if place < boards {
+            write_deal(&self.deals[place], part);
+        } else {
+            self.write_play(place - boards, part);
+        }
+    }
+
+    /// Writes the part of a pair, a board or a play by its place among these into an empty list.
+    fn write_pair(&self, place: usize, part: &mut ArrayVec<u8, 480>)
+        requires within { place < length (pair_parts self.now) }
+        requires empty { part.old.items ≡ [] }
+        ensures { part.new.items ≡ slice_index_or (pair_parts self.now) place [] }
+    {
+        let pairs = self.config.fields().pairs.as_slice();
+        if place < pairs.len() {
+            write_pair(&pairs[place], part);
+        } else {
+            self.write_board(place - pairs.len(), part);
+        }
+    }
+
+    /// Clears `part`, and writes the part of the session of that place into it, the places counted from 0.
+    pub fn write_part(&self, place: u32, part: &mut ArrayVec<u8, 480>)
+        requires { place < length (parts_of self.now) }
+        ensures { part.new.items ≡ slice_index_or (parts_of self.now) place [] }
+    {
+        part.clear();
+        match place {
+            0 => write_configuration(&self.config, self.round, part),
+            1 => write_movement(self.config.fields().movement.rows(), part),
+            _ => self.write_pair(place as usize - 2, part),
+        }
+    }
+}
