@@ -4,9 +4,6 @@ ghost use Rattle.bridge_session.specs.Parts.{text_bytes, value_if};
 
 use arrayvec::ArrayVec;
 
-/// The most bytes of a part.
-pub const PART_BYTES: usize = 480;
-
 /// Adds bytes.
 pub fn put(part: &mut ArrayVec<u8, 480>, bytes: &[u8])
     requires { length part.old.items + length bytes.now ≤ 480 }
