@@ -1,7 +1,7 @@
 //! Disks that a test wrote, and what opening them answers.
 use super::{expect_eq, opened, opened_behind, opened_until, put, put_snapshot, written};
 use crate::StoreFault;
-use sector_disk::{Fail, Fuse, MemoryDisk};
+use sector_disk::{DiskFault, Fail, Fuse, MemoryDisk};
 use std::test::Fail as Failure;
 
 const HEADER: &[u8; 4] = b"BD1H";
@@ -127,14 +127,19 @@ const ROWS: [(&str, &[Written], Result<(u16, u64), StoreFault>); 20] = [
     ),
 ];
 
+fn put_all(disk: &mut MemoryDisk, sectors: &[Written]) -> Result<(), DiskFault> {
+    for (at, mark, epoch, number, payload) in sectors {
+        put(disk, written(*at, mark, *epoch, *number, payload))?;
+    }
+    Ok(())
+}
+
 #[test]
 fn what_opening_answers(rt: HostRuntime) -> Result<(), Failure> {
     for (name, sectors, due) in ROWS {
         let mut disk = MemoryDisk::new(rt.alloc(), 2048)?;
         put_snapshot(&mut disk, 0, 1, 65_000)?;
-        for (at, mark, epoch, number, payload) in sectors {
-            put(&mut disk, written(*at, mark, *epoch, *number, payload))?;
-        }
+        put_all(&mut disk, sectors)?;
         expect_eq(&rt, opened(rt.alloc(), disk).1, due, name);
     }
     for (count, due) in [
