@@ -19,3 +19,10 @@ pub mod Views
 pub mod ActionRange
 pub mod ActionBytes
 pub mod Ending
+pub mod Decided
+pub mod StateRange
+pub mod MovementDecided
+pub mod RecordDecided
+pub mod SessionDecided
+pub mod PartsRead
+pub mod SessionKeeping

@@ -1,0 +1,46 @@
+-- What a session means to a store: its parts, its actions, its step.
+use Rattle.std.proofs.Common.{◌≡◌, ℕ, List, Option, None, Some, Result, Ok, Err, inl, inr}
+use Rattle.session_store.specs.Keeping.{Keeping}
+use Rattle.bridge_session.specs.declared.action.Action.{Action}
+use Rattle.bridge_session.specs.declared.refused.Refused.{Refused}
+use Rattle.bridge_session.specs.ActionBytes.{action_bytes, action_of}
+use Rattle.bridge_session.specs.ActionRange.{IsInRange}
+use Rattle.bridge_session.specs.Decided.{Decided, decided_both}
+use Rattle.bridge_session.specs.Parts.{parts_of}
+use Rattle.bridge_session.specs.PartsRead.{state_read}
+use Rattle.bridge_session.specs.SessionDecided.{decided_session, decided_parts}
+use Rattle.bridge_session.specs.State.{State}
+use Rattle.bridge_session.specs.StateRange.{IsSession}
+use Rattle.bridge_session.specs.Step.{step_answer, changed}
+
+-- the state is that of a session, and these are its parts
+abbrev pub HasParts : State → List (List ℕ) → Type 0
+HasParts s parts = IsSession s × (parts_of s ≡ parts)
+
+pub decided_has_parts : (s : State) (parts : List (List ℕ)) → Decided (HasParts s parts)
+decided_has_parts s parts = decided_both (decided_session s) (decided_parts (parts_of s) parts)
+
+-- the state, where it has the parts
+abbrev pub with_parts : (s : State) (parts : List (List ℕ)) → Decided (HasParts s parts) → Option State
+with_parts s parts (inl has) = Some s
+with_parts s parts (inr has_not) = None
+
+-- the session of these parts: that which they name, where it is one and these are its parts
+abbrev pub session_of : List (List ℕ) → Option State
+session_of parts = with_parts (state_read parts) parts (decided_has_parts (state_read parts) parts)
+
+-- the state after an action by the answer to it
+abbrev pub step_by : State → Action → Result (Unit {0}) Refused → Result State Refused
+step_by s action (Ok done) = Ok (changed s action)
+step_by s action (Err refused) = Err refused
+
+abbrev pub session_keeping : Keeping State Action Refused
+session_keeping = record {
+  IsState = IsSession;
+  IsAction = IsInRange;
+  parts = parts_of;
+  state_of = session_of;
+  action_bytes = action_bytes;
+  action_of = action_of;
+  step = λ s action. step_by s action (step_answer s action);
+}

@@ -1,0 +1,44 @@
+-- The ranges of what a session holds.
+use Rattle.std.specs.Prelude.{◌≡◌, ◌≤◌, ◌<◌, ◌^◌, ℕ, List, length, Option, IfSome, All}
+use Rattle.bridge_cards.specs.CardSet.{IsCardSet}
+use Rattle.bridge_config.specs.Configuration.{keys_of}
+use Rattle.bridge_play.specs.declared.claim.Claim.{Claim}
+use Rattle.bridge_session.specs.declared.ruling.Ruling.{Ruling}
+use Rattle.bridge_session.specs.declared.ruling.Ruling.TheVariants as ruling
+use Rattle.bridge_session.specs.Numbers.{IsTrickCount}
+use Rattle.bridge_session.specs.Record.{PlainRecord}
+use Rattle.bridge_session.specs.State.{State}
+use Rattle.bridge_session.specs.Valid.{IsValid}
+
+-- a key has four bytes
+abbrev pub IsKeyNumber : ℕ → Type 0
+IsKeyNumber key = key < 2 ^ 32
+
+abbrev pub AreHands : List ℕ → Type 0
+AreHands hands = (length hands ≡ 4) × All IsCardSet hands
+
+abbrev pub AreHandsOrNone : Option (List ℕ) → Type 0
+AreHandsOrNone deal = IfSome deal AreHands
+
+-- each of the four seats has agreed to the claim or has not
+abbrev pub IsOfFourSeats : Claim → Type 0
+IsOfFourSeats claim = length claim.agreed ≡ 4
+
+abbrev pub IsRulingInRange : Ruling → Type 0
+IsRulingInRange (ruling.Tricks tricks) = IsTrickCount tricks
+IsRulingInRange ruling.Void = Unit {0}
+
+pub record IsRecordInRange (plain : PlainRecord) : Type 0 where
+  pub claim : IfSome plain.claim IsOfFourSeats
+  pub ruling : IfSome plain.ruling IsRulingInRange
+
+-- What a session holds is within its ranges. So is that of each session by the types of its fields.
+pub record IsStateInRange (s : State) : Type 0 where
+  pub keys : All IsKeyNumber (keys_of s.configuration)
+  pub deals : All AreHandsOrNone s.deals
+  pub records : All (All IsRecordInRange) s.records
+
+-- What each session is: valid, and within its ranges.
+pub record IsSession (s : State) : Type 0 where
+  pub valid : IsValid s
+  pub ranges : IsStateInRange s
