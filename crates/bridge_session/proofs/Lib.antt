@@ -28,3 +28,10 @@ pub mod PartLemmas
 pub mod PartPlaces
 pub mod PlayPlaces
 pub mod PartCount
+pub mod BytesBack
+pub mod PairBack
+pub mod RecordBack
+pub mod TablesBack
+pub mod SessionRecords
+pub mod SessionBack
+pub mod SessionOf

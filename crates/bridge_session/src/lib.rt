@@ -29,6 +29,7 @@ pub mod refused;
 pub mod ruling;
 mod seating;
 pub mod session;
+pub mod stored;
 mod table;
 #[cfg(test)]
 mod tests;

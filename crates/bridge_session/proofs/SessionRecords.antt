@@ -1,0 +1,43 @@
+-- Each record of a session is valid in its round, and can be written and read back.
+use Rattle.std.proofs.Common.{◌≡◌, ◌+◌, ◌<◌, ◌≤◌, ◌^◌, ℕ, List, [], length, get_or, map, Option, None, Some, All, sym, ap, ◌∙◌, arith}
+use Rattle.std.specs.Prelude.{IfSome, slice_get, unwrap_or}
+use Rattle.std.proofs.lemmas.List.{length-map}
+use Rattle.std.proofs.lemmas.Option.{slice_get-get_or}
+use Rattle.bridge_auction.proofs.LegalLength.{legal_length}
+use Rattle.bridge_movement.specs.declared.row.Row.{Row}
+use Rattle.bridge_session.specs.Record.{PlainRecord}
+use Rattle.bridge_session.specs.State.{State, row_at, row_boards}
+use Rattle.bridge_session.specs.StateRange.{IsRecordInRange, IsStateInRange, IsSession}
+use Rattle.bridge_session.specs.Valid.{board_of, IsValidRecord, IsValid}
+use Rattle.bridge_session.proofs.RecordBack.{IsWritten}
+
+-- the record is valid in some round
+abbrev pub IsOfSomeRound : State → PlainRecord → Type 0
+IsOfSomeRound s plain = (round : ℕ) × IsValidRecord s.deals s.round round plain
+
+pub each_record : (s : State) → IsValid s → All (All (IsOfSomeRound s)) s.records
+each_record s valid place d within index e inside =
+    let records : List PlainRecord = get_or s.records place d in
+    let rows : List Row = s.configuration.movement.rows in
+    let nobody : Row = record { round = 0; table = 0; ns = 0; ew = 0; set = 0 } in
+    let row : Row = get_or rows place nobody in
+    let long : length s.records ≡ length rows
+    = sym (length-map s.records (map board_of)) ∙ ap (λ (xs : List (List ℕ)). length xs) valid.of_boards
+    ∙ length-map rows (row_boards s.configuration.boards) in
+    let there : slice_get rows place ≡ Some row = slice_get-get_or rows place nobody (omega (arith, long, within)) in
+    let at : row_at s.records place ≡ records = ap (λ found. unwrap_or found []) (slice_get-get_or s.records place d within) in
+    let found : slice_get (row_at s.records place) index ≡ Some (get_or records index e)
+    = ap (λ (rs : List PlainRecord). slice_get rs index) at ∙ slice_get-get_or records index e inside in
+    (row.round, valid.plays place index row (get_or records index e) there found)
+
+pub written : (s : State) → IsSession s → All (All IsWritten) s.records
+written s is place d within index e inside =
+    let plain : PlainRecord = get_or (get_or s.records place d) index e in
+    let valid = (each_record s is.valid place d within index e inside).1 in
+    let few : length plain.calls ≤ 319 = legal_length plain.calls valid.calls in
+    let range : IsRecordInRange plain = is.ranges.records place d within index e inside in
+    record {
+      few = omega (arith, few);
+      known = λ k call below. (valid.calls k (get_or plain.calls k call) (slice_get-get_or plain.calls k call below)).known;
+      claim = range.claim;
+    }
