@@ -98,19 +98,19 @@ read_back (Deal key board hands) is =
 abbrev AreBytes : List ℕ → Type 0
 AreBytes xs = (i : ℕ) → get_or xs i 0 < 256
 
-map_is : {A B : Type 0} (f : A → B) (o : Option A) (y : B) → option_map f o ≡ Some y → (x : A) × (o ≡ Some x) × (f x ≡ y)
+pub map_is : {A B : Type 0} (f : A → B) (o : Option A) (y : B) → option_map f o ≡ Some y → (x : A) × (o ≡ Some x) × (f x ≡ y)
 map_is f None y is = absurd cc
 map_is f (Some x) y is = (x, refl, cc)
 
-then_is : {A B : Type 0} (f : A → Option B) (o : Option A) (y : B) → option_and_then f o ≡ Some y → (x : A) × (o ≡ Some x) × (f x ≡ Some y)
+pub then_is : {A B : Type 0} (f : A → Option B) (o : Option A) (y : B) → option_and_then f o ≡ Some y → (x : A) × (o ≡ Some x) × (f x ≡ Some y)
 then_is f None y is = absurd cc
 then_is f (Some x) y is = (x, refl, is)
 
-if_is : {A : Type 0} (b : Bool) (x y : A) (z : A) → (if b then x else y) ≡ z → ((b ≡ true) × (x ≡ z)) ⊎ ((b ≡ false) × (y ≡ z))
+pub if_is : {A : Type 0} (b : Bool) (x y : A) (z : A) → (if b then x else y) ≡ z → ((b ≡ true) × (x ≡ z)) ⊎ ((b ≡ false) × (y ≡ z))
 if_is true x y z is = inl (refl, is)
 if_is false x y z is = inr (refl, is)
 
-in_range_is : (least most number n : ℕ) → in_range least most number ≡ Some n → (number ≡ n) × (least ≤ n) × (n ≤ most)
+pub in_range_is : (least most number n : ℕ) → in_range least most number ≡ Some n → (number ≡ n) × (least ≤ n) × (n ≤ most)
 in_range_is least most number n is =
     elim (if_is (nat_le least number && nat_le number most) (Some number) None (Some n) is) [
       | inl here ↦
@@ -132,7 +132,7 @@ end_is [] x a is = (refl, let stated : Some x ≡ Some a = is in cc)
 end_is (byte ∷ rest) x a is = absurd (let none : None ≡ Some a = is in cc)
 
 -- the last number, in its range
-last_is : (least most : ℕ) (bytes : List ℕ) (n : ℕ) → option_and_then (in_range least most) (only_byte bytes) ≡ Some n
+pub last_is : (least most : ℕ) (bytes : List ℕ) (n : ℕ) → option_and_then (in_range least most) (only_byte bytes) ≡ Some n
     → (bytes ≡ n ∷ []) × (least ≤ n) × (n ≤ most)
 last_is least most bytes n is =
     let found = then_is (in_range least most) (only_byte bytes) n is in
@@ -148,7 +148,7 @@ reads : (kind was : ℕ) (key : Key) (bytes rest : List ℕ) (x a : Action) → 
 reads kind was key bytes rest x a kind_is bytes_is same range written =
     subst (λ y. Reads kind key bytes y) same (range, written ∙ ap (λ k. headed k key.0 rest) (sym kind_is) ∙ ap (headed kind key.0) (sym bytes_is))
 
-player_is : (kind : ℕ) (key : Key) (board at : ℕ) (rest : List ℕ) (a : Action) → IsKey key → IsTurn board at
+pub player_is : (kind : ℕ) (key : Key) (board at : ℕ) (rest : List ℕ) (a : Action) → IsKey key → IsTurn board at
     → player_action kind key board at rest ≡ Some a → Reads kind key (turn_bytes board at rest) a
 player_is kind key board at rest a is_key is_turn is =
     elim (if_is (kind == 2) _ _ (Some a) is) [
@@ -266,7 +266,7 @@ ruled_is kind key play rest a is_key is_play is =
       ]
     ]
 
-ruling_is : (kind : ℕ) (key : Key) (bytes : List ℕ) (a : Action) → IsKey key → ruling_in kind key bytes ≡ Some a
+pub ruling_is : (kind : ℕ) (key : Key) (bytes : List ℕ) (a : Action) → IsKey key → ruling_in kind key bytes ≡ Some a
     → Reads kind key bytes a
 ruling_is kind key [] a is_key is = absurd (let none : None ≡ Some a = is in cc)
 ruling_is kind key (round ∷ []) a is_key is = absurd (let none : None ≡ Some a = is in cc)
@@ -277,7 +277,7 @@ ruling_is kind key (round ∷ table ∷ index ∷ rest) a is_key is =
     let known = ruled_is kind key p.0 rest a is_key play.0 p.2 in
     (known.0, known.1 ∙ ap (λ (q : PlayId). headed kind key.0 (play_bytes q rest)) play.1)
 
-four_all : (n e s w : ℕ) → IsCardSet n → IsCardSet e → IsCardSet s → IsCardSet w → All IsCardSet (n ∷ e ∷ s ∷ w ∷ [])
+pub four_all : (n e s w : ℕ) → IsCardSet n → IsCardSet e → IsCardSet s → IsCardSet w → All IsCardSet (n ∷ e ∷ s ∷ w ∷ [])
 four_all n e s w north east south west =
     All-cons IsCardSet n (e ∷ s ∷ w ∷ []) north (All-cons IsCardSet e (s ∷ w ∷ []) east
     (All-cons IsCardSet s (w ∷ []) south (All-cons IsCardSet w [] west (All-nil IsCardSet))))

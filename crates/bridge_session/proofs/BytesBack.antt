@@ -1,6 +1,5 @@
 -- Numbers and texts are read back from the front of bytes.
-use Rattle.std.proofs.Common.{◌≡◌, ◌+◌, ◌<◌, ◌^◌, ℕ, List, [], ◌∷◌, ◌++◌, length, map, take, drop, All, refl, sym, ap, subst, ◌∙◌, arith}
-use Rattle.std.specs.Int.{w32, w64, to_be_bytes, from_be_bytes}
+use Rattle.std.proofs.Common.{◌≡◌, ◌<◌, ◌^◌, ℕ, List, [], ◌∷◌, ◌++◌, length, map, take, drop, All, refl, ap, subst, ◌∙◌}
 use Rattle.std.proofs.Math.Seq.{take-append_seam, drop-append_seam}
 use Rattle.std.proofs.lemmas.Nat.{from_be_bytes-to_be_bytes_4, from_be_bytes-to_be_bytes_8}
 use Rattle.std.proofs.lemmas.List.Elements.{All-head, All-tail}

@@ -35,3 +35,8 @@ pub mod TablesBack
 pub mod SessionRecords
 pub mod SessionBack
 pub mod SessionOf
+pub mod StateRanges
+pub mod ActionInRange
+pub mod DealtOut
+pub mod PartLengths
+pub mod SessionLawful

@@ -1,6 +1,5 @@
 -- Pairs, rows and deals are read back from their parts.
-use Rattle.std.proofs.Common.{◌≡◌, ◌+◌, ◌*◌, ◌/◌, ◌%◌, ◌<◌, ◌≤◌, ℕ, List, [], ◌∷◌, ◌++◌, length, get_or, map, take, drop, Option, None, Some, All, refl, sym, ap, subst, ◌∙◌, arith, append_assoc}
-use Rattle.std.specs.Prelude.{IfSome, flat_map}
+use Rattle.std.proofs.Common.{◌≡◌, ◌+◌, ◌*◌, ◌/◌, ◌%◌, ◌<◌, ℕ, List, [], ◌∷◌, ◌++◌, length, get_or, map, drop, Option, None, Some, All, refl, sym, ap, ◌∙◌, arith, append_assoc}
 use Rattle.std.specs.List.{range_with_len}
 use Rattle.std.proofs.lemmas.List.{ext_get_or}
 use Rattle.std.proofs.lemmas.List.FromFn.{length-map-range_with_len, get_or-map-range_with_len}
@@ -11,9 +10,9 @@ use Rattle.bridge_movement.specs.declared.shape.Shape.{Shape}
 use Rattle.bridge_movement.specs.Fair.{IsComplete}
 use Rattle.bridge_movement.specs.Shape.{row_count}
 use Rattle.bridge_session.specs.Parts.{text_bytes, four_bytes, eight_bytes, row_bytes, movement_part, pair_part, deal_part}
-use Rattle.bridge_session.specs.PartsRead.{text_in, after_text, key_in, second_player, pair_in, row_in, rows_in, hands_at_front, deal_of}
+use Rattle.bridge_session.specs.PartsRead.{text_in, after_text, key_in, second_player, pair_in, row_in, rows_in, deal_of}
 use Rattle.bridge_session.specs.StateRange.{IsKeyNumber, AreHands, AreHandsOrNone}
-use Rattle.bridge_session.proofs.BytesBack.{drop_front, text_back, after_back, key_back, hand_back}
+use Rattle.bridge_session.proofs.BytesBack.{text_back, after_back, key_back, hand_back}
 use Rattle.bridge_session.proofs.PartLemmas.{flat_fixed_place}
 
 -- a pair

@@ -1,17 +1,16 @@
 -- A session is read back from its parts.
-use Rattle.std.proofs.Common.{◌≡◌, ◌+◌, ◌*◌, ◌<◌, ◌≤◌, ◌^◌, ℕ, ◌==◌, List, [], ◌∷◌, ◌++◌, length, get_or, map, take, drop, Option, None, Some, All, refl, sym, ap, subst, ◌∙◌, arith, append_assoc}
-use Rattle.std.specs.Prelude.{flat_map, slice_index}
+use Rattle.std.proofs.Common.{◌≡◌, ◌+◌, ◌*◌, ℕ, List, [], ◌∷◌, ◌++◌, length, get_or, map, take, drop, All, refl, ap, subst, ◌∙◌, arith, append_assoc}
+use Rattle.std.specs.Prelude.{slice_index}
 use Rattle.std.proofs.lemmas.Bool.{eqb-true, and_parts}
 use Rattle.std.proofs.lemmas.List.{length-map, length-append, get_or_append_left, get_or-append-add}
 use Rattle.std.proofs.lemmas.List.Elements.{All-nil, All-cons, All-head, All-tail}
-use Rattle.bridge_config.specs.Configuration.{Configuration, Pair, keys_in, keys_of}
-use Rattle.bridge_config.specs.Limits.{IsPair, IsConfiguration}
-use Rattle.bridge_movement.specs.declared.row.Row.{Row}
+use Rattle.bridge_config.specs.Configuration.{Configuration, Pair, keys_in}
+use Rattle.bridge_config.specs.Limits.{IsConfiguration}
 use Rattle.bridge_movement.specs.declared.shape.Shape.{Shape}
 use Rattle.bridge_score.specs.declared.ranking.Scoring.{Scoring}
 use Rattle.bridge_score.specs.declared.ranking.Scoring.TheVariants.{MatchPoints, Imps}
 use Rattle.bridge_session.specs.Parts.{text_bytes, four_bytes, scoring_number, size_bytes, configuration_part, movement_part, pair_part, deal_part, play_parts, board_parts, pair_parts, parts_of}
-use Rattle.bridge_session.specs.PartsRead.{text_in, after_text, scoring_at, numbers_in, shape_in, rows_in, key_in, pair_in, configuration_in, deal_of, tables_in, state_with, state_in, state_read}
+use Rattle.bridge_session.specs.PartsRead.{text_in, after_text, scoring_at, numbers_in, shape_in, rows_in, key_in, pair_in, configuration_in, deal_of, tables_in, state_with, state_read}
 use Rattle.bridge_session.specs.State.{State}
 use Rattle.bridge_session.specs.StateRange.{IsKeyNumber, IsSession}
 use Rattle.bridge_session.proofs.BytesBack.{take_front, drop_front, all_back, text_back, after_back, key_back}

@@ -1,5 +1,5 @@
 -- The session of parts.
-use Rattle.std.proofs.Common.{◌≡◌, ◌≢◌, ℕ, List, Option, None, Some, inl, inr, refl, sym, ap, subst, ◌∙◌}
+use Rattle.std.proofs.Common.{◌≡◌, ◌≢◌, ℕ, List, None, Some, inl, inr, refl, sym, ap, subst, ◌∙◌}
 use Rattle.bridge_session.specs.Decided.{Decided}
 use Rattle.bridge_session.specs.Parts.{parts_of}
 use Rattle.bridge_session.specs.PartsRead.{state_read}

@@ -1,13 +1,13 @@
 -- Each record of a session is valid in its round, and can be written and read back.
-use Rattle.std.proofs.Common.{◌≡◌, ◌+◌, ◌<◌, ◌≤◌, ◌^◌, ℕ, List, [], length, get_or, map, Option, None, Some, All, sym, ap, ◌∙◌, arith}
-use Rattle.std.specs.Prelude.{IfSome, slice_get, unwrap_or}
+use Rattle.std.proofs.Common.{◌≡◌, ◌≤◌, ℕ, List, [], length, get_or, map, Some, All, sym, ap, ◌∙◌, arith}
+use Rattle.std.specs.Prelude.{slice_get, unwrap_or}
 use Rattle.std.proofs.lemmas.List.{length-map}
 use Rattle.std.proofs.lemmas.Option.{slice_get-get_or}
 use Rattle.bridge_auction.proofs.LegalLength.{legal_length}
 use Rattle.bridge_movement.specs.declared.row.Row.{Row}
 use Rattle.bridge_session.specs.Record.{PlainRecord}
 use Rattle.bridge_session.specs.State.{State, row_at, row_boards}
-use Rattle.bridge_session.specs.StateRange.{IsRecordInRange, IsStateInRange, IsSession}
+use Rattle.bridge_session.specs.StateRange.{IsRecordInRange, IsSession}
 use Rattle.bridge_session.specs.Valid.{board_of, IsValidRecord, IsValid}
 use Rattle.bridge_session.proofs.RecordBack.{IsWritten}
 

@@ -1,9 +1,9 @@
 -- Whether rows are a movement.
-use Rattle.std.proofs.Common.{◌≡◌, ◌≢◌, ◌+◌, ◌*◌, ◌/◌, ◌%◌, ◌<◌, ◌≤◌, ◌⊎◌, ℕ, inl, inr, List, length, slice_get, slice_index_or, All, AllPairs, Some, refl, sym, subst}
+use Rattle.std.proofs.Common.{◌≢◌, ◌+◌, ◌/◌, ◌%◌, ℕ, inl, inr, List, length, slice_index_or, refl, sym, subst}
 use Rattle.std.proofs.lemmas.Option.{slice_get_within, slice_get-get_or, get_or_from_slice_get}
 use Rattle.bridge_movement.specs.declared.row.Row.{Row}
 use Rattle.bridge_movement.specs.declared.shape.Shape.{Shape}
-use Rattle.bridge_movement.specs.Fair.{IsDue, IsInPlace, IsComplete, HasPairsWithin, HasTwoPairs, HasSetWithin, IsFair, IsMovement}
+use Rattle.bridge_movement.specs.Fair.{IsDue, IsComplete, HasPairsWithin, HasTwoPairs, HasSetWithin, IsFair, IsMovement}
 use Rattle.bridge_movement.specs.Row.{IsLive, SitsIn, ShareAPair, SeatPairTwice, PlaySetAgain}
 use Rattle.bridge_movement.specs.Shape.{IsBetween, IsShape, row_count}
 use Rattle.bridge_session.specs.Decided.{Decided, decided_like, decided_both, decided_either, decided_implies, decided_not, decided_equal, decided_most, decided_less, decided_all, decided_pairs, decided_places}

@@ -1,5 +1,5 @@
 -- Whether a state is that of a session.
-use Rattle.std.proofs.Common.{◌≡◌, ◌+◌, ◌*◌, ◌^◌, ◌<◌, ◌≤◌, ℕ, List, map, length, slice_get, Option, Some, IfSome, All, inl}
+use Rattle.std.proofs.Common.{◌≡◌, ◌+◌, ◌*◌, ◌^◌, ℕ, List, map, length, slice_get, Some, All, inl}
 use Rattle.std.specs.List.{list_all}
 use Rattle.bridge_cards.specs.CardSet.{IsCardSet}
 use Rattle.bridge_cards.specs.Deal.{is_dealt_out}

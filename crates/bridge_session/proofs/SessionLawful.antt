@@ -1,0 +1,41 @@
+-- What a store asks of a session holds.
+use Rattle.std.proofs.Common.{◌≡◌, Result, Ok, Err, refl, sym, subst, arith}
+use Rattle.session_store.specs.Keeping.{IsLawful}
+use Rattle.bridge_session.specs.declared.action.Action.{Action}
+use Rattle.bridge_session.specs.declared.refused.Refused.{Refused}
+use Rattle.bridge_session.specs.ActionRange.{IsInRange}
+use Rattle.bridge_session.specs.Parts.{parts_of}
+use Rattle.bridge_session.specs.SessionKeeping.{step_by, session_keeping}
+use Rattle.bridge_session.specs.State.{State}
+use Rattle.bridge_session.specs.StateRange.{IsSession}
+use Rattle.bridge_session.specs.Step.{step_answer, changed}
+use Rattle.bridge_session.proofs.ActionInRange.{read_in_range, range_is_action, action_fits}
+use Rattle.bridge_session.proofs.ActionLaws.{read_back}
+use Rattle.bridge_session.proofs.PartLengths.{parts_fit, few_parts}
+use Rattle.bridge_session.proofs.PartPlaces.{count_parts}
+use Rattle.bridge_session.proofs.SessionOf.{session_of_is, has_parts}
+use Rattle.bridge_session.proofs.StateRanges.{changed_in_range}
+use Rattle.bridge_session.proofs.ValidStep.{step_valid}
+
+-- an accepted action leads to a session
+steps_by : (s : State) (a : Action) (t : State) (answer : Result (Unit {0}) Refused) → answer ≡ step_answer s a → IsSession s → IsInRange a
+    → step_by s a answer ≡ Ok t → IsSession t
+steps_by s a t (Ok done) given is ranges stepped =
+    let same : changed s a ≡ t = let stated : Ok (changed s a) ≡ Ok t = stepped in cc in
+    subst IsSession same
+    (record { valid = step_valid a s (range_is_action a ranges) is.valid (sym given); ranges = changed_in_range a s ranges is.ranges })
+steps_by s a t (Err refused) given is ranges stepped = let wrong : Err refused ≡ Ok t = stepped in absurd cc
+
+pub session_is_lawful : IsLawful session_keeping
+session_is_lawful = record {
+  read_back = read_back;
+  is_action = read_in_range;
+  action_fits = action_fits;
+  restored = λ s is. session_of_is s (parts_of s) is refl;
+  is_state = λ parts s found. (has_parts parts s found).0;
+  has_parts = λ parts s found. (has_parts parts s found).1;
+  some_part = λ s is. omega (arith, count_parts s);
+  few_parts = few_parts;
+  parts_fit = parts_fit;
+  steps_to_state = λ s a t is ranges stepped. steps_by s a t (step_answer s a) refl is ranges stepped;
+}
