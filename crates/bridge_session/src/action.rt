@@ -78,3 +78,18 @@ pub enum Action {
         play: PlayId,
     },
 }
+
+/// The end of the first round, so that a list of actions has a value for the places that it does not use.
+impl Default for Action {
+    ghost use Rattle.std.specs.Prelude.{◌≡◌};
+    ghost use Rattle.bridge_session.specs.declared.action.Action.TheVariants.{NextRound};
+
+    ghost is_default = { λ action. action ≡ NextRound (record { 0 = 0 }) 1 };
+
+    fn default() -> Self {
+        Action::NextRound {
+            key: Key(0),
+            round: RoundNumber::default(),
+        }
+    }
+}

@@ -23,6 +23,17 @@ impl Model for RoundNumber {
     ghost inverse = { λ number. record { number = number } };
 }
 
+/// The first round.
+impl Default for RoundNumber {
+    ghost use Rattle.std.specs.Prelude.{◌≡◌};
+
+    ghost is_default = { λ round. round ≡ 1 };
+
+    fn default() -> Self {
+        RoundNumber { number: 1 }
+    }
+}
+
 impl RoundNumber {
     /// `None` where the number is not from 1 to 12.
     pub fn new(number: u8) -> Option<RoundNumber>
