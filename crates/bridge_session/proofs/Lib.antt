@@ -39,4 +39,5 @@ pub mod StateRanges
 pub mod ActionInRange
 pub mod DealtOut
 pub mod PartLengths
+pub mod SessionStays
 pub mod SessionLawful

@@ -9,21 +9,19 @@ use Rattle.bridge_session.specs.SessionKeeping.{step_by, session_keeping}
 use Rattle.bridge_session.specs.State.{State}
 use Rattle.bridge_session.specs.StateRange.{IsSession}
 use Rattle.bridge_session.specs.Step.{step_answer, changed}
-use Rattle.bridge_session.proofs.ActionInRange.{read_in_range, range_is_action, action_fits}
+use Rattle.bridge_session.proofs.ActionInRange.{read_in_range, action_fits}
 use Rattle.bridge_session.proofs.ActionLaws.{read_back}
 use Rattle.bridge_session.proofs.PartLengths.{parts_fit, few_parts}
 use Rattle.bridge_session.proofs.PartPlaces.{count_parts}
 use Rattle.bridge_session.proofs.SessionOf.{session_of_is, has_parts}
-use Rattle.bridge_session.proofs.StateRanges.{changed_in_range}
-use Rattle.bridge_session.proofs.ValidStep.{step_valid}
+use Rattle.bridge_session.proofs.SessionStays.{step_session}
 
 -- an accepted action leads to a session
 steps_by : (s : State) (a : Action) (t : State) (answer : Result (Unit {0}) Refused) → answer ≡ step_answer s a → IsSession s → IsInRange a
     → step_by s a answer ≡ Ok t → IsSession t
 steps_by s a t (Ok done) given is ranges stepped =
     let same : changed s a ≡ t = let stated : Ok (changed s a) ≡ Ok t = stepped in cc in
-    subst IsSession same
-    (record { valid = step_valid a s (range_is_action a ranges) is.valid (sym given); ranges = changed_in_range a s ranges is.ranges })
+    subst IsSession same (step_session a s ranges is (sym given))
 steps_by s a t (Err refused) given is ranges stepped = let wrong : Err refused ≡ Ok t = stepped in absurd cc
 
 pub session_is_lawful : IsLawful session_keeping

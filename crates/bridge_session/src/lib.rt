@@ -48,5 +48,6 @@ pub use outcome::Outcome;
 pub use refused::Refused;
 pub use ruling::Ruling;
 pub use session::{Ranking, Session};
+pub use stored::sessions_can_be_stored;
 pub use valid::sessions_are_valid;
 pub use view::{Trick, View};
