@@ -95,7 +95,7 @@ read_back (Deal key board hands) is =
 
 -- Only actions are read, each from its own bytes
 
-abbrev AreBytes : List ℕ → Type 0
+abbrev pub AreBytes : List ℕ → Type 0
 AreBytes xs = (i : ℕ) → get_or xs i 0 < 256
 
 pub map_is : {A B : Type 0} (f : A → B) (o : Option A) (y : B) → option_map f o ≡ Some y → (x : A) × (o ≡ Some x) × (f x ≡ y)
@@ -189,7 +189,7 @@ player_is kind key board at rest a is_key is_turn is =
       ]
     ]
 
-two_bytes : (a b : ℕ) → a < 256 → b < 256 → AreBytes (a ∷ b ∷ [])
+pub two_bytes : (a b : ℕ) → a < 256 → b < 256 → AreBytes (a ∷ b ∷ [])
 two_bytes a b first second zero = first
 two_bytes a b first second (suc zero) = second
 two_bytes a b first second (suc (suc i)) = omega arith

@@ -41,3 +41,5 @@ pub mod DealtOut
 pub mod PartLengths
 pub mod SessionStays
 pub mod SessionLawful
+pub mod FieldLaws
+pub mod ReadRecords

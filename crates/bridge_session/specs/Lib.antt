@@ -11,6 +11,7 @@ pub mod Kept
 pub mod Gains
 pub mod Valid
 pub mod Parts
+pub mod Reading
 pub mod Own
 pub mod Apart
 pub mod Sight

@@ -25,6 +25,8 @@ pub mod outcome;
 mod part_bytes;
 mod record;
 mod record_bytes;
+mod record_fields;
+mod record_read;
 pub mod refused;
 pub mod ruling;
 mod seating;

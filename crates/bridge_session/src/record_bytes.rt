@@ -106,7 +106,7 @@ fn claim_of(kept: &Record) -> Option<Claim>
 }
 
 /// Whether there is a claim, and all have agreed whom it asks.
-fn is_agreed(kept: &Record) -> bool
+pub fn is_agreed(kept: &Record) -> bool
     requires { kept.now.auction.dealer ≡ dealer_of kept.now.board }
     ensures { result ≡ is_agreed_in (plain_of kept.now) }
 {
