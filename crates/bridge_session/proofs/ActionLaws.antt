@@ -56,7 +56,7 @@ hand_back hand few =
     ∙ within 0 4503599627370495 hand (omega arith) (omega (arith, few))
 
 -- four hands, one after the other
-hands_back : (hands : List ℕ) → length hands ≡ 4 → All IsCardSet hands → hands_in (flat_map hand_bytes hands) ≡ Some hands
+pub hands_back : (hands : List ℕ) → length hands ≡ 4 → All IsCardSet hands → hands_in (flat_map hand_bytes hands) ≡ Some hands
 hands_back [] four all = absurd cc
 hands_back (n ∷ []) four all = absurd cc
 hands_back (n ∷ e ∷ []) four all = absurd cc
@@ -287,7 +287,7 @@ hand_is bytes hand are long is =
     let range = in_range_is 0 4503599627370495 (from_be_bytes w64 bytes) hand is in
     (omega (arith, range.2), be_bytes_8 bytes hand long are (sym range.0))
 
-hands_is : (bytes : List ℕ) (hands : List ℕ) → AreBytes bytes → hands_in bytes ≡ Some hands
+pub hands_is : (bytes : List ℕ) (hands : List ℕ) → AreBytes bytes → hands_in bytes ≡ Some hands
     → (length hands ≡ 4) × All IsCardSet hands × (flat_map hand_bytes hands ≡ bytes)
 hands_is bytes hands are is =
     elim (if_is (length bytes == 32) _ _ (Some hands) is) [

@@ -43,3 +43,4 @@ pub mod SessionStays
 pub mod SessionLawful
 pub mod FieldLaws
 pub mod ReadRecords
+pub mod DealLaws

@@ -4,6 +4,7 @@ use Rattle.std.specs.Int.{w16, from_be_bytes}
 use Rattle.std.specs.Option.{option_map, option_map_or}
 use Rattle.bridge_cards.specs.declared.seat.Seat.{Seat}
 use Rattle.bridge_cards.specs.declared.seat.Seat.TheVariants.{North, East, South, West}
+use Rattle.bridge_cards.specs.Deal.{is_dealt_out}
 use Rattle.bridge_auction.specs.declared.call.Call.{Call}
 use Rattle.bridge_auction.specs.Call.{call_number}
 use Rattle.bridge_play.specs.declared.claim.Claim.{Claim}
@@ -12,6 +13,7 @@ use Rattle.bridge_session.specs.declared.record.Record.{Record}
 use Rattle.bridge_session.specs.declared.record_fields.RecordFields.{RecordFields}
 use Rattle.bridge_session.specs.declared.ruling.Ruling.{Ruling}
 use Rattle.bridge_session.specs.declared.ruling.Ruling.TheVariants as ruling
+use Rattle.bridge_session.specs.ActionBytes.{hands_in}
 use Rattle.bridge_session.specs.Record.{PlainRecord, contract_in, play_of}
 use Rattle.bridge_session.specs.Kept.{plain_of, is_kept_open, IsTiedIn}
 use Rattle.bridge_session.specs.Parts.{two_bytes, text_bytes, claim_bytes, ruling_bytes, is_agreed_in, record_part}
@@ -124,6 +126,16 @@ abbrev pub fields_at : List ℕ → Option Fields
 fields_at bytes =
     option_and_then (λ (calls : List ℕ × List ℕ). option_and_then (λ (cards : List ℕ × List ℕ). claims_at calls.0 cards.0 cards.1)
     (cards_at calls.1)) (calls_at bytes)
+
+-- the deal of the four hands of these bytes, if they are one
+abbrev pub dealt_at : List ℕ → Option (Option (List ℕ))
+dealt_at bytes = option_and_then (λ hands. if is_dealt_out hands then Some (Some hands) else None) (hands_in bytes)
+
+-- the deal of a part, or none where the board is not dealt
+abbrev pub deal_at : List ℕ → Option (Option (List ℕ))
+deal_at [] = None
+deal_at (kind ∷ []) = if kind == 0 then Some None else if kind == 1 then dealt_at [] else None
+deal_at (kind ∷ byte ∷ rest) = if kind == 1 then dealt_at (byte ∷ rest) else None
 
 -- Which records these are
 

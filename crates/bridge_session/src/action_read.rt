@@ -49,7 +49,7 @@ fn read_deal(key: Key, bytes: &[u8]) -> Option<Action>
 }
 
 /// Four hands.
-fn read_hands(bytes: &[u8]) -> Option<[CardSet; 4]>
+pub fn read_hands(bytes: &[u8]) -> Option<[CardSet; 4]>
     ensures { result ≡ hands_in bytes.now }
 {
     if bytes.len() != 32 {

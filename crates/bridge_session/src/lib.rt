@@ -13,6 +13,7 @@ mod action_read;
 pub mod apart;
 mod config_bytes;
 mod correction;
+mod deal_read;
 mod deed;
 pub mod entry;
 pub mod even;
