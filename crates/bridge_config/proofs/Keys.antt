@@ -1,15 +1,15 @@
 -- Keys among keys.
-use Rattle.std.proofs.Common.{◌≡◌, ℕ, Bool, ◌==◌, not, ◌&&◌, ◌||◌, List, [], ◌∷◌, ◌++◌, length, map, get_or, drop, refl, sym, ap, ◌∙◌, inl, inr, suc, arith, ◌<◌, ◌+◌}
+use Rattle.std.proofs.Common.{◌≡◌, ◌↔◌, ℕ, Bool, true, false, All, IsTrue, ◌==◌, not, ◌&&◌, ◌||◌, List, [], ◌∷◌, ◌++◌, length, map, get_or, drop, refl, sym, ap, ◌∙◌, inl, inr, suc, arith, subst, ◌<◌, ◌≤◌, ◌+◌, ◌^◌}
 use Rattle.std.proofs.Math.Seq.{drop-cons}
 use Rattle.std.proofs.lemmas.Bool.{eq-eqb, ne_eqb}
 use Rattle.std.proofs.lemmas.Bool.Decides.{eqb_tells}
 use Rattle.std.specs.List.{list_any}
 use Rattle.bridge_config.specs.declared.fields.Key.{Key}
-use Rattle.std.proofs.lemmas.List.{append-nil, map_push}
+use Rattle.std.proofs.lemmas.List.{append-nil, map_push, get_or_default}
 use Rattle.std.proofs.lemmas.Grind.{flat_map-append}
 use Rattle.bridge_config.specs.declared.fields.PairFields.{PairFields}
 use Rattle.bridge_config.specs.Configuration.{Pair, keys_in, key_number, pair_of}
-use Rattle.bridge_config.specs.Limits.{stands_in, are_distinct}
+use Rattle.bridge_config.specs.Limits.{stands_in, are_distinct, IsKeyNumber, AreKeys}
 
 -- a test of the images of a list is a test of the list
 pub list_any-map : {X Y : Type 0} (p : Y → Bool) (f : X → Y) (xs : List X) → list_any p (map f xs) ≡ list_any (λ x. p (f x)) xs
@@ -34,11 +34,23 @@ pub are_distinct-cons : (key : ℕ) (keys : List ℕ) → are_distinct (key ∷ 
 are_distinct-cons key keys = ap (λ b. not b && are_distinct keys) (flipped key keys)
 
 -- the keys from a place on
-pub are_distinct-drop : (keys : List Key) (place : ℕ) (d : Key) → place < length keys → are_distinct (map key_number (drop place keys)) ≡ (not (stands_in (map key_number (drop (place + 1) keys)) (get_or keys place d).0) && are_distinct (map key_number (drop (place + 1) keys)))
+pub are_distinct-drop : (keys : List ℕ) (place : ℕ) (d : ℕ) → place < length keys → are_distinct (drop place keys) ≡ (not (stands_in (drop (place + 1) keys) (get_or keys place d)) && are_distinct (drop (place + 1) keys))
 are_distinct-drop keys place d within =
     let one : place + 1 ≡ suc place = omega arith in
-    ap (λ (ks : List Key). are_distinct (map key_number ks)) (drop-cons keys place d within ∙ ap (λ n. get_or keys place d ∷ drop n keys) (sym one))
-    ∙ are_distinct-cons (get_or keys place d).0 (map key_number (drop (place + 1) keys))
+    ap are_distinct (drop-cons keys place d within ∙ ap (λ n. get_or keys place d ∷ drop n keys) (sym one))
+    ∙ are_distinct-cons (get_or keys place d) (drop (place + 1) keys)
+
+-- keys of four bytes, by their places
+pub are_numbers : (keys : List ℕ) → ((place : ℕ) → get_or keys place 0 < 2 ^ 32) → All IsKeyNumber keys
+are_numbers keys below place d within =
+    let least = below place in
+    let most : get_or keys place 0 ≤ 4294967295 = omega (arith, least) in
+    subst IsKeyNumber (sym (get_or_default keys place d 0 within)) most
+
+-- keys of four bytes by a test whether one stands twice
+pub keys_told : (keys : List ℕ) (test : Bool) → test ≡ are_distinct keys → All IsKeyNumber keys → IsTrue test ↔ AreKeys keys
+keys_told keys true is numbers = (λ told. record { numbers = numbers; distinct = sym is }, λ are. refl)
+keys_told keys false is numbers = (λ told. absurd (let no : false ≡ true = told in cc), λ are. absurd (let distinct = are.distinct in cc))
 
 -- the keys of one pair more
 pub keys_in-push : (front : List PairFields) (pair : PairFields) → keys_in (map pair_of (front ++ pair ∷ [])) ≡ keys_in (map pair_of front) ++ map key_number pair.keys

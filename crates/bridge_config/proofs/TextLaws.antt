@@ -65,9 +65,8 @@ people_read_spelled text heading moved people within heading_is movement_is peop
         movement = second.rows;
         count = third.count_is;
         pairs = third.within.limits;
-        keys = third.within.distinct;
+        keys = record { numbers = third.within.keys; distinct = third.within.distinct };
       };
-      keys = third.within.keys;
     }
 
 -- the same, where the heading was read and the lines after it gave a configuration
@@ -123,7 +122,7 @@ spelled_is_read text configuration read spelled reads =
     let given : ReadsAfterHeading (Ok (heading, second ++ third)) read =
     subst (λ (r : Result (Heading × List (List ℕ)) ConfigFault). ReadsAfterHeading r read) heading_is reads_after in
     let movement = movement_again configuration.movement second third given.0 spelled.movement short'.0 limits.shape limits.movement given.1 in
-    let are_people : ArePeople people = record { limits = limits.pairs; keys = spelled.keys; distinct = limits.keys } in
+    let are_people : ArePeople people = record { limits = limits.pairs; keys = limits.keys.numbers; distinct = limits.keys.distinct } in
     let few : length configuration.pairs < 2 ^ 64 = omega (arith, limits.count, limits.shape.pairs) in
     let people_is : people_in (length configuration.pairs) movement.0 third ≡ Ok people = people_again movement.0 people few short'.1 are_people in
     let counted : people_in configuration.movement.shape.pairs movement.0 third ≡ Ok people =

@@ -1,5 +1,5 @@
 -- The limits of a configuration.
-use Rattle.std.specs.Prelude.{ℕ, ◌≡◌, ◌+◌, ◌-◌, ◌*◌, nat_le, Bool, true, not, ◌&&◌, ◌||◌, ◌==◌, List, [], ◌∷◌, length, take, drop, slice_index, slice_range, All}
+use Rattle.std.specs.Prelude.{ℕ, ◌≡◌, ◌+◌, ◌-◌, ◌*◌, ◌≤◌, nat_le, Bool, true, not, ◌&&◌, ◌||◌, ◌==◌, List, [], ◌∷◌, length, take, drop, slice_index, slice_range, All}
 use Rattle.std.specs.List.{list_all, list_any}
 use Rattle.std.specs.Char.{is_ascii_alphanumeric, is_ascii_digit}
 use Rattle.bridge_movement.specs.Shape.{IsShape}
@@ -48,7 +48,16 @@ pub record IsPair (pair : Pair) : Type 0 where
   pub two_keys : length pair.keys ≡ 2
   pub names : list_all is_name pair.names ≡ true
 
--- each field is within its limits, there are as many pairs as the movement has, and no key stands twice
+-- a key has four bytes
+abbrev pub IsKeyNumber : ℕ → Type 0
+IsKeyNumber key = key ≤ 4294967295
+
+-- keys, of which none stands twice
+pub record AreKeys (keys : List ℕ) : Type 0 where
+  pub numbers : All IsKeyNumber keys
+  pub distinct : are_distinct keys ≡ true
+
+-- each field is within its limits, and there are as many pairs as the movement has
 pub record IsConfiguration (configuration : Configuration) : Type 0 where
   pub event : is_name configuration.event ≡ true
   pub site : is_name configuration.site ≡ true
@@ -59,4 +68,4 @@ pub record IsConfiguration (configuration : Configuration) : Type 0 where
   pub movement : IsMovement configuration.movement.shape configuration.movement.rows
   pub count : length configuration.pairs ≡ configuration.movement.shape.pairs
   pub pairs : All IsPair configuration.pairs
-  pub keys : are_distinct (keys_of configuration) ≡ true
+  pub keys : AreKeys (keys_of configuration)

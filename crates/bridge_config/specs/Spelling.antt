@@ -79,4 +79,3 @@ pub record Spells (text : List ℕ) (configuration : Configuration) : Type 0 whe
   pub whole : lines text ≡ heading_lines (heading_of configuration)
       ++ (movement_texts ++ people_lines (people_of configuration))
   pub limits : IsConfiguration configuration
-  pub keys : All (λ key. key ≤ 4294967295) (keys_of configuration)

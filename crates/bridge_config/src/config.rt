@@ -1,10 +1,10 @@
-ghost use Rattle.std.specs.Prelude.{◌≡◌, ◌↔◌, ◌≤◌, IsSome, IfSome, IsTrue, length, map, All, true};
+ghost use Rattle.std.specs.Prelude.{◌≡◌, ◌↔◌, ◌≤◌, ◌+◌, ◌++◌, IsSome, IfSome, IsTrue, length, map, All, true};
 ghost use Rattle.std.specs.List.{list_all};
 ghost use Rattle.bridge_config.specs.Configuration.{configuration_of, pair_of, keys_of, key_number};
-ghost use Rattle.bridge_config.specs.Limits.{IsConfiguration, IsPair, is_name, are_distinct};
+ghost use Rattle.bridge_config.specs.Limits.{IsConfiguration, IsPair, is_name};
 
 use crate::fields::{ConfigFields, Key, PairFields};
-use crate::limits::{are_distinct, is_date_form, is_date_within, is_name};
+use crate::limits::{are_keys, is_date_form, is_date_within, is_name};
 use arrayvec::ArrayVec;
 use std::marker::Model;
 
@@ -61,7 +61,7 @@ fn is_within_limits(fields: &ConfigFields) -> bool
         && (1..=3).contains(&fields.boards)
         && fields.pairs.len() == usize::from(shape.pairs)
         && have_names(&fields.pairs)
-        && are_distinct(&keys(fields))
+        && are_keys(&keys(fields))
 }
 
 /// Whether each player has a name.
@@ -78,15 +78,25 @@ fn has_names(pair: &PairFields) -> bool
     is_name(pair.names[0].as_str().as_bytes()) && is_name(pair.names[1].as_str().as_bytes())
 }
 
+fn push_keys(more: &[Key], keys: &mut ArrayVec<u32, 49>)
+    requires { length keys.old.items + length more.now ≤ 49 }
+    ensures keys { keys.new.items ≡ keys.old.items ++ map key_number more.now }
+    ensures count { length keys.new.items ≡ length keys.old.items + length more.now }
+{
+    for key in more {
+        keys.push(key.0);
+    }
+}
+
 /// The director's key and then the players', in order.
-fn keys(fields: &ConfigFields) -> ArrayVec<Key, 49>
-    ensures { map key_number result.items ≡ keys_of (configuration_of fields.now) }
+fn keys(fields: &ConfigFields) -> ArrayVec<u32, 49>
+    ensures { result.items ≡ keys_of (configuration_of fields.now) }
 {
     let pairs = fields.pairs.as_slice();
     let mut keys = ArrayVec::new();
-    keys.push(fields.director);
+    keys.push(fields.director.0);
     for pair in pairs {
-        keys.try_extend_from_slice(&pair.keys).unwrap();
+        push_keys(&pair.keys, &mut keys);
     }
     keys
 }

@@ -1,8 +1,8 @@
 //! The limits of names, dates and keys.
-ghost use Rattle.std.specs.Prelude.{◌≡◌, map, length};
+ghost use Rattle.std.specs.Prelude.{◌≡◌, ◌↔◌, IsTrue, map, length};
 ghost use Rattle.std.specs.List.{list_all};
 ghost use Rattle.bridge_config.specs.Configuration.{key_number};
-ghost use Rattle.bridge_config.specs.Limits.{is_name_byte, is_name, is_date_form, is_date_within, two_digits, are_distinct, stands_in};
+ghost use Rattle.bridge_config.specs.Limits.{is_name_byte, is_name, is_date_form, is_date_within, two_digits, stands_in, AreKeys};
 
 use crate::fields::{Key, NAME_BYTES};
 use line_text::are_digits;
@@ -55,12 +55,12 @@ fn two_digits(tens: u8, ones: u8) -> u32
 }
 
 /// Whether no key stands twice.
-pub fn are_distinct(keys: &[Key]) -> bool
-    ensures { result ≡ are_distinct (map key_number keys.now) }
+pub fn are_keys(keys: &[u32]) -> bool
+    ensures { IsTrue result ↔ AreKeys keys.now }
 {
     for (place, key) in keys.iter().enumerate() {
         let (_, later) = keys.split_at(place + 1);
-        if stands_in(later, *key) {
+        if later.contains(key) {
             return false;
         }
     }
