@@ -18,7 +18,8 @@ use Rattle.bridge_session.specs.declared.seating.Seating.{Seating}
 use Rattle.bridge_session.specs.Record.{PlainRecord}
 use Rattle.bridge_session.specs.State.{State, deal_on, row_at, changed_at, current_place, seating_of, is_of_set}
 use Rattle.bridge_session.specs.Step.{seen_by, seen_deal, seen_records, answer_among, answer_seated, player_answer, acted_among, acted_at, acted}
-use Rattle.bridge_session.specs.Kept.{plain_of, board_kept, state_of, IsTiedIn, IsKept}
+use Rattle.bridge_session.specs.StateRange.{IsSession}
+use Rattle.bridge_session.specs.Kept.{plain_of, board_kept, state_of, StateASession, IsTiedIn, IsKept}
 use Rattle.bridge_session.proofs.Lists.{changed_at-Some, changed_at-None, set_there, at_result}
 
 -- the answer to a player who sits there
@@ -60,9 +61,16 @@ few_row tables place table few is =
     let P : List Record → Type 0 = λ row. length row ≤ 3 in
     subst P (get_or_from_slice_get tables place table [] is) (few place [] (slice_get_within tables place table is))
 
+-- what they state is a session
+pub kept_session : (configuration : Configuration) (round : ℕ) (deals : List (Option (List ℕ))) (tables : List (List Record)) → IsKept configuration round deals tables → IsSession (state_of configuration round deals tables)
+unfolding StateASession
+kept_session configuration round deals tables kept = kept.session
+
 -- the parts are kept
-pub kept_with : (configuration : Configuration) (round : ℕ) (deals : List (Option (List ℕ))) (tables : List (List Record)) (place : ℕ) (table after : List Record) → IsKept configuration round deals tables → slice_get tables place ≡ Some table → map board_kept after ≡ map board_kept table → All (IsTiedIn deals) after → IsKept configuration round deals (slice_set tables place after)
-kept_with configuration round deals tables place table after kept is same tied = record {
+pub kept_with : (configuration : Configuration) (round : ℕ) (deals : List (Option (List ℕ))) (tables : List (List Record)) (place : ℕ) (table after : List Record) → IsKept configuration round deals tables → slice_get tables place ≡ Some table → map board_kept after ≡ map board_kept table → All (IsTiedIn deals) after → IsSession (state_of configuration round deals (slice_set tables place after)) → IsKept configuration round deals (slice_set tables place after)
+unfolding StateASession
+kept_with configuration round deals tables place table after kept is same tied session = record {
+  session = session;
   begun = kept.begun;
   boards = kept.boards;
   rows = length-set tables place after ∙ kept.rows;

@@ -12,9 +12,9 @@ use Rattle.bridge_session.specs.declared.record.Record.{Record}
 use Rattle.bridge_session.specs.declared.refused.Refused.TheVariants.{NotCurrent, NotDealt}
 use Rattle.bridge_session.specs.Record.{PlainRecord, is_open, play_of}
 use Rattle.bridge_session.specs.Deed.{deed_answer, with_deed}
-use Rattle.bridge_session.specs.State.{deal_on, current_place}
+use Rattle.bridge_session.specs.State.{deal_on, current_place, hands_on}
 use Rattle.bridge_session.specs.Step.{answer_current, answer_dealt, acted_among}
-use Rattle.bridge_session.specs.Kept.{plain_of, is_kept_open, after_deed, hands_on, IsTied, IsTiedIn}
+use Rattle.bridge_session.specs.Kept.{plain_of, is_kept_open, after_deed, IsTied, IsTiedIn}
 use Rattle.bridge_session.proofs.Lists.{position_or_len-map, position_is, position_none, changed_at-Some}
 use Rattle.bridge_session.proofs.Tied.{open_same, after_is, IsAfter}
 

@@ -13,9 +13,10 @@ use Rattle.bridge_session.specs.declared.record.Record.{Record}
 use Rattle.bridge_session.specs.Record.{playing_in, contract_in}
 use Rattle.bridge_session.specs.declared.refused.Refused.{Refused}
 use Rattle.bridge_session.specs.declared.refused.Refused.TheVariants.{Closed, NoSuchPlay, AlreadyDealt, BadDeal}
-use Rattle.bridge_session.specs.State.{State, deal_on, is_closed}
+use Rattle.bridge_session.specs.State.{State, deal_on, hands_on, is_closed}
 use Rattle.bridge_session.specs.Step.{deal_answer}
-use Rattle.bridge_session.specs.Kept.{plain_of, hands_on, IsTied, IsTiedIn, IsKept}
+use Rattle.bridge_session.specs.StateRange.{IsSession}
+use Rattle.bridge_session.specs.Kept.{plain_of, state_of, StateASession, IsTied, IsTiedIn, IsKept}
 use Rattle.bridge_session.proofs.Tied.{no_contract}
 
 -- a record without calls has no play, and is tied to any hands
@@ -50,8 +51,10 @@ tied_dealt deals board hands kept none tied =
           }
     ]
 
-pub kept_dealt : (configuration : Configuration) (round : ℕ) (deals : List (Option (List ℕ))) (tables : List (List Record)) (board : ℕ) (hands : List ℕ) → deal_on deals board ≡ None → IsKept configuration round deals tables → IsKept configuration round (slice_set deals (board - 1) (Some hands)) tables
-kept_dealt configuration round deals tables board hands none kept = record {
+pub kept_dealt : (configuration : Configuration) (round : ℕ) (deals : List (Option (List ℕ))) (tables : List (List Record)) (board : ℕ) (hands : List ℕ) → deal_on deals board ≡ None → IsSession (state_of configuration round (slice_set deals (board - 1) (Some hands)) tables) → IsKept configuration round deals tables → IsKept configuration round (slice_set deals (board - 1) (Some hands)) tables
+unfolding StateASession
+kept_dealt configuration round deals tables board hands none session kept = record {
+  session = session;
   begun = kept.begun;
   boards = length-set deals (board - 1) (Some hands) ∙ kept.boards;
   rows = kept.rows;

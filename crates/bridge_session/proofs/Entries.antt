@@ -12,9 +12,9 @@ use Rattle.bridge_session.specs.declared.ruling.Ruling.{Ruling}
 use Rattle.bridge_session.specs.declared.ruling.Ruling.TheVariants as ruling
 use Rattle.bridge_session.specs.Record.{PlainRecord, playing_in, contract_in}
 use Rattle.bridge_session.specs.Outcome.{outcome_by, outcome_of}
-use Rattle.bridge_session.specs.State.{row_place, row_at}
+use Rattle.bridge_session.specs.State.{row_place, row_at, hands_on}
 use Rattle.bridge_session.specs.Step.{is_row_within, record_of}
-use Rattle.bridge_session.specs.Kept.{plain_of, hands_on, state_of, IsTiedIn}
+use Rattle.bridge_session.specs.Kept.{plain_of, state_of, IsTiedIn}
 use Rattle.bridge_session.proofs.Acted.{row_at_is}
 
 -- what holds of each element holds of the one at a place

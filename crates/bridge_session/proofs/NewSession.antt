@@ -9,10 +9,13 @@ use Rattle.bridge_movement.specs.declared.row.Row.{Row}
 use Rattle.bridge_movement.specs.Row.{is_live}
 use Rattle.bridge_movement.specs.Shape.{row_count}
 use Rattle.bridge_config.specs.Configuration.{Configuration}
+use Rattle.bridge_config.specs.Limits.{IsConfiguration}
 use Rattle.bridge_session.specs.declared.record.Record.{Record}
 use Rattle.bridge_session.specs.Record.{PlainRecord, empty_record}
 use Rattle.bridge_session.specs.State.{State, opening, opening_row, row_boards}
-use Rattle.bridge_session.specs.Kept.{plain_of, board_kept, state_of, new_record, new_table, IsTiedIn, IsKept}
+use Rattle.bridge_session.specs.StateRange.{IsSession}
+use Rattle.bridge_session.specs.Kept.{plain_of, board_kept, state_of, StateASession, new_record, new_table, IsTiedIn, IsKept}
+use Rattle.bridge_session.proofs.SessionStays.{opening_session}
 
 -- a new record is tied to whatever is dealt
 new_tied : (deals : List (Option (List ℕ))) (board : ℕ) → IsTiedIn deals (new_record board)
@@ -60,8 +63,17 @@ pub record IsNew (configuration : Configuration) (dealt : List (Option (List ℕ
   pub deals : dealt ≡ replicate (configuration.movement.shape.sets * configuration.boards) None
   pub tables : lists ≡ map (new_table configuration.boards) configuration.movement.rows
 
-pub new_is_kept : (configuration : Configuration) (deals : List (Option (List ℕ))) (tables : List (List Record)) → IsNew configuration deals tables → IsKept configuration 1 deals tables
-new_is_kept configuration deals tables parts = record {
+pub new_is_opening : (configuration : Configuration) (deals : List (Option (List ℕ))) (tables : List (List Record)) → IsNew configuration deals tables → state_of configuration 1 deals tables ≡ opening configuration
+new_is_opening configuration deals tables parts =
+    let made : List (Option (List ℕ)) → List (List PlainRecord) → State = λ d r. record { configuration = configuration; round = 1; deals = d; records = r } in
+    ap (λ d. made d (map (map plain_of) tables)) parts.deals
+    ∙ ap (made (replicate (configuration.movement.shape.sets * configuration.boards) None))
+    (ap (map (map plain_of)) parts.tables ∙ rows_seen configuration.boards configuration.movement.rows)
+
+pub new_is_kept : (configuration : Configuration) (deals : List (Option (List ℕ))) (tables : List (List Record)) → IsConfiguration configuration → IsNew configuration deals tables → IsKept configuration 1 deals tables
+unfolding StateASession
+new_is_kept configuration deals tables limits parts = record {
+  session = subst IsSession (sym (new_is_opening configuration deals tables parts)) (opening_session configuration limits);
   begun = omega arith;
   boards = ap length parts.deals ∙ length-replicate (configuration.movement.shape.sets * configuration.boards) None;
   few = subst (All (λ (row : List Record). length row ≤ 3)) (sym parts.tables)
@@ -71,10 +83,3 @@ new_is_kept configuration deals tables parts = record {
   tied = subst (All (All (IsTiedIn deals))) (sym parts.tables)
       (All-map (All (IsTiedIn deals)) (new_table configuration.boards) configuration.movement.rows (λ k d within. new_row_tied deals configuration.boards (slice_index_or configuration.movement.rows k d)));
 }
-
-pub new_is_opening : (configuration : Configuration) (deals : List (Option (List ℕ))) (tables : List (List Record)) → IsNew configuration deals tables → state_of configuration 1 deals tables ≡ opening configuration
-new_is_opening configuration deals tables parts =
-    let made : List (Option (List ℕ)) → List (List PlainRecord) → State = λ d r. record { configuration = configuration; round = 1; deals = d; records = r } in
-    ap (λ d. made d (map (map plain_of) tables)) parts.deals
-    ∙ ap (made (replicate (configuration.movement.shape.sets * configuration.boards) None))
-    (ap (map (map plain_of)) parts.tables ∙ rows_seen configuration.boards configuration.movement.rows)

@@ -4,14 +4,14 @@ use Rattle.std.specs.List.{range_with_len}
 use Rattle.std.proofs.lemmas.List.{ext_get_or}
 use Rattle.std.proofs.lemmas.List.FromFn.{length-map-range_with_len, get_or-map-range_with_len}
 use Rattle.bridge_config.specs.Configuration.{Pair}
-use Rattle.bridge_config.specs.Limits.{IsPair}
+use Rattle.bridge_config.specs.Limits.{IsKeyNumber, IsPair}
 use Rattle.bridge_movement.specs.declared.row.Row.{Row}
 use Rattle.bridge_movement.specs.declared.shape.Shape.{Shape}
 use Rattle.bridge_movement.specs.Fair.{IsComplete}
 use Rattle.bridge_movement.specs.Shape.{row_count}
 use Rattle.bridge_session.specs.Parts.{text_bytes, four_bytes, eight_bytes, row_bytes, movement_part, pair_part, deal_part}
 use Rattle.bridge_session.specs.PartsRead.{text_in, after_text, key_in, second_player, pair_in, row_in, rows_in, deal_of}
-use Rattle.bridge_session.specs.StateRange.{IsKeyNumber, AreHands, AreHandsOrNone}
+use Rattle.bridge_session.specs.StateRange.{AreHands, AreHandsOrNone}
 use Rattle.bridge_session.proofs.BytesBack.{text_back, after_back, key_back, hand_back}
 use Rattle.bridge_session.proofs.PartLemmas.{flat_fixed_place}
 
@@ -25,11 +25,11 @@ two_back a b k l k_small l_small =
     let part_is : part ≡ text_bytes a ++ (four_bytes k ++ second) = append_assoc (text_bytes a) (four_bytes k) second in
     let after_first : after_text part ≡ four_bytes k ++ second = ap after_text part_is ∙ after_back a (four_bytes k ++ second) in
     let first_name : text_in part ≡ a = ap text_in part_is ∙ text_back a (four_bytes k ++ second) in
-    let first_key : key_in (after_text part) ≡ k = ap key_in after_first ∙ key_back k second k_small in
+    let first_key : key_in (after_text part) ≡ k = ap key_in after_first ∙ key_back k second (omega (arith, k_small)) in
     let second_is : second_player part ≡ second = ap (drop 4) after_first in
     let second_name : text_in (second_player part) ≡ b = ap text_in second_is ∙ text_back b (four_bytes l) in
     let second_key : key_in (after_text (second_player part)) ≡ l
-    = ap (λ bytes. key_in (after_text bytes)) second_is ∙ ap key_in (after_back b (four_bytes l)) ∙ key_back l [] l_small in
+    = ap (λ bytes. key_in (after_text bytes)) second_is ∙ ap key_in (after_back b (four_bytes l)) ∙ key_back l [] (omega (arith, l_small)) in
     λ i. record { names = first_name i ∷ second_name i ∷ []; keys = first_key i ∷ second_key i ∷ [] }
 
 pub pair_back : (pair : Pair) → IsPair pair → All IsKeyNumber pair.keys → pair_in (pair_part pair) ≡ pair

@@ -20,10 +20,9 @@ use Rattle.bridge_play.specs.Play.{IsPlay}
 use Rattle.bridge_play.proofs.LegalCards.{legal_cards_few}
 use Rattle.bridge_session.specs.declared.ruling.Ruling.{Ruling}
 use Rattle.bridge_session.specs.declared.ruling.Ruling.TheVariants as ruling
-use Rattle.bridge_session.specs.Kept.{hands_on}
 use Rattle.bridge_session.specs.Parts.{eight_bytes, configuration_part, row_bytes, movement_part, player_bytes, pair_part, deal_part, is_agreed_in, claim_bytes, ruling_bytes, record_part, record_or_empty, row_parts, play_parts, board_parts, pair_parts, parts_of}
 use Rattle.bridge_session.specs.Record.{PlainRecord, empty_record, contract_in, playing_in}
-use Rattle.bridge_session.specs.State.{State, deal_on, row_boards}
+use Rattle.bridge_session.specs.State.{State, deal_on, row_boards, hands_on}
 use Rattle.bridge_session.specs.StateRange.{AreHands, AreHandsOrNone, IsSession}
 use Rattle.bridge_session.specs.Valid.{IsDealtOut, IsDealOrNone, board_of, IsValidRecord}
 use Rattle.bridge_session.proofs.DealtOut.{dealt_is_deal}

@@ -1,11 +1,18 @@
 -- The tables of a round, as they are kept and as they are seen.
-use Rattle.std.proofs.Common.{◌≡◌, ℕ, zero, suc, Bool, ◌||◌, List, [], ◌∷◌, Option, refl, sym, ap, ◌∙◌, arith, take, drop, Vec, Global}
+use Rattle.std.proofs.Common.{◌≡◌, ◌+◌, ◌==◌, ℕ, zero, suc, Bool, true, false, not, cond, ◌||◌, List, [], ◌∷◌, Option, Result, Ok, Err, refl, sym, ap, ◌∙◌, arith, take, drop, Vec, Global}
 use Rattle.std.specs.Prelude.{All, map}
 use Rattle.std.specs.List.{list_any}
+use Rattle.std.proofs.lemmas.Bool.{eq-eqb}
 use Rattle.std.proofs.lemmas.List.{take-map, drop-map}
 use Rattle.bridge_session.specs.declared.record.Record.{Record}
 use Rattle.bridge_session.specs.Record.{is_open}
-use Rattle.bridge_session.specs.Kept.{plain_of, is_kept_open, hands_on, IsTiedIn}
+use Rattle.bridge_config.specs.Configuration.{Configuration}
+use Rattle.bridge_session.specs.declared.refused.Refused.{Refused}
+use Rattle.bridge_session.specs.declared.refused.Refused.TheVariants.{Closed, Stale, RoundOpen}
+use Rattle.bridge_session.specs.State.{State, is_closed, hands_on}
+use Rattle.bridge_session.specs.Step.{records_of_round, next_answer}
+use Rattle.bridge_session.specs.StateRange.{IsSession}
+use Rattle.bridge_session.specs.Kept.{plain_of, state_of, is_kept_open, StateASession, IsTiedIn, IsKept}
 use Rattle.bridge_session.proofs.Tied.{open_same}
 use Rattle.bridge_session.proofs.Acted.{lists_in}
 
@@ -42,3 +49,24 @@ open_of_round deals vectors count start tied =
     among (λ (table : Vec Record Global). list_any is_kept_open table.items) count start vectors
     ∙ ap (λ bs. list_any (λ b. b) (take count (drop start bs))) (sym (open_tables deals vectors tied))
     ∙ sym (among (list_any is_open) count start (map (map plain_of) (lists_in vectors)))
+
+-- the answer to the end of a round none of whose plays is open
+pub next_accepted : (s : State) → is_closed s.configuration s.round ≡ false → list_any (list_any is_open) (records_of_round s) ≡ false → next_answer s s.round ≡ Ok tt
+next_accepted s begun none =
+    let third : Bool → Result (Unit {0}) Refused = λ b. cond b (Err RoundOpen) (Ok tt) in
+    let second : Bool → Result (Unit {0}) Refused = λ b. cond (not b) (Err Stale) (third (list_any (list_any is_open) (records_of_round s))) in
+    let first : Bool → Result (Unit {0}) Refused = λ b. cond b (Err Closed) (second (s.round == s.round)) in
+    ap first begun ∙ ap second (eq-eqb s.round s.round refl) ∙ ap third none
+
+-- the parts in the next round
+pub kept_next : (configuration : Configuration) (round : ℕ) (deals : List (Option (List ℕ))) (tables : List (List Record)) → IsKept configuration round deals tables → IsSession (state_of configuration (round + 1) deals tables) → IsKept configuration (round + 1) deals tables
+unfolding StateASession
+kept_next configuration round deals tables kept session = record {
+  session = session;
+  begun = omega arith;
+  boards = kept.boards;
+  rows = kept.rows;
+  tied = kept.tied;
+  few = kept.few;
+  boards_are = kept.boards_are;
+}

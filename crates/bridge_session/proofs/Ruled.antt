@@ -13,9 +13,9 @@ use Rattle.bridge_session.specs.declared.record.Record.{Record}
 use Rattle.bridge_session.specs.declared.refused.Refused.TheVariants.{NotYet}
 use Rattle.bridge_session.specs.Record.{PlainRecord, play_of, playing_in, contract_in}
 use Rattle.bridge_session.specs.Correction.{ruling_answer}
-use Rattle.bridge_session.specs.State.{changed_at}
+use Rattle.bridge_session.specs.State.{changed_at, hands_on}
 use Rattle.bridge_session.specs.Step.{rule_answer}
-use Rattle.bridge_session.specs.Kept.{plain_of, hands_on, with_kept_ruling, kept_rule_answer, IsTiedIn}
+use Rattle.bridge_session.specs.Kept.{plain_of, with_kept_ruling, kept_rule_answer, IsTiedIn}
 use Rattle.bridge_session.proofs.Lists.{changed_at-Some, changed_at-None}
 
 -- the answer to a ruling does not depend on the hands

@@ -5,14 +5,14 @@ use Rattle.std.proofs.lemmas.Bool.{eqb-true, and_parts}
 use Rattle.std.proofs.lemmas.List.{length-map, length-append, get_or_append_left, get_or-append-add}
 use Rattle.std.proofs.lemmas.List.Elements.{All-nil, All-cons, All-head, All-tail}
 use Rattle.bridge_config.specs.Configuration.{Configuration, Pair, keys_in}
-use Rattle.bridge_config.specs.Limits.{IsConfiguration}
+use Rattle.bridge_config.specs.Limits.{IsKeyNumber, IsConfiguration}
 use Rattle.bridge_movement.specs.declared.shape.Shape.{Shape}
 use Rattle.bridge_score.specs.declared.ranking.Scoring.{Scoring}
 use Rattle.bridge_score.specs.declared.ranking.Scoring.TheVariants.{MatchPoints, Imps}
 use Rattle.bridge_session.specs.Parts.{text_bytes, four_bytes, scoring_number, size_bytes, configuration_part, movement_part, pair_part, deal_part, play_parts, board_parts, pair_parts, parts_of}
 use Rattle.bridge_session.specs.PartsRead.{text_in, after_text, scoring_at, numbers_in, shape_in, rows_in, key_in, pair_in, configuration_in, deal_of, tables_in, state_with, state_read}
 use Rattle.bridge_session.specs.State.{State}
-use Rattle.bridge_session.specs.StateRange.{IsKeyNumber, IsSession}
+use Rattle.bridge_session.specs.StateRange.{IsSession}
 use Rattle.bridge_session.proofs.BytesBack.{take_front, drop_front, all_back, text_back, after_back, key_back}
 use Rattle.bridge_session.proofs.PairBack.{pair_back, rows_back, deal_back}
 use Rattle.bridge_session.proofs.SessionRecords.{written}
@@ -78,7 +78,7 @@ module _ (c : Configuration) (round : ℕ) (is : IsConfiguration c) (director : 
       let rows : rows_in (shape_in (numbers_in heading)) movement ≡ c.movement.rows
       = ap (λ (sh : Shape). rows_in sh movement) shape ∙ rows_back c.movement.shape c.movement.rows is.movement.complete in
       let key : key_in (drop 7 (numbers_in heading)) ≡ c.director
-      = ap (λ ns. key_in (drop 7 ns)) numbers_back ∙ key_back c.director (round ∷ []) director in
+      = ap (λ ns. key_in (drop 7 ns)) numbers_back ∙ key_back c.director (round ∷ []) (omega (arith, director)) in
       let count : slice_index (numbers_in heading) 5 ≡ c.movement.shape.pairs = ap (λ ns. slice_index ns 5) numbers_back in
       let long : length (map pair_part c.pairs) ≡ c.movement.shape.pairs = length-map c.pairs pair_part ∙ is.count in
       let each : All (λ (pair : Pair). pair_in (pair_part pair) ≡ pair) c.pairs
@@ -115,8 +115,8 @@ pub session_back : (s : State) → IsSession s → state_read (parts_of s) ≡ s
 session_back s is =
     let c : Configuration = s.configuration in
     let limits : IsConfiguration c = is.valid.configured in
-    let director : IsKeyNumber c.director = All-head IsKeyNumber c.director (keys_in c.pairs) is.ranges.keys in
-    let keys : All IsKeyNumber (keys_in c.pairs) = All-tail IsKeyNumber c.director (keys_in c.pairs) is.ranges.keys in
+    let director : IsKeyNumber c.director = All-head IsKeyNumber c.director (keys_in c.pairs) is.valid.configured.keys.numbers in
+    let keys : All IsKeyNumber (keys_in c.pairs) = All-tail IsKeyNumber c.director (keys_in c.pairs) is.valid.configured.keys.numbers in
     let heading : List ℕ = configuration_part c s.round in
     let numbers = numbers_back c s.round limits director keys (board_parts s) in
     let configuration : configuration_in heading (movement_part c.movement.rows) (pair_parts s) ≡ c

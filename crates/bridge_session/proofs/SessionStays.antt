@@ -1,21 +1,21 @@
 -- The opening is a session, and an accepted action makes one of one.
 use Rattle.std.proofs.Common.{◌≡◌, Ok, All}
-use Rattle.bridge_config.specs.Configuration.{Configuration, keys_of}
+use Rattle.bridge_config.specs.Configuration.{Configuration}
 use Rattle.bridge_config.specs.Limits.{IsConfiguration}
 use Rattle.bridge_session.specs.declared.action.Action.{Action}
 use Rattle.bridge_session.specs.ActionRange.{IsInRange}
 use Rattle.bridge_session.specs.State.{State, opening}
-use Rattle.bridge_session.specs.StateRange.{IsKeyNumber, IsSession}
+use Rattle.bridge_session.specs.StateRange.{IsSession}
 use Rattle.bridge_session.specs.Step.{step_answer, changed}
 use Rattle.bridge_session.proofs.ActionInRange.{range_is_action}
 use Rattle.bridge_session.proofs.StateRanges.{opening_in_range, changed_in_range}
 use Rattle.bridge_session.proofs.StaysValid.{opening_valid}
 use Rattle.bridge_session.proofs.ValidStep.{step_valid}
 
-pub opening_session : (configuration : Configuration) → IsConfiguration configuration → All IsKeyNumber (keys_of configuration) → IsSession (opening configuration)
-opening_session configuration limits keys = record {
+pub opening_session : (configuration : Configuration) → IsConfiguration configuration → IsSession (opening configuration)
+opening_session configuration limits = record {
   valid = opening_valid configuration limits;
-  ranges = opening_in_range configuration keys;
+  ranges = opening_in_range configuration;
 }
 
 pub step_session : (action : Action) (s : State) → IsInRange action → IsSession s → step_answer s action ≡ Ok tt → IsSession (changed s action)

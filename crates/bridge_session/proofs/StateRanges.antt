@@ -6,7 +6,7 @@ use Rattle.std.proofs.lemmas.List.Elements.{All-set, All-map, All-replicate}
 use Rattle.std.proofs.lemmas.Option.{slice_get_within, get_or_from_slice_get}
 use Rattle.bridge_cards.specs.declared.seat.Seat.{Seat}
 use Rattle.bridge_cards.specs.Seat.{seat_number}
-use Rattle.bridge_config.specs.Configuration.{Configuration, keys_of}
+use Rattle.bridge_config.specs.Configuration.{Configuration}
 use Rattle.bridge_play.specs.declared.claim.Claim.{Claim}
 use Rattle.bridge_play.specs.Claims.{with_agreed}
 use Rattle.bridge_session.specs.declared.action.Action.{Action}
@@ -23,7 +23,7 @@ use Rattle.bridge_session.specs.Deed.{with_deed}
 use Rattle.bridge_session.specs.Numbers.{IsTrickCount}
 use Rattle.bridge_session.specs.Record.{PlainRecord, empty_record}
 use Rattle.bridge_session.specs.State.{State, opening, opening_row, row_boards, row_place, seating_of, changed_at, current_place}
-use Rattle.bridge_session.specs.StateRange.{IsKeyNumber, AreHandsOrNone, IsOfFourSeats, IsRecordInRange, IsStateInRange}
+use Rattle.bridge_session.specs.StateRange.{IsCorrectionInRange, AreHandsOrNone, IsOfFourSeats, IsRecordInRange, IsStateInRange}
 use Rattle.bridge_session.specs.Step.{acted_among, acted_at, with_ruling, ruled, changed}
 
 -- one element is changed
@@ -48,10 +48,9 @@ deed_in_range seat (deed.Claim tricks) plain is = record { claim = refl; ruling 
 deed_in_range seat deed.Agree plain is = record { claim = agreed_in_range seat plain.claim is.claim; ruling = is.ruling }
 deed_in_range seat deed.Refuse plain is = record { claim = tt; ruling = is.ruling }
 
-acted_in_range : (s : State) (done : Deed) (at : Result Seating Refused) → IsStateInRange s → IsStateInRange (acted_at s done at)
+pub acted_in_range : (s : State) (done : Deed) (at : Result Seating Refused) → IsStateInRange s → IsStateInRange (acted_at s done at)
 acted_in_range s done (Err refused) is = is
 acted_in_range s done (Ok seating) is = record {
-  keys = is.keys;
   deals = is.deals;
   records = all_changed (All IsRecordInRange) (acted_among seating.seat done) s.records seating.place
       (λ records all. all_changed IsRecordInRange (with_deed seating.seat done) records (current_place records) (deed_in_range seating.seat done) all)
@@ -59,19 +58,13 @@ acted_in_range s done (Ok seating) is = record {
 }
 
 -- a ruling
-abbrev IsCorrectionInRange : Correction → Type 0
-IsCorrectionInRange (correction.Tricks tricks) = IsTrickCount tricks
-IsCorrectionInRange correction.Void = Unit {0}
-IsCorrectionInRange correction.Restore = Unit {0}
-
 ruling_in_range : (made : Correction) (plain : PlainRecord) → IsCorrectionInRange made → IsRecordInRange plain → IsRecordInRange (with_ruling made plain)
 ruling_in_range (correction.Tricks tricks) plain few is = record { claim = is.claim; ruling = few }
 ruling_in_range correction.Void plain few is = record { claim = is.claim; ruling = tt }
 ruling_in_range correction.Restore plain few is = record { claim = is.claim; ruling = tt }
 
-ruled_in_range : (s : State) (play : PlayId) (made : Correction) → IsCorrectionInRange made → IsStateInRange s → IsStateInRange (ruled s play made)
+pub ruled_in_range : (s : State) (play : PlayId) (made : Correction) → IsCorrectionInRange made → IsStateInRange s → IsStateInRange (ruled s play made)
 ruled_in_range s play made few is = record {
-  keys = is.keys;
   deals = is.deals;
   records = all_changed (All IsRecordInRange) (λ records. changed_at (with_ruling made) records (play.index - 1)) s.records
       (row_place s.configuration.movement.shape play.round play.table)
@@ -82,7 +75,6 @@ ruled_in_range s play made few is = record {
 -- each action
 pub changed_in_range : (a : Action) (s : State) → IsInRange a → IsStateInRange s → IsStateInRange (changed s a)
 changed_in_range (action.Deal key board hands) s ranges is = record {
-  keys = is.keys;
   deals = All-set AreHandsOrNone s.deals (board - 1) (Some hands) (ranges.2, ranges.3) is.deals;
   records = is.records;
 }
@@ -91,15 +83,14 @@ changed_in_range (action.Card key board at card) s ranges is = acted_in_range s 
 changed_in_range (action.Claim key board at tricks) s ranges is = acted_in_range s (deed.Claim tricks) (seating_of s.configuration s.round key.0) is
 changed_in_range (action.Agree key board at) s ranges is = acted_in_range s deed.Agree (seating_of s.configuration s.round key.0) is
 changed_in_range (action.Refuse key board at) s ranges is = acted_in_range s deed.Refuse (seating_of s.configuration s.round key.0) is
-changed_in_range (action.NextRound key round) s ranges is = record { keys = is.keys; deals = is.deals; records = is.records }
+changed_in_range (action.NextRound key round) s ranges is = record { deals = is.deals; records = is.records }
 changed_in_range (action.Tricks key play tricks) s ranges is = ruled_in_range s play (correction.Tricks tricks) ranges.2 is
 changed_in_range (action.Void key play) s ranges is = ruled_in_range s play correction.Void tt is
 changed_in_range (action.Restore key play) s ranges is = ruled_in_range s play correction.Restore tt is
 
 -- the opening
-pub opening_in_range : (configuration : Configuration) → All IsKeyNumber (keys_of configuration) → IsStateInRange (opening configuration)
-opening_in_range configuration keys = record {
-  keys = keys;
+pub opening_in_range : (configuration : Configuration) → IsStateInRange (opening configuration)
+opening_in_range configuration = record {
   deals = All-replicate AreHandsOrNone (configuration.movement.shape.sets * configuration.boards) None tt;
   records = All-map (All IsRecordInRange) (opening_row configuration.boards) configuration.movement.rows
       (λ place row within. All-map IsRecordInRange empty_record (row_boards configuration.boards (get_or configuration.movement.rows place row)) (λ k board below. record { claim = tt; ruling = tt }));

@@ -33,9 +33,8 @@ use Rattle.bridge_session.specs.declared.ruling.Ruling.{Ruling}
 use Rattle.bridge_session.specs.declared.ruling.Ruling.TheVariants as ruling
 use Rattle.bridge_session.specs.Deed.{renamed, from_call, from_card, from_claim, from_consent, counted, deed_answer, answer_if_play, answer_in_play, with_deed}
 use Rattle.bridge_session.specs.Record.{PlainRecord, bidding_of, contract_in, playing_in, play_of, is_finished, is_void, is_open}
-use Rattle.bridge_session.specs.State.{deal_on}
-use Rattle.bridge_session.specs.Kept.{hands_on}
-use Rattle.bridge_session.specs.Valid.{MayStand, IsUnplayed, IsValidRecord}
+use Rattle.bridge_session.specs.State.{deal_on, hands_on}
+use Rattle.bridge_session.specs.Valid.{MayStand, IsUnplayed, IsValidRecord, IsDeed}
 use Rattle.bridge_session.proofs.Lists.{not_refused, not_false}
 use Rattle.bridge_session.proofs.Tied.{no_contract}
 use Rattle.bridge_session.proofs.StaysValid.{none_of}
@@ -261,14 +260,6 @@ by_contract : (hands : List ℕ) (x : PlainRecord) (play : Option Contract) (con
 by_contract hands x None contract seat at done ok is = absurd cc
 by_contract hands x (Some other) contract seat at done ok is =
     let same : other ≡ contract = cc in subst (λ k. answer_in_play (playing_in hands x k) seat at done ≡ Ok tt) same ok
-
--- what holds of a deed: a call is a call
-abbrev pub IsDeed : Deed → Type 0
-IsDeed (deed.Call made) = IsCall made
-IsDeed (deed.Card card) = Unit {0}
-IsDeed (deed.Claim tricks) = Unit {0}
-IsDeed deed.Agree = Unit {0}
-IsDeed deed.Refuse = Unit {0}
 
 pub deed_valid : (deals : List (Option (List ℕ))) (now round : ℕ) (hands : List ℕ) (seat : Seat) (at : ℕ) (done : Deed) (x : PlainRecord) → round ≡ now → deal_on deals x.board ≡ Some hands → is_open x ≡ true → IsDeed done → deed_answer (bidding_of x) (play_of hands x) seat at done ≡ Ok tt → IsValidRecord deals now round x → IsValidRecord deals now round (with_deed seat done x)
 deed_valid deals now round hands seat at (deed.Call made) x current dealt open_play known ok valid =

@@ -13,9 +13,8 @@ use Rattle.bridge_movement.specs.declared.row.Row.{Row}
 use Rattle.bridge_play.specs.Play.{IsPlay}
 use Rattle.bridge_session.specs.declared.refused.Refused.TheVariants.{Closed, Stale, RoundOpen, NoSuchPlay, AlreadyDealt, BadDeal}
 use Rattle.bridge_session.specs.Record.{PlainRecord, playing_in, play_of, is_open}
-use Rattle.bridge_session.specs.State.{State, deal_on, is_closed}
+use Rattle.bridge_session.specs.State.{State, deal_on, is_closed, hands_on}
 use Rattle.bridge_session.specs.Step.{deal_answer, next_answer, records_of_round}
-use Rattle.bridge_session.specs.Kept.{hands_on}
 use Rattle.bridge_session.specs.Valid.{IsValidRecord, IsDealOrNone, IsValid}
 use Rattle.bridge_session.proofs.Lists.{not_refused, not_false}
 use Rattle.bridge_session.proofs.Tied.{no_contract}

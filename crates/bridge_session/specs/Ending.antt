@@ -11,10 +11,9 @@ use Rattle.bridge_session.specs.declared.action.PlayId.{PlayId}
 use Rattle.bridge_session.specs.declared.refused.Refused.{Refused}
 use Rattle.bridge_session.specs.declared.refused.Refused.TheVariants.{NoSuchPlay, NotYet, NoContract, NotAnEnding}
 use Rattle.bridge_session.specs.Record.{PlainRecord, play_of}
-use Rattle.bridge_session.specs.State.{State, director_answer}
+use Rattle.bridge_session.specs.State.{State, director_answer, hands_on}
 use Rattle.bridge_session.specs.Step.{record_of}
 use Rattle.bridge_session.specs.See.{cards_left}
-use Rattle.bridge_session.specs.Kept.{hands_on}
 
 -- the cards of each hand in order, North's first and then clockwise, the trump suit if there is one, and the seat to lead
 pub record PlainEnding : Type 0 where

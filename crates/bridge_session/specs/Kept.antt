@@ -18,7 +18,8 @@ use Rattle.bridge_session.specs.Correction.{ruling_by, ruling_answer}
 use Rattle.bridge_movement.specs.declared.row.Row.{Row}
 use Rattle.bridge_movement.specs.Shape.{row_count}
 use Rattle.bridge_config.specs.Configuration.{Configuration}
-use Rattle.bridge_session.specs.State.{State, deal_on, row_boards}
+use Rattle.bridge_session.specs.State.{State, deal_on, hands_on, row_boards}
+use Rattle.bridge_session.specs.StateRange.{IsSession}
 use Rattle.bridge_session.specs.declared.game.Game.{Game}
 use Rattle.bridge_session.specs.Record.{PlainRecord, play_of, is_done, is_void}
 use Rattle.bridge_session.specs.Outcome.{outcome_by}
@@ -64,10 +65,6 @@ after_deed hands seat deed.Refuse kept = record kept { play = option_map without
 abbrev pub kept_ruling_answer : Record → Correction → Bool → Result (Unit {0}) Refused
 kept_ruling_answer kept correction round_is_over = ruling_answer kept.auction.calls kept.play correction round_is_over
 
--- the hands of a board, once it is dealt
-abbrev pub hands_on : List (Option (List ℕ)) → ℕ → List ℕ
-hands_on deals board = unwrap_or (deal_on deals board) []
-
 -- the record is tied to the deal of its board, and has calls only where the board is dealt
 pub record IsTiedIn (deals : List (Option (List ℕ))) (kept : Record) : Type 0 where
   pub tied : IsTied (hands_on deals kept.board) kept
@@ -76,9 +73,23 @@ pub record IsTiedIn (deals : List (Option (List ℕ))) (kept : Record) : Type 0 
 abbrev pub board_kept : Record → ℕ
 board_kept kept = kept.board
 
--- the parts of a session, of which there are as many as the configuration says, and whose records are tied to the deals
--- and of the boards of their rows
+-- what contracts see of a session
+abbrev pub state_of : Configuration → ℕ → List (Option (List ℕ)) → List (List Record) → State
+state_of configuration round deals tables = record {
+  configuration = configuration;
+  round = round;
+  deals = deals;
+  records = map (map plain_of) tables;
+}
+
+-- what the parts of a session state is a session
+unfoldable pub StateASession : Configuration → ℕ → List (Option (List ℕ)) → List (List Record) → Type 0
+StateASession configuration round deals tables = IsSession (state_of configuration round deals tables)
+
+-- The parts of a session: they state one, there are as many as the configuration says, and the records are tied to
+-- the deals and of the boards of their rows.
 pub record IsKept (configuration : Configuration) (round : ℕ) (deals : List (Option (List ℕ))) (tables : List (List Record)) : Type 0 where
+  pub session : StateASession configuration round deals tables
   pub begun : 1 ≤ round
   pub boards : length deals ≡ configuration.movement.shape.sets * configuration.boards
   pub rows : length tables ≡ row_count configuration.movement.shape
@@ -99,15 +110,6 @@ abbrev pub kept_rule_answer : ℕ → ℕ → Correction → Option Record → R
 kept_rule_answer now round correction None = Err NoSuchPlay
 kept_rule_answer now round correction (Some kept) =
     if nat_lt now round then Err NotYet else kept_ruling_answer kept correction (nat_lt round now)
-
--- what contracts see of a session
-abbrev pub state_of : Configuration → ℕ → List (Option (List ℕ)) → List (List Record) → State
-state_of configuration round deals tables = record {
-  configuration = configuration;
-  round = round;
-  deals = deals;
-  records = map (map plain_of) tables;
-}
 
 -- the records of a row at the beginning: one for each board of its set where the row is live
 abbrev pub new_table : ℕ → Row → List Record

@@ -15,8 +15,7 @@ use Rattle.bridge_session.specs.declared.ruling.Ruling.{Ruling}
 use Rattle.bridge_session.specs.declared.ruling.Ruling.TheVariants as ruling
 use Rattle.bridge_session.specs.Correction.{tricks_answer}
 use Rattle.bridge_session.specs.Record.{PlainRecord, empty_record, contract_in, play_of, is_open}
-use Rattle.bridge_session.specs.State.{deal_on}
-use Rattle.bridge_session.specs.Kept.{hands_on}
+use Rattle.bridge_session.specs.State.{deal_on, hands_on}
 use Rattle.bridge_session.specs.Valid.{MayStand, IsUnplayed, IsValidRecord}
 use Rattle.bridge_session.specs.Decided.{Decided, decided_like, decided_both, decided_implies, decided_equal, decided_less, decided_most, decided_true, decided_false, decided_none, decided_empty, decided_found, decided_places}
 

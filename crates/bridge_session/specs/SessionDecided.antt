@@ -4,14 +4,14 @@ use Rattle.std.specs.List.{list_all}
 use Rattle.bridge_cards.specs.CardSet.{IsCardSet}
 use Rattle.bridge_cards.specs.Deal.{is_dealt_out}
 use Rattle.bridge_config.specs.Configuration.{Configuration, Pair, keys_of}
-use Rattle.bridge_config.specs.Limits.{is_name, is_date_form, is_date_within, is_between, are_distinct, IsPair, IsConfiguration}
+use Rattle.bridge_config.specs.Limits.{is_name, is_date_form, is_date_within, is_between, are_distinct, IsKeyNumber, AreKeys, IsPair, IsConfiguration}
 use Rattle.bridge_movement.specs.declared.row.Row.{Row}
 use Rattle.bridge_session.specs.declared.ruling.Ruling.{Ruling}
 use Rattle.bridge_session.specs.declared.ruling.Ruling.TheVariants as ruling
 use Rattle.bridge_session.specs.Record.{PlainRecord}
 use Rattle.bridge_session.specs.State.{State, row_at, row_boards}
 use Rattle.bridge_session.specs.Valid.{IsDealtOut, IsDealOrNone, board_of, IsValidRecord, IsValid}
-use Rattle.bridge_session.specs.StateRange.{IsKeyNumber, AreHands, AreHandsOrNone, IsOfFourSeats, IsRulingInRange, IsRecordInRange, IsStateInRange, IsSession}
+use Rattle.bridge_session.specs.StateRange.{AreHands, AreHandsOrNone, IsOfFourSeats, IsRulingInRange, IsRecordInRange, IsStateInRange, IsSession}
 use Rattle.bridge_session.specs.Decided.{Decided, decided_like, decided_both, decided_equal, decided_less, decided_most, decided_true, decided_lists, decided_found, decided_all, decided_places}
 use Rattle.bridge_session.specs.MovementDecided.{decided_shape, decided_movement}
 use Rattle.bridge_session.specs.RecordDecided.{decided_record}
@@ -25,6 +25,11 @@ decided_pair pair =
     (λ all. record { two_names = all.0; two_keys = all.1.0; names = all.1.1 })
     (λ is. (is.two_names, (is.two_keys, is.names)))
 
+decided_keys : (keys : List ℕ) → Decided (AreKeys keys)
+decided_keys keys =
+    decided_like (decided_both (decided_all IsKeyNumber (λ key. decided_most key 4294967295) keys) (decided_true (are_distinct keys)))
+    (λ both. record { numbers = both.0; distinct = both.1 }) (λ are. (are.numbers, are.distinct))
+
 decided_configuration : (configuration : Configuration) → Decided (IsConfiguration configuration)
 decided_configuration configuration =
     decided_like
@@ -37,7 +42,7 @@ decided_configuration configuration =
     (decided_both (decided_movement configuration.movement.shape configuration.movement.rows)
     (decided_both (decided_equal (length configuration.pairs) configuration.movement.shape.pairs)
     (decided_both (decided_all IsPair decided_pair configuration.pairs)
-    (decided_true (are_distinct (keys_of configuration))))))))))))
+    (decided_keys (keys_of configuration)))))))))))
     (λ all. record {
       event = all.0;
       site = all.1.0;
@@ -110,10 +115,9 @@ decided_record_range plain =
 decided_ranges : (s : State) → Decided (IsStateInRange s)
 decided_ranges s =
     decided_like
-    (decided_both (decided_all IsKeyNumber (λ key. decided_less key (2 ^ 32)) (keys_of s.configuration))
     (decided_both (decided_all AreHandsOrNone (decided_found AreHands decided_hands) s.deals)
-    (decided_all (All IsRecordInRange) (decided_all IsRecordInRange decided_record_range) s.records)))
-    (λ all. record { keys = all.0; deals = all.1.0; records = all.1.1 }) (λ is. (is.keys, (is.deals, is.records)))
+    (decided_all (All IsRecordInRange) (decided_all IsRecordInRange decided_record_range) s.records))
+    (λ both. record { deals = both.0; records = both.1 }) (λ is. (is.deals, is.records))
 
 pub decided_session : (s : State) → Decided (IsSession s)
 decided_session s =

@@ -48,6 +48,10 @@ opening configuration = record {
 abbrev pub deal_on : List (Option (List ℕ)) → ℕ → Option (List ℕ)
 deal_on deals board = unwrap_or (slice_get deals (board - 1)) None
 
+-- the hands of a board, once it is dealt
+abbrev pub hands_on : List (Option (List ℕ)) → ℕ → List ℕ
+hands_on deals board = unwrap_or (deal_on deals board) []
+
 -- the records of a row
 abbrev pub row_at : List (List PlainRecord) → ℕ → List PlainRecord
 row_at records place = unwrap_or (slice_get records place) []

@@ -1,18 +1,15 @@
 -- The ranges of what a session holds.
 use Rattle.std.specs.Prelude.{◌≡◌, ◌<◌, ◌^◌, ℕ, List, length, Option, IfSome, All}
 use Rattle.bridge_cards.specs.CardSet.{IsCardSet}
-use Rattle.bridge_config.specs.Configuration.{keys_of}
 use Rattle.bridge_play.specs.declared.claim.Claim.{Claim}
+use Rattle.bridge_session.specs.declared.correction.Correction.{Correction}
+use Rattle.bridge_session.specs.declared.correction.Correction.TheVariants as correction
 use Rattle.bridge_session.specs.declared.ruling.Ruling.{Ruling}
 use Rattle.bridge_session.specs.declared.ruling.Ruling.TheVariants as ruling
 use Rattle.bridge_session.specs.Numbers.{IsTrickCount}
 use Rattle.bridge_session.specs.Record.{PlainRecord}
 use Rattle.bridge_session.specs.State.{State}
 use Rattle.bridge_session.specs.Valid.{IsValid}
-
--- a key has four bytes
-abbrev pub IsKeyNumber : ℕ → Type 0
-IsKeyNumber key = key < 2 ^ 32
 
 abbrev pub AreHands : List ℕ → Type 0
 AreHands hands = (length hands ≡ 4) × All IsCardSet hands
@@ -28,13 +25,18 @@ abbrev pub IsRulingInRange : Ruling → Type 0
 IsRulingInRange (ruling.Tricks tricks) = IsTrickCount tricks
 IsRulingInRange ruling.Void = Unit {0}
 
+-- a correction sets no more tricks than a board has
+abbrev pub IsCorrectionInRange : Correction → Type 0
+IsCorrectionInRange (correction.Tricks tricks) = IsTrickCount tricks
+IsCorrectionInRange correction.Void = Unit {0}
+IsCorrectionInRange correction.Restore = Unit {0}
+
 pub record IsRecordInRange (plain : PlainRecord) : Type 0 where
   pub claim : IfSome plain.claim IsOfFourSeats
   pub ruling : IfSome plain.ruling IsRulingInRange
 
 -- What a session holds is within its ranges. So is that of each session by the types of its fields.
 pub record IsStateInRange (s : State) : Type 0 where
-  pub keys : All IsKeyNumber (keys_of s.configuration)
   pub deals : All AreHandsOrNone s.deals
   pub records : All (All IsRecordInRange) s.records
 

@@ -9,12 +9,13 @@ use Rattle.bridge_play.specs.Play.{Playing, IsPlay}
 use Rattle.bridge_session.specs.declared.action.Action.{Action}
 use Rattle.bridge_session.specs.declared.action.Action.TheVariants.{Deal, Call, Card, Claim, Agree, Refuse, NextRound, Tricks, Void, Restore}
 use Rattle.bridge_session.specs.declared.action.PlayId.{PlayId}
+use Rattle.bridge_session.specs.declared.deed.Deed.{Deed}
+use Rattle.bridge_session.specs.declared.deed.Deed.TheVariants as deed
 use Rattle.bridge_session.specs.declared.ruling.Ruling.{Ruling}
 use Rattle.bridge_session.specs.declared.ruling.Ruling.TheVariants as ruling
 use Rattle.bridge_session.specs.Correction.{tricks_answer}
 use Rattle.bridge_session.specs.Record.{PlainRecord, empty_record, contract_in, play_of, is_open}
-use Rattle.bridge_session.specs.State.{State, deal_on, row_at, row_boards}
-use Rattle.bridge_session.specs.Kept.{hands_on}
+use Rattle.bridge_session.specs.State.{State, deal_on, row_at, row_boards, hands_on}
 
 -- a ruling may stand: one of tricks where the play is over
 abbrev pub MayStand : Option Playing → Ruling → Type 0
@@ -59,6 +60,14 @@ pub record IsValid (s : State) : Type 0 where
   pub of_boards : map (map board_of) s.records ≡ map (row_boards s.configuration.boards) s.configuration.movement.rows
   pub plays : (place index : ℕ) (row : Row) (plain : PlainRecord) → slice_get s.configuration.movement.rows place ≡ Some row →
       slice_get (row_at s.records place) index ≡ Some plain → IsValidRecord s.deals s.round row.round plain
+
+-- a call that a player makes is one
+abbrev pub IsDeed : Deed → Type 0
+IsDeed (deed.Call made) = IsCall made
+IsDeed (deed.Card card) = Unit {0}
+IsDeed (deed.Claim tricks) = Unit {0}
+IsDeed deed.Agree = Unit {0}
+IsDeed deed.Refuse = Unit {0}
 
 -- rounds, tables and boards are counted from 1
 abbrev pub IsPlayId : PlayId → Type 0

@@ -1,5 +1,6 @@
 ghost use Rattle.std.specs.Prelude.{◌≡◌};
 ghost use Rattle.bridge_session.specs.Correction.{ruling_by};
+ghost use Rattle.bridge_session.specs.StateRange.{IsCorrectionInRange};
 
 use crate::numbers::TrickCount;
 use crate::ruling::Ruling;
@@ -15,7 +16,8 @@ pub enum Correction {
 impl Correction {
     /// The ruling that is left.
     pub fn ruling(self) -> Option<Ruling>
-        ensures { result ≡ ruling_by self }
+        ensures ruling { result ≡ ruling_by self }
+        ensures range { IsCorrectionInRange self }
     {
         match self {
             Correction::Tricks(tricks) => Some(Ruling::Tricks(tricks)),

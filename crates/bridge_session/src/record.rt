@@ -1,10 +1,13 @@
 //! The record of one play.
 ghost use Rattle.std.specs.Prelude.{◌≡◌, OnOk, OnErr, Some};
+ghost use Rattle.bridge_auction.specs.Call.{IsCall};
 ghost use Rattle.bridge_session.specs.Record.{is_done, is_void};
 ghost use Rattle.bridge_session.specs.Deed.{from_call, from_card, from_claim, from_consent, renamed, call_answer, deed_answer, answer_if_play};
 ghost use Rattle.bridge_session.specs.Correction.{ruling_by};
 ghost use Rattle.bridge_session.specs.Outcome.{outcome_of_play, outcome_by, HasFewTricks};
 ghost use Rattle.bridge_session.specs.declared.ruling.Ruling.TheVariants as ruling;
+ghost use Rattle.bridge_session.specs.Valid.{IsDeed};
+ghost use Rattle.bridge_session.specs.StateRange.{IsCorrectionInRange};
 ghost use Rattle.bridge_session.specs.Kept.{new_record, is_kept_open, after_deed, kept_ruling_answer};
 ghost use Rattle.bridge_session.specs.declared.deed.Deed.TheVariants as deed;
 
@@ -160,6 +163,7 @@ impl Record {
 
     fn call(&mut self, seat: Seat, at: MadeCount, call: Call, deal: &Deal) -> Result<(), Refused>
         ensures answer { result ≡ call_answer self.old.auction seat at call }
+        ensures known { OnOk result (IsCall call) }
         ensures taken { OnOk result (self.new ≡ after_deed deal.now seat (deed.Call call) self.old) }
         ensures refused { OnErr result (self.new ≡ self.old) }
     {
@@ -249,6 +253,7 @@ impl Record {
     /// What a player does, who names how many such acts were made before, in the play of that deal.
     pub fn act(&mut self, seat: Seat, at: MadeCount, deed: Deed, deal: &Deal) -> Result<(), Refused>
         ensures answer { result ≡ deed_answer self.old.auction self.old.play seat at deed }
+        ensures known { OnOk result (IsDeed deed) }
         ensures taken { OnOk result (self.new ≡ after_deed deal.now seat deed self.old) }
         ensures refused { OnErr result (self.new ≡ self.old) }
     {
@@ -286,6 +291,7 @@ impl Record {
     pub fn rule(&mut self, correction: Correction, round_is_over: bool) -> Result<(), Refused>
         ensures answer { result ≡ kept_ruling_answer self.old correction round_is_over }
         ensures taken { OnOk result (self.new ≡ record self.old { ruling = ruling_by correction }) }
+        ensures range { IsCorrectionInRange correction }
         ensures refused { OnErr result (self.new ≡ self.old) }
     {
         let made = correction;

@@ -161,6 +161,7 @@ pub fn is_of_set(config: &Config, set: u8, board: BoardNumber) -> bool
 pub fn row_of(config: &Config, round: RoundNumber, table: TableNumber) -> Option<usize>
     ensures row { result ≡ (if is_row_within config.now.movement.shape round table then Some (row_place config.now.movement.shape round table) else None) }
     ensures within { IfSome result (λ place. place < row_count config.now.movement.shape) }
+    ensures counted { (1 ≤ round) × (1 ≤ table) }
 {
     let shape = config.fields().movement.shape();
     let round = round.number();

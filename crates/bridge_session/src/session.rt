@@ -2,13 +2,12 @@ ghost use Rattle.std.specs.Prelude.{◌≡◌, IfOk, IfSome, MatchResult, Err};
 ghost use Rattle.std.specs.Option.{option_copied, option_map};
 ghost use Rattle.bridge_session.specs.Record.{bidding_of, play_of};
 ghost use Rattle.bridge_session.specs.Outcome.{outcome_of};
-ghost use Rattle.bridge_session.specs.State.{opening, deal_on};
+ghost use Rattle.bridge_session.specs.State.{opening, deal_on, hands_on};
 ghost use Rattle.bridge_session.specs.Step.{record_of};
 ghost use Rattle.bridge_session.specs.See.{shown_to};
 ghost use Rattle.bridge_session.specs.Views.{IsViewTo};
 ghost use Rattle.bridge_session.specs.Ranking.{ranking_answer, IsRankingTo};
-ghost use Rattle.bridge_session.specs.Valid.{IsValid};
-ghost use Rattle.bridge_session.specs.Kept.{plain_of, hands_on, IsTiedIn};
+ghost use Rattle.bridge_session.specs.Kept.{plain_of, IsTiedIn};
 
 use crate::action::PlayId;
 use crate::entry::Entry;
@@ -65,7 +64,6 @@ impl Session {
     /// takes any.
     pub fn new(alloc: Global, config: Config) -> Result<Session, AllocError>
         ensures opening { IfOk result (λ session. session ≡ opening config) }
-        ensures valid { IfOk result IsValid }
     {
         let fields = config.fields();
         let count = usize::from(fields.movement.shape().sets) * usize::from(fields.boards);

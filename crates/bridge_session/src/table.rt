@@ -4,6 +4,8 @@ ghost use Rattle.std.specs.List.{list_any};
 ghost use Rattle.std.specs.Option.{option_copied};
 ghost use Rattle.bridge_session.specs.State.{deal_on, current_place, changed_at};
 ghost use Rattle.bridge_session.specs.Step.{answer_among, acted_among};
+ghost use Rattle.bridge_session.specs.Valid.{IsDeed};
+ghost use Rattle.bridge_session.specs.StateRange.{IsCorrectionInRange};
 ghost use Rattle.bridge_session.specs.Kept.{plain_of, is_kept_open, with_kept_ruling, kept_rule_answer, IsTiedIn};
 
 use crate::correction::Correction;
@@ -50,6 +52,7 @@ pub fn act_among(
     ensures answer { result ≡ answer_among (map plain_of table.old) (deal_on deals.now board) board seat at deed }
     ensures taken { OnOk result (map plain_of table.new ≡ acted_among seat deed (map plain_of table.old)) }
     ensures tied { All (IsTiedIn deals.now) table.new }
+    ensures known { OnOk result (IsDeed deed) }
     ensures refused { OnErr result (table.new ≡ table.old) }
 {
     let Some(place) = current(table) else {
@@ -74,6 +77,7 @@ pub fn rule_among(
 ) -> Result<(), Refused>
     ensures answer { result ≡ kept_rule_answer now round correction (slice_get table.old place) }
     ensures taken { OnOk result (table.new ≡ changed_at (with_kept_ruling correction) table.old place) }
+    ensures range { OnOk result (IsCorrectionInRange correction) }
     ensures refused { OnErr result (table.new ≡ table.old) }
 {
     if place >= table.len() {

@@ -3,6 +3,7 @@ ghost use Rattle.std.specs.Prelude.{◌≡◌, ◌<◌, ◌≤◌, [], length, s
 ghost use Rattle.std.specs.Option.{option_copied, option_map};
 ghost use Rattle.bridge_cards.specs.Board.{dealer_of};
 ghost use Rattle.bridge_session.specs.Record.{empty_record};
+ghost use Rattle.bridge_session.specs.StateRange.{IsSession};
 ghost use Rattle.bridge_session.specs.Kept.{plain_of};
 ghost use Rattle.bridge_session.specs.Parts.{parts_of, pair_parts, board_parts, play_parts, record_part};
 
@@ -20,6 +21,7 @@ impl Session {
         ensures count { result ≡ length (parts_of self.now) }
         ensures some { 1 ≤ result }
         ensures few { result ≤ 494 }
+        ensures session { IsSession self.now }
     {
         let fields = self.config.fields();
         let plays = self.tables.len() * usize::from(fields.boards);

@@ -8,7 +8,6 @@ ghost use Rattle.bridge_session.specs.Record.{is_open};
 ghost use Rattle.bridge_session.specs.State.{director_answer, row_place};
 ghost use Rattle.bridge_session.specs.Step.{seen_by, player_answer, acted, if_allowed, deal_answer, next_answer, records_of_round, is_row_within, rule_answer, record_of, ruled, step_answer, changed};
 ghost use Rattle.bridge_session.specs.Kept.{is_kept_open};
-ghost use Rattle.bridge_session.specs.Valid.{IsAction, IsValid};
 
 use super::Session;
 use crate::action::{Action, PlayId};
@@ -187,7 +186,6 @@ impl Session {
         ensures answer { result ≡ step_answer self.old action.now }
         ensures taken { OnOk result (self.new ≡ changed self.old action.now) }
         ensures refused { OnErr result (self.new ≡ self.old) }
-        ensures valid { IsAction action.now → IsValid self.old → IsValid self.new }
     {
         self.take(action)
     }

@@ -1,13 +1,17 @@
 use Rattle.std.proofs.Common.{◌≡◌, ◌<◌, ℕ, List, length, Option, Some, Result, sym, ap, ◌∙◌, subst, arith}
-use Rattle.std.specs.Prelude.{All, map, slice_get, slice_set}
+use Rattle.std.specs.Prelude.{All, OnOk, map, slice_get, slice_set}
 use Rattle.std.specs.Vec.{with_items}
 use Rattle.bridge_session.specs.declared.record.Record.{Record}
 use Rattle.bridge_session.specs.declared.refused.Refused.{Refused}
-use Rattle.bridge_session.specs.State.{State, deal_on}
+use Rattle.bridge_session.specs.State.{State, deal_on, seating_of}
 use Rattle.bridge_session.specs.Step.{seen_by, player_answer, answer_among, acted}
+use Rattle.bridge_session.specs.Valid.{IsDeed}
+use Rattle.bridge_session.specs.StateRange.{IsSession}
 use Rattle.bridge_session.specs.Kept.{plain_of, state_of, IsTiedIn, IsKept}
-use Rattle.bridge_session.proofs.Lists.{map_ok, map_err, set_there}
-use Rattle.bridge_session.proofs.Acted.{boards_same, seated_answer, row_at_is, acted_state, kept_with, tied_row, lists_in, list_there, list_changed}
+use Rattle.bridge_session.proofs.Lists.{at_result, map_ok, map_err, set_there}
+use Rattle.bridge_session.proofs.Acted.{kept_session, boards_same, seated_answer, row_at_is, acted_state, kept_with, tied_row, lists_in, list_there, list_changed}
+use Rattle.bridge_session.proofs.StateRanges.{acted_in_range}
+use Rattle.bridge_session.proofs.ValidPlayer.{player_valid}
 use Rattle.bridge_session.proofs.session.Session.act.Goals as goal
 use Rattle.bridge_session.proofs.session.Session.act.Goals.{After-as_mut_slice, After-self-1}
 
@@ -38,19 +42,19 @@ is_changed c =
       left = list_changed s.tables.items place vector c.act_among.new.table (omega arith);
     }
 
-pub invariant_of-self : goal.invariant_of-self
-invariant_of-self c =
-    let s = c.self.inside in
-    let tied = subst (λ deals. All (IsTiedIn deals) c.act_among.new.table) c.as_slice-deals.ensures.value c.act_among.ensures.tied in
-    subst (IsKept s.config s.round s.deals.items) (sym (is_changed c).left)
-    (kept_with s.config s.round s.deals.items (lists_in s.tables.items) c.in_ok-seating.seating.place c.as_mut_slice.result.now c.act_among.new.table c.self.invariant (is_changed c).row
-    (boards_same c.in_ok-seating.seating.seat c.args.deed c.act_among.result c.as_mut_slice.result.now c.act_among.new.table c.act_among.ensures.taken c.act_among.ensures.refused) tied)
+-- the session before
+abbrev before : After-self-1 → State
+before c = state_of c.self.inside.config c.self.inside.round c.self.inside.deals.items (lists_in c.self.inside.tables.items)
 
-pub returns-clause-answer : goal.returns-clause-answer
-returns-clause-answer c =
+-- it is one
+session_before : (c : After-self-1) → IsSession (before c)
+session_before c = kept_session c.self.inside.config c.self.inside.round c.self.inside.deals.items (lists_in c.self.inside.tables.items) c.self.invariant
+
+-- the answer to the player
+answered : (c : After-self-1) → c.act_among.result ≡ player_answer (seen_by (before c) c.args.key.0 c.args.board) c.args.key.0 c.args.board c.args.at c.args.deed
+answered c =
     let s = c.self.inside in
     let seating = c.in_ok-seating.seating in
-    let state = state_of s.config s.round s.deals.items (lists_in s.tables.items) in
     let answer : List Record → List (Option (List ℕ)) → Result (Unit {0}) Refused =
     λ table deals. answer_among (map plain_of table) (deal_on deals c.args.board) c.args.board seating.seat c.args.at c.args.deed in
     let among : c.act_among.result ≡ answer c.as_mut_slice.result.now s.deals.items =
@@ -58,8 +62,37 @@ returns-clause-answer c =
     let row = row_at_is (lists_in s.tables.items) seating.place c.as_mut_slice.result.now (is_changed c).row in
     among
     ∙ ap (λ records. answer_among records (deal_on s.deals.items c.args.board) c.args.board seating.seat c.args.at c.args.deed) (sym row)
-    ∙ sym (seated_answer state c.args.key.0 c.args.board c.args.at c.args.deed seating (sym c.in_ok-seating.ensures.seating) (sym c.if-not-is_of_set.ensures))
-    ∙ ap (λ (s : State). player_answer (seen_by s c.args.key.0 c.args.board) c.args.key.0 c.args.board c.args.at c.args.deed) c.self.view_is
+    ∙ sym (seated_answer (before c) c.args.key.0 c.args.board c.args.at c.args.deed seating (sym c.in_ok-seating.ensures.seating) (sym c.if-not-is_of_set.ensures))
+
+-- with what was left in the table it is one
+session_after : (c : After-self-1) → IsSession (state_of c.self.inside.config c.self.inside.round c.self.inside.deals.items (slice_set (lists_in c.self.inside.tables.items) c.in_ok-seating.seating.place c.act_among.new.table))
+session_after c =
+    let s = c.self.inside in
+    let lists = lists_in s.tables.items in
+    let place = c.in_ok-seating.seating.place in
+    at_result _ _ (IsSession (state_of s.config s.round s.deals.items (slice_set lists place c.act_among.new.table)))
+    c.act_among.result c.act_among.ensures.taken c.act_among.ensures.refused
+    (λ ok taken.
+    subst IsSession (sym (acted_state s.config s.round s.deals.items lists c.args.key.0 c.args.deed c.in_ok-seating.seating c.as_mut_slice.result.now c.act_among.new.table (sym c.in_ok-seating.ensures.seating) (is_changed c).row taken))
+    (record {
+      valid = player_valid (before c) c.args.key.0 c.args.board c.args.at c.args.deed (session_before c).valid
+          (subst (λ r. OnOk r (IsDeed c.args.deed)) ok c.act_among.ensures.known) (sym (answered c) ∙ ok);
+      ranges = acted_in_range (before c) c.args.deed (seating_of c.self.inside.config c.self.inside.round c.args.key.0) (session_before c).ranges;
+    }))
+    (λ same.
+    subst (λ (tables : List (List Record)). IsSession (state_of s.config s.round s.deals.items tables))
+    (sym (ap (slice_set lists place) same ∙ set_there lists place c.as_mut_slice.result.now (is_changed c).row)) (session_before c))
+
+pub invariant_of-self : goal.invariant_of-self
+invariant_of-self c =
+    let s = c.self.inside in
+    let tied = subst (λ deals. All (IsTiedIn deals) c.act_among.new.table) c.as_slice-deals.ensures.value c.act_among.ensures.tied in
+    subst (IsKept s.config s.round s.deals.items) (sym (is_changed c).left)
+    (kept_with s.config s.round s.deals.items (lists_in s.tables.items) c.in_ok-seating.seating.place c.as_mut_slice.result.now c.act_among.new.table c.self.invariant (is_changed c).row
+    (boards_same c.in_ok-seating.seating.seat c.args.deed c.act_among.result c.as_mut_slice.result.now c.act_among.new.table c.act_among.ensures.taken c.act_among.ensures.refused) tied (session_after c))
+
+pub returns-clause-answer : goal.returns-clause-answer
+returns-clause-answer c = answered c ∙ ap (λ (s : State). player_answer (seen_by s c.args.key.0 c.args.board) c.args.key.0 c.args.board c.args.at c.args.deed) c.self.view_is
 
 pub returns-clause-taken : goal.returns-clause-taken
 returns-clause-taken c =

@@ -1,9 +1,12 @@
-use Rattle.std.proofs.Common.{◌≡◌, ◌-◌, ◌<◌, ◌≤◌, ◌*◌, length, Some, None, sym, ap, ◌∙◌, subst, arith}
+use Rattle.std.proofs.Common.{◌≡◌, ◌-◌, ◌<◌, ◌≤◌, ◌*◌, length, Some, None, Ok, sym, ap, ◌∙◌, subst, arith}
 use Rattle.std.specs.Prelude.{slice_set}
 use Rattle.bridge_session.specs.State.{State, deal_on, director_answer}
 use Rattle.bridge_session.specs.Step.{if_allowed, deal_answer}
+use Rattle.bridge_session.specs.StateRange.{AreHands, AreHandsOrNone, IsSession}
 use Rattle.bridge_session.specs.Kept.{state_of, IsKept}
-use Rattle.bridge_session.proofs.Acted.{lists_in}
+use Rattle.bridge_session.proofs.Acted.{kept_session, lists_in}
+use Rattle.std.proofs.lemmas.List.Elements.{All-set}
+use Rattle.bridge_session.proofs.ValidRound.{deal_valid}
 use Rattle.bridge_session.proofs.Dealt.{was_none, kept_dealt, deal_accepted}
 use Rattle.bridge_session.proofs.session.Session.deal_board.Goals as goal
 use Rattle.bridge_session.proofs.session.Session.deal_board.Goals.{After-self-1}
@@ -19,19 +22,39 @@ none_there c =
     let within : c.from-place.result < length deals = omega arith in
     was_none deals c.from-place.result c.args.board c.index.result.now (place_is c) within c.index.ensures (sym c.is_some.ensures ∙ c.if-is_some.false)
 
+-- the session before
+abbrev before : After-self-1 → State
+before c = state_of c.self.inside.config c.self.inside.round c.self.inside.deals.items (lists_in c.self.inside.tables.items)
+
+-- it is one
+session_before : (c : After-self-1) → IsSession (before c)
+session_before c = kept_session c.self.inside.config c.self.inside.round c.self.inside.deals.items (lists_in c.self.inside.tables.items) c.self.invariant
+
+accepted : (c : After-self-1) → deal_answer (before c) c.args.board c.args.hands ≡ Ok tt
+accepted c =
+    let s = c.self.inside in
+    let within : c.args.board ≤ s.config.movement.shape.sets * s.config.boards = omega (arith, place_is c, c.self.invariant.boards) in
+    deal_accepted (before c) c.args.board c.args.hands (sym c.if-is_closed.ensures) within (none_there c) (sym c.in-Ok.ensures.test)
+
 pub invariant_of-self : goal.invariant_of-self
 invariant_of-self c =
     let s = c.self.inside in
     let lists = lists_in s.tables.items in
+    let dealt : AreHands c.in-Ok.deal = (c.in-Ok.ensures.deal.four, λ place d within. (c.in-Ok.ensures.deal.each place d within).set) in
+    let hands = subst AreHands c.in-Ok.ensures.hands dealt in
+    let is : IsSession (state_of s.config s.round (slice_set s.deals.items (c.args.board - 1) (Some c.args.hands)) lists) = record {
+      valid = deal_valid (before c) c.args.board c.args.hands (session_before c).valid (accepted c);
+      ranges = record {
+        deals = All-set AreHandsOrNone s.deals.items (c.args.board - 1) (Some c.args.hands) hands (session_before c).ranges.deals;
+        records = (session_before c).ranges.records;
+      };
+    } in
+    let session = subst (λ hands. IsSession (state_of s.config s.round (slice_set s.deals.items (c.args.board - 1) (Some hands)) lists)) (sym c.in-Ok.ensures.hands) is in
     subst (λ place. IsKept s.config s.round (slice_set s.deals.items place (Some c.in-Ok.deal)) lists) (sym (place_is c))
-    (kept_dealt s.config s.round s.deals.items lists c.args.board c.in-Ok.deal (none_there c) c.self.invariant)
+    (kept_dealt s.config s.round s.deals.items lists c.args.board c.in-Ok.deal (none_there c) session c.self.invariant)
 
 pub returns-clause-answer : goal.returns-clause-answer
 returns-clause-answer c =
-    let s = c.self.inside in
-    let state = state_of s.config s.round s.deals.items (lists_in s.tables.items) in
-    let within : c.args.board ≤ s.config.movement.shape.sets * s.config.boards = omega (arith, place_is c, c.self.invariant.boards) in
-    let accepted = deal_accepted state c.args.board c.args.hands (sym c.if-is_closed.ensures) within (none_there c) (sym c.in-Ok.ensures.test) in
-    sym accepted
-    ∙ ap (λ allowed. if_allowed allowed (deal_answer state c.args.board c.args.hands)) c.in_ok-check_director.ensures
+    sym (accepted c)
+    ∙ ap (λ allowed. if_allowed allowed (deal_answer (before c) c.args.board c.args.hands)) c.in_ok-check_director.ensures
     ∙ ap (λ (t : State). if_allowed (director_answer t.configuration c.args.key.0) (deal_answer t c.args.board c.args.hands)) c.self.view_is

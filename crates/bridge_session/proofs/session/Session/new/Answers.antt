@@ -6,9 +6,7 @@ use Rattle.bridge_config.specs.Limits.{IsConfiguration}
 use Rattle.bridge_movement.specs.declared.shape.Shape.{Shape}
 use Rattle.bridge_config.specs.Configuration.{Configuration, configuration_of}
 use Rattle.bridge_session.specs.Kept.{new_table}
-use Rattle.bridge_session.specs.Valid.{IsValid}
 use Rattle.bridge_session.proofs.Acted.{lists_in}
-use Rattle.bridge_session.proofs.StaysValid.{opening_valid}
 use Rattle.bridge_session.proofs.NewSession.{IsNew, new_is_kept, new_is_opening}
 use Rattle.bridge_session.proofs.session.Session.new.Goals as goal
 use Rattle.bridge_session.proofs.session.Session.new.Goals.{In_ok-tables}
@@ -29,12 +27,7 @@ is_new c =
     })
 
 pub invariant_of-result : goal.invariant_of-result
-invariant_of-result c = new_is_kept c.args.config c.in_ok-deals.deals.items (lists_in c.in_ok-tables.tables.items) (is_new c)
+invariant_of-result c = new_is_kept c.args.config c.in_ok-deals.deals.items (lists_in c.in_ok-tables.tables.items) c.fields-fields.ensures.limits (is_new c)
 
-pub returns-clause-valid : goal.returns-clause-valid
-returns-clause-valid c =
-    let is = new_is_opening c.args.config c.in_ok-deals.deals.items (lists_in c.in_ok-tables.tables.items) (is_new c) in
-    subst IsValid (sym is) (opening_valid c.args.config c.fields-fields.ensures.limits)
-
-pub returns-clause-opening : goal.returns-clause-opening
-returns-clause-opening c = new_is_opening c.args.config c.in_ok-deals.deals.items (lists_in c.in_ok-tables.tables.items) (is_new c)
+pub returns : goal.returns
+returns c = record { opening = new_is_opening c.args.config c.in_ok-deals.deals.items (lists_in c.in_ok-tables.tables.items) (is_new c) }

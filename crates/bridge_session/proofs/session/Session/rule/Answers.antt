@@ -1,15 +1,19 @@
-use Rattle.std.proofs.Common.{◌≡◌, ◌<◌, ◌-◌, ℕ, true, List, length, Some, Result, refl, sym, ap, ◌∙◌, subst, arith}
-use Rattle.std.specs.Prelude.{All, map, slice_get, slice_set}
+use Rattle.std.proofs.Common.{◌≡◌, ◌<◌, ◌≤◌, ◌-◌, ℕ, true, List, length, Some, Result, refl, sym, ap, ◌∙◌, subst, arith}
+use Rattle.std.specs.Prelude.{All, OnOk, map, slice_get, slice_set}
 use Rattle.std.specs.Vec.{with_items}
+use Rattle.bridge_session.specs.declared.record.Record.{Record}
 use Rattle.bridge_session.specs.declared.refused.Refused.{Refused}
 use Rattle.bridge_session.specs.Record.{PlainRecord}
 use Rattle.bridge_session.specs.State.{State, director_answer, row_place, changed_at}
 use Rattle.bridge_session.specs.Step.{if_allowed, is_row_within, rule_answer, record_of, ruled, with_ruling}
+use Rattle.bridge_session.specs.StateRange.{IsCorrectionInRange, IsSession}
 use Rattle.bridge_session.specs.Kept.{plain_of, board_kept, state_of, with_kept_ruling, kept_rule_answer, IsTiedIn, IsKept}
 use Rattle.bridge_session.proofs.Lists.{at_result, map_ok, map_err, set_there}
-use Rattle.bridge_session.proofs.Acted.{map-changed_at, changed_row, kept_with, tied_row, lists_in, list_there, list_changed}
+use Rattle.bridge_session.proofs.Acted.{kept_session, map-changed_at, changed_row, kept_with, tied_row, lists_in, list_there, list_changed}
 use Rattle.bridge_session.proofs.Entries.{record_found}
 use Rattle.bridge_session.proofs.Ruled.{rule_seen, changed_at-map, All-changed_at, ruling_tied, some_if}
+use Rattle.bridge_session.proofs.StateRanges.{ruled_in_range}
+use Rattle.bridge_session.proofs.ValidRuling.{rule_valid}
 use Rattle.bridge_session.proofs.session.Session.rule.Goals as goal
 use Rattle.bridge_session.proofs.session.Session.rule.Goals.{After-self-1}
 
@@ -39,6 +43,66 @@ tied_there c =
     let s = c.self.inside in
     tied_row s.deals.items (lists_in s.tables.items) c.in-Some.place c.as_mut_slice.result.now c.self.invariant.tied (is_changed c).row
 
+-- the record of the play
+record_is : (c : After-self-1) → record_of (state_of c.self.inside.config c.self.inside.round c.self.inside.deals.items (lists_in c.self.inside.tables.items)) c.args.play ≡ slice_get (map plain_of c.as_mut_slice.result.now) c.from-at.result
+record_is c =
+    let s = c.self.inside in
+    let changed = is_changed c in
+    record_found s.config s.round s.deals.items (lists_in s.tables.items) c.args.play c.in-Some.place c.from-at.result c.as_mut_slice.result.now changed.place.0 changed.place.1 changed.index changed.row
+
+-- the session before
+abbrev before : After-self-1 → State
+before c = state_of c.self.inside.config c.self.inside.round c.self.inside.deals.items (lists_in c.self.inside.tables.items)
+
+-- it is one
+session_before : (c : After-self-1) → IsSession (before c)
+session_before c = kept_session c.self.inside.config c.self.inside.round c.self.inside.deals.items (lists_in c.self.inside.tables.items) c.self.invariant
+
+-- the answer to the ruling
+answered : (c : After-self-1) → c.rule_among.result ≡ rule_answer (before c).round c.args.play.round c.args.correction (record_of (before c) c.args.play)
+answered c =
+    let s = c.self.inside in
+    let made = c.args.correction in
+    let table = c.as_mut_slice.result.now in
+    c.rule_among.ensures.answer
+    ∙ ap (λ round. kept_rule_answer s.round round made (slice_get table c.from-at.result)) c.number-of_round.ensures.number
+    ∙ rule_seen s.deals.items table c.from-at.result s.round c.args.play.round made (tied_there c)
+    ∙ ap (rule_answer s.round c.args.play.round made) (sym (record_is c))
+
+-- the session with what was left in the table
+ruled_is : (c : After-self-1) → c.rule_among.new.table ≡ changed_at (with_kept_ruling c.args.correction) c.as_mut_slice.result.now c.from-at.result →
+    state_of c.self.inside.config c.self.inside.round c.self.inside.deals.items (slice_set (lists_in c.self.inside.tables.items) c.in-Some.place c.rule_among.new.table) ≡ ruled (before c) c.args.play c.args.correction
+ruled_is c taken =
+    let s = c.self.inside in
+    let made = c.args.correction in
+    let lists = lists_in s.tables.items in
+    let changed = is_changed c in
+    let after : List (List PlainRecord) → State = λ records. record { configuration = s.config; round = s.round; deals = s.deals.items; records = records } in
+    let change : ℕ → List PlainRecord → List PlainRecord = λ index records. changed_at (with_ruling made) records index in
+    let seen = ap (map plain_of) taken ∙ changed_at-map plain_of (with_kept_ruling made) (with_ruling made) c.as_mut_slice.result.now c.from-at.result (λ kept. refl) in
+    ap after (changed_row lists c.in-Some.place c.as_mut_slice.result.now c.rule_among.new.table (change c.from-at.result) changed.row seen)
+    ∙ ap (λ index. after (changed_at (change index) (map (map plain_of) lists) c.in-Some.place)) changed.index
+    ∙ ap (λ place. after (changed_at (change (c.args.play.index - 1)) (map (map plain_of) lists) place)) (sym changed.place.1)
+
+-- it is one
+session_after : (c : After-self-1) → IsSession (state_of c.self.inside.config c.self.inside.round c.self.inside.deals.items (slice_set (lists_in c.self.inside.tables.items) c.in-Some.place c.rule_among.new.table))
+session_after c =
+    let s = c.self.inside in
+    let lists = lists_in s.tables.items in
+    let ranges = c.in-Some.ensures.counted in
+    at_result _ _ (IsSession (state_of s.config s.round s.deals.items (slice_set lists c.in-Some.place c.rule_among.new.table)))
+    c.rule_among.result c.rule_among.ensures.taken c.rule_among.ensures.refused
+    (λ ok taken.
+    subst IsSession (sym (ruled_is c taken))
+    (record {
+      valid = rule_valid (before c) c.args.play c.args.correction (session_before c).valid
+          (ranges.0, ranges.1, subst (λ n. 1 ≤ n) c.number.ensures.number c.number.ensures.range.0) (sym (answered c) ∙ ok);
+      ranges = ruled_in_range (before c) c.args.play c.args.correction (subst (λ r. OnOk r (IsCorrectionInRange c.args.correction)) ok c.rule_among.ensures.range) (session_before c).ranges;
+    }))
+    (λ same.
+    subst (λ (tables : List (List Record)). IsSession (state_of s.config s.round s.deals.items tables))
+    (sym (ap (slice_set lists c.in-Some.place) same ∙ set_there lists c.in-Some.place c.as_mut_slice.result.now (is_changed c).row)) (session_before c))
+
 pub invariant_of-self : goal.invariant_of-self
 invariant_of-self c =
     let s = c.self.inside in
@@ -54,45 +118,24 @@ invariant_of-self c =
     (λ ok taken. ap (map board_kept) taken ∙ map-changed_at board_kept (with_kept_ruling c.args.correction) c.as_mut_slice.result.now c.from-at.result (λ kept. refl))
     (λ same. ap (map board_kept) same) in
     subst (IsKept s.config s.round deals) (sym (is_changed c).left)
-    (kept_with s.config s.round deals (lists_in s.tables.items) c.in-Some.place c.as_mut_slice.result.now c.rule_among.new.table c.self.invariant (is_changed c).row boards tied)
-
--- the record of the play
-record_is : (c : After-self-1) → record_of (state_of c.self.inside.config c.self.inside.round c.self.inside.deals.items (lists_in c.self.inside.tables.items)) c.args.play ≡ slice_get (map plain_of c.as_mut_slice.result.now) c.from-at.result
-record_is c =
-    let s = c.self.inside in
-    let changed = is_changed c in
-    record_found s.config s.round s.deals.items (lists_in s.tables.items) c.args.play c.in-Some.place c.from-at.result c.as_mut_slice.result.now changed.place.0 changed.place.1 changed.index changed.row
+    (kept_with s.config s.round deals (lists_in s.tables.items) c.in-Some.place c.as_mut_slice.result.now c.rule_among.new.table c.self.invariant (is_changed c).row boards tied (session_after c))
 
 pub returns-clause-answer : goal.returns-clause-answer
 returns-clause-answer c =
-    let s = c.self.inside in
-    let made = c.args.correction in
-    let table = c.as_mut_slice.result.now in
     let answer : State → Result (Unit {0}) Refused =
-    λ t. if_allowed (director_answer t.configuration c.args.key.0) (rule_answer t.round c.args.play.round made (record_of t c.args.play)) in
-    c.rule_among.ensures.answer
-    ∙ ap (λ round. kept_rule_answer s.round round made (slice_get table c.from-at.result)) c.number-of_round.ensures.number
-    ∙ rule_seen s.deals.items table c.from-at.result s.round c.args.play.round made (tied_there c)
-    ∙ ap (rule_answer s.round c.args.play.round made) (sym (record_is c))
-    ∙ ap (λ allowed. if_allowed allowed (rule_answer s.round c.args.play.round made (record_of (state_of s.config s.round s.deals.items (lists_in s.tables.items)) c.args.play))) c.in_ok-check_director.ensures
+    λ t. if_allowed (director_answer t.configuration c.args.key.0) (rule_answer t.round c.args.play.round c.args.correction (record_of t c.args.play)) in
+    answered c
+    ∙ ap (λ allowed. if_allowed allowed (rule_answer (before c).round c.args.play.round c.args.correction (record_of (before c) c.args.play))) c.in_ok-check_director.ensures
     ∙ ap answer c.self.view_is
 
 pub returns-clause-taken : goal.returns-clause-taken
 returns-clause-taken c =
     let s = c.self.inside in
-    let made = c.args.correction in
-    let lists = lists_in s.tables.items in
-    let changed = is_changed c in
-    let after : List (List PlainRecord) → State = λ records. record { configuration = s.config; round = s.round; deals = s.deals.items; records = records } in
-    let change : ℕ → List PlainRecord → List PlainRecord = λ index records. changed_at (with_ruling made) records index in
     map_ok _ _ c.rule_among.result c.rule_among.ensures.taken
     (λ ok taken.
-    let seen = ap (map plain_of) taken ∙ changed_at-map plain_of (with_kept_ruling made) (with_ruling made) c.as_mut_slice.result.now c.from-at.result (λ kept. refl) in
-    ap (state_of s.config s.round s.deals.items) changed.left
-    ∙ ap after (changed_row lists c.in-Some.place c.as_mut_slice.result.now c.rule_among.new.table (change c.from-at.result) changed.row seen)
-    ∙ ap (λ index. after (changed_at (change index) (map (map plain_of) lists) c.in-Some.place)) changed.index
-    ∙ ap (λ place. after (changed_at (change (c.args.play.index - 1)) (map (map plain_of) lists) place)) (sym changed.place.1)
-    ∙ ap (λ (t : State). ruled t c.args.play made) c.self.view_is)
+    ap (state_of s.config s.round s.deals.items) (is_changed c).left
+    ∙ ruled_is c taken
+    ∙ ap (λ (t : State). ruled t c.args.play c.args.correction) c.self.view_is)
 
 pub returns-clause-refused : goal.returns-clause-refused
 returns-clause-refused c =
