@@ -17,5 +17,6 @@ mod tests;
 
 pub use config::Config;
 pub use fields::{ConfigFields, Key, NAME_BYTES, PairFields};
+pub use limits::{read_date, read_name};
 pub use reading::read_config;
 pub use refused::{ConfigFault, ConfigRefused};

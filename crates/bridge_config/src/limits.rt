@@ -1,11 +1,13 @@
 //! The limits of names, dates and keys.
-ghost use Rattle.std.specs.Prelude.{◌≡◌, ◌↔◌, IsTrue, map, length};
+ghost use Rattle.std.specs.Prelude.{◌≡◌, ◌↔◌, IsTrue, map, length, Some, None, if◌then◌else◌};
+ghost use Rattle.std.specs.Option.{option_map};
 ghost use Rattle.std.specs.List.{list_all};
 ghost use Rattle.bridge_config.specs.Configuration.{key_number};
 ghost use Rattle.bridge_config.specs.Limits.{is_name_byte, is_name, is_date_form, is_date_within, two_digits, stands_in, AreKeys};
 
 use crate::fields::{Key, NAME_BYTES};
-use line_text::are_digits;
+use arrayvec::ArrayString;
+use line_text::{are_digits, inline};
 
 fn is_name_byte(byte: u8) -> bool
     ensures { result ≡ is_name_byte byte }
@@ -24,6 +26,28 @@ pub fn is_name(text: &[u8]) -> bool
     ensures { result ≡ is_name text.now }
 {
     are_name_bytes(text) && !text.is_empty() && text.len() <= NAME_BYTES
+}
+
+/// The name that the bytes are, of 1 to 24 ASCII letters, digits, dots, hyphens and underscores; `None` where they are none.
+pub fn read_name(text: &[u8]) -> Option<ArrayString<NAME_BYTES>>
+    ensures { option_map (λ name. name.bytes) result ≡ (if is_name text.now then Some text.now else None) }
+{
+    if is_name(text) {
+        Some(inline(text))
+    } else {
+        None
+    }
+}
+
+/// The date that the bytes are by their form, whether there is such a day or not; `None` where they are none.
+pub fn read_date(text: &[u8]) -> Option<ArrayString<10>>
+    ensures { option_map (λ date. date.bytes) result ≡ (if is_date_form text.now then Some text.now else None) }
+{
+    if is_date_form(text) {
+        Some(inline(text))
+    } else {
+        None
+    }
 }
 
 /// Whether the bytes have a date's form: four, two and two digits with dots between.

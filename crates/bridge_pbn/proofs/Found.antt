@@ -11,8 +11,7 @@ use Rattle.bridge_session.specs.declared.action.PlayId.{PlayId}
 use Rattle.bridge_session.specs.declared.outcome.Outcome.{Outcome}
 use Rattle.bridge_session.specs.Outcome.{outcome_of}
 use Rattle.bridge_session.specs.Record.{PlainRecord, bidding_of, playing_in, play_of, contract_in}
-use Rattle.bridge_session.specs.State.{hands_on}
-use Rattle.bridge_session.specs.State.{State, deal_on}
+use Rattle.bridge_session.specs.State.{State, deal_on, hands_on}
 use Rattle.bridge_session.specs.Step.{record_of}
 use Rattle.bridge_pbn.specs.Games.{game_by, game_lines, game_at, play_at, listed, is_listed}
 

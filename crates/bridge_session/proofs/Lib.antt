@@ -44,3 +44,4 @@ pub mod SessionLawful
 pub mod FieldLaws
 pub mod ReadRecords
 pub mod DealLaws
+pub mod HeadLaws

@@ -19,7 +19,7 @@ use Rattle.bridge_session.proofs.SessionRecords.{written}
 use Rattle.bridge_session.proofs.TablesBack.{tables_back}
 
 -- the numbers after the date
-abbrev numbers_of : Configuration → ℕ → List ℕ
+abbrev pub numbers_of : Configuration → ℕ → List ℕ
 numbers_of c round = scoring_number c.scoring ∷ (size_bytes c.boards c.movement.shape ++ (four_bytes c.director ++ round ∷ []))
 
 joined : (event site date scoring size director round : List ℕ)
@@ -50,14 +50,20 @@ keys_of_each (pair ∷ pairs) all =
     All-cons (λ (other : Pair). All IsKeyNumber other.keys) pair pairs (all_front pair.keys (keys_in pairs) all)
     (keys_of_each pairs (all_back_half pair.keys (keys_in pairs) all))
 
-module _ (c : Configuration) (round : ℕ) (is : IsConfiguration c) (director : IsKeyNumber c.director) (keys : All IsKeyNumber (keys_in c.pairs)) (boards : List (List ℕ)) where
+module _ (c : Configuration) (round : ℕ) (is : IsConfiguration c) (boards : List (List ℕ)) where
+  director : IsKeyNumber c.director
+  director = All-head IsKeyNumber c.director (keys_in c.pairs) is.keys.numbers
+
+  keys : All IsKeyNumber (keys_in c.pairs)
+  keys = All-tail IsKeyNumber c.director (keys_in c.pairs) is.keys.numbers
+
   behind_event : after_text (configuration_part c round) ≡ text_bytes c.site ++ (c.date ++ numbers_of c round)
   behind_event = ap after_text (heading_is c round) ∙ after_back c.event (text_bytes c.site ++ (c.date ++ numbers_of c round))
 
-  behind_site : after_text (after_text (configuration_part c round)) ≡ c.date ++ numbers_of c round
+  pub behind_site : after_text (after_text (configuration_part c round)) ≡ c.date ++ numbers_of c round
   behind_site = ap after_text behind_event ∙ after_back c.site (c.date ++ numbers_of c round)
 
-  date_long : length c.date ≡ 10
+  pub date_long : length c.date ≡ 10
   date_long = eqb-true (length c.date) 10 (and_parts _ _ (and_parts _ _ (and_parts _ _ (and_parts _ _ (and_parts _ _ is.date_form).0).0).0).0).0
 
   pub numbers_back : numbers_in (configuration_part c round) ≡ numbers_of c round
@@ -115,12 +121,10 @@ pub session_back : (s : State) → IsSession s → state_read (parts_of s) ≡ s
 session_back s is =
     let c : Configuration = s.configuration in
     let limits : IsConfiguration c = is.valid.configured in
-    let director : IsKeyNumber c.director = All-head IsKeyNumber c.director (keys_in c.pairs) is.valid.configured.keys.numbers in
-    let keys : All IsKeyNumber (keys_in c.pairs) = All-tail IsKeyNumber c.director (keys_in c.pairs) is.valid.configured.keys.numbers in
     let heading : List ℕ = configuration_part c s.round in
-    let numbers = numbers_back c s.round limits director keys (board_parts s) in
+    let numbers = numbers_back c s.round limits (board_parts s) in
     let configuration : configuration_in heading (movement_part c.movement.rows) (pair_parts s) ≡ c
-    = configuration_back c s.round limits director keys (board_parts s) in
+    = configuration_back c s.round limits (board_parts s) in
     let round : slice_index (numbers_in heading) 11 ≡ s.round = ap (λ ns. slice_index ns 11) numbers in
     let count : slice_index (numbers_in heading) 5 ≡ c.movement.shape.pairs = ap (λ ns. slice_index ns 5) numbers in
     let long : length (map pair_part c.pairs) ≡ c.movement.shape.pairs = length-map c.pairs pair_part ∙ limits.count in

@@ -27,3 +27,4 @@ pub mod RecordDecided
 pub mod SessionDecided
 pub mod PartsRead
 pub mod SessionKeeping
+pub mod Head

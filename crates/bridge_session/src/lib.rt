@@ -20,6 +20,7 @@ pub mod even;
 pub mod field;
 mod gain;
 mod game;
+mod head;
 pub mod numbers;
 mod opening;
 pub mod outcome;

@@ -1,0 +1,177 @@
+//! The configuration and the round, read from the parts before those of the boards.
+ghost use Rattle.std.specs.Prelude.{◌≡◌, ◌≢◌, ◌↔◌, ◌+◌, ◌*◌, ◌<◌, ◌≤◌, ◌++◌, ℕ, List, length, map, drop, take, slice_index, IfSome, IfNone, IsTrue, All};
+ghost use Rattle.bridge_movement.specs.declared.row.Row.{Row as RowType};
+ghost use Rattle.bridge_movement.specs.Shape.{IsShape, row_count};
+ghost use Rattle.bridge_config.specs.Configuration.{Configuration, Pair, pair_of};
+ghost use Rattle.bridge_config.specs.Limits.{IsConfiguration, IsPair};
+ghost use Rattle.bridge_session.specs.Parts.{configuration_part, movement_part, pair_part};
+ghost use Rattle.bridge_session.specs.PartsRead.{text_in, after_text, scoring_at, numbers_in, shape_in, key_in, row_in, rows_in, pair_in, configuration_in};
+ghost use Rattle.bridge_session.specs.Head.{head_parts, IsHeadingOf, IsHeadingPart, IsPairPart, IsRound};
+
+use crate::config_bytes::{write_configuration, write_movement, write_pair};
+use arrayvec::{ArrayString, ArrayVec};
+use bridge_config::{Config, ConfigFields, Key, NAME_BYTES, PairFields, read_date, read_name};
+use bridge_movement::{MOST_PAIRS, MOST_ROWS, Movement, Row, Shape};
+use bridge_score::Scoring;
+
+/// What the first part states.
+#[derive(Clone, Copy)]
+pub struct Heading {
+    pub event: ArrayString<NAME_BYTES>,
+    pub site: ArrayString<NAME_BYTES>,
+    pub date: ArrayString<10>,
+    pub scoring: Scoring,
+    pub boards: u8,
+    pub shape: Shape,
+    pub director: Key,
+    pub round: u8,
+}
+
+/// What the parts before those of the boards state.
+#[derive(Drop)]
+pub struct Head {
+    pub config: Config,
+    /// From 1 to one more than the last round.
+    pub round: u8,
+}
+
+/// The text that bytes begin with, by its length, and what comes after it.
+fn split_text(bytes: &[u8]) -> (&[u8], &[u8])
+    ensures text { result.0.now ≡ text_in bytes.now }
+    ensures rest { result.1.now ≡ after_text bytes.now }
+{
+    let Some((count, rest)) = bytes.split_first() else {
+        return (bytes, bytes);
+    };
+    rest.split_at(usize::from(*count).min(rest.len()))
+}
+
+fn scoring_of(number: u8) -> Option<Scoring>
+    ensures some { IfSome result (λ scoring. scoring ≡ scoring_at number) }
+    ensures none { IfNone result (2 ≤ number) }
+{
+    match number {
+        0 => Some(Scoring::MatchPoints),
+        1 => Some(Scoring::Imps),
+        _ => None,
+    }
+}
+
+/// The shape in the twelve bytes behind the date.
+fn shape_of(numbers: &[u8]) -> Shape
+    requires { length numbers.now ≡ 12 }
+    ensures { result ≡ shape_in numbers.now }
+{
+    Shape {
+        tables: numbers[2],
+        rounds: numbers[3],
+        sets: numbers[4],
+        pairs: numbers[5],
+        split: numbers[6],
+    }
+}
+
+/// The key at the front of bytes.
+fn key_of(bytes: &[u8]) -> Key
+    requires { 4 ≤ length bytes.now }
+    ensures { result.0 ≡ key_in bytes.now }
+{
+    let (key, _) = bytes.split_at(4);
+    Key(u32::from_be_bytes([key[0], key[1], key[2], key[3]]))
+}
+
+/// What the first part states, if it is in form.
+fn read_heading(part: &[u8]) -> Option<Heading>
+    ensures some { IfSome result (IsHeadingOf part.now) }
+    ensures none { IfNone result (¬ IsHeadingPart part.now) }
+{
+    let (event, rest) = split_text(part);
+    let (site, rest) = split_text(rest);
+    let Some(event) = read_name(event) else {
+        return None;
+    };
+    let Some(site) = read_name(site) else {
+        return None;
+    };
+    if rest.len() != 22 {
+        return None;
+    }
+    let (date, numbers) = rest.split_at(10);
+    let Some(date) = read_date(date) else {
+        return None;
+    };
+    let (_, key) = numbers.split_at(7);
+    let Some(scoring) = scoring_of(numbers[0]) else {
+        return None;
+    };
+    Some(Heading {
+        event,
+        site,
+        date,
+        scoring,
+        boards: numbers[1],
+        shape: shape_of(numbers),
+        director: key_of(key),
+        round: numbers[11],
+    })
+}
+
+/// The row of a place, whose pairs and set stand there.
+fn row_at(shape: Shape, part: &[u8], place: usize) -> Row
+    requires shape { IsShape shape }
+    requires within { place < row_count shape }
+    requires bytes { length part.now ≡ row_count shape * 3 }
+    ensures { result ≡ row_in shape.tables part.now place }
+{
+    let tables = usize::from(shape.tables);
+    Row {
+        round: (place / tables) as u8 + 1,
+        table: (place % tables) as u8 + 1,
+        ns: part[place * 3],
+        ew: part[place * 3 + 1],
+        set: part[place * 3 + 2],
+    }
+}
+
+/// The rows of a movement of that shape, if there are as many bytes as it takes.
+fn read_rows(shape: Shape, part: &[u8]) -> Option<ArrayVec<Row, MOST_ROWS>>
+    requires { IsShape shape }
+    ensures some { IfSome result (λ rows. rows.items ≡ rows_in shape part.now) }
+    ensures none { IfNone result (length part.now ≢ row_count shape * 3) }
+{
+    let count = shape.row_count();
+    if part.len() != count * 3 {
+        return None;
+    }
+    let mut rows = ArrayVec::new();
+    for place in 0..count {
+        rows.push(row_at(shape, part, place));
+    }
+    Some(rows)
+}
+
+/// The pair that a part states, if it is in form.
+fn read_pair(part: &[u8]) -> Option<PairFields>
+    ensures some { IfSome result (λ pair. pair_of pair ≡ pair_in part.now) }
+    ensures none { IfNone result (¬ IsPairPart part.now) }
+{
+    let (first, rest) = split_text(part);
+    let Some(first) = read_name(first) else {
+        return None;
+    };
+    if rest.len() < 4 {
+        return None;
+    }
+    let (key, rest) = rest.split_at(4);
+    let (second, rest) = split_text(rest);
+    let Some(second) = read_name(second) else {
+        return None;
+    };
+    if rest.len() != 4 {
+        return None;
+    }
+    Some(PairFields {
+        names: [first, second],
+        keys: [key_of(key), key_of(rest)],
+    })
+}
