@@ -45,3 +45,5 @@ pub mod FieldLaws
 pub mod ReadRecords
 pub mod DealLaws
 pub mod HeadLaws
+pub mod ReadLists
+pub mod ReadTables

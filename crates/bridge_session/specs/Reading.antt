@@ -1,5 +1,8 @@
 -- Reading the part of a play from left to right: a value, and the bytes behind it.
-use Rattle.std.specs.Prelude.{◌≡◌, ℕ, ◌/◌, ◌%◌, ◌≤◌, ◌==◌, nat_lt, nat_le, Bool, true, false, not, ◌&&◌, ◌||◌, if◌then◌else◌, map, List, [], ◌∷◌, ◌++◌, length, take, drop, Option, Some, None, is_some, IfSome, option_and_then}
+use Rattle.std.specs.Prelude.{◌≡◌, ℕ, ◌/◌, ◌%◌, ◌≤◌, ◌==◌, nat_lt, nat_le, Bool, true, false, not, ◌&&◌, ◌||◌, if◌then◌else◌, map, List, [], ◌∷◌, ◌++◌, length, take, drop, Option, Some, None, is_some, IfSome, option_and_then, slice_get, All}
+use Rattle.std.specs.List.{list_all}
+use Rattle.std.specs.Global.{Vec}
+use Rattle.arrayvec.specs.ArrayVec.{ArrayVec}
 use Rattle.std.specs.Int.{w16, from_be_bytes}
 use Rattle.std.specs.Option.{option_map, option_map_or}
 use Rattle.bridge_cards.specs.declared.seat.Seat.{Seat}
@@ -7,6 +10,7 @@ use Rattle.bridge_cards.specs.declared.seat.Seat.TheVariants.{North, East, South
 use Rattle.bridge_cards.specs.Deal.{is_dealt_out}
 use Rattle.bridge_auction.specs.declared.call.Call.{Call}
 use Rattle.bridge_auction.specs.Call.{call_number}
+use Rattle.bridge_movement.specs.declared.row.Row.{Row}
 use Rattle.bridge_play.specs.declared.claim.Claim.{Claim}
 use Rattle.bridge_play.specs.Play.{Playing, IsPlay, is_over}
 use Rattle.bridge_session.specs.declared.record.Record.{Record}
@@ -15,10 +19,11 @@ use Rattle.bridge_session.specs.declared.ruling.Ruling.{Ruling}
 use Rattle.bridge_session.specs.declared.ruling.Ruling.TheVariants as ruling
 use Rattle.bridge_session.specs.ActionBytes.{hands_in}
 use Rattle.bridge_session.specs.Record.{PlainRecord, contract_in, play_of}
+use Rattle.bridge_session.specs.State.{row_boards}
 use Rattle.bridge_session.specs.Kept.{plain_of, is_kept_open, IsTiedIn}
 use Rattle.bridge_session.specs.Parts.{two_bytes, text_bytes, claim_bytes, ruling_bytes, is_agreed_in, record_part}
-use Rattle.bridge_session.specs.StateRange.{IsOfFourSeats, IsRulingInRange, IsRecordInRange}
-use Rattle.bridge_session.specs.Valid.{IsUnplayed, IsValidRecord}
+use Rattle.bridge_session.specs.StateRange.{AreHandsOrNone, IsOfFourSeats, IsRulingInRange, IsRecordInRange}
+use Rattle.bridge_session.specs.Valid.{board_of, IsDealOrNone, IsUnplayed, IsValidRecord}
 
 -- what the part of a play says: the calls and the cards by their numbers, how many claims were made, the claim, whether it
 -- is marked as agreed, and the ruling
@@ -192,3 +197,42 @@ pub record IsReadFrom (deals : List (Option (List ℕ))) (now round board : ℕ)
   pub valid : IsValidRecord deals now round (plain_of kept)
   pub in_range : IsRecordInRange (plain_of kept)
   pub tied : IsTiedIn deals kept
+
+-- The parts of all boards and all plays
+
+-- the bytes of a part that the code keeps
+abbrev pub items_of : ArrayVec ℕ → List ℕ
+items_of part = part.items
+
+-- the part of a record that the code keeps
+abbrev pub part_kept : Record → List ℕ
+part_kept kept = record_part (plain_of kept)
+
+-- the records of a table, as contracts see them
+abbrev pub plains_of : Vec Record → List PlainRecord
+plains_of table = map plain_of table.items
+
+-- each is a deal of four hands, or none
+pub record AreDeals (deals : List (Option (List ℕ))) : Type 0 where
+  pub dealt : All IsDealOrNone deals
+  pub hands : All AreHandsOrNone deals
+
+-- records of a round, of those boards, valid and within their ranges
+pub record AreRecords (deals : List (Option (List ℕ))) (now round : ℕ) (boards : List ℕ) (records : List PlainRecord) : Type 0 where
+  pub boards_are : map board_of records ≡ boards
+  pub valid : All (IsValidRecord deals now round) records
+  pub in_range : All IsRecordInRange records
+
+-- the records of the boards of a row
+abbrev pub IsRowOf : List (Option (List ℕ)) → ℕ → ℕ → Row → List PlainRecord → Type 0
+IsRowOf deals now boards row records = AreRecords deals now row.round (row_boards boards row) records
+
+-- the records of all rows
+pub record AreRows (deals : List (Option (List ℕ))) (now boards : ℕ) (rows : List Row) (records : List (List PlainRecord)) : Type 0 where
+  pub count : length records ≡ length rows
+  pub each : (place : ℕ) (row : Row) (own : List PlainRecord) → slice_get rows place ≡ Some row → slice_get records place ≡ Some own →
+      IsRowOf deals now boards row own
+
+-- the part of a play in which nothing has happened
+abbrev pub is_empty_part : List ℕ → Bool
+is_empty_part bytes = length bytes == 6 && list_all (λ byte. byte == 0) bytes

@@ -35,6 +35,7 @@ mod seating;
 pub mod session;
 pub mod stored;
 mod table;
+mod tables_read;
 #[cfg(test)]
 mod tests;
 pub mod valid;
