@@ -1,14 +1,16 @@
 -- The records of a row and of all rows, one after the other.
-use Rattle.std.proofs.Common.{◌≡◌, ◌≢◌, ◌+◌, ◌-◌, ◌*◌, ◌<◌, ◌≤◌, ◌==◌, ◌&&◌, ℕ, zero, suc, Bool, true, false, List, [], ◌∷◌, ◌++◌, length, get_or, map, take, drop, Option, Some, None, refl, sym, ap, ◌∙◌, subst, arith, add-one, inl, inr, length-append, append_assoc}
-use Rattle.std.specs.Prelude.{All, IfSome, slice_get, flat_map, replicate}
+use Rattle.std.proofs.Common.{◌≡◌, ◌≢◌, ◌+◌, ◌-◌, ◌*◌, ◌<◌, ◌≤◌, ◌==◌, ◌&&◌, ℕ, zero, suc, Bool, true, false, cond, Result, Ok, Err, List, [], ◌∷◌, ◌++◌, length, get_or, map, take, drop, Option, Some, None, refl, sym, ap, ◌∙◌, subst, arith, add-one, inl, inr, length-append, append_assoc}
+use Rattle.std.specs.Prelude.{All, IfOk, IfSome, IfNone, slice_get, flat_map, replicate, unwrap_or}
+use Rattle.arrayvec.specs.ArrayVec.{ArrayVec}
 use Rattle.std.specs.List.{range_with_len, list_all}
 use Rattle.std.specs.Option.{option_map}
-use Rattle.std.proofs.lemmas.Bool.{cases_lt}
+use Rattle.std.proofs.lemmas.Bool.{and_parts, eqb-true}
 use Rattle.std.proofs.lemmas.List.{map-append, length-map}
 use Rattle.std.proofs.lemmas.List.Elements.{All-push, All-map}
-use Rattle.std.proofs.lemmas.Option.{slice_get_within, slice_get-map}
+use Rattle.std.proofs.lemmas.Option.{slice_get_within, slice_get-map, slice_get_past}
 use Rattle.bridge_cards.proofs.FollowLaws.{slice_get-left, slice_get-seam}
 use Rattle.bridge_movement.specs.declared.row.Row.{Row}
+use Rattle.bridge_movement.specs.Row.{is_live}
 use Rattle.bridge_session.specs.declared.record.Record.{Record}
 use Rattle.bridge_session.specs.Record.{PlainRecord, empty_record}
 use Rattle.bridge_session.specs.Kept.{plain_of, IsTiedIn}
@@ -16,7 +18,7 @@ use Rattle.bridge_session.specs.Parts.{record_part, record_or_empty, row_parts}
 use Rattle.bridge_session.specs.State.{row_boards}
 use Rattle.bridge_session.specs.StateRange.{IsRecordInRange}
 use Rattle.bridge_session.specs.Valid.{board_of, IsValidRecord}
-use Rattle.bridge_session.specs.Reading.{part_kept, plains_of, AreRecords, IsRowOf, AreRows, IsReadFrom}
+use Rattle.bridge_session.specs.Reading.{items_of, is_empty_part, part_kept, plains_of, AreRecords, IsRowOf, AreRows, IsReadFrom}
 use Rattle.bridge_session.proofs.Lists.{range-push}
 use Rattle.bridge_session.proofs.ReadLists.{all_there, mapped_at}
 use Rattle.bridge_session.proofs.StaysValid.{mapped_from}
@@ -51,3 +53,115 @@ pub board_there : (first count i : ℕ) (records : List PlainRecord) (plain : Pl
     → slice_get records i ≡ Some plain → plain.board ≡ first + i
 board_there first count i records plain is found =
     range_at first count i plain.board (ap (λ bs. slice_get bs i) (sym is) ∙ slice_get-map board_of records i ∙ ap (option_map board_of) found)
+
+-- The parts of a row
+
+-- a row with a record for each board
+row_from : (front records : List PlainRecord) (k : ℕ) → k ≡ length front
+    → map (λ index. record_part (record_or_empty (front ++ records) index)) (range_with_len k (length records)) ≡ map record_part records
+row_from front [] k is = refl
+row_from front (x ∷ xs) k is =
+    let all : List PlainRecord = front ++ x ∷ xs in
+    let here : slice_get all k ≡ Some x = ap (slice_get all) is ∙ slice_get-seam front x xs in
+    let first : record_part (record_or_empty all k) ≡ record_part x = ap (λ o. record_part (unwrap_or o (empty_record 0))) here in
+    let next : k + 1 ≡ length (front ++ x ∷ []) = omega (arith, is, length-append front (x ∷ [])) in
+    let rest = row_from (front ++ x ∷ []) xs (k + 1) next in
+    let joined : (front ++ x ∷ []) ++ xs ≡ all = append_assoc front (x ∷ []) xs in
+    ap (λ p. p ∷ map (λ index. record_part (record_or_empty all index)) (range_with_len (k + 1) (length xs))) first
+    ∙ ap (λ ps. record_part x ∷ ps)
+    (ap (λ rs. map (λ index. record_part (record_or_empty rs index)) (range_with_len (k + 1) (length xs))) (sym joined) ∙ rest)
+
+pub row_full : (boards : ℕ) (records : List PlainRecord) → length records ≡ boards → row_parts boards records ≡ map record_part records
+row_full boards records is =
+    ap (λ n. row_parts n records) (sym is) ∙ row_from [] records 0 refl
+
+pub length-range : (first count : ℕ) → length (range_with_len first count) ≡ count
+length-range first zero = refl
+length-range first (suc count) = let next = length-range (first + 1) count in omega (arith, next)
+
+-- records of so many boards
+pub records_count : (deals : List (Option (List ℕ))) (now round first count : ℕ) (records : List PlainRecord)
+    → AreRecords deals now round (range_with_len first count) records → length records ≡ count
+records_count deals now round first count records are =
+    sym (length-map records board_of) ∙ ap length are.boards_are ∙ length-range first count
+
+-- the part of a play in which nothing has happened
+abbrev six_zeros : List ℕ
+six_zeros = 0 ∷ 0 ∷ 0 ∷ 0 ∷ 0 ∷ 0 ∷ []
+
+zeros_are : (bytes : List ℕ) → is_empty_part bytes ≡ true → bytes ≡ six_zeros
+zeros_are bytes is =
+    let both = and_parts (length bytes == 6) (list_all (λ byte. byte == 0) bytes) is in
+    six bytes (eqb-true (length bytes) 6 both.0) both.1
+  where
+    one : (b : ℕ) (bs : List ℕ) → list_all (λ byte. byte == 0) (b ∷ bs) ≡ true → (b ≡ 0) × (list_all (λ byte. byte == 0) bs ≡ true)
+    one b bs all = let both = and_parts (b == 0) (list_all (λ byte. byte == 0) bs) all in (eqb-true b 0 both.0, both.1)
+
+    zeros : (n : ℕ) (bs : List ℕ) → length bs ≡ n → list_all (λ byte. byte == 0) bs ≡ true → bs ≡ replicate n 0
+    zeros zero [] long all = refl
+    zeros zero (b ∷ bs) long all = absurd (omega (arith, long))
+    zeros (suc n) [] long all = absurd (omega (arith, long))
+    zeros (suc n) (b ∷ bs) long all =
+        let both = one b bs all in
+        ap (λ c. c ∷ bs) both.0 ∙ ap (λ cs. 0 ∷ cs) (zeros n bs (omega (arith, long)) both.1)
+
+    six : (bs : List ℕ) → length bs ≡ 6 → list_all (λ byte. byte == 0) bs ≡ true → bs ≡ six_zeros
+    six bs long all = zeros 6 bs long all
+
+none_at : (index : ℕ) → record_part (record_or_empty [] index) ≡ six_zeros
+none_at index = ap (λ o. record_part (unwrap_or o (empty_record 0))) (slice_get_past {X = PlainRecord} [] index (omega arith))
+
+-- a row without records
+row_none : (parts : List (ArrayVec ℕ)) (k : ℕ) → list_all (λ part. is_empty_part part.items) parts ≡ true
+    → map (λ index. record_part (record_or_empty [] index)) (range_with_len k (length parts)) ≡ map items_of parts
+row_none [] k all = refl
+row_none (part ∷ parts) k all =
+    let both = and_parts (is_empty_part part.items) (list_all (λ part. is_empty_part part.items) parts) all in
+    ap (λ p. p ∷ map (λ index. record_part (record_or_empty [] index)) (range_with_len (k + 1) (length parts))) (none_at k ∙ sym (zeros_are part.items both.0))
+    ∙ ap (λ ps. part.items ∷ ps) (row_none parts (k + 1) both.1)
+
+none_row : (parts : List (ArrayVec ℕ)) (k : ℕ) → map (λ index. record_part (record_or_empty [] index)) (range_with_len k (length parts)) ≡ map items_of parts
+    → list_all (λ part. is_empty_part part.items) parts ≡ true
+none_row [] k is = refl
+none_row (part ∷ parts) k is =
+    let first : record_part (record_or_empty [] k) ≡ part.items = cc in
+    let rest : map (λ index. record_part (record_or_empty [] index)) (range_with_len (k + 1) (length parts)) ≡ map items_of parts = cc in
+    let empty : is_empty_part part.items ≡ true = ap is_empty_part (sym (sym (none_at k) ∙ first)) in
+    rw (empty, none_row parts (k + 1) rest) refl
+
+pub unplayed_row : (boards : ℕ) (parts : List (ArrayVec ℕ)) → length parts ≡ boards → list_all (λ part. is_empty_part part.items) parts ≡ true
+    → row_parts boards [] ≡ map items_of parts
+unplayed_row boards parts long all = ap (λ n. row_parts n []) (sym long) ∙ row_none parts 0 all
+
+pub row_unplayed : (boards : ℕ) (parts : List (ArrayVec ℕ)) → length parts ≡ boards → row_parts boards [] ≡ map items_of parts
+    → list_all (λ part. is_empty_part part.items) parts ≡ true
+row_unplayed boards parts long is = none_row parts 0 (ap (λ n. row_parts n []) long ∙ is)
+
+pub no_records : (records : List PlainRecord) → map board_of records ≡ [] → records ≡ []
+no_records [] is = refl
+no_records (x ∷ xs) is = absurd cc
+
+-- the boards of a row
+pub live_boards : (boards : ℕ) (row : Row) → is_live row ≡ true → row_boards boards row ≡ range_with_len ((row.set - 1) * boards + 1) boards
+live_boards boards row is = ap (λ b. cond b (range_with_len ((row.set - 1) * boards + 1) boards) []) is
+
+pub other_boards : (boards : ℕ) (row : Row) → is_live row ≡ false → row_boards boards row ≡ []
+other_boards boards row is = ap (λ b. cond b (range_with_len ((row.set - 1) * boards + 1) boards) []) is
+
+-- what is kept of records has their parts
+pub kept_parts : (table : List Record) → map part_kept table ≡ map record_part (map plain_of table)
+kept_parts [] = refl
+kept_parts (kept ∷ table) = ap (λ ps. part_kept kept ∷ ps) (kept_parts table)
+
+-- what was found, or not
+
+pub found_both : {A E : Type 0} (P Q R : A → Type 0) (r : Result (Option A) E) → IfOk r (λ o. IfSome o P) → IfOk r (λ o. IfSome o Q)
+    → ((x : A) → P x → Q x → R x) → IfOk r (λ o. IfSome o R)
+found_both P Q R (Ok None) one two then = tt
+found_both P Q R (Ok (Some x)) one two then = then x one two
+found_both P Q R (Err e) one two then = tt
+
+pub found_none : {A E : Type 0} (P Q : Type 0) (r : Result (Option A) E) → IfOk r (λ o. IfNone o P) → (P → Q) → IfOk r (λ o. IfNone o Q)
+found_none P Q (Ok None) holds then = then holds
+found_none P Q (Ok (Some x)) holds then = tt
+found_none P Q (Err e) holds then = tt

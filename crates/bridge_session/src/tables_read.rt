@@ -1,5 +1,5 @@
 //! The boards and the tables of a session, read from their parts.
-ghost use Rattle.std.specs.Prelude.{◌≡◌, ◌≢◌, ◌+◌, ◌*◌, ◌≤◌, ℕ, List, Option, length, map, flat_map, take, IfOk, IfSome, IfNone, All};
+ghost use Rattle.std.specs.Prelude.{◌≡◌, ◌≢◌, ◌==◌, ◌+◌, ◌*◌, ◌≤◌, ℕ, List, Option, length, map, flat_map, take, IfOk, IfSome, IfNone, All};
 ghost use Rattle.bridge_session.specs.Record.{PlainRecord};
 ghost use Rattle.bridge_session.specs.Kept.{plain_of, IsTiedIn};
 ghost use Rattle.bridge_session.specs.Parts.{deal_part, row_parts};
@@ -7,7 +7,7 @@ ghost use Rattle.bridge_session.specs.StateRange.{AreHandsOrNone};
 ghost use Rattle.bridge_session.specs.Valid.{IsDealOrNone};
 ghost use Rattle.bridge_session.specs.Reading.{items_of, part_kept, plains_of, AreDeals, AreRecords, IsRowOf, AreRows, is_empty_part};
 
-ghost use Rattle.std.specs.List.{range_with_len};
+ghost use Rattle.std.specs.List.{range_with_len, list_all};
 ghost use Rattle.bridge_session.specs.Parts.{record_part};
 
 use crate::deal_read::read_deal;
@@ -41,7 +41,20 @@ pub fn read_deals(
 fn is_empty_part(part: &[u8]) -> bool
     ensures { result ≡ is_empty_part part.now }
 {
-    part.len() == 6 && part.iter().all(|byte| *byte == 0)
+    part.len() == 6 && are_zeros(part)
+}
+
+fn are_zeros(bytes: &[u8]) -> bool
+    ensures { result ≡ list_all (λ byte. byte == 0) bytes.now }
+{
+    bytes.iter().all(|byte| *byte == 0)
+}
+
+/// Whether the parts are those of plays in which nothing has happened.
+fn are_empty_parts(parts: &[ArrayVec<u8, 480>]) -> bool
+    ensures { result ≡ list_all (λ part. is_empty_part part.items) parts.now }
+{
+    parts.iter().all(|part| is_empty_part(part.as_slice()))
 }
 
 /// The records of a round, of boards from the first on, that the parts were written of; none where they are those of no
@@ -98,7 +111,7 @@ fn read_table(
     if row.is_live() {
         let first = (row.set - 1) * boards + 1;
         read_records(alloc, parts, first, deals, now, row.round)
-    } else if parts.iter().all(|part| is_empty_part(part.as_slice())) {
+    } else if are_empty_parts(parts) {
         Ok(Some(Vec::new(alloc)))
     } else {
         Ok(None)
