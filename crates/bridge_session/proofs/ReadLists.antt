@@ -51,7 +51,7 @@ both_push {A} {B} P xs ys x y same each holds place a b first second =
 zero_times : (n : ℕ) → 0 * n ≡ 0
 zero_times n = omega arith
 
-suc_times : (i n : ℕ) → suc i * n ≡ n + i * n
+pub suc_times : (i n : ℕ) → suc i * n ≡ n + i * n
 suc_times i n = omega arith
 
 -- the lists of a fixed length of which a list is joined

@@ -5,9 +5,10 @@ use Rattle.arrayvec.specs.ArrayVec.{ArrayVec}
 use Rattle.std.specs.List.{range_with_len, list_all}
 use Rattle.std.specs.Option.{option_map}
 use Rattle.std.proofs.lemmas.Bool.{and_parts, eqb-true}
-use Rattle.std.proofs.lemmas.List.{map-append, length-map}
+use Rattle.std.specs.Global.{Vec}
+use Rattle.std.proofs.lemmas.List.{map-append, length-map, drop_at}
 use Rattle.std.proofs.lemmas.List.Elements.{All-push, All-map}
-use Rattle.std.proofs.lemmas.Option.{slice_get_within, slice_get-map, slice_get_past}
+use Rattle.std.proofs.lemmas.Option.{slice_get_within, slice_get-map, slice_get_past, get_or_from_slice_get}
 use Rattle.bridge_cards.proofs.FollowLaws.{slice_get-left, slice_get-seam}
 use Rattle.bridge_movement.specs.declared.row.Row.{Row}
 use Rattle.bridge_movement.specs.Row.{is_live}
@@ -20,7 +21,8 @@ use Rattle.bridge_session.specs.StateRange.{IsRecordInRange}
 use Rattle.bridge_session.specs.Valid.{board_of, IsValidRecord}
 use Rattle.bridge_session.specs.Reading.{items_of, is_empty_part, part_kept, plains_of, AreRecords, IsRowOf, AreRows, IsReadFrom}
 use Rattle.bridge_session.proofs.Lists.{range-push}
-use Rattle.bridge_session.proofs.ReadLists.{all_there, mapped_at}
+use Rattle.bridge_session.proofs.ReadLists.{all_there, mapped_at, some_there, both_push, flat_at, suc_times}
+use Rattle.bridge_session.proofs.PartLemmas.{next_taken, length-flat_fixed}
 use Rattle.bridge_session.proofs.StaysValid.{mapped_from}
 
 range_next : (first i : ℕ) → range_with_len first (i + 1) ≡ range_with_len first i ++ (first + i) ∷ []
@@ -165,3 +167,47 @@ pub found_none : {A E : Type 0} (P Q : Type 0) (r : Result (Option A) E) → IfO
 found_none P Q (Ok None) holds then = then holds
 found_none P Q (Ok (Some x)) holds then = tt
 found_none P Q (Err e) holds then = tt
+
+-- All rows
+
+-- the rows that are left, with one and without it
+pub suc_row : (rows place boards : ℕ) → place < rows → (rows - place) * boards ≡ boards + (rows - (place + 1)) * boards
+suc_row rows place boards within =
+    let next : rows - place ≡ suc (rows - (place + 1)) = omega (arith, within) in
+    ap (λ n. n * boards) next ∙ suc_times (rows - (place + 1)) boards
+
+row_length : (boards : ℕ) (records : List PlainRecord) → length (row_parts boards records) ≡ boards
+row_length boards records = length-map (range_with_len 0 boards) (λ index. record_part (record_or_empty records index)) ∙ length-range 0 boards
+
+module _ (deals : List (Option (List ℕ))) (now boards : ℕ) where
+  -- one row more
+  pub rows_push : (rows : List Row) (i : ℕ) (row : Row) (tables : List (Vec Record)) (table : Vec Record) → i < length rows → slice_get rows i ≡ Some row
+      → AreRows deals now boards (take i rows) (map plains_of tables) → IsRowOf deals now boards row (plains_of table)
+      → AreRows deals now boards (take (i + 1) rows) (map plains_of (tables ++ table ∷ []))
+  rows_push rows i row tables table within is are own =
+      let longer : take (i + 1) rows ≡ take i rows ++ row ∷ [] = next_taken rows i row within (sym (get_or_from_slice_get rows i row row is)) in
+      let made : map plains_of (tables ++ table ∷ []) ≡ map plains_of tables ++ plains_of table ∷ [] = map-append plains_of tables (table ∷ []) in
+      subst (λ (rs : List Row). AreRows deals now boards rs (map plains_of (tables ++ table ∷ []))) (sym longer)
+      (subst (AreRows deals now boards (take i rows ++ row ∷ [])) (sym made) (record {
+        count = omega (arith, are.count, length-append (map plains_of tables) (plains_of table ∷ []), length-append (take i rows) (row ∷ []));
+        each = both_push (IsRowOf deals now boards) (take i rows) (map plains_of tables) row (plains_of table) are.count are.each own;
+      }))
+
+  -- the records of the row at a place have the parts there
+  pub row_there : (rows : List Row) (records front : List (List PlainRecord)) (rest : List (List ℕ)) (i : ℕ) (row : Row)
+      → AreRows deals now boards rows records → flat_map (row_parts boards) front ++ rest ≡ flat_map (row_parts boards) records
+      → length front ≡ i → i < length rows → slice_get rows i ≡ Some row
+      → (own : List PlainRecord) × IsRowOf deals now boards row own × (row_parts boards own ≡ take boards rest)
+  row_there rows records front rest i row are same before within is =
+      let found = some_there records i (omega (arith, within, are.count)) in
+      let long : length (flat_map (row_parts boards) front) ≡ i * boards = length-flat_fixed (row_parts boards) boards (row_length boards) front ∙ ap (λ n. n * boards) before in
+      let parts = flat_at (row_parts boards) boards (row_length boards) i records found.0 found.1 in
+      (found.0, are.each i row found.0 is found.1,
+      sym parts ∙ ap (λ ps. take boards (drop (i * boards) ps)) (sym same) ∙ ap (take boards) (drop_at (flat_map (row_parts boards) front) rest (i * boards) long))
+
+pub when_none : {A : Type 0} (P : Type 0) (o : Option A) → IfNone o P → o ≡ None → P
+when_none P None holds is = holds
+when_none P (Some x) holds is = absurd (let wrong : Some x ≡ None = is in cc)
+
+pub when_some : {A : Type 0} (P : A → Type 0) (o : Option A) (x : A) → IfSome o P → o ≡ Some x → P x
+when_some P o x holds is = subst (λ p. IfSome p P) is holds

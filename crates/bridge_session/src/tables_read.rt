@@ -93,20 +93,20 @@ fn read_records(
 fn read_table(
     alloc: Global,
     parts: &[ArrayVec<u8, 480>],
-    row: Row,
+    row: &Row,
     boards: u8,
     deals: &[Option<Deal>],
     now: u8,
 ) -> Result<Option<Vec<Record>>, AllocError>
     requires count { length parts.now ≡ boards }
-    requires least { 1 ≤ row.set }
-    requires most { row.set ≤ 12 }
+    requires least { 1 ≤ row.now.set }
+    requires most { row.now.set ≤ 12 }
     requires boards { boards ≤ 3 }
     requires deals { All AreHandsOrNone deals.now }
     ensures written { IfOk result (λ found. IfSome found (λ table. row_parts boards (map plain_of table.items) ≡ map items_of parts.now)) }
-    ensures row { IfOk result (λ found. IfSome found (λ table. IsRowOf deals.now now boards row (map plain_of table.items))) }
+    ensures row { IfOk result (λ found. IfSome found (λ table. IsRowOf deals.now now boards row.now (map plain_of table.items))) }
     ensures tied { IfOk result (λ found. IfSome found (λ table. All (IsTiedIn deals.now) table.items)) }
-    ensures other { IfOk result (λ found. IfNone found ((records : List PlainRecord) → IsRowOf deals.now now boards row records → row_parts boards records ≢ map items_of parts.now)) }
+    ensures other { IfOk result (λ found. IfNone found ((records : List PlainRecord) → IsRowOf deals.now now boards row.now records → row_parts boards records ≢ map items_of parts.now)) }
 {
     if row.is_live() {
         let first = (row.set - 1) * boards + 1;
@@ -141,7 +141,7 @@ pub fn read_tables(
     let mut rest = parts;
     for row in rows {
         let (own, later) = rest.split_at(usize::from(boards));
-        match read_table(alloc, own, *row, boards, deals, now)? {
+        match read_table(alloc, own, row, boards, deals, now)? {
             Some(table) => tables.push(table)?,
             None => return Ok(None),
         }

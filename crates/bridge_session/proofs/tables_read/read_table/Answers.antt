@@ -12,7 +12,7 @@ use Rattle.bridge_session.proofs.tables_read.read_table.Goals as goal
 pub returns-then-is_live-clause-written : goal.returns-then-is_live-clause-written
 returns-then-is_live-clause-written c =
     let boards = c.args.boards in
-    let row = c.args.row in
+    let row = c.args.row.now in
     let parts = map items_of c.args.parts.now in
     let first : ℕ = (row.set - 1) * boards + 1 in
     found_both (λ (table : Vec Record Global). map part_kept table.items ≡ parts)
@@ -26,7 +26,7 @@ returns-then-is_live-clause-written c =
 pub returns-then-is_live-clause-other : goal.returns-then-is_live-clause-other
 returns-then-is_live-clause-other c =
     let boards = c.args.boards in
-    let row = c.args.row in
+    let row = c.args.row.now in
     let first : ℕ = (row.set - 1) * boards + 1 in
     let own = live_boards boards row (sym c.is_live.ensures.test ∙ c.if-is_live.true) in
     found_none _ _ c.read_records.result c.read_records.ensures.other (λ none records are is.
@@ -44,7 +44,7 @@ returns-then-are_empty_parts-clause-written c =
 pub returns-else-are_empty_parts-clause-other : goal.returns-else-are_empty_parts-clause-other
 returns-else-are_empty_parts-clause-other c = λ records are is.
     let boards = c.args.boards in
-    let none = other_boards boards c.args.row (sym c.is_live.ensures.test ∙ c.if-is_live.false) in
+    let none = other_boards boards c.args.row.now (sym c.is_live.ensures.test ∙ c.if-is_live.false) in
     let empty : records ≡ [] = no_records records (are.boards_are ∙ none) in
     let all = row_unplayed boards c.args.parts.now c.requires.count (ap (row_parts boards) (sym empty) ∙ is) in
     false≢true (sym c.if-are_empty_parts.false ∙ c.are_empty_parts.ensures ∙ all)
