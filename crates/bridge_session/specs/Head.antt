@@ -1,10 +1,13 @@
 -- What the code reads of the parts before those of the boards.
-use Rattle.std.specs.Prelude.{◌≡◌, ◌<◌, ◌≤◌, ◌+◌, ℕ, true, length, List, [], ◌∷◌, map, drop, take, slice_index}
+use Rattle.std.specs.Prelude.{◌≡◌, ◌≢◌, ◌++◌, ◌<◌, ◌≤◌, ◌+◌, ◌*◌, ℕ, true, All, length, List, [], ◌∷◌, map, drop, take, slice_index}
+use Rattle.bridge_movement.specs.declared.shape.Shape.{Shape}
+use Rattle.bridge_movement.specs.Shape.{row_count}
+use Rattle.bridge_movement.specs.Fair.{IsMovement}
 use Rattle.bridge_config.specs.Configuration.{Configuration}
-use Rattle.bridge_config.specs.Limits.{is_name, is_date_form}
+use Rattle.bridge_config.specs.Limits.{is_name, is_date_form, IsConfiguration}
 use Rattle.bridge_session.specs.declared.head.Heading.{Heading}
 use Rattle.bridge_session.specs.Parts.{configuration_part, movement_part, pair_part}
-use Rattle.bridge_session.specs.PartsRead.{text_in, after_text, scoring_at, numbers_in, shape_in, key_in, second_player}
+use Rattle.bridge_session.specs.PartsRead.{text_in, after_text, scoring_at, numbers_in, shape_in, rows_in, key_in, second_player, configuration_in}
 
 -- the parts before those of the boards: of the configuration and the round, the movement, and the pairs
 abbrev pub head_parts : Configuration → ℕ → List (List ℕ)
@@ -34,9 +37,40 @@ pub record IsHeadingPart (part : List ℕ) : Type 0 where
   pub date : is_date_form (take 10 (after_text (after_text part))) ≡ true
   pub scoring : slice_index (numbers_in part) 0 < 2
 
+-- the part of a movement of that shape states one
+pub record IsMovementPart (shape : Shape) (part : List ℕ) : Type 0 where
+  pub long : length part ≡ row_count shape * 3
+  pub movement : IsMovement shape (rows_in shape part)
+
 -- the part of a pair is in form
 pub record IsPairPart (part : List ℕ) : Type 0 where
   pub first : is_name (text_in part) ≡ true
   pub key : 4 ≤ length (after_text part)
   pub second : is_name (text_in (second_player part)) ≡ true
   pub last : length (after_text (second_player part)) ≡ 4
+
+-- the first part, the second, and those of the pairs are in form, and what they name is a configuration
+pub record AreHeadParts (first second : List ℕ) (rest : List (List ℕ)) : Type 0 where
+  pub heading : IsHeadingPart first
+  pub long : length second ≡ row_count (shape_in (numbers_in first)) * 3
+  pub enough : (shape_in (numbers_in first)).pairs ≤ length rest
+  pub pairs : All IsPairPart (take (shape_in (numbers_in first)).pairs rest)
+  pub configured : IsConfiguration (configuration_in first second rest)
+
+-- the first part and the second are those of the configuration and the round
+pub record HasHeading (configuration : Configuration) (round : ℕ) (one other : List ℕ) : Type 0 where
+  pub first : configuration_part configuration round ≡ one
+  pub second : movement_part configuration.movement.rows ≡ other
+
+-- the parts begin with those of the configuration and the round, which is one of it
+pub record IsHead (configuration : Configuration) (now : ℕ) (first second : List ℕ) (rest : List (List ℕ)) : Type 0 where
+  pub round : IsRound configuration now
+  pub heading : HasHeading configuration now first second
+  pub pairs : map pair_part configuration.pairs ≡ take (length configuration.pairs) rest
+
+-- the parts begin with those of no configuration and round of it
+abbrev pub NoHead : List ℕ → List ℕ → List (List ℕ) → Type 0
+NoHead first second rest =
+    (configuration : Configuration) (round : ℕ) (boards : List (List ℕ)) → IsConfiguration configuration → IsRound configuration round →
+    configuration_part configuration round ≡ first → movement_part configuration.movement.rows ≡ second →
+    map pair_part configuration.pairs ++ boards ≢ rest

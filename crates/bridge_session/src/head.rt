@@ -1,12 +1,13 @@
 //! The configuration and the round, read from the parts before those of the boards.
-ghost use Rattle.std.specs.Prelude.{◌≡◌, ◌≢◌, ◌↔◌, ◌+◌, ◌*◌, ◌<◌, ◌≤◌, ◌++◌, ℕ, List, length, map, drop, take, slice_index, IfSome, IfNone, IsTrue, All};
+ghost use Rattle.std.specs.Prelude.{◌≡◌, ◌≢◌, ◌↔◌, ◌+◌, ◌*◌, ◌<◌, ◌≤◌, ◌++◌, ℕ, List, length, map, drop, take, slice_index, IfSome, IfNone, IsTrue, All, Any};
 ghost use Rattle.bridge_movement.specs.declared.row.Row.{Row as RowType};
 ghost use Rattle.bridge_movement.specs.Shape.{IsShape, row_count};
 ghost use Rattle.bridge_config.specs.Configuration.{Configuration, Pair, pair_of};
 ghost use Rattle.bridge_config.specs.Limits.{IsConfiguration, IsPair};
 ghost use Rattle.bridge_session.specs.Parts.{configuration_part, movement_part, pair_part};
 ghost use Rattle.bridge_session.specs.PartsRead.{text_in, after_text, scoring_at, numbers_in, shape_in, key_in, row_in, rows_in, pair_in, configuration_in};
-ghost use Rattle.bridge_session.specs.Head.{head_parts, IsHeadingOf, IsHeadingPart, IsPairPart, IsRound};
+ghost use Rattle.bridge_session.specs.Reading.{items_of};
+ghost use Rattle.bridge_session.specs.Head.{head_parts, IsHeadingOf, IsHeadingPart, IsPairPart, IsMovementPart, AreHeadParts, HasHeading, IsHead, NoHead, IsRound};
 
 use crate::config_bytes::{write_configuration, write_movement, write_pair};
 use arrayvec::{ArrayString, ArrayVec};
@@ -174,4 +175,157 @@ fn read_pair(part: &[u8]) -> Option<PairFields>
         names: [first, second],
         keys: [key_of(key), key_of(rest)],
     })
+}
+
+/// The pairs that parts state, if each is in form.
+fn read_pairs(parts: &[ArrayVec<u8, 480>]) -> Option<ArrayVec<PairFields, MOST_PAIRS>>
+    requires { length parts.now ≤ 24 }
+    ensures some { IfSome result (λ pairs. map pair_of pairs.items ≡ map pair_in (map items_of parts.now)) }
+    ensures none { IfNone result (Any (λ part. ¬ IsPairPart part.items) parts.now) }
+{
+    let mut pairs = ArrayVec::new();
+    for part in parts {
+        pairs.push(read_pair(part.as_slice())?);
+    }
+    Some(pairs)
+}
+
+/// The movement of that shape that a part states, if it is one.
+fn movement_of(shape: Shape, part: &[u8]) -> Option<Movement>
+    requires { IsShape shape }
+    ensures some { IfSome result (λ movement. movement ≡ record { shape = shape; rows = rows_in shape part.now }) }
+    ensures none { IfNone result (¬ IsMovementPart shape part.now) }
+{
+    let rows = read_rows(shape, part)?;
+    match Movement::from_rows(shape, rows.as_slice()) {
+        Ok(movement) => Some(movement),
+        Err(_) => None,
+    }
+}
+
+/// The configuration and the round that the first part, the second, and those of the pairs state.
+fn read_parts(first: &[u8], second: &[u8], rest: &[ArrayVec<u8, 480>]) -> Option<Head>
+    ensures config { IfSome result (λ head. head.config ≡ configuration_in first.now second.now (map items_of rest.now)) }
+    ensures round { IfSome result (λ head. head.round ≡ slice_index (numbers_in first.now) 11) }
+    ensures none { IfNone result (¬ AreHeadParts first.now second.now (map items_of rest.now)) }
+{
+    let Some(heading) = read_heading(first) else {
+        return None;
+    };
+    if !heading.shape.is_within_limits() {
+        return None;
+    }
+    let Some(movement) = movement_of(heading.shape, second) else {
+        return None;
+    };
+    let count = usize::from(heading.shape.pairs);
+    if rest.len() < count {
+        return None;
+    }
+    let (pairs, _) = rest.split_at(count);
+    let Some(pairs) = read_pairs(pairs) else {
+        return None;
+    };
+    let config = Config::from_fields(ConfigFields {
+        event: heading.event,
+        site: heading.site,
+        date: heading.date,
+        scoring: heading.scoring,
+        boards: heading.boards,
+        movement,
+        director: heading.director,
+        pairs,
+    });
+    match config {
+        Some(config) => Some(Head {
+            config,
+            round: heading.round,
+        }),
+        None => None,
+    }
+}
+
+/// Whether the first part and the second are those of the configuration and the round.
+fn has_heading(head: &Head, first: &[u8], second: &[u8]) -> bool
+    ensures { IsTrue result ↔ HasHeading head.now.config head.now.round first.now second.now }
+{
+    let mut part = ArrayVec::new();
+    write_configuration(&head.config, head.round, &mut part);
+    if part.as_slice() != first {
+        return false;
+    }
+    part.clear();
+    write_movement(head.config.fields().movement.rows(), &mut part);
+    part.as_slice() == second
+}
+
+/// Whether the part is that of the pair.
+fn is_part_of(pair: &PairFields, part: &[u8]) -> bool
+    ensures { IsTrue result ↔ pair_part (pair_of pair.now) ≡ part.now }
+{
+    let mut written = ArrayVec::new();
+    write_pair(pair, &mut written);
+    written.as_slice() == part
+}
+
+/// Whether the parts begin with those of the pairs.
+fn have_pairs(pairs: &[PairFields], parts: &[ArrayVec<u8, 480>]) -> bool
+    ensures { IsTrue result ↔ map (λ pair. pair_part (pair_of pair)) pairs.now ≡ take (length pairs.now) (map items_of parts.now) }
+{
+    if parts.len() < pairs.len() {
+        return false;
+    }
+    for (place, pair) in pairs.iter().enumerate() {
+        if !is_part_of(pair, parts[place].as_slice()) {
+            return false;
+        }
+    }
+    true
+}
+
+/// Whether the round is one of the configuration or the one after the last, and the parts begin with those of the head.
+fn is_head(head: &Head, first: &[u8], second: &[u8], rest: &[ArrayVec<u8, 480>]) -> bool
+    ensures { IsTrue result ↔ IsHead head.now.config head.now.round first.now second.now (map items_of rest.now) }
+{
+    let fields = head.config.fields();
+    let last = fields.movement.shape().rounds + 1;
+    if head.round < 1 || last < head.round {
+        return false;
+    }
+    if !has_heading(head, first, second) {
+        return false;
+    }
+    have_pairs(fields.pairs.as_slice(), rest)
+}
+
+/// The same of the first part, the second, and the rest.
+fn head_of(first: &[u8], second: &[u8], rest: &[ArrayVec<u8, 480>]) -> Option<Head>
+    ensures written { IfSome result (λ head. IsHead head.config head.round first.now second.now (map items_of rest.now)) }
+    ensures other { IfNone result (NoHead first.now second.now (map items_of rest.now)) }
+{
+    let Some(head) = read_parts(first, second, rest) else {
+        return None;
+    };
+    if is_head(&head, first, second, rest) {
+        Some(head)
+    } else {
+        None
+    }
+}
+
+/// What the parts before those of the boards state, where these are the parts of a configuration and a round; `None` where
+/// they are those of none.
+pub fn read_head(parts: &[ArrayVec<u8, 480>]) -> Option<Head>
+    ensures written { IfSome result (λ head. head_parts head.config head.round ≡ take (2 + length head.config.pairs) (map items_of parts.now)) }
+    ensures round { IfSome result (λ head. IsRound head.config head.round) }
+    ensures other { IfNone result ((configuration : Configuration) (round : ℕ) (boards : List (List ℕ)) → IsConfiguration configuration →
+        IsRound configuration round → head_parts configuration round ++ boards ≢ map items_of parts.now) }
+{
+    let Some((first, rest)) = parts.split_first() else {
+        return None;
+    };
+    let Some((second, rest)) = rest.split_first() else {
+        return None;
+    };
+    head_of(first.as_slice(), second.as_slice(), rest)
 }
