@@ -47,3 +47,4 @@ pub mod DealLaws
 pub mod HeadLaws
 pub mod ReadLists
 pub mod ReadTables
+pub mod Restored

@@ -201,9 +201,11 @@ module _ (deals : List (Option (List ℕ))) (now boards : ℕ) where
   row_there rows records front rest i row are same before within is =
       let found = some_there records i (omega (arith, within, are.count)) in
       let long : length (flat_map (row_parts boards) front) ≡ i * boards = length-flat_fixed (row_parts boards) boards (row_length boards) front ∙ ap (λ n. n * boards) before in
-      let parts = flat_at (row_parts boards) boards (row_length boards) i records found.0 found.1 in
-      (found.0, are.each i row found.0 is found.1,
-      sym parts ∙ ap (λ ps. take boards (drop (i * boards) ps)) (sym same) ∙ ap (take boards) (drop_at (flat_map (row_parts boards) front) rest (i * boards) long))
+      let parts = flat_at (row_parts boards) boards (row_length boards) i records found.0 found.1 in (
+        found.0,
+        are.each i row found.0 is found.1,
+        sym parts ∙ ap (λ ps. take boards (drop (i * boards) ps)) (sym same) ∙ ap (take boards) (drop_at (flat_map (row_parts boards) front) rest (i * boards) long),
+      )
 
 pub when_none : {A : Type 0} (P : Type 0) (o : Option A) → IfNone o P → o ≡ None → P
 when_none P None holds is = holds

@@ -30,6 +30,7 @@ use std::marker::Model;
 
 mod ending;
 mod parts;
+mod restored;
 mod step;
 
 /// The pairs of a field with their places, by place, then by pair.

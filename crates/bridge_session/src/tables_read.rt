@@ -6,7 +6,6 @@ ghost use Rattle.bridge_session.specs.Parts.{deal_part, row_parts};
 ghost use Rattle.bridge_session.specs.StateRange.{AreHandsOrNone};
 ghost use Rattle.bridge_session.specs.Valid.{IsDealOrNone};
 ghost use Rattle.bridge_session.specs.Reading.{items_of, part_kept, plains_of, AreDeals, AreRecords, IsRowOf, AreRows, is_empty_part};
-
 ghost use Rattle.std.specs.List.{range_with_len, list_all};
 ghost use Rattle.bridge_session.specs.Parts.{record_part};
 

@@ -1,0 +1,73 @@
+//! A session read back from its parts.
+ghost use Rattle.std.specs.Prelude.{◌≡◌, ◌≢◌, map, IfOk, IfSome, IfNone, IsErrOf};
+ghost use Rattle.bridge_config.specs.Limits.{IsConfiguration};
+ghost use Rattle.bridge_session.specs.State.{State};
+ghost use Rattle.bridge_session.specs.StateRange.{IsSession};
+ghost use Rattle.bridge_session.specs.Head.{IsRound};
+ghost use Rattle.bridge_session.specs.Parts.{parts_of, board_parts};
+
+use super::Session;
+use crate::head::read_head;
+use crate::tables_read::{read_deals, read_tables};
+use arrayvec::ArrayVec;
+use bridge_config::Config;
+use session_store::PartsFault;
+use std::alloc::{AllocError, Global};
+
+/// The session of the configuration in the round whose boards and plays the parts state; none where they are those of none.
+fn read_boards(
+    alloc: Global,
+    config: Config,
+    round: u8,
+    parts: &[ArrayVec<u8, 480>],
+) -> Result<Option<Session>, AllocError>
+    requires { IsRound config round }
+    ensures state { IfOk result (λ found. IfSome found (λ s. (s.configuration ≡ config) × (s.round ≡ round))) }
+    ensures parts { IfOk result (λ found. IfSome found (λ s. board_parts s ≡ map (λ part. part.items) parts.now)) }
+    ensures session { IfOk result (λ found. IfSome found IsSession) }
+    ensures other { IfOk result (λ found. IfNone found ((s : State) → IsSession s → s.configuration ≡ config → s.round ≡ round → board_parts s ≢ map (λ part. part.items) parts.now)) }
+{
+    let fields = config.fields();
+    let boards = fields.boards;
+    let count = usize::from(fields.movement.shape().sets) * usize::from(boards);
+    let rows = fields.movement.rows();
+    if parts.len() != count + rows.len() * usize::from(boards) {
+        return Ok(None);
+    }
+    let (of_boards, of_plays) = parts.split_at(count);
+    let deals = match read_deals(alloc, of_boards)? {
+        Some(deals) => deals,
+        None => return Ok(None),
+    };
+    let tables = match read_tables(alloc, of_plays, rows, boards, deals.as_slice(), round)? {
+        Some(tables) => tables,
+        None => return Ok(None),
+    };
+    Ok(Some(Session {
+        config,
+        round,
+        deals,
+        tables,
+    }))
+}
+
+impl Session {
+    /// The session that the parts were written of. `Bad` where they are not exactly those of a session, `Memory` where it is
+    /// out of memory.
+    pub fn from_parts(alloc: Global, parts: &[ArrayVec<u8, 480>]) -> Result<Session, PartsFault>
+        ensures parts { IfOk result (λ s. parts_of s ≡ map (λ part. part.items) parts.now) }
+        ensures session { IfOk result IsSession }
+        ensures bad { IsErrOf result PartsFault.Bad → (s : State) → IsSession s → parts_of s ≢ map (λ part. part.items) parts.now }
+    {
+        let Some(head) = read_head(parts) else {
+            return Err(PartsFault::Bad);
+        };
+        let pairs = head.config.fields().pairs.len();
+        let (_, of_boards) = parts.split_at(2 + pairs);
+        match read_boards(alloc, head.config, head.round, of_boards) {
+            Ok(Some(session)) => Ok(session),
+            Ok(None) => Err(PartsFault::Bad),
+            Err(_) => Err(PartsFault::Memory),
+        }
+    }
+}
