@@ -18,7 +18,9 @@ use Rattle.bridge_session.specs.declared.ruling.Ruling.TheVariants as ruling
 use Rattle.bridge_session.specs.Record.{PlainRecord, contract_in}
 use Rattle.bridge_session.specs.Parts.{text_bytes, value_if, agreed_byte, is_agreed_in, claim_bytes, ruling_bytes, record_part}
 use Rattle.bridge_session.specs.StateRange.{IsOfFourSeats, IsRulingInRange, IsRecordInRange}
-use Rattle.bridge_session.specs.Reading.{Fields, fields_in, fields_of, bytes_at, calls_at, cards_at, seat_numbered, agreed_in, claimed_by, marked_at, claim_at, tricks_in, ruling_at, claims_at, fields_at, fields_part, AreFieldsOf}
+use Rattle.bridge_session.specs.PartsRead.{agreed_in}
+use Rattle.bridge_session.specs.Reading.{Fields, fields_in, fields_of, bytes_at, calls_at, cards_at, seat_numbered, claimed_by, marked_at, claim_at, tricks_in, ruling_at, claims_at, fields_at, fields_part, AreFieldsOf}
+use Rattle.bridge_session.proofs.RecordBack.{agreed_back}
 use Rattle.bridge_session.proofs.ActionLaws.{AreBytes, map_is, then_is, if_is, two_bytes}
 
 pub some_is : {A : Type 0} (x y : A) → Some x ≡ Some y → x ≡ y
@@ -105,24 +107,6 @@ bits_take claimer tricks bits few =
     let eight = bit_value (bits / 8 % 2) 8 (omega arith) in
     rw (one, two, four, eight) (omega (arith, few))
 
-four_bits : (a b c d : Bool) → agreed_in (value_if a 1 + value_if b 2 + value_if c 4 + value_if d 8) ≡ a ∷ b ∷ c ∷ d ∷ []
-four_bits false false false false = refl
-four_bits false false false true = refl
-four_bits false false true false = refl
-four_bits false false true true = refl
-four_bits false true false false = refl
-four_bits false true false true = refl
-four_bits false true true false = refl
-four_bits false true true true = refl
-four_bits true false false false = refl
-four_bits true false false true = refl
-four_bits true false true false = refl
-four_bits true false true true = refl
-four_bits true true false false = refl
-four_bits true true false true = refl
-four_bits true true true false = refl
-four_bits true true true true = refl
-
 few_bits : (a b c d : Bool) → nat_lt 15 (value_if a 1 + value_if b 2 + value_if c 4 + value_if d 8) ≡ false
 few_bits false false false false = refl
 few_bits false false false true = refl
@@ -160,7 +144,7 @@ claimed_again claimer tricks (a ∷ []) four = absurd (omega (arith, four))
 claimed_again claimer tricks (a ∷ b ∷ []) four = absurd (omega (arith, four))
 claimed_again claimer tricks (a ∷ b ∷ c ∷ []) four = absurd (omega (arith, four))
 claimed_again claimer tricks (a ∷ b ∷ c ∷ d ∷ []) four =
-    rw (few_bits a b c d, seat_again claimer) (ap (λ agreed. Some (claim_by claimer tricks agreed)) (four_bits a b c d))
+    rw (few_bits a b c d, seat_again claimer) (ap (λ agreed. Some (claim_by claimer tricks agreed)) (agreed_back a b c d))
 claimed_again claimer tricks (a ∷ b ∷ c ∷ d ∷ e ∷ more) four = absurd (omega (arith, four))
 
 -- the mark of a claim

@@ -7,6 +7,8 @@ use Rattle.std.specs.Option.{option_map}
 use Rattle.std.proofs.lemmas.Bool.{and_parts, eqb-true}
 use Rattle.std.specs.Global.{Vec}
 use Rattle.std.proofs.lemmas.List.{map-append, length-map, drop_at}
+use Rattle.std.proofs.lemmas.List.FromFn.{length-range_with_len, length-map-range_with_len}
+use Rattle.std.proofs.lemmas.Simd.{map-map}
 use Rattle.std.proofs.lemmas.List.Elements.{All-push, All-map}
 use Rattle.std.proofs.lemmas.Option.{slice_get_within, slice_get-map, slice_get_past, get_or_from_slice_get}
 use Rattle.bridge_cards.proofs.FollowLaws.{slice_get-left, slice_get-seam}
@@ -58,34 +60,11 @@ board_there first count i records plain is found =
 
 -- The parts of a row
 
--- a row with a record for each board
-row_from : (front records : List PlainRecord) (k : ℕ) → k ≡ length front
-    → map (λ index. record_part (record_or_empty (front ++ records) index)) (range_with_len k (length records)) ≡ map record_part records
-row_from front [] k is = refl
-row_from front (x ∷ xs) k is =
-    let all : List PlainRecord = front ++ x ∷ xs in
-    let here : slice_get all k ≡ Some x = ap (slice_get all) is ∙ slice_get-seam front x xs in
-    let first : record_part (record_or_empty all k) ≡ record_part x = ap (λ o. record_part (unwrap_or o (empty_record 0))) here in
-    let next : k + 1 ≡ length (front ++ x ∷ []) = omega (arith, is, length-append front (x ∷ [])) in
-    let rest = row_from (front ++ x ∷ []) xs (k + 1) next in
-    let joined : (front ++ x ∷ []) ++ xs ≡ all = append_assoc front (x ∷ []) xs in
-    ap (λ p. p ∷ map (λ index. record_part (record_or_empty all index)) (range_with_len (k + 1) (length xs))) first
-    ∙ ap (λ ps. record_part x ∷ ps)
-    (ap (λ rs. map (λ index. record_part (record_or_empty rs index)) (range_with_len (k + 1) (length xs))) (sym joined) ∙ rest)
-
-pub row_full : (boards : ℕ) (records : List PlainRecord) → length records ≡ boards → row_parts boards records ≡ map record_part records
-row_full boards records is =
-    ap (λ n. row_parts n records) (sym is) ∙ row_from [] records 0 refl
-
-pub length-range : (first count : ℕ) → length (range_with_len first count) ≡ count
-length-range first zero = refl
-length-range first (suc count) = let next = length-range (first + 1) count in omega (arith, next)
-
 -- records of so many boards
 pub records_count : (deals : List (Option (List ℕ))) (now round first count : ℕ) (records : List PlainRecord)
     → AreRecords deals now round (range_with_len first count) records → length records ≡ count
 records_count deals now round first count records are =
-    sym (length-map records board_of) ∙ ap length are.boards_are ∙ length-range first count
+    sym (length-map records board_of) ∙ ap length are.boards_are ∙ length-range_with_len first count
 
 -- the part of a play in which nothing has happened
 abbrev six_zeros : List ℕ
@@ -152,8 +131,7 @@ other_boards boards row is = ap (λ b. cond b (range_with_len ((row.set - 1) * b
 
 -- what is kept of records has their parts
 pub kept_parts : (table : List Record) → map part_kept table ≡ map record_part (map plain_of table)
-kept_parts [] = refl
-kept_parts (kept ∷ table) = ap (λ ps. part_kept kept ∷ ps) (kept_parts table)
+kept_parts table = sym (map-map record_part plain_of table)
 
 -- what was found, or not
 
@@ -177,7 +155,7 @@ suc_row rows place boards within =
     ap (λ n. n * boards) next ∙ suc_times (rows - (place + 1)) boards
 
 row_length : (boards : ℕ) (records : List PlainRecord) → length (row_parts boards records) ≡ boards
-row_length boards records = length-map (range_with_len 0 boards) (λ index. record_part (record_or_empty records index)) ∙ length-range 0 boards
+row_length boards records = length-map-range_with_len (λ index. record_part (record_or_empty records index)) 0 boards
 
 module _ (deals : List (Option (List ℕ))) (now boards : ℕ) where
   -- one row more

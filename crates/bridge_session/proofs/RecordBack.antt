@@ -26,7 +26,7 @@ calls_back calls known =
     (λ place call within. ap (λ found. unwrap_or found Pass) (call_at-call_number (get_or calls place call) (known place call within)))
 
 -- a claim
-agreed_back : (north east south west : Bool) → agreed_in (value_if north 1 + value_if east 2 + value_if south 4 + value_if west 8) ≡ north ∷ east ∷ south ∷ west ∷ []
+pub agreed_back : (north east south west : Bool) → agreed_in (value_if north 1 + value_if east 2 + value_if south 4 + value_if west 8) ≡ north ∷ east ∷ south ∷ west ∷ []
 agreed_back true true true true = refl
 agreed_back true true true false = refl
 agreed_back true true false true = refl

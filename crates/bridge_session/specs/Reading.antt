@@ -1,5 +1,5 @@
 -- Reading the part of a play from left to right: a value, and the bytes behind it.
-use Rattle.std.specs.Prelude.{◌≡◌, ℕ, ◌/◌, ◌%◌, ◌≤◌, ◌==◌, nat_lt, nat_le, Bool, true, false, not, ◌&&◌, ◌||◌, if◌then◌else◌, map, List, [], ◌∷◌, ◌++◌, length, take, drop, Option, Some, None, is_some, IfSome, option_and_then, slice_get, All}
+use Rattle.std.specs.Prelude.{◌≡◌, ℕ, ◌≤◌, ◌==◌, nat_lt, nat_le, Bool, true, false, not, ◌&&◌, ◌||◌, if◌then◌else◌, map, List, [], ◌∷◌, ◌++◌, length, take, drop, Option, Some, None, is_some, IfSome, option_and_then, slice_get, All}
 use Rattle.std.specs.List.{list_all}
 use Rattle.std.specs.Global.{Vec}
 use Rattle.arrayvec.specs.ArrayVec.{ArrayVec}
@@ -18,6 +18,7 @@ use Rattle.bridge_session.specs.declared.record_fields.RecordFields.{RecordField
 use Rattle.bridge_session.specs.declared.ruling.Ruling.{Ruling}
 use Rattle.bridge_session.specs.declared.ruling.Ruling.TheVariants as ruling
 use Rattle.bridge_session.specs.ActionBytes.{hands_in}
+use Rattle.bridge_session.specs.PartsRead.{agreed_in}
 use Rattle.bridge_session.specs.Record.{PlainRecord, contract_in, play_of}
 use Rattle.bridge_session.specs.State.{row_boards}
 use Rattle.bridge_session.specs.Kept.{plain_of, is_kept_open, IsTiedIn}
@@ -77,10 +78,6 @@ abbrev pub seat_numbered : ℕ → Option Seat
 seat_numbered number =
     if number == 0 then Some North else if number == 1 then Some East else if number == 2 then Some South
     else if number == 3 then Some West else None
-
--- who has agreed, by the bits of a number
-abbrev pub agreed_in : ℕ → List Bool
-agreed_in bits = (bits % 2 == 1) ∷ (bits / 2 % 2 == 1) ∷ (bits / 4 % 2 == 1) ∷ (bits / 8 % 2 == 1) ∷ []
 
 -- the claim of these numbers: who claims, how many tricks, and who has agreed
 abbrev pub claimed_by : ℕ → ℕ → ℕ → Option Claim

@@ -6,7 +6,8 @@ use Rattle.bridge_session.specs.Record.{PlainRecord}
 use Rattle.bridge_session.specs.Kept.{plain_of}
 use Rattle.bridge_session.specs.Parts.{record_part, row_parts}
 use Rattle.bridge_session.specs.Reading.{items_of, part_kept, AreRecords, IsRowOf}
-use Rattle.bridge_session.proofs.ReadTables.{row_full, records_count, live_boards, other_boards, kept_parts, unplayed_row, row_unplayed, no_records, found_both, found_none}
+use Rattle.bridge_session.proofs.TablesBack.{full_parts}
+use Rattle.bridge_session.proofs.ReadTables.{records_count, live_boards, other_boards, kept_parts, unplayed_row, row_unplayed, no_records, found_both, found_none}
 use Rattle.bridge_session.proofs.tables_read.read_table.Goals as goal
 
 pub returns-then-is_live-clause-written : goal.returns-then-is_live-clause-written
@@ -21,7 +22,7 @@ returns-then-is_live-clause-written c =
     c.read_records.result c.read_records.ensures.written c.read_records.ensures.records
     (λ table written are.
     let count = records_count c.args.deals.now c.args.now row.round first (length c.args.parts.now) (map plain_of table.items) are in
-    row_full boards (map plain_of table.items) (count ∙ c.requires.count) ∙ sym (kept_parts table.items) ∙ written)
+    full_parts boards (map plain_of table.items) (count ∙ c.requires.count) ∙ sym (kept_parts table.items) ∙ written)
 
 pub returns-then-is_live-clause-other : goal.returns-then-is_live-clause-other
 returns-then-is_live-clause-other c =
@@ -34,7 +35,7 @@ returns-then-is_live-clause-other c =
     = subst (λ (bs : List ℕ). AreRecords c.args.deals.now c.args.now row.round bs records)
     (own ∙ ap (range_with_len first) (sym c.requires.count)) are in
     let count = records_count c.args.deals.now c.args.now row.round first (length c.args.parts.now) records of_boards in
-    none records of_boards (sym (row_full boards records (count ∙ c.requires.count)) ∙ is))
+    none records of_boards (sym (full_parts boards records (count ∙ c.requires.count)) ∙ is))
 
 pub returns-then-are_empty_parts-clause-written : goal.returns-then-are_empty_parts-clause-written
 returns-then-are_empty_parts-clause-written c =
