@@ -1,4 +1,4 @@
-use Rattle.std.proofs.Common.{◌≡◌, IfSome}
+use Rattle.std.proofs.Common.{◌≡◌}
 use Rattle.std.proofs.Math.Facts.{Fits-lt-pow}
 use Rattle.bridge_session.specs.Parts.{deal_part}
 use Rattle.bridge_session.specs.StateRange.{AreHandsOrNone}

@@ -1,9 +1,7 @@
-use Rattle.std.proofs.Common.{◌≡◌, ◌≢◌, ◌∙◌, List, [], map, ap, sym, subst, false}
-use Rattle.bridge_auction.specs.declared.call.Call.{Call as CallValue}
+use Rattle.std.proofs.Common.{◌≡◌, ◌∙◌, map, ap, sym, subst}
 use Rattle.bridge_auction.specs.Auction.{Bidding}
 use Rattle.bridge_auction.specs.Call.{call_number}
 use Rattle.bridge_auction.specs.Legal.{IsLegal}
-use Rattle.bridge_session.specs.Reading.{some_call}
 use Rattle.bridge_session.proofs.ReadRecords.{numbers_are, calls_once, no_calls, if_none, if_some_then, none_if}
 use Rattle.bridge_session.proofs.record_read.auction_of.Goals as goal
 

@@ -1,4 +1,4 @@
-use Rattle.std.proofs.Common.{◌≡◌, ◌≢◌, ◌∙◌, ℕ, List, [], Option, Some, map, ap, sym, subst, false}
+use Rattle.std.proofs.Common.{◌≡◌, ◌∙◌, ℕ, List, [], Option, Some, ap, sym, subst}
 use Rattle.std.specs.Prelude.{unwrap_or}
 use Rattle.bridge_auction.specs.Contract.{contract_of}
 use Rattle.bridge_session.specs.Reading.{fields_in, plain_from, IsPlayed}

@@ -1,5 +1,5 @@
-use Rattle.std.proofs.Common.{◌≡◌, ◌∙◌, ap, sym, Some}
-use Rattle.bridge_session.specs.Reading.{Fields, fields_in, fields_of, fields_at}
+use Rattle.std.proofs.Common.{◌∙◌, ap, sym}
+use Rattle.bridge_session.specs.Reading.{fields_in, fields_of, fields_at}
 use Rattle.bridge_session.proofs.FieldLaws.{some_is, not_some}
 use Rattle.bridge_session.proofs.ReadRecords.{valid_fields, if_none_then}
 use Rattle.bridge_session.proofs.record_read.read_record.Goals as goal

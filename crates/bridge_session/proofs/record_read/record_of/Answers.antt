@@ -1,15 +1,7 @@
-use Rattle.std.proofs.Common.{◌≡◌, ◌≢◌, ◌∙◌, ℕ, List, [], Option, map, ap, sym, subst, Bool, true, false, not}
-use Rattle.std.specs.Prelude.{is_some, unwrap_or, IfSome, All}
+use Rattle.std.proofs.Common.{◌≡◌, ◌∙◌, sym, Bool, true, false}
 use Rattle.std.proofs.Math.Bool.{beq}
-use Rattle.bridge_auction.specs.Auction.{Bidding}
-use Rattle.bridge_auction.specs.Call.{call_number}
-use Rattle.bridge_session.specs.Record.{PlainRecord}
-use Rattle.bridge_session.specs.Kept.{plain_of}
-use Rattle.bridge_session.specs.Parts.{is_agreed_in}
-use Rattle.bridge_session.specs.State.{deal_on}
-use Rattle.bridge_session.specs.Valid.{IsValidRecord}
-use Rattle.bridge_session.specs.Reading.{Fields, fields_in, fields_of, plain_from, is_in_place}
-use Rattle.bridge_session.proofs.ReadRecords.{AreRead, dealt_on, valid_is, valid_played, read_valid, read_in_range, read_tied, valid_taken, valid_agreed, undealt_is, if_none}
+use Rattle.bridge_session.specs.Reading.{fields_in}
+use Rattle.bridge_session.proofs.ReadRecords.{AreRead, valid_is, valid_played, read_valid, read_in_range, valid_taken, valid_agreed, if_none}
 use Rattle.bridge_session.proofs.record_read.record_of.Goals as goal
 use Rattle.bridge_session.proofs.record_read.record_of.Goals.{else-is_agreed-fields-via-then-is_agreed-fields+else-is_in_place, else-is_agreed-fields-via-else-is_agreed-fields}
 

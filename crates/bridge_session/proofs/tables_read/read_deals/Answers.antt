@@ -1,4 +1,4 @@
-use Rattle.std.proofs.Common.{◌≡◌, ◌∙◌, sym}
+use Rattle.std.proofs.Common.{◌∙◌, sym}
 use Rattle.bridge_session.specs.Parts.{deal_part}
 use Rattle.bridge_session.specs.Reading.{items_of}
 use Rattle.bridge_session.specs.StateRange.{AreHandsOrNone}

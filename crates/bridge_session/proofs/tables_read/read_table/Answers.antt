@@ -1,11 +1,10 @@
-use Rattle.std.proofs.Common.{Vec, Global, ◌≡◌, ◌≢◌, ◌+◌, ◌-◌, ◌*◌, ◌∙◌, [], ℕ, List, Option, length, map, sym, ap, subst, true, false, arith}
+use Rattle.std.proofs.Common.{Vec, Global, ◌≡◌, ◌+◌, ◌-◌, ◌*◌, ◌∙◌, [], ℕ, List, length, map, sym, ap, subst}
 use Rattle.std.proofs.lemmas.Bool.{false≢true}
 use Rattle.std.specs.List.{range_with_len}
 use Rattle.bridge_session.specs.declared.record.Record.{Record}
-use Rattle.bridge_session.specs.Record.{PlainRecord}
 use Rattle.bridge_session.specs.Kept.{plain_of}
-use Rattle.bridge_session.specs.Parts.{record_part, row_parts}
-use Rattle.bridge_session.specs.Reading.{items_of, part_kept, AreRecords, IsRowOf}
+use Rattle.bridge_session.specs.Parts.{row_parts}
+use Rattle.bridge_session.specs.Reading.{items_of, part_kept, AreRecords}
 use Rattle.bridge_session.proofs.TablesBack.{full_parts}
 use Rattle.bridge_session.proofs.ReadTables.{records_count, live_boards, other_boards, kept_parts, unplayed_row, row_unplayed, no_records, found_both, found_none}
 use Rattle.bridge_session.proofs.tables_read.read_table.Goals as goal

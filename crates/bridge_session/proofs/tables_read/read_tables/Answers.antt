@@ -1,13 +1,12 @@
-use Rattle.std.proofs.Common.{Vec, Global, ◌≡◌, ◌≢◌, ◌+◌, ◌-◌, ◌*◌, ◌<◌, ◌++◌, ◌∷◌, ◌∙◌, [], ℕ, suc, List, Option, Some, length, map, take, drop, sym, ap, subst, arith, append_assoc}
-use Rattle.std.specs.Prelude.{All, IfNone, flat_map, slice_get}
+use Rattle.std.proofs.Common.{Vec, Global, ◌≡◌, ◌+◌, ◌++◌, ◌∷◌, ◌∙◌, [], List, length, map, take, sym, ap, subst, arith, append_assoc}
+use Rattle.std.specs.Prelude.{All, flat_map}
 use Rattle.std.specs.List.{take-map}
 use Rattle.std.proofs.lemmas.List.{map-append, length-take, take-append-drop, append-nil}
 use Rattle.std.proofs.lemmas.Option.{slice_get-get_or}
 use Rattle.std.proofs.lemmas.List.Elements.{All-push}
 use Rattle.std.proofs.lemmas.Grind.{flat_map-append}
 use Rattle.bridge_session.specs.declared.record.Record.{Record}
-use Rattle.bridge_session.specs.Record.{PlainRecord}
-use Rattle.bridge_session.specs.Kept.{plain_of, IsTiedIn}
+use Rattle.bridge_session.specs.Kept.{IsTiedIn}
 use Rattle.bridge_session.specs.Parts.{row_parts}
 use Rattle.bridge_session.specs.Reading.{items_of, plains_of, AreRows}
 use Rattle.bridge_session.proofs.ReadTables.{rows_push, row_there, when_none, when_some, suc_row}

@@ -1,4 +1,4 @@
-use Rattle.std.proofs.Common.{◌≡◌, ◌+◌, ◌-◌, ◌*◌, ◌++◌, All, length, map, take}
+use Rattle.std.proofs.Common.{◌≡◌, ◌-◌, ◌*◌, ◌++◌, All, length, map, take}
 use Rattle.std.specs.Prelude.{flat_map}
 use Rattle.bridge_session.specs.Kept.{IsTiedIn}
 use Rattle.bridge_session.specs.Parts.{row_parts}

@@ -1,6 +1,6 @@
 use Rattle.std.proofs.Common.{◌≡◌, ◌≢◌, ◌+◌, ◌≤◌, ◌++◌, ◌∙◌, ℕ, List, length, map, drop, sym, ap, arith, length-append}
 use Rattle.std.specs.List.{drop-map}
-use Rattle.std.proofs.lemmas.List.{length-map}
+use Rattle.std.proofs.lemmas.List.{length-map, take-append-drop}
 use Rattle.bridge_config.specs.Configuration.{Configuration, pair_of}
 use Rattle.bridge_session.specs.State.{State}
 use Rattle.bridge_session.specs.Head.{head_parts}
@@ -16,7 +16,9 @@ split_at-requires c =
     let parts = map items_of c.args.parts.now in
     let pairs : c.len-pairs.result ≡ length config.pairs
     = c.len-pairs.ensures.value ∙ sym (length-map c.fields.result.now.pairs.items pair_of) ∙ ap (λ (k : Configuration). length k.pairs) c.fields.ensures.fields in
-    let long = ap length c.in-Some.ensures.parts in
+    let whole : head_parts config c.in-Some.head.round ++ drop (2 + length config.pairs) parts ≡ parts
+    = ap (λ ps. ps ++ drop (2 + length config.pairs) parts) c.in-Some.ensures.written ∙ take-append-drop (2 + length config.pairs) parts in
+    let long = ap length whole in
     omega (
       arith,
       pairs,
@@ -43,7 +45,7 @@ returns-in-Ok-Some-clause-parts c =
     ap (λ (k : Configuration). head_parts k session.round ++ board_parts session) stated.0
     ∙ ap (λ n. head_parts config n ++ board_parts session) stated.1
     ∙ ap (λ xs. head_parts config round ++ xs) (boards ∙ behind)
-    ∙ c.in-Some.ensures.parts
+    ∙ ap (λ ps. ps ++ drop (2 + length config.pairs) parts) c.in-Some.ensures.written ∙ take-append-drop (2 + length config.pairs) parts
 
 pub returns-in-Ok-None-clause-bad : goal.returns-in-Ok-None-clause-bad
 returns-in-Ok-None-clause-bad c = λ bad s is of.
@@ -54,6 +56,6 @@ returns-in-Ok-None-clause-bad c = λ bad s is of.
     = c.len-pairs.ensures.value ∙ sym (length-map c.fields.result.now.pairs.items pair_of) ∙ ap (λ (k : Configuration). length k.pairs) c.fields.ensures.fields in
     let behind : map items_of c.split_at.result.1.now ≡ drop (2 + length config.pairs) parts
     = ap (map items_of) c.split_at.ensures.back ∙ sym (drop-map items_of (2 + c.len-pairs.result) c.args.parts.now) ∙ ap (λ n. drop (2 + n) parts) pairs in
-    let head = same_head s.configuration config s.round round (board_parts s) (drop (2 + length config.pairs) parts) is.valid.configured c.in-Some.ensures.limits
-    (of ∙ sym c.in-Some.ensures.parts) in
+    let head = same_head s.configuration config s.round round (board_parts s) (drop (2 + length config.pairs) parts) is.valid.configured c.fields.ensures.limits
+    (of ∙ sym (ap (λ ps. ps ++ drop (2 + length config.pairs) parts) c.in-Some.ensures.written ∙ take-append-drop (2 + length config.pairs) parts)) in
     when_none _ c.in-Ok-None.field-0 c.in-Ok-None.ensures.other c.in-Ok-None.field-0-is s is head.configuration head.round (head.behind ∙ sym behind)

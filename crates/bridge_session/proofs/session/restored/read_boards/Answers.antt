@@ -1,4 +1,4 @@
-use Rattle.std.proofs.Common.{Vec, Global, ◌≡◌, ◌≢◌, ◌+◌, ◌-◌, ◌*◌, ◌∙◌, ◌++◌, [], ℕ, List, Option, length, map, take, drop, sym, ap, subst, All, arith}
+use Rattle.std.proofs.Common.{Vec, Global, ◌≡◌, ◌*◌, ◌∙◌, ◌++◌, ℕ, List, Option, length, map, take, drop, sym, ap, subst, All, arith}
 use Rattle.std.specs.Prelude.{flat_map}
 use Rattle.std.specs.List.{take-map, drop-map}
 use Rattle.std.proofs.lemmas.List.{length-map, take-append-drop}
@@ -6,7 +6,6 @@ use Rattle.bridge_movement.specs.declared.row.Row.{Row}
 use Rattle.bridge_movement.specs.declared.shape.Shape.{Shape}
 use Rattle.bridge_config.specs.Configuration.{Configuration, configuration_of}
 use Rattle.bridge_session.specs.declared.record.Record.{Record}
-use Rattle.bridge_session.specs.State.{State}
 use Rattle.bridge_session.specs.Parts.{deal_part, row_parts, board_parts}
 use Rattle.bridge_session.specs.Reading.{items_of, plains_of, AreDeals, AreRows}
 use Rattle.bridge_session.specs.Kept.{IsTiedIn}
