@@ -13,13 +13,12 @@ part_of pair = pair_part (pair_of pair)
 pub returns-then-not-is_part_of : goal.returns-then-not-is_part_of
 returns-then-not-is_part_of c =
     let pair = c.index-pairs-place.result in
-    let part = c.index-parts-place.result in
-    (
+    let part = c.index-parts-place.result in (
       λ told. absurd (let no : false ≡ true = told in cc),
       λ same.
-      let here = same_at part_of items_of c.args.pairs.now c.args.parts.now c.loop-place.place pair part c.loop-place-test.true c.if-parts-pairs.false same in
-      let there : part_of pair ≡ items_of part = ap part_of c.index-pairs-place.is ∙ here ∙ ap items_of (sym c.index-parts-place.is) in
-      c.if-not-is_part_of.ensures.1 (there ∙ sym c.as_slice.ensures.value),
+          let here = same_at part_of items_of c.args.pairs.now c.args.parts.now c.loop-place.place pair part c.loop-place-test.true c.if-parts-pairs.false same in
+          let there : part_of pair ≡ items_of part = ap part_of c.index-pairs-place.is ∙ here ∙ ap items_of (sym c.index-parts-place.is) in
+          c.if-not-is_part_of.ensures.1 (there ∙ sym c.as_slice.ensures.value),
     )
 
 pub loop-place-preserved : goal.loop-place-preserved

@@ -15,8 +15,7 @@ returns c =
     let pairs : map pair_of kept ≡ config.pairs = ap (map pair_of) c.as_slice.ensures.value ∙ ap (λ (k : Configuration). k.pairs) c.fields-fields.ensures.fields in
     let parts : map (λ pair. pair_part (pair_of pair)) kept ≡ map pair_part config.pairs = sym (map-map pair_part pair_of kept) ∙ ap (map pair_part) pairs in
     let long : length kept ≡ length config.pairs = sym (length-map kept pair_of) ∙ ap length pairs in
-    let rounds = ap (λ (shape : Shape). shape.rounds) c.shape-last.ensures.shape ∙ ap (λ (k : Configuration). k.movement.shape.rounds) c.fields-fields.ensures.fields in
-    (
+    let rounds = ap (λ (shape : Shape). shape.rounds) c.shape-last.ensures.shape ∙ ap (λ (k : Configuration). k.movement.shape.rounds) c.fields-fields.ensures.fields in (
       λ told. record {
         round = (omega (arith, c.if-head-lt1.false), omega (arith, c.if-last-head.false, rounds));
         heading = c.if-not-has_heading.ensures.0 refl;

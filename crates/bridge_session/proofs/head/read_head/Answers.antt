@@ -11,7 +11,7 @@ returns-clause-written c =
     let first = c.as_slice.result.now in
     let second = c.as_slice-2.result.now in
     let rest = map items_of c.in-Some-split_first.rest.now in
-    let parts : first ∷ second ∷ rest ≡ map items_of c.args.parts.now = 
+    let parts : first ∷ second ∷ rest ≡ map items_of c.args.parts.now =
     ap (λ part. part ∷ second ∷ rest) c.as_slice.ensures.value
     ∙ ap (λ part. items_of c.in-Some.first.now ∷ part ∷ rest) c.as_slice-2.ensures.value
     ∙ ap (λ (parts : List (ArrayVec ℕ)). items_of c.in-Some.first.now ∷ map items_of parts) (sym c.in-Some-split_first.ensures.cases.0)
