@@ -8,10 +8,11 @@ use Rattle.bridge_movement.specs.Row.{IsLive, SitsIn, ShareAPair, SeatPairTwice,
 use Rattle.bridge_movement.specs.Shape.{IsBetween, IsShape, row_count}
 use Rattle.bridge_session.specs.Decided.{Decided, decided_like, decided_both, decided_either, decided_implies, decided_not, decided_equal, decided_most, decided_less, decided_all, decided_pairs, decided_places}
 
--- the shape
+-- whether a number is within limits
 decided_between : (low high n : ℕ) → Decided (IsBetween low high n)
 decided_between low high n = decided_both (decided_most low n) (decided_most n high)
 
+-- whether the numbers of a shape are within their limits
 pub decided_shape : (shape : Shape) → Decided (IsShape shape)
 decided_shape shape =
     decided_like
@@ -20,7 +21,7 @@ decided_shape shape =
     (λ all. record { tables = all.0; rounds = all.1.0; sets = all.1.1.0; pairs = all.1.1.1.0; split = all.1.1.1.1 })
     (λ is. (is.tables, (is.rounds, (is.sets, (is.pairs, is.split)))))
 
--- rows by round, then by table
+-- whether a row is the one due at a place
 decided_due : (shape : Shape) (place : ℕ) (row : Row) → Decided (IsDue shape place row)
 decided_due shape place row =
     decided_like
@@ -28,6 +29,7 @@ decided_due shape place row =
     (decided_both (decided_equal row.round (place / shape.tables + 1)) (decided_equal row.table (place % shape.tables + 1))))
     (λ all. (all.0, all.1.0, all.1.1)) (λ due. (due.0, (due.1, due.2)))
 
+-- whether rows are complete and in order
 decided_complete : (shape : Shape) (rows : List Row) → Decided (IsComplete shape rows)
 decided_complete shape rows =
     decided_like
@@ -42,13 +44,15 @@ decided_complete shape rows =
           subst (IsDue shape place) (get_or_from_slice_get rows place row row there) ((is.order place (slice_get_within rows place row there)).1 row),
     ))
 
--- pairs in rows
+-- whether both sides of a row have a pair
 decided_live : (row : Row) → Decided (IsLive row)
 decided_live row = decided_both (decided_not (decided_equal row.ns 0)) (decided_not (decided_equal row.ew 0))
 
+-- whether a pair stands in a row
 decided_sits : (row : Row) (pair : ℕ) → Decided (SitsIn row pair)
 decided_sits row pair = decided_either (decided_equal row.ns pair) (decided_equal row.ew pair)
 
+-- whether some pair stands in both rows: it is one of the first row's two
 decided_shared : (a b : Row) → Decided (ShareAPair a b)
 decided_shared a b =
     decided_like
@@ -60,14 +64,17 @@ decided_shared a b =
       | inr ew ↦ inr (subst (λ pair. (pair ≢ 0) × SitsIn b pair) (sym ew) (shared.1, shared.3))
     ])
 
+-- whether some pair stands in both rows, and they are of one round
 decided_twice : (a b : Row) → Decided (SeatPairTwice a b)
 decided_twice a b = decided_both (decided_equal a.round b.round) (decided_shared a b)
 
+-- whether some pair plays one set in both rows
 decided_again : (a b : Row) → Decided (PlaySetAgain a b)
 decided_again a b =
     decided_like (decided_both (decided_live a) (decided_both (decided_live b) (decided_both (decided_equal a.set b.set) (decided_shared a b))))
     (λ all. (all.0, all.1.0, all.1.1.0, all.1.1.1)) (λ again. (again.0, (again.1, (again.2, again.3))))
 
+-- whether rows are fair
 decided_fair : (shape : Shape) (rows : List Row) → Decided (IsFair shape rows)
 decided_fair shape rows =
     decided_like
@@ -79,6 +86,7 @@ decided_fair shape rows =
     (λ all. record { pairs = all.0; opponents = all.1.0; sets = all.1.1.0; one_table = all.1.1.1.0; new_sets = all.1.1.1.1 })
     (λ fair. (fair.pairs, (fair.opponents, (fair.sets, (fair.one_table, fair.new_sets)))))
 
+-- whether rows are a movement of the shape
 pub decided_movement : (shape : Shape) (rows : List Row) → Decided (IsMovement shape rows)
 decided_movement shape rows =
     decided_like (decided_both (decided_complete shape rows) (decided_fair shape rows))

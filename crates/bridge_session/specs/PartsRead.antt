@@ -18,17 +18,19 @@ use Rattle.bridge_session.specs.declared.ruling.Ruling.TheVariants as ruling
 use Rattle.bridge_session.specs.Record.{PlainRecord}
 use Rattle.bridge_session.specs.State.{State, row_boards}
 
--- the text that bytes begin with, by its length, and what comes after it
+-- the text that bytes begin with, after its length
 abbrev pub text_in : List ℕ → List ℕ
 text_in [] = []
 text_in (count ∷ bytes) = take count bytes
 
+-- what comes after that text
 abbrev pub after_text : List ℕ → List ℕ
 after_text [] = []
 after_text (count ∷ bytes) = drop count bytes
 
 -- The configuration
 
+-- the scoring of a number: 0 for matchpoints, 1 for IMPs
 abbrev pub scoring_at : ℕ → Scoring
 scoring_at number = if number == 0 then MatchPoints else Imps
 
@@ -36,6 +38,7 @@ scoring_at number = if number == 0 then MatchPoints else Imps
 abbrev pub numbers_in : List ℕ → List ℕ
 numbers_in heading = drop 10 (after_text (after_text heading))
 
+-- the shape: the numbers of tables, rounds, sets and pairs, and the last pair of the first field
 abbrev pub shape_in : List ℕ → Shape
 shape_in numbers = record {
   tables = slice_index numbers 2;
@@ -45,7 +48,7 @@ shape_in numbers = record {
   split = slice_index numbers 6;
 }
 
--- the row at a place, of the round and the table that are due there
+-- the row at a place, of the round and the table that are due there, by its three numbers
 abbrev pub row_in : ℕ → List ℕ → ℕ → Row
 row_in tables movement place = record {
   round = place / tables + 1;
@@ -55,9 +58,11 @@ row_in tables movement place = record {
   set = slice_index movement (place * 3 + 2);
 }
 
+-- as many rows as the shape has
 abbrev pub rows_in : Shape → List ℕ → List Row
 rows_in shape movement = map (row_in shape.tables movement) (range_with_len 0 (row_count shape))
 
+-- the key of four bytes
 abbrev pub key_in : List ℕ → ℕ
 key_in bytes = from_be_bytes w32 (take 4 bytes)
 
@@ -65,13 +70,14 @@ key_in bytes = from_be_bytes w32 (take 4 bytes)
 abbrev pub second_player : List ℕ → List ℕ
 second_player part = drop 4 (after_text part)
 
+-- a pair: the name and the key of each player
 abbrev pub pair_in : List ℕ → Pair
 pair_in part = record {
   names = text_in part ∷ text_in (second_player part) ∷ [];
   keys = key_in (after_text part) ∷ key_in (after_text (second_player part)) ∷ [];
 }
 
--- the configuration of the first part, the second, and those of the pairs
+-- the configuration of the first part, the second, and the parts that begin with those of the pairs
 abbrev pub configuration_in : List ℕ → List ℕ → List (List ℕ) → Configuration
 configuration_in heading movement rest = record {
   event = text_in heading;
@@ -86,13 +92,16 @@ configuration_in heading movement rest = record {
 
 -- Boards
 
+-- the hand of eight bytes
 abbrev pub hand_at_front : List ℕ → ℕ
 hand_at_front bytes = from_be_bytes w64 (take 8 bytes)
 
+-- four hands, one after the other
 abbrev pub hands_at_front : List ℕ → List ℕ
 hands_at_front bytes =
     hand_at_front bytes ∷ hand_at_front (drop 8 bytes) ∷ hand_at_front (drop 16 bytes) ∷ hand_at_front (drop 24 bytes) ∷ []
 
+-- a board: none where its part begins with 0, and otherwise the four hands
 abbrev pub deal_of : List ℕ → Option (List ℕ)
 deal_of part = if slice_index part 0 == 0 then None else Some (hands_at_front (drop 1 part))
 
@@ -102,28 +111,33 @@ deal_of part = if slice_index part 0 == 0 then None else Some (hands_at_front (d
 abbrev pub call_or_pass : ℕ → Call
 call_or_pass number = unwrap_or (call_at number) Pass
 
+-- the number of calls, of two bytes
 abbrev pub call_count : List ℕ → ℕ
 call_count part = from_be_bytes w16 (take 2 part)
 
--- what comes after the calls, and what comes after the cards
+-- what comes after the calls
 abbrev pub after_calls : List ℕ → List ℕ
 after_calls part = drop (call_count part) (drop 2 part)
 
+-- what comes after the cards
 abbrev pub after_cards : List ℕ → List ℕ
 after_cards part = after_text (after_calls part)
 
--- who has agreed, of the four seats by their bits
+-- who has agreed: a bit for each seat
 abbrev pub agreed_in : ℕ → List Bool
 agreed_in byte = (byte % 2 == 1) ∷ (byte / 2 % 2 == 1) ∷ (byte / 4 % 2 == 1) ∷ (byte / 8 % 2 == 1) ∷ []
 
+-- a claim: none where it begins with 0, and otherwise who claims, the tricks, and who has agreed
 abbrev pub claim_in : List ℕ → Option Claim
 claim_in bytes =
     if slice_index bytes 0 == 0 then None
     else Some (record { claimer = seat_at (slice_index bytes 1); tricks = slice_index bytes 2; agreed = agreed_in (slice_index bytes 3) })
 
+-- what comes after the claim
 abbrev pub after_claim : List ℕ → List ℕ
 after_claim bytes = if slice_index bytes 0 == 0 then drop 1 bytes else drop 4 bytes
 
+-- a ruling: none at 0, the tricks at 1, and otherwise a void play
 abbrev pub ruling_at_front : List ℕ → Option Ruling
 ruling_at_front bytes =
     if slice_index bytes 0 == 0 then None
@@ -140,19 +154,19 @@ record_in board part = record {
   ruling = ruling_at_front (after_claim (drop 1 (after_cards part)));
 }
 
--- the records of these boards, by the parts in their order
+-- the records of these boards, by their parts in order
 abbrev pub records_in : List ℕ → List (List ℕ) → List PlainRecord
 records_in [] parts = []
 records_in (board ∷ boards) parts = record_in board (slice_index_or parts 0 []) ∷ records_in boards (drop 1 parts)
 
--- the records of each row, which has a part for each board of its set
+-- the records of each row, which has a part for each board of its set, whether it is live or not
 abbrev pub tables_in : ℕ → List Row → List (List ℕ) → List (List PlainRecord)
 tables_in boards [] parts = []
 tables_in boards (row ∷ rows) parts = records_in (row_boards boards row) parts ∷ tables_in boards rows (drop boards parts)
 
 -- The session
 
--- of the configuration, the round, and the parts after those of the pairs
+-- the session of a configuration and a round, by the parts of the boards and then those of the plays
 abbrev pub state_with : Configuration → ℕ → List (List ℕ) → State
 state_with configuration round rest =
     let boards = configuration.movement.shape.sets * configuration.boards in
@@ -163,10 +177,11 @@ state_with configuration round rest =
       records = tables_in configuration.boards configuration.movement.rows (drop boards rest);
     }
 
--- of the first part, the second, and the rest
+-- the session of the first part, the second, and the rest
 abbrev pub state_in : List ℕ → List ℕ → List (List ℕ) → State
 state_in heading movement rest =
     state_with (configuration_in heading movement rest) (slice_index (numbers_in heading) 11) (drop (slice_index (numbers_in heading) 5) rest)
 
+-- the session that parts name
 abbrev pub state_read : List (List ℕ) → State
 state_read parts = state_in (slice_index_or parts 0 []) (slice_index_or parts 1 []) (drop 2 parts)

@@ -19,34 +19,38 @@ use Rattle.bridge_session.specs.State.{deal_on, hands_on}
 use Rattle.bridge_session.specs.Valid.{MayStand, IsUnplayed, IsValidRecord}
 use Rattle.bridge_session.specs.Decided.{Decided, decided_like, decided_both, decided_implies, decided_equal, decided_less, decided_most, decided_true, decided_false, decided_none, decided_empty, decided_found, decided_places}
 
--- calls
+-- whether a call is one of the 38
 decided_call : (call : Call) → Decided (IsCall call)
 decided_call Pass = inl tt
 decided_call (Bid bid) = decided_both (decided_most 1 bid.level) (decided_most bid.level 7)
 decided_call Double = inl tt
 decided_call Redouble = inl tt
 
+-- whether a call may be made after those
 decided_follows : (earlier : List Call) (call : Call) → Decided (MayFollow earlier call)
 decided_follows earlier call =
     decided_like (decided_both (decided_call call) (decided_both (decided_false (is_ended earlier)) (decided_true (is_admissible earlier call))))
     (λ all. record { known = all.0; open_auction = all.1.0; admissible = all.1.1 })
     (λ may. (may.known, (may.open_auction, may.admissible)))
 
+-- whether calls are a legal list
 decided_calls : (calls : List Call) → Decided (IsLegal calls)
 decided_calls calls =
     decided_places (λ index call. MayFollow (take index calls) call) (λ index call. decided_follows (take index calls) call) calls
 
--- cards and a claim
+-- whether a card may be played after those
 decided_card : (hands : List ℕ) (contract : Contract) (earlier : List ℕ) (card : ℕ) → Decided (MayPlay hands contract earlier card)
 decided_card hands contract earlier card =
     decided_like
     (decided_both (decided_true (holds hands earlier (turn_of contract earlier) card)) (decided_true (follows hands earlier (turn_of contract earlier) card)))
     (λ both. record { held = both.0; following = both.1 }) (λ may. (may.held, may.following))
 
+-- whether cards are a legal list
 decided_cards : (hands : List ℕ) (contract : Contract) (played : List ℕ) → Decided (cards.IsLegal hands contract played)
 decided_cards hands contract played =
     decided_places (λ index card. MayPlay hands contract (take index played) card) (λ index card. decided_card hands contract (take index played) card) played
 
+-- whether cards and claims are a play
 decided_play : (play : Playing) → Decided (IsPlay play)
 decided_play play =
     decided_like
@@ -55,21 +59,23 @@ decided_play play =
     (λ claim. decided_like (decided_true (is_claim_in play claim)) (regular_claim play claim) (claim_regular play claim)) play.claim)))
     (λ all. record { legal = all.0; few = all.1.0; claimed = all.1.1 }) (λ is. (is.legal, (is.few, is.claimed)))
 
--- a ruling
+-- whether an answer accepts
 decided_accepted : (answer : Result (Unit {0}) Refused) → Decided (answer ≡ Ok tt)
 decided_accepted (Ok done) = inl refl
 decided_accepted (Err refused) = inr (λ same. cc)
 
+-- whether a ruling may stand
 decided_ruling : (play : Option Playing) (made : Ruling) → Decided (MayStand play made)
 decided_ruling play (ruling.Tricks tricks) = decided_accepted (tricks_answer play)
 decided_ruling play ruling.Void = inl tt
 
--- a record in which nothing was played, or nothing has happened
+-- whether nothing was played or claimed
 decided_unplayed : (plain : PlainRecord) → Decided (IsUnplayed plain)
 decided_unplayed plain =
     decided_like (decided_both (decided_empty plain.cards) (decided_both (decided_equal plain.claims 0) (decided_none plain.claim)))
     (λ all. record { cards = all.0; claims = all.1.0; claim = all.1.1 }) (λ is. (is.cards, (is.claims, is.claim)))
 
+-- whether nothing has happened in a play
 decided_untouched : (plain : PlainRecord) → Decided (plain ≡ empty_record plain.board)
 decided_untouched plain =
     decided_like
@@ -94,6 +100,7 @@ decided_untouched plain =
       ),
     ))
 
+-- whether the record of a play of that round is valid
 pub decided_record : (deals : List (Option (List ℕ))) (now round : ℕ) (plain : PlainRecord) → Decided (IsValidRecord deals now round plain)
 decided_record deals now round plain =
     decided_like

@@ -16,7 +16,7 @@ use Rattle.bridge_session.specs.Decided.{Decided, decided_like, decided_both, de
 use Rattle.bridge_session.specs.MovementDecided.{decided_shape, decided_movement}
 use Rattle.bridge_session.specs.RecordDecided.{decided_record}
 
--- the configuration
+-- whether a pair is two players
 decided_pair : (pair : Pair) → Decided (IsPair pair)
 decided_pair pair =
     decided_like
@@ -30,6 +30,7 @@ decided_keys keys =
     decided_like (decided_both (decided_all IsKeyNumber (λ key. decided_most key 4294967295) keys) (decided_true (are_distinct keys)))
     (λ both. record { numbers = both.0; distinct = both.1 }) (λ are. (are.numbers, are.distinct))
 
+-- whether a configuration is within its limits
 decided_configuration : (configuration : Configuration) → Decided (IsConfiguration configuration)
 decided_configuration configuration =
     decided_like
@@ -60,16 +61,18 @@ decided_configuration configuration =
       (is.site, (is.date_form, (is.date_within, (is.boards, (is.shape, (is.movement, (is.count, (is.pairs, is.keys)))))))),
     ))
 
--- the records of all plays
+-- the records of the row at a place are valid
 abbrev AreValid : State → ℕ → Row → Type 0
 AreValid s place row =
     (index : ℕ) (plain : PlainRecord) → slice_get (row_at s.records place) index ≡ Some plain → IsValidRecord s.deals s.round row.round plain
 
+-- whether they are
 decided_plays : (s : State) (place : ℕ) (row : Row) → Decided (AreValid s place row)
 decided_plays s place row =
     decided_places (λ index plain. IsValidRecord s.deals s.round row.round plain)
     (λ index plain. decided_record s.deals s.round row.round plain) (row_at s.records place)
 
+-- whether a state is valid
 decided_valid : (s : State) → Decided (IsValid s)
 decided_valid s =
     decided_like
@@ -97,14 +100,16 @@ decided_valid s =
       ),
     ))
 
--- the ranges
+-- whether hands are four sets of cards
 decided_hands : (hands : List ℕ) → Decided (AreHands hands)
 decided_hands hands = decided_both (decided_equal (length hands) 4) (decided_all IsCardSet (λ hand. decided_less hand (2 ^ 52)) hands)
 
+-- whether a ruling is within its range
 decided_ruling : (made : Ruling) → Decided (IsRulingInRange made)
 decided_ruling (ruling.Tricks tricks) = decided_most tricks 13
 decided_ruling ruling.Void = inl tt
 
+-- whether a record is within its ranges
 decided_record_range : (plain : PlainRecord) → Decided (IsRecordInRange plain)
 decided_record_range plain =
     decided_like
@@ -112,6 +117,7 @@ decided_record_range plain =
     (decided_found IsRulingInRange decided_ruling plain.ruling))
     (λ both. record { claim = both.0; ruling = both.1 }) (λ is. (is.claim, is.ruling))
 
+-- whether a state is within its ranges
 decided_ranges : (s : State) → Decided (IsStateInRange s)
 decided_ranges s =
     decided_like
@@ -119,11 +125,12 @@ decided_ranges s =
     (decided_all (All IsRecordInRange) (decided_all IsRecordInRange decided_record_range) s.records))
     (λ both. record { deals = both.0; records = both.1 }) (λ is. (is.deals, is.records))
 
+-- whether a state is that of a session
 pub decided_session : (s : State) → Decided (IsSession s)
 decided_session s =
     decided_like (decided_both (decided_valid s) (decided_ranges s)) (λ both. record { valid = both.0; ranges = both.1 })
     (λ is. (is.valid, is.ranges))
 
--- parts are compared byte by byte
+-- whether parts are the same, byte by byte
 pub decided_parts : (one other : List (List ℕ)) → Decided (one ≡ other)
 decided_parts = decided_lists (decided_lists decided_equal)

@@ -11,9 +11,11 @@ use Rattle.bridge_session.specs.Record.{PlainRecord}
 use Rattle.bridge_session.specs.State.{State}
 use Rattle.bridge_session.specs.Valid.{IsValid}
 
+-- four sets of cards
 abbrev pub AreHands : List ℕ → Type 0
 AreHands hands = (length hands ≡ 4) × All IsCardSet hands
 
+-- the board is not dealt, or its hands are four
 abbrev pub AreHandsOrNone : Option (List ℕ) → Type 0
 AreHandsOrNone deal = IfSome deal AreHands
 
@@ -21,6 +23,7 @@ AreHandsOrNone deal = IfSome deal AreHands
 abbrev pub IsOfFourSeats : Claim → Type 0
 IsOfFourSeats claim = length claim.agreed ≡ 4
 
+-- the tricks of a ruling are at most 13
 abbrev pub IsRulingInRange : Ruling → Type 0
 IsRulingInRange (ruling.Tricks tricks) = IsTrickCount tricks
 IsRulingInRange ruling.Void = Unit {0}
@@ -31,6 +34,7 @@ IsCorrectionInRange (correction.Tricks tricks) = IsTrickCount tricks
 IsCorrectionInRange correction.Void = Unit {0}
 IsCorrectionInRange correction.Restore = Unit {0}
 
+-- the claim and the ruling are within their ranges
 pub record IsRecordInRange (plain : PlainRecord) : Type 0 where
   pub claim : IfSome plain.claim IsOfFourSeats
   pub ruling : IfSome plain.ruling IsRulingInRange
