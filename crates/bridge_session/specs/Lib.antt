@@ -28,3 +28,4 @@ pub mod SessionDecided
 pub mod PartsRead
 pub mod SessionKeeping
 pub mod Head
+pub mod Laws

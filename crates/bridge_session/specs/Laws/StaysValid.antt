@@ -11,8 +11,8 @@ use Rattle.bridge_movement.specs.declared.row.Row.{Row}
 use Rattle.bridge_session.specs.Record.{PlainRecord, empty_record}
 use Rattle.bridge_session.specs.State.{State, opening, opening_row, row_at, row_boards, changed_at}
 use Rattle.bridge_session.specs.Valid.{board_of, IsValidRecord, IsDealOrNone, IsValid}
-use Rattle.bridge_session.proofs.Lists.{changed_at-Some, changed_at-None}
-use Rattle.bridge_session.proofs.Acted.{map-changed_at}
+use Rattle.bridge_session.specs.Laws.Lists.{changed_at-Some, changed_at-None}
+use Rattle.bridge_session.specs.Laws.Acted.{map-changed_at}
 
 -- The opening
 

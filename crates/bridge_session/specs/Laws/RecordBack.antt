@@ -17,7 +17,7 @@ use Rattle.bridge_session.specs.Parts.{two_bytes, text_bytes, value_if, agreed_b
 use Rattle.bridge_session.specs.PartsRead.{text_in, after_text, call_or_pass, call_count, after_calls, after_cards, agreed_in, claim_in, after_claim, ruling_at_front, record_in}
 use Rattle.bridge_session.specs.Record.{PlainRecord}
 use Rattle.bridge_session.specs.StateRange.{IsOfFourSeats}
-use Rattle.bridge_session.proofs.BytesBack.{take_front, drop_front, all_back, text_back, after_back}
+use Rattle.bridge_session.specs.Laws.BytesBack.{take_front, drop_front, all_back, text_back, after_back}
 
 -- calls
 calls_back : (calls : List Call) → All IsCall calls → map call_or_pass (map call_number calls) ≡ calls

@@ -22,10 +22,10 @@ use Rattle.bridge_session.specs.Record.{PlainRecord, bidding_of, play_of, is_ope
 use Rattle.bridge_session.specs.State.{State, deal_on, row_at, row_place, current_place, acting_player, is_closed, seating_at, seated, seating_of, is_of_set}
 use Rattle.bridge_session.specs.Step.{seen_by, seen_deal, seen_records, answer_dealt, answer_current, answer_among, answer_seated, player_answer, acted_at, acted}
 use Rattle.bridge_session.specs.Valid.{IsDeed, IsValid}
-use Rattle.bridge_session.proofs.StaysValid.{none_of, valid_change}
-use Rattle.bridge_session.proofs.ValidRuling.{row_round}
-use Rattle.bridge_session.proofs.ValidDeed.{deed_valid}
-use Rattle.bridge_session.proofs.Acted.{deed_board}
+use Rattle.bridge_session.specs.Laws.StaysValid.{none_of, valid_change}
+use Rattle.bridge_session.specs.Laws.ValidRuling.{row_round}
+use Rattle.bridge_session.specs.Laws.ValidDeed.{deed_valid}
+use Rattle.bridge_session.specs.Laws.Acted.{deed_board}
 
 -- The current play is open
 open_here : (p : PlainRecord → Bool) (y x : PlainRecord) (ys : List PlainRecord) (passes : Bool) (n : ℕ) → p y ≡ passes → (slice_get ys n ≡ Some x → p x ≡ true) → slice_get (y ∷ ys) (cond (not passes) (1 + n) 0) ≡ Some x → p x ≡ true

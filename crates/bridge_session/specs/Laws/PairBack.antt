@@ -12,8 +12,8 @@ use Rattle.bridge_movement.specs.Shape.{row_count}
 use Rattle.bridge_session.specs.Parts.{text_bytes, four_bytes, eight_bytes, row_bytes, movement_part, pair_part, deal_part}
 use Rattle.bridge_session.specs.PartsRead.{text_in, after_text, key_in, second_player, pair_in, row_in, rows_in, deal_of}
 use Rattle.bridge_session.specs.StateRange.{AreHands, AreHandsOrNone}
-use Rattle.bridge_session.proofs.BytesBack.{text_back, after_back, key_back, hand_back}
-use Rattle.bridge_session.proofs.PartLemmas.{flat_fixed_place}
+use Rattle.bridge_session.specs.Laws.BytesBack.{text_back, after_back, key_back, hand_back}
+use Rattle.bridge_session.specs.Laws.PartLemmas.{flat_fixed_place}
 
 -- a pair
 

@@ -7,9 +7,9 @@ use Rattle.bridge_session.specs.declared.deed.Deed.TheVariants as deed
 use Rattle.bridge_session.specs.State.{State, director_answer}
 use Rattle.bridge_session.specs.Step.{deal_answer, next_answer, rule_answer, record_of, step_answer, changed}
 use Rattle.bridge_session.specs.Valid.{IsAction, IsValid}
-use Rattle.bridge_session.proofs.ValidRuling.{allowed_ok, rule_valid}
-use Rattle.bridge_session.proofs.ValidRound.{deal_valid, next_valid}
-use Rattle.bridge_session.proofs.ValidPlayer.{player_valid}
+use Rattle.bridge_session.specs.Laws.ValidRuling.{allowed_ok, rule_valid}
+use Rattle.bridge_session.specs.Laws.ValidRound.{deal_valid, next_valid}
+use Rattle.bridge_session.specs.Laws.ValidPlayer.{player_valid}
 
 pub step_valid : (action : Action) (s : State) → IsAction action → IsValid s → step_answer s action ≡ Ok tt → IsValid (changed s action)
 step_valid (Deal key board hands) s ranges valid ok =

@@ -9,12 +9,12 @@ use Rattle.bridge_session.specs.SessionKeeping.{step_by, session_keeping}
 use Rattle.bridge_session.specs.State.{State}
 use Rattle.bridge_session.specs.StateRange.{IsSession}
 use Rattle.bridge_session.specs.Step.{step_answer, changed}
-use Rattle.bridge_session.proofs.ActionInRange.{read_in_range, action_fits}
-use Rattle.bridge_session.proofs.ActionLaws.{read_back}
-use Rattle.bridge_session.proofs.PartLengths.{parts_fit, few_parts}
-use Rattle.bridge_session.proofs.PartPlaces.{count_parts}
-use Rattle.bridge_session.proofs.SessionOf.{session_of_is, has_parts}
-use Rattle.bridge_session.proofs.SessionStays.{step_session}
+use Rattle.bridge_session.specs.Laws.ActionInRange.{read_in_range, action_fits}
+use Rattle.bridge_session.specs.Laws.ActionLaws.{read_back}
+use Rattle.bridge_session.specs.Laws.PartLengths.{parts_fit, few_parts}
+use Rattle.bridge_session.specs.Laws.PartPlaces.{count_parts}
+use Rattle.bridge_session.specs.Laws.SessionOf.{session_of_is, has_parts}
+use Rattle.bridge_session.specs.Laws.SessionStays.{step_session}
 
 -- an accepted action leads to a session
 steps_by : (s : State) (a : Action) (t : State) (answer : Result (Unit {0}) Refused) → answer ≡ step_answer s a → IsSession s → IsInRange a

@@ -7,10 +7,10 @@ use Rattle.bridge_session.specs.ActionRange.{IsInRange}
 use Rattle.bridge_session.specs.State.{State, opening}
 use Rattle.bridge_session.specs.StateRange.{IsSession}
 use Rattle.bridge_session.specs.Step.{step_answer, changed}
-use Rattle.bridge_session.proofs.ActionInRange.{range_is_action}
-use Rattle.bridge_session.proofs.StateRanges.{opening_in_range, changed_in_range}
-use Rattle.bridge_session.proofs.StaysValid.{opening_valid}
-use Rattle.bridge_session.proofs.ValidStep.{step_valid}
+use Rattle.bridge_session.specs.Laws.ActionInRange.{range_is_action}
+use Rattle.bridge_session.specs.Laws.StateRanges.{opening_in_range, changed_in_range}
+use Rattle.bridge_session.specs.Laws.StaysValid.{opening_valid}
+use Rattle.bridge_session.specs.Laws.ValidStep.{step_valid}
 
 pub opening_session : (configuration : Configuration) → IsConfiguration configuration → IsSession (opening configuration)
 opening_session configuration limits = record {

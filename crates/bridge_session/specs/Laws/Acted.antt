@@ -20,7 +20,7 @@ use Rattle.bridge_session.specs.State.{State, deal_on, row_at, changed_at, curre
 use Rattle.bridge_session.specs.Step.{seen_by, seen_deal, seen_records, answer_among, answer_seated, player_answer, acted_among, acted_at, acted}
 use Rattle.bridge_session.specs.StateRange.{IsSession}
 use Rattle.bridge_session.specs.Kept.{plain_of, board_kept, state_of, StateASession, IsTiedIn, IsKept}
-use Rattle.bridge_session.proofs.Lists.{changed_at-Some, changed_at-None, set_there, at_result}
+use Rattle.bridge_session.specs.Laws.Lists.{changed_at-Some, changed_at-None, set_there, at_result}
 
 -- the answer to a player who sits there
 answer_by : State → ℕ → ℕ → Deed → Result Seating Refused → Result (Unit {0}) Refused

@@ -8,7 +8,7 @@ use Rattle.bridge_config.specs.Configuration.{Pair}
 use Rattle.bridge_session.specs.Record.{PlainRecord}
 use Rattle.bridge_session.specs.State.{State}
 use Rattle.bridge_session.specs.Parts.{deal_part, pair_part, record_part, record_or_empty, row_parts, play_parts, board_parts, pair_parts, parts_of}
-use Rattle.bridge_session.proofs.PartLemmas.{length-flat_fixed, flat_fixed_place}
+use Rattle.bridge_session.specs.Laws.PartLemmas.{length-flat_fixed, flat_fixed_place}
 
 row_length : (boards : ℕ) (records : List PlainRecord) → length (row_parts boards records) ≡ boards
 row_length boards records = length-map-range_with_len (λ index. record_part (record_or_empty records index)) 0 boards

@@ -25,10 +25,10 @@ use Rattle.bridge_session.specs.Record.{PlainRecord, empty_record, contract_in, 
 use Rattle.bridge_session.specs.State.{State, deal_on, row_boards, hands_on}
 use Rattle.bridge_session.specs.StateRange.{AreHands, AreHandsOrNone, IsSession}
 use Rattle.bridge_session.specs.Valid.{IsDealtOut, IsDealOrNone, board_of, IsValidRecord}
-use Rattle.bridge_session.proofs.DealtOut.{dealt_is_deal}
-use Rattle.bridge_session.proofs.PartLemmas.{length-flat_fixed}
-use Rattle.bridge_session.proofs.PartPlaces.{count_parts}
-use Rattle.bridge_session.proofs.SessionRecords.{each_record}
+use Rattle.bridge_session.specs.Laws.DealtOut.{dealt_is_deal}
+use Rattle.bridge_session.specs.Laws.PartLemmas.{length-flat_fixed}
+use Rattle.bridge_session.specs.Laws.PartPlaces.{count_parts}
+use Rattle.bridge_session.specs.Laws.SessionRecords.{each_record}
 
 -- the bytes fit into a part
 abbrev Fits : List ℕ → Type 0

@@ -19,7 +19,7 @@ use Rattle.bridge_session.specs.declared.ruling.Ruling.{Ruling}
 use Rattle.bridge_session.specs.Record.{PlainRecord, play_of, playing_in, contract_in, is_done, is_void, is_open}
 use Rattle.bridge_session.specs.Deed.{deed_answer, with_deed}
 use Rattle.bridge_session.specs.Kept.{plain_of, begun_with, after_deed, is_kept_open, IsTied}
-use Rattle.bridge_session.proofs.Lists.{option_map-twice, not_refused}
+use Rattle.bridge_session.specs.Laws.Lists.{option_map-twice, not_refused}
 
 -- whether a play is finished does not depend on its hands
 done_by : (hands : List ℕ) (plain : PlainRecord) (calls : List Call) (contract : Option Contract) → is_done calls (option_map (playing_in hands plain) contract) ≡ is_done calls (option_map (playing_in [] plain) contract)

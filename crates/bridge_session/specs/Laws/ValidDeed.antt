@@ -35,11 +35,11 @@ use Rattle.bridge_session.specs.Deed.{renamed, from_call, from_card, from_claim,
 use Rattle.bridge_session.specs.Record.{PlainRecord, bidding_of, contract_in, playing_in, play_of, is_finished, is_void, is_open}
 use Rattle.bridge_session.specs.State.{deal_on, hands_on}
 use Rattle.bridge_session.specs.Valid.{MayStand, IsUnplayed, IsValidRecord, IsDeed}
-use Rattle.bridge_session.proofs.Lists.{not_refused, not_false}
-use Rattle.bridge_session.proofs.Tied.{no_contract}
-use Rattle.bridge_session.proofs.StaysValid.{none_of}
-use Rattle.bridge_session.proofs.ValidRound.{rest_ok}
-use Rattle.bridge_session.proofs.ValidRuling.{over_done}
+use Rattle.bridge_session.specs.Laws.Lists.{not_refused, not_false}
+use Rattle.bridge_session.specs.Laws.Tied.{no_contract}
+use Rattle.bridge_session.specs.Laws.StaysValid.{none_of}
+use Rattle.bridge_session.specs.Laws.ValidRound.{rest_ok}
+use Rattle.bridge_session.specs.Laws.ValidRuling.{over_done}
 
 -- an answer under another name is Ok where the answer is
 renamed_ok : {E : Type 0} (name : E → Refused) (r : Result (Unit {0}) E) → renamed name r ≡ Ok tt → r ≡ Ok tt

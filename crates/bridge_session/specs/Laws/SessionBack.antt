@@ -13,10 +13,10 @@ use Rattle.bridge_session.specs.Parts.{text_bytes, four_bytes, scoring_number, s
 use Rattle.bridge_session.specs.PartsRead.{text_in, after_text, scoring_at, numbers_in, shape_in, rows_in, key_in, pair_in, configuration_in, deal_of, tables_in, state_with, state_read}
 use Rattle.bridge_session.specs.State.{State}
 use Rattle.bridge_session.specs.StateRange.{IsSession}
-use Rattle.bridge_session.proofs.BytesBack.{take_front, drop_front, all_back, text_back, after_back, key_back}
-use Rattle.bridge_session.proofs.PairBack.{pair_back, rows_back, deal_back}
-use Rattle.bridge_session.proofs.SessionRecords.{written}
-use Rattle.bridge_session.proofs.TablesBack.{tables_back}
+use Rattle.bridge_session.specs.Laws.BytesBack.{take_front, drop_front, all_back, text_back, after_back, key_back}
+use Rattle.bridge_session.specs.Laws.PairBack.{pair_back, rows_back, deal_back}
+use Rattle.bridge_session.specs.Laws.SessionRecords.{written}
+use Rattle.bridge_session.specs.Laws.TablesBack.{tables_back}
 
 -- the numbers after the date
 abbrev pub numbers_of : Configuration → ℕ → List ℕ

@@ -6,7 +6,7 @@ use Rattle.bridge_session.specs.PartsRead.{state_read}
 use Rattle.bridge_session.specs.SessionKeeping.{HasParts, decided_has_parts, with_parts, session_of}
 use Rattle.bridge_session.specs.State.{State}
 use Rattle.bridge_session.specs.StateRange.{IsSession}
-use Rattle.bridge_session.proofs.SessionBack.{session_back}
+use Rattle.bridge_session.specs.Laws.SessionBack.{session_back}
 
 with_own_parts : (s : State) (parts : List (List ℕ)) (known : Decided (HasParts s parts)) → HasParts s parts → with_parts s parts known ≡ Some s
 with_own_parts s parts (inl has) is = refl

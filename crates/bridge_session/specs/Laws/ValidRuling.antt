@@ -18,7 +18,7 @@ use Rattle.bridge_session.specs.Record.{PlainRecord, play_of, is_done, is_open}
 use Rattle.bridge_session.specs.State.{State, row_at, row_place}
 use Rattle.bridge_session.specs.Step.{if_allowed, is_row_within, record_of, rule_answer, with_ruling, ruled}
 use Rattle.bridge_session.specs.Valid.{IsPlayId, IsValidRecord, IsValid}
-use Rattle.bridge_session.proofs.StaysValid.{round_due, valid_change}
+use Rattle.bridge_session.specs.Laws.StaysValid.{round_due, valid_change}
 
 -- an action that is accepted is allowed
 pub allowed_ok : (a b : Result (Unit {0}) Refused) → if_allowed a b ≡ Ok tt → b ≡ Ok tt

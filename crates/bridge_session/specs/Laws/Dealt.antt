@@ -17,7 +17,7 @@ use Rattle.bridge_session.specs.State.{State, deal_on, hands_on, is_closed}
 use Rattle.bridge_session.specs.Step.{deal_answer}
 use Rattle.bridge_session.specs.StateRange.{IsSession}
 use Rattle.bridge_session.specs.Kept.{plain_of, state_of, StateASession, IsTied, IsTiedIn, IsKept}
-use Rattle.bridge_session.proofs.Tied.{no_contract}
+use Rattle.bridge_session.specs.Laws.Tied.{no_contract}
 
 -- a record without calls has no play, and is tied to any hands
 without_calls : (hands others : List ℕ) (kept : Record) → IsTied hands kept → kept.auction.calls ≡ [] → IsTied others kept

@@ -9,8 +9,8 @@ use Rattle.bridge_session.specs.declared.action.Action.TheVariants.{Deal, Call, 
 use Rattle.bridge_session.specs.ActionRange.{IsKey, IsInRange}
 use Rattle.bridge_session.specs.ActionBytes.{hand_bytes, action_bytes, in_range, player_action, turn_in, hand_in, hands_in, deal_in, action_in, action_of}
 use Rattle.bridge_session.specs.Valid.{IsAction}
-use Rattle.bridge_session.proofs.ActionLaws.{map_is, then_is, if_is, in_range_is, last_is, player_is, ruling_is, four_all}
-use Rattle.bridge_session.proofs.PartLemmas.{length-flat_fixed}
+use Rattle.bridge_session.specs.Laws.ActionLaws.{map_is, then_is, if_is, in_range_is, last_is, player_is, ruling_is, four_all}
+use Rattle.bridge_session.specs.Laws.PartLemmas.{length-flat_fixed}
 
 turn_in_range : (kind : ℕ) (key : Key) (bytes : List ℕ) (a : Action) → IsKey key → turn_in kind key bytes ≡ Some a → IsInRange a
 turn_in_range kind key [] a is_key is = absurd (let none : None ≡ Some a = is in cc)

@@ -13,8 +13,8 @@ use Rattle.bridge_session.specs.PartsRead.{records_in, tables_in}
 use Rattle.bridge_session.specs.Record.{PlainRecord, empty_record}
 use Rattle.bridge_session.specs.State.{row_boards}
 use Rattle.bridge_session.specs.Valid.{board_of}
-use Rattle.bridge_session.proofs.BytesBack.{drop_front}
-use Rattle.bridge_session.proofs.RecordBack.{IsWritten, record_back}
+use Rattle.bridge_session.specs.Laws.BytesBack.{drop_front}
+use Rattle.bridge_session.specs.Laws.RecordBack.{IsWritten, record_back}
 
 -- the parts of a row that has a record for each board
 pub full_parts : (boards : ℕ) (records : List PlainRecord) → length records ≡ boards → row_parts boards records ≡ map record_part records

@@ -16,10 +16,10 @@ use Rattle.bridge_session.specs.Record.{PlainRecord, playing_in, play_of, is_ope
 use Rattle.bridge_session.specs.State.{State, deal_on, is_closed, hands_on}
 use Rattle.bridge_session.specs.Step.{deal_answer, next_answer, records_of_round}
 use Rattle.bridge_session.specs.Valid.{IsValidRecord, IsDealOrNone, IsValid}
-use Rattle.bridge_session.proofs.Lists.{not_refused, not_false}
-use Rattle.bridge_session.proofs.Tied.{no_contract}
-use Rattle.bridge_session.proofs.Dealt.{other_deal}
-use Rattle.bridge_session.proofs.StaysValid.{none_of, round_due, row_found}
+use Rattle.bridge_session.specs.Laws.Lists.{not_refused, not_false}
+use Rattle.bridge_session.specs.Laws.Tied.{no_contract}
+use Rattle.bridge_session.specs.Laws.Dealt.{other_deal}
+use Rattle.bridge_session.specs.Laws.StaysValid.{none_of, round_due, row_found}
 
 -- what follows in an answer that is Ok
 pub rest_ok : {E : Type 0} (b : Bool) (e : E) (rest : Result (Unit {0}) E) → cond b (Err e) rest ≡ Ok tt → rest ≡ Ok tt

@@ -9,7 +9,7 @@ use Rattle.bridge_session.specs.Record.{PlainRecord}
 use Rattle.bridge_session.specs.State.{State, row_at, row_boards}
 use Rattle.bridge_session.specs.StateRange.{IsRecordInRange, IsSession}
 use Rattle.bridge_session.specs.Valid.{board_of, IsValidRecord, IsValid}
-use Rattle.bridge_session.proofs.RecordBack.{IsWritten}
+use Rattle.bridge_session.specs.Laws.RecordBack.{IsWritten}
 
 -- the record is valid in some round
 abbrev pub IsOfSomeRound : State → PlainRecord → Type 0

@@ -1,0 +1,27 @@
+-- What follows from the definitions, for an implementation that states it.
+pub mod Lists
+pub mod Tied
+pub mod Acted
+pub mod Dealt
+pub mod StaysValid
+pub mod ValidRuling
+pub mod ValidRound
+pub mod ValidDeed
+pub mod ValidPlayer
+pub mod ValidStep
+pub mod ActionLaws
+pub mod PartLemmas
+pub mod PartPlaces
+pub mod BytesBack
+pub mod PairBack
+pub mod RecordBack
+pub mod TablesBack
+pub mod SessionRecords
+pub mod SessionBack
+pub mod SessionOf
+pub mod StateRanges
+pub mod ActionInRange
+pub mod DealtOut
+pub mod PartLengths
+pub mod SessionStays
+pub mod SessionLawful
