@@ -9,6 +9,7 @@
 
 pub mod action;
 mod action_bytes;
+mod action_range;
 mod action_read;
 pub mod apart;
 mod config_bytes;
