@@ -22,6 +22,7 @@ pub mod field;
 mod gain;
 mod game;
 mod head;
+pub mod kept;
 pub mod numbers;
 mod opening;
 pub mod outcome;

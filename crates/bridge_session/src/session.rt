@@ -7,6 +7,7 @@ ghost use Rattle.bridge_session.specs.Step.{record_of};
 ghost use Rattle.bridge_session.specs.See.{shown_to};
 ghost use Rattle.bridge_session.specs.Views.{IsViewTo};
 ghost use Rattle.bridge_session.specs.Ranking.{ranking_answer, IsRankingTo};
+ghost use Rattle.bridge_session.specs.StateRange.{IsSession};
 ghost use Rattle.bridge_session.specs.Kept.{plain_of, IsTiedIn};
 
 use crate::action::PlayId;
@@ -83,6 +84,13 @@ impl Session {
         ensures { result.now ≡ self.now.configuration }
     {
         &self.config
+    }
+
+    /// What each session is, by its invariant, which holds where a field is read.
+    pub(crate) fn is_session(&self)
+        ensures { IsSession self.now }
+    {
+        let _round = self.round;
     }
 
     /// The current round, from 1; one more than the last once the session is closed.

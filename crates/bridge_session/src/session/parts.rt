@@ -23,6 +23,7 @@ impl Session {
         ensures few { result ≤ 494 }
         ensures session { IsSession self.now }
     {
+        self.is_session();
         let fields = self.config.fields();
         let plays = self.tables.len() * usize::from(fields.boards);
         (2 + fields.pairs.len() + self.deals.len() + plays) as u32

@@ -4,9 +4,8 @@ use Rattle.bridge_config.specs.Configuration.{Configuration, Pair, pair_of}
 use Rattle.bridge_config.specs.Limits.{IsConfiguration}
 use Rattle.bridge_session.specs.declared.record.Record.{Record}
 use Rattle.bridge_session.specs.State.{State}
-use Rattle.bridge_session.specs.StateRange.{IsSession}
 use Rattle.bridge_session.specs.Parts.{parts_of}
-use Rattle.bridge_session.proofs.Acted.{kept_session, lists_in}
+use Rattle.bridge_session.proofs.Acted.{lists_in}
 use Rattle.bridge_session.proofs.PartCount.{few_of_each, count_kept}
 use Rattle.bridge_session.proofs.session.Session.parts.Goals as goal
 use Rattle.bridge_session.proofs.session.Session.parts.Goals.{After-len-3}
@@ -39,8 +38,3 @@ returns-clause-few c =
     let tables = lists_in s.tables.items in
     let few = few_of_each s.config s.round s.deals.items tables c.fields-fields.ensures.limits c.self.invariant in
     omega (arith, pairs_are c, plays_are c, c.len-3.ensures, few.pairs, few.deals_few, few.plays)
-
-pub returns-clause-session : goal.returns-clause-session
-returns-clause-session c =
-    let s = c.self.inside in
-    subst IsSession c.self.view_is (kept_session s.config s.round s.deals.items (lists_in s.tables.items) c.self.invariant)

@@ -1,0 +1,20 @@
+use Rattle.std.proofs.Common.{◌≡◌, List, ℕ, Some, None, Result, Ok, Err, IfOk, map}
+use Rattle.arrayvec.specs.ArrayVec.{ArrayVec}
+use Rattle.session_store.specs.declared.fault.PartsFault.{PartsFault}
+use Rattle.bridge_session.specs.Parts.{parts_of}
+use Rattle.bridge_session.specs.State.{State}
+use Rattle.bridge_session.specs.StateRange.{IsSession}
+use Rattle.bridge_session.specs.SessionKeeping.{session_of}
+use Rattle.bridge_session.proofs.SessionOf.{session_of_is, no_session}
+use Rattle.bridge_session.proofs.kept.SessionKept.from_parts.Goals as goal
+
+-- a session that has the parts is theirs
+found : (parts : List (List ℕ)) (result : Result State PartsFault) → IfOk result (λ s. parts_of s ≡ parts) → IfOk result IsSession → IfOk result (λ s. session_of parts ≡ Some s)
+found parts (Ok s) has is = session_of_is s parts is has
+found parts (Err fault) has is = tt
+
+pub returns-clause-state : goal.returns-clause-state
+returns-clause-state c = found (map (λ (part : ArrayVec ℕ). part.items) c.args.parts.now) c.from_parts.result c.from_parts.ensures.parts c.from_parts.ensures.session
+
+pub returns-clause-bad : goal.returns-clause-bad
+returns-clause-bad c = λ bad. no_session (map (λ (part : ArrayVec ℕ). part.items) c.args.parts.now) (c.from_parts.ensures.bad bad)

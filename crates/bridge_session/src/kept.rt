@@ -1,0 +1,49 @@
+//! A session that a store keeps.
+
+use crate::action::Action;
+use crate::action_range::ranges_of_action;
+use crate::refused::Refused;
+use crate::session::Session;
+use crate::{action_bytes, action_read};
+use arrayvec::ArrayVec;
+use session_store::{Kept, PartsFault};
+use std::alloc::Global;
+
+impl Kept for Session {
+    ghost use Rattle.bridge_session.specs.SessionKeeping.{session_keeping};
+    ghost use Rattle.bridge_session.specs.Laws.SessionLawful.{session_is_lawful};
+
+    type Action = Action;
+
+    type Refusal = Refused;
+
+    ghost kept = { session_keeping };
+
+    fn parts(&self) -> u32 {
+        Session::parts(self)
+    }
+
+    fn write_part(&self, i: u32, part: &mut ArrayVec<u8, 480>) {
+        Session::write_part(self, i, part);
+    }
+
+    fn from_parts(alloc: Global, parts: &[ArrayVec<u8, 480>]) -> Result<Session, PartsFault> {
+        Session::from_parts(alloc, parts)
+    }
+
+    fn write_action(action: &Action, bytes: &mut ArrayVec<u8, 480>) {
+        action_bytes::write_action(action, bytes);
+    }
+
+    fn read_action(bytes: &[u8]) -> Option<Action> {
+        action_read::read_action(bytes)
+    }
+
+    fn step(&mut self, action: &Action) -> Result<(), Refused> {
+        ranges_of_action(action);
+        self.is_session();
+        Session::step(self, action)
+    }
+
+    ghost lawful = { session_is_lawful };
+}
