@@ -1,5 +1,5 @@
 -- What contracts see of a view.
-use Rattle.std.specs.Prelude.{◌≡◌, ℕ, length, is_some, option_and_then, List, Option, Ok}
+use Rattle.std.specs.Prelude.{◌≡◌, ◌≤◌, ℕ, length, is_some, option_and_then, List, Option, Ok}
 use Rattle.std.specs.Option.{option_map, option_map_or}
 use Rattle.bridge_cards.specs.declared.seat.Seat.{Seat}
 use Rattle.bridge_cards.specs.Board.{dealer_of, vulnerability_on}
@@ -15,7 +15,8 @@ use Rattle.bridge_session.specs.See.{PlainTrick, Shown, ShownPlay, shown_turn, s
 abbrev pub plain_seen : Trick → PlainTrick
 plain_seen trick = record { leader = trick.leader; cards = trick.cards.items }
 
--- Each field of a view is made of what may be shown, of the round and of where the viewer sits.
+-- Each field of a view is made of what may be shown, of the round and of where the viewer sits. No auction has more than
+-- 319 calls.
 pub record IsViewOf (round table : ℕ) (seat : Seat) (shown : Shown) (view : View) : Type 0 where
   pub round_is : view.play.round ≡ round
   pub table_is : view.play.table ≡ table
@@ -32,6 +33,7 @@ pub record IsViewOf (round table : ℕ) (seat : Seat) (shown : Shown) (view : Vi
   pub hand : cards_of view.hand ≡ shown.hand
   pub dummy : option_map cards_of view.dummy ≡ option_and_then (λ (play : ShownPlay). play.dummy) shown.play
   pub calls : view.calls.now ≡ shown.calls
+  pub few : length view.calls.now ≤ 319
   pub trick : option_map plain_seen view.trick ≡ option_map (λ (play : ShownPlay). play.trick) shown.play
   pub last : option_map plain_seen view.last ≡ option_and_then (λ (play : ShownPlay). play.last) shown.play
   pub tricks_ns : view.tricks_ns ≡ option_map_or (λ (play : ShownPlay). play.tricks_ns) shown.play 0

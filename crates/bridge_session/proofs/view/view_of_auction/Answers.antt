@@ -19,6 +19,7 @@ returns c = record {
   hand = c.dealt_to.ensures;
   dummy = refl;
   calls = c.calls-2.ensures.calls;
+  few = c.calls-2.ensures.few;
   trick = refl;
   last = refl;
   tricks_ns = refl;
