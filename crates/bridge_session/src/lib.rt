@@ -54,6 +54,7 @@ pub use numbers::{BoardIndex, MadeCount, RoundNumber, TableNumber, TrickCount};
 pub use outcome::Outcome;
 pub use refused::Refused;
 pub use ruling::Ruling;
+pub use seating::check_director;
 pub use session::{Ranking, Session};
 pub use stored::sessions_can_be_stored;
 pub use valid::sessions_are_valid;

@@ -7,3 +7,8 @@ pub mod CommandLaws
 pub mod Pairs
 pub mod HandLetters
 pub mod WrittenParts
+pub mod Folds
+pub mod ServingLemmas
+pub mod TakingLemmas
+pub mod CountLemmas
+pub mod ServesLemmas

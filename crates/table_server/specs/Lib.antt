@@ -8,3 +8,8 @@ pub mod Asked
 pub mod LineFeed
 pub mod PbnReply
 pub mod ViewText
+pub mod Standing
+pub mod Told
+pub mod Answered
+pub mod Served
+pub mod Serving

@@ -1,0 +1,27 @@
+//! Taking changes.
+ghost use Rattle.std.specs.Prelude.{◌≡◌, ◌<◌, false, length};
+ghost use Rattle.table_server.specs.Serving.{Gives};
+
+use crate::short_reply::ShortReply;
+use bridge_session::{Action, Session};
+use sector_disk::SectorDisk;
+use session_store::{Store, SubmitFault};
+
+/// Takes a change, and answers the reply that is due once it is confirmed; `None` where the store accepted the change and
+/// then failed.
+pub fn take_change<D: SectorDisk + Drop>(
+    store: &mut Store<D, Session>,
+    action: &Action,
+) -> Option<ShortReply>
+    ensures { store.old.failed ≡ false → length store.old.pending < 64
+        → Gives D.disk store.old action.now store.new result }
+{
+    match store.submit(action) {
+        Ok(()) => Some(ShortReply::Done),
+        Err(SubmitFault::Refused(refused)) => Some(ShortReply::Refused(refused)),
+        Err(SubmitFault::EpochsSpent) => Some(ShortReply::EpochsSpent),
+        Err(SubmitFault::Disk) => None,
+        Err(SubmitFault::Failed) => None,
+        Err(SubmitFault::Batch) => None,
+    }
+}
