@@ -12,3 +12,4 @@ pub mod ServingLemmas
 pub mod TakingLemmas
 pub mod CountLemmas
 pub mod ServesLemmas
+pub mod HearingLemmas

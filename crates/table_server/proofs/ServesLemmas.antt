@@ -73,6 +73,20 @@ module _ {D : Type 0} (disk : Disk D) where
     prefix = wrote;
   })
 
+  -- a write failed after what was written whole
+  pub stopped_after : (start store : StoreValue D State Action) (asked : List Asked) (written text : List ℕ) (a b c : Option (List ℕ))
+      → Appends a b text → IsStopped disk start asked store (written ++ text) (between b c)
+      → IsStopped disk start asked store written (between a c)
+  stopped_after start store asked written text a b c wrote stopped = record {
+    first = stopped.first;
+    rest = stopped.rest;
+    all = stopped.all;
+    last = text ++ stopped.last;
+    actions = stopped.actions;
+    served = subst (λ all. IsServed disk start stopped.first store all stopped.actions) (append_assoc written text stopped.last) stopped.served;
+    prefix = takes_prefix a b c text stopped.last wrote stopped.prefix;
+  }
+
   -- after what was written whole
   pub serves_after : (start store : StoreValue D State Action) (asked : List Asked) (held : HeldReplies) (written text : List ℕ) (a b c : Option (List ℕ)) (result : Result (Unit {0}) ServeFault)
       → Appends a b text → Serves disk start asked store held (written ++ text) (between b c) result
@@ -82,15 +96,8 @@ module _ {D : Type 0} (disk : Disk D) where
     Appends-trans a b c text it.0 wrote it.1,
     subst (λ all. ServingBy disk held.served.failed start asked store held all) (append_assoc written text it.0) it.2,
   )
-  serves_after start store asked held written text a b c (Err fault) wrote it = let stopped = it.1 in (it.0, record {
-    first = stopped.first;
-    rest = stopped.rest;
-    all = stopped.all;
-    last = text ++ stopped.last;
-    actions = stopped.actions;
-    served = subst (λ all. IsServed disk start stopped.first store all stopped.actions) (append_assoc written text stopped.last) stopped.served;
-    prefix = takes_prefix a b c text stopped.last wrote stopped.prefix;
-  })
+  serves_after start store asked held written text a b c (Err fault) wrote it =
+      (it.0, stopped_after start store asked written text a b c wrote it.1)
 
   -- what was held was to be confirmed and written
   pub serves_settled : (start store new : StoreValue D State Action) (asked : List Asked) (text : List ℕ) (count : ℕ) (held : HeldReplies) (written : List ℕ) (writer : Stream) (result : Result (Unit {0}) ServeFault)

@@ -13,3 +13,4 @@ pub mod Told
 pub mod Answered
 pub mod Served
 pub mod Serving
+pub mod Hearing

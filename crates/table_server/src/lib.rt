@@ -15,6 +15,7 @@ mod hand_text;
 mod held_replies;
 mod line_command;
 mod line_feed;
+mod line_service;
 mod line_words;
 pub mod pbn_reply;
 pub mod ranking_reply;

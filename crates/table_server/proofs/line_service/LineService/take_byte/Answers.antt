@@ -1,0 +1,24 @@
+use Rattle.std.proofs.Common.{◌∷◌, [], ◌++◌, refl, subst}
+use Rattle.table_server.specs.Asked.{Asks}
+use Rattle.table_server.proofs.HearingLemmas.{hears_begun, hears_line, heard_line, heard_begun}
+use Rattle.table_server.proofs.line_service.LineService.take_byte.Goals as goal
+
+pub returns-in-None-clause-hears : goal.returns-in-None-clause-hears
+returns-in-None-clause-hears g c start bytes written h =
+    let self = c.args.self.now in
+    let feed = c.take_byte.new.self in
+    heard_begun g.D.SectorDisk.disk start c.args.store.now bytes self (record { feed = feed; held = self.held }) c.args.byte written
+    (g.W.Write.contents c.args.writer.now) h
+    (hears_begun bytes self.feed feed c.args.byte h.asked h.hears c.in-None.ensures.lines c.in-None.ensures.within) refl
+
+pub returns-in-Some-clause-hears : goal.returns-in-Some-clause-hears
+returns-in-Some-clause-hears g c start bytes written h =
+    let disk = g.D.SectorDisk.disk in
+    let self = c.args.self.now in
+    let feed = c.take_byte.new.self in
+    let one = c.asked_by.result in
+    let asks : Asks c.in-Some.line.items one = subst (λ line. Asks line one) c.as_slice.ensures.value c.asked_by.ensures in
+    heard_line disk start c.args.store.now c.answer.new.store bytes self (record { feed = feed; held = c.answer.new.self }) c.args.byte one written
+    _ c.answer.result h
+    (hears_line bytes self.feed feed c.in-Some.line.items c.args.byte h.asked one h.hears c.in-Some.ensures.lines c.in-Some.ensures.within asks)
+    (c.answer.ensures.serves start h.asked written h.serving) c.answer.ensures.lines

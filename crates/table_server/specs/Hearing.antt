@@ -1,0 +1,48 @@
+-- The lines of bytes that are served as they come.
+use Rattle.std.specs.Prelude.{◌≡◌, ◌≤◌, ◌<◌, ◌+◌, nat_le, ℕ, true, List, [], ◌∷◌, ◌++◌, length, take, Option, IfSome, Result, Ok, Err}
+use Rattle.std.specs.List.{list_all}
+use Rattle.sector_disk.specs.Disk.{Disk}
+use Rattle.session_store.specs.Value.{StoreValue}
+use Rattle.bridge_session.specs.declared.action.Action.{Action}
+use Rattle.bridge_session.specs.State.{State}
+use Rattle.line_text.specs.Lines.{complete_lines, is_within_line}
+use Rattle.line_text.specs.Streams.{Stream, Gives, Takes, TakesPrefix}
+use Rattle.table_server.specs.declared.asked.Asked.{Asked}
+use Rattle.table_server.specs.declared.fault.ServeFault.{ServeFault}
+use Rattle.table_server.specs.declared.fault.ServeFault.TheVariants.{Read, Write}
+use Rattle.table_server.specs.declared.line_service.LineService.{LineService}
+use Rattle.table_server.specs.declared.served.Served.{Served}
+use Rattle.table_server.specs.Answered.{AskAll}
+use Rattle.table_server.specs.LineFeed.{kept_lines}
+use Rattle.table_server.specs.Replies.{byte_limit, limit_notice}
+use Rattle.table_server.specs.Served.{IsServed}
+use Rattle.table_server.specs.Serving.{Serving, IsStopped}
+
+-- The complete lines of these bytes ask for these, and this line has begun.
+pub record Hears (bytes : List ℕ) (asked : List Asked) (begun : List ℕ) : Type 0 where
+  pub asks : AskAll (kept_lines bytes) asked
+  pub joins : (rest : List ℕ) → kept_lines (bytes ++ rest) ≡ kept_lines bytes ++ kept_lines (begun ++ rest)
+  pub within : list_all is_within_line begun ≡ true
+
+module _ {D : Type 0} (disk : Disk D) where
+  -- The lines of these bytes were taken, from a store on; so far this is written.
+  pub record Hearing (start : StoreValue D State Action) (bytes : List ℕ) (store : StoreValue D State Action) (service : LineService) (written : List ℕ) : Type 0 where
+    pub asked : List Asked
+    pub hears : Hears bytes asked service.feed
+    pub serving : Serving disk start asked store service.held written
+    pub lines : service.held.served.lines ≡ length asked
+
+  -- A write failed among the lines of these bytes.
+  pub record IsCutShort (start : StoreValue D State Action) (bytes : List ℕ) (store : StoreValue D State Action) (written : List ℕ) (writer : Stream) : Type 0 where
+    pub heard : List ℕ
+    pub unheard : List ℕ
+    pub all : bytes ≡ heard ++ unheard
+    pub asked : List Asked
+    pub asks : AskAll (complete_lines heard) asked
+    pub stopped : IsStopped disk start asked store written writer
+
+  -- what is written at Ok, and what at a fault
+  abbrev pub HearsOn : StoreValue D State Action → List ℕ → StoreValue D State Action → LineService → List ℕ → Stream → Result (Unit {0}) ServeFault → Type 0
+  HearsOn start bytes store service written writer (Ok _) =
+      (text : List ℕ) × Takes writer text × Hearing start bytes store service (written ++ text)
+  HearsOn start bytes store service written writer (Err fault) = (fault ≡ Write) × IsCutShort start bytes store written writer

@@ -1,0 +1,87 @@
+//! Bytes served as they come: each line is answered once it is complete.
+ghost use Rattle.std.specs.Prelude.{◌≡◌, ◌<◌, ◌≤◌, ◌+◌, ◌-◌, ◌∷◌, ◌++◌, [], List, ℕ, length, false};
+ghost use Rattle.session_store.specs.Value.{StoreValue};
+ghost use Rattle.bridge_session.specs.State.{State};
+ghost use Rattle.bridge_session.specs.declared.action.Action.{Action as ActionValue};
+ghost use Rattle.line_text.specs.Streams.{stream};
+ghost use Rattle.table_server.specs.Hearing.{Hearing, HearsOn};
+ghost use Rattle.table_server.specs.Serving.{Fits};
+
+use crate::asked::asked_by;
+use crate::fault::ServeFault;
+use crate::held_replies::HeldReplies;
+use crate::line_feed::LineFeed;
+use crate::run::MOST_BYTES;
+use bridge_endings::Cache;
+use bridge_session::Session;
+use sector_disk::SectorDisk;
+use session_store::Store;
+use std::io::Write;
+
+/// The line that has begun, and the replies that are held.
+#[derive(Drop)]
+pub struct LineService {
+    pub(crate) feed: LineFeed,
+    pub(crate) held: HeldReplies,
+}
+
+impl LineService {
+    /// Before the first byte that is served over this store, of which nothing is pending unless it has failed.
+    pub fn begin<D: SectorDisk + Drop>(store: &mut Store<D, Session>) -> LineService
+        requires { store.old.failed ≡ false → store.old.pending ≡ [] }
+        ensures fits { Fits result.held }
+        ensures lines { result.held.served.lines ≡ 0 }
+        ensures hearing { Hearing D.disk store.old [] store.new result [] }
+    {
+        LineService {
+            feed: LineFeed::new(),
+            held: HeldReplies::begin(store),
+        }
+    }
+
+    /// Takes the next byte, and answers the line that it completes.
+    fn take_byte<D: SectorDisk + Drop, W: Write>(
+        &mut self,
+        byte: u8,
+        store: &mut Store<D, Session>,
+        cache: &mut Option<&mut Cache>,
+        writer: &mut W,
+    ) -> Result<(), ServeFault>
+        requires fits { Fits self.old.held }
+        requires few { self.old.held.served.lines < MOST_BYTES }
+        ensures fits { Fits self.new.held }
+        ensures lines { self.new.held.served.lines ≤ self.old.held.served.lines + 1 }
+        ensures hears { (start : StoreValue D State ActionValue) (bytes : List ℕ) (written : List ℕ)
+            → Hearing D.disk start bytes store.old self.old written
+            → HearsOn D.disk start (bytes ++ byte ∷ []) store.new self.new written (stream W.contents writer.old writer.new) result }
+    {
+        match self.feed.take_byte(byte) {
+            None => Ok(()),
+            Some(line) => self.held.answer(asked_by(line.as_slice()), store, cache, writer),
+        }
+    }
+
+    /// Takes the next bytes, and answers the lines that they complete.
+    pub fn take<D: SectorDisk + Drop, W: Write>(
+        &mut self,
+        piece: &[u8],
+        store: &mut Store<D, Session>,
+        cache: &mut Option<&mut Cache>,
+        writer: &mut W,
+    ) -> Result<(), ServeFault>
+        requires fits { Fits self.old.held }
+        requires few { self.old.held.served.lines + length piece.now ≤ MOST_BYTES }
+        ensures fits { Fits self.new.held }
+        ensures lines { self.new.held.served.lines ≤ self.old.held.served.lines + length piece.now }
+        ensures hears { (start : StoreValue D State ActionValue) (bytes : List ℕ) (written : List ℕ)
+            → Hearing D.disk start bytes store.old self.old written
+            → HearsOn D.disk start (bytes ++ piece.now) store.new self.new written (stream W.contents writer.old writer.new) result }
+    {
+        for byte in piece {
+            if let Err(fault) = self.take_byte(*byte, store, cache, writer) {
+                return Err(fault);
+            }
+        }
+        Ok(())
+    }
+}
