@@ -13,3 +13,4 @@ pub mod TakingLemmas
 pub mod CountLemmas
 pub mod ServesLemmas
 pub mod HearingLemmas
+pub mod StreamLemmas

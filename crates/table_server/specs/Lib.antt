@@ -14,3 +14,4 @@ pub mod Answered
 pub mod Served
 pub mod Serving
 pub mod Hearing
+pub mod ServedStreams

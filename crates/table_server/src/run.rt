@@ -72,7 +72,11 @@ fn answer_lines<R: Read, W: Write>(
 }
 
 /// Reads once, at most so many bytes, into the piece from its beginning. None come only at the end of the input.
-fn read_piece<R: Read>(reader: &mut R, piece: &mut [u8], most: usize) -> Result<usize, ServeFault>
+pub(crate) fn read_piece<R: Read>(
+    reader: &mut R,
+    piece: &mut [u8],
+    most: usize,
+) -> Result<usize, ServeFault>
     requires some { 0 < most }
     requires room { 0 < length piece.old }
     ensures bound { IfOk result (λ taken. (taken ≤ most) × (taken ≤ length piece.new)) }
@@ -131,7 +135,7 @@ fn write_replies<W: Write>(writer: &mut W, text: &str) -> Result<(), ServeFault>
 }
 
 /// What stands before the last line.
-fn limit_notice(at_limit: bool) -> &'static str
+pub(crate) fn limit_notice(at_limit: bool) -> &'static str
     ensures text { result.now ≡ limit_notice at_limit }
     ensures short { length result.now ≤ 15 }
 {

@@ -1,0 +1,22 @@
+use Rattle.std.proofs.Common.{inl}
+use Rattle.table_server.proofs.StreamLemmas.{ends_ok, ends_err}
+use Rattle.table_server.proofs.serving.serve.Goals as goal
+
+pub returns-in-Ok-clause-ok : goal.returns-in-Ok-clause-ok
+returns-in-Ok-clause-ok g c =
+    let start = c.args.store.now in
+    let read = c.in-Ok.ensures.read start c.begin-service.ensures.hearing in
+    ends_ok g.D.SectorDisk.disk start c.end_lines.new.store _ _ c.end_lines.result
+    (c.end_lines.ensures start _ (g.W.Write.contents c.args.writer.now) read.0 read.1 read.2)
+
+pub returns-in-Ok-clause-fault : goal.returns-in-Ok-clause-fault
+returns-in-Ok-clause-fault g c =
+    let start = c.args.store.now in
+    let read = c.in-Ok.ensures.read start c.begin-service.ensures.hearing in
+    ends_err g.D.SectorDisk.disk start c.end_lines.new.store _ _ c.end_lines.result
+    (c.end_lines.ensures start _ (g.W.Write.contents c.args.writer.now) read.0 read.1 read.2)
+
+pub returns-in-Err-clause-fault : goal.returns-in-Err-clause-fault
+returns-in-Err-clause-fault g c =
+    let stops = c.in-Err.ensures.fault c.args.store.now c.begin-service.ensures.hearing in
+    rw stops.0 (inl stops.1)

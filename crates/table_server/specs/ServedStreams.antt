@@ -1,0 +1,92 @@
+-- What was served of a reader's bytes, and what was written for them.
+use Rattle.std.specs.Prelude.{◌≡◌, ◌≤◌, ◌<◌, ◌+◌, ◌⊎◌, nat_le, ℕ, true, List, [], ◌++◌, length, take, Option, IfSome, Result, Ok, Err}
+use Rattle.std.specs.Io.KnownBytes.{IsAtEnd}
+use Rattle.sector_disk.specs.Disk.{Disk}
+use Rattle.session_store.specs.Value.{StoreValue}
+use Rattle.bridge_session.specs.declared.action.Action.{Action}
+use Rattle.bridge_session.specs.State.{State}
+use Rattle.line_text.specs.Lines.{complete_lines}
+use Rattle.line_text.specs.Streams.{Stream, Gives, Takes, TakesPrefix}
+use Rattle.table_server.specs.declared.asked.Asked.{Asked}
+use Rattle.table_server.specs.declared.fault.ServeFault.{ServeFault}
+use Rattle.table_server.specs.declared.fault.ServeFault.TheVariants.{Read, Write}
+use Rattle.table_server.specs.declared.line_service.LineService.{LineService}
+use Rattle.table_server.specs.declared.served.Served.{Served}
+use Rattle.table_server.specs.declared.serving.Ended.{Ended}
+use Rattle.table_server.specs.declared.serving.Ended.TheVariants.{AtEnd, AtLimit, AtFault}
+use Rattle.table_server.specs.Answered.{AskAll}
+use Rattle.table_server.specs.Hearing.{Hearing, IsCutShort}
+use Rattle.table_server.specs.Replies.{byte_limit, limit_notice}
+use Rattle.table_server.specs.Served.{IsServed}
+
+-- how far below the limit of bytes, and at what of the reader, reading ended
+abbrev pub IsEnd : Ended → ℕ → Option (List ℕ) → Type 0
+IsEnd AtEnd left rest = (0 < left) × IsAtEnd rest
+IsEnd AtLimit left rest = left ≡ 0
+IsEnd AtFault left rest = 0 < left
+
+module _ {D : Type 0} (disk : Disk D) where
+  -- The reader gave some bytes, so many fewer than the limit, and their lines were taken.
+  pub record HasRead (start store : StoreValue D State Action) (service : LineService) (reader writer : Stream) (left : ℕ) : Type 0 where
+    pub bytes : List ℕ
+    pub count : length bytes + left ≡ byte_limit
+    pub given : Gives reader bytes
+    pub text : List ℕ
+    pub wrote : Takes writer text
+    pub hearing : Hearing disk start bytes store service text
+
+  -- All of the reader's bytes, up to the limit, were served: the replies to their complete lines are written, and at the
+  -- limit a notice.
+  pub record HasServed (start store : StoreValue D State Action) (reader writer : Stream) (result : Served) : Type 0 where
+    pub bytes : List ℕ
+    pub few : length bytes ≤ byte_limit
+    pub given : Gives reader bytes
+    pub whole : IfSome reader.old (λ input. bytes ≡ take byte_limit input)
+    pub asked : List Asked
+    pub asks : AskAll (complete_lines bytes) asked
+    pub text : List ℕ
+    pub wrote : Takes writer (text ++ limit_notice (nat_le byte_limit (length bytes)))
+    pub served : IsServed disk start asked store text result.accepted
+    pub lines : result.lines ≡ length asked
+    pub failed : result.failed ≡ store.failed
+
+  -- A read failed: the replies to the complete lines before it are written.
+  pub record StopsReading (start store : StoreValue D State Action) (reader writer : Stream) : Type 0 where
+    pub bytes : List ℕ
+    pub few : length bytes < byte_limit
+    pub given : Gives reader bytes
+    pub asked : List Asked
+    pub asks : AskAll (complete_lines bytes) asked
+    pub text : List ℕ
+    pub wrote : Takes writer text
+    pub actions : ℕ
+    pub served : IsServed disk start asked store text actions
+
+  -- A write failed among the replies.
+  pub record StopsReplying (start store : StoreValue D State Action) (reader writer : Stream) : Type 0 where
+    pub bytes : List ℕ
+    pub few : length bytes ≤ byte_limit
+    pub given : Gives reader bytes
+    pub cut : IsCutShort disk start bytes store [] writer
+
+  -- All replies are written, and a write failed in the notice at the limit.
+  pub record StopsNoticing (start store : StoreValue D State Action) (reader writer : Stream) : Type 0 where
+    pub bytes : List ℕ
+    pub limit : length bytes ≡ byte_limit
+    pub given : Gives reader bytes
+    pub asked : List Asked
+    pub asks : AskAll (complete_lines bytes) asked
+    pub text : List ℕ
+    pub wrote : TakesPrefix writer (text ++ limit_notice true)
+    pub actions : ℕ
+    pub served : IsServed disk start asked store text actions
+
+  -- what holds at a fault
+  abbrev pub StopsServing : StoreValue D State Action → StoreValue D State Action → Stream → Stream → ServeFault → Type 0
+  StopsServing start store reader writer Read = StopsReading start store reader writer
+  StopsServing start store reader writer Write = StopsReplying start store reader writer ⊎ StopsNoticing start store reader writer
+
+  -- what holds at the end
+  abbrev pub EndsServing : StoreValue D State Action → StoreValue D State Action → Stream → Stream → Result Served ServeFault → Type 0
+  EndsServing start store reader writer (Ok result) = HasServed start store reader writer result
+  EndsServing start store reader writer (Err fault) = StopsServing start store reader writer fault
