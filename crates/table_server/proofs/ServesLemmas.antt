@@ -1,5 +1,5 @@
 -- What serving lines gives, by what was written.
-use Rattle.std.proofs.Common.{◌≡◌, ℕ, ◌+◌, ◌<◌, ◌∙◌, Bool, true, false, List, [], ◌∷◌, ◌++◌, length, Option, Result, Ok, Err, refl, sym, ap, subst, append_assoc, append-nil, arith}
+use Rattle.std.proofs.Common.{◌≡◌, ℕ, ◌+◌, ◌<◌, ◌≤◌, ◌∙◌, Bool, true, false, List, [], ◌∷◌, ◌++◌, length, Option, Result, Ok, Err, refl, sym, ap, subst, append_assoc, append-nil, arith}
 use Rattle.std.specs.Prelude.{IfErr}
 use Rattle.std.specs.Io.KnownBytes.{Appends}
 use Rattle.std.proofs.KnownBytes.{Appends-nil, Appends-trans}
@@ -12,19 +12,65 @@ use Rattle.session_store.specs.Value.{StoreValue}
 use Rattle.bridge_session.specs.declared.action.Action.{Action}
 use Rattle.bridge_session.specs.SessionKeeping.{session_keeping}
 use Rattle.bridge_session.specs.State.{State}
-use Rattle.line_text.specs.Streams.{Stream, between, Written}
-use Rattle.line_text.proofs.Streams.{takes_prefix}
+use Rattle.line_text.specs.Streams.{Stream, between, TakesPrefix, Written}
 use Rattle.table_server.specs.declared.asked.Asked.{Asked}
 use Rattle.table_server.specs.declared.fault.ServeFault.{ServeFault}
 use Rattle.table_server.specs.declared.fault.ServeFault.TheVariants.{Write}
 use Rattle.table_server.specs.declared.held_replies.HeldReplies.{HeldReplies}
-use Rattle.table_server.specs.Answered.{accepted_all, held_after, disk_errors}
+use Rattle.table_server.specs.Answered.{AreReplies, accepted_all, held_after, disk_errors}
 use Rattle.table_server.specs.Served.{IsServed}
-use Rattle.table_server.specs.Serving.{Holding, Settled, Works, Failed, ServingBy, IsStopped, Serves, SettlesBy, Ends}
-use Rattle.table_server.specs.Standing.{standing_of}
+use Rattle.table_server.specs.Serving.{AreAnswers, Holding, Settled, Works, Failed, ServingBy, IsStopped, Serves, SettlesBy, Ends}
+use Rattle.table_server.specs.Standing.{Standing, standing_of}
 use Rattle.table_server.proofs.ServingLemmas.{settled, holding, served, failed_settling, failed_more}
 
 module _ {D : Type 0} (disk : Disk D) where
+  -- replies are answers
+  pub replied : (from : Standing) (asked : List Asked) (text : List ℕ) → AreReplies from asked text → AreAnswers from asked text
+  replied from asked text replies = record {
+    answered = asked;
+    others = [];
+    all = sym (append-nil asked);
+    replies = text;
+    are_replies = replies;
+    says = sym (append-nil text);
+  }
+
+  -- and what was served has answers
+  answers_served : (start store : StoreValue D State Action) (asked : List Asked) (text : List ℕ) (actions : ℕ)
+      → IsServed disk start asked store text actions → AreAnswers (standing_of start) asked text
+  answers_served start store asked text actions s = record {
+    answered = s.answered;
+    others = s.taken ++ s.later;
+    all = s.all;
+    replies = s.replies;
+    are_replies = s.are_replies;
+    says = s.says;
+  }
+
+  -- a write failed in the text of the last lines
+  stopped_now : (start store : StoreValue D State Action) (asked whole group : List Asked) (written text : List ℕ) (writer : Stream) (actions : ℕ)
+      → asked ≡ whole ++ group → length group ≤ 64 → AreAnswers (standing_of start) whole written
+      → IsServed disk start asked store (written ++ text) actions → TakesPrefix writer text
+      → IsStopped disk start asked store written writer
+  stopped_now start store asked whole group written text writer actions all few answers s prefix =
+      let none : written ++ [] ≡ written = append-nil written in
+      let same : written ++ text ≡ (written ++ []) ++ (prefix.0 ++ prefix.1) = ap (λ xs. xs ++ text) (sym none) ∙ ap (λ xs. (written ++ []) ++ xs) prefix.2 in
+      let lines : IsServed disk start (whole ++ group) store (written ++ text) actions
+      = subst (λ xs. IsServed disk start xs store (written ++ text) actions) all s in record {
+        whole = whole;
+        group = group;
+        rest = [];
+        all = all ∙ sym (append-nil (whole ++ group));
+        few = few;
+        text = [];
+        answers = rw none answers;
+        begun = prefix.0;
+        unwritten = prefix.1;
+        actions = actions;
+        served = subst (λ xs. IsServed disk start (whole ++ group) store xs actions) same lines;
+        wrote = prefix.3;
+      }
+
   -- the store works, and nothing is written
   pub serves_held : (start store : StoreValue D State Action) (asked : List Asked) (held : HeldReplies) (written : List ℕ) (before : Option (List ℕ))
       → Holding disk start asked store held.text.bytes held.count written → held.served.failed ≡ false
@@ -38,54 +84,51 @@ module _ {D : Type 0} (disk : Disk D) where
 
   -- the store has failed
   pub serves_failing : (start store : StoreValue D State Action) (asked : List Asked) (held : HeldReplies) (written text : List ℕ) (writer : Stream) (result : Result (Unit {0}) ServeFault)
+      → (whole group : List Asked) → asked ≡ whole ++ group → length group ≤ 64 → AreAnswers (standing_of start) whole written
       → IsServed disk start asked store (written ++ text) held.served.accepted → store.failed ≡ true → held.count ≡ 0
       → held.served.failed ≡ true → Written writer text result → IfErr result (λ fault. fault ≡ Write)
       → Serves disk start asked store held written writer result
-  serves_failing start store asked held written text writer (Ok u) s failed none fails wrote fault =
+  serves_failing start store asked held written text writer (Ok u) whole group all few answers s failed none fails wrote fault =
       (text, wrote, rw fails (record { failed = failed; none_held = none; served = s }))
-  serves_failing start store asked held written text writer (Err it) s failed none fails wrote fault = (fault, record {
-    first = asked;
-    rest = [];
-    all = sym (append-nil asked);
-    last = text;
-    actions = held.served.accepted;
-    served = s;
-    prefix = wrote;
-  })
+  serves_failing start store asked held written text writer (Err it) whole group all few answers s failed none fails wrote fault =
+      (fault, stopped_now start store asked whole group written text writer held.served.accepted all few answers s wrote)
 
   -- the store works, and all is confirmed
   pub serves_working : (start store : StoreValue D State Action) (asked : List Asked) (held : HeldReplies) (written text : List ℕ) (writer : Stream) (result : Result (Unit {0}) ServeFault)
+      → (whole group : List Asked) → asked ≡ whole ++ group → length group ≤ 64 → AreAnswers (standing_of start) whole written
       → Settled disk start asked store (written ++ text) → held_after asked ≡ 0 → held.text.bytes ≡ [] → held.count ≡ 0
       → held.served.failed ≡ false → held.served.accepted ≡ length (accepted_all (standing_of start) asked)
       → Written writer text result → IfErr result (λ fault. fault ≡ Write)
       → Serves disk start asked store held written writer result
-  serves_working start store asked held written text writer (Ok u) s begins empty none works counted wrote fault =
+  serves_working start store asked held written text writer (Ok u) whole group all few answers s begins empty none works counted wrote fault =
       let h : Holding disk start asked store held.text.bytes held.count (written ++ text)
       = rw (empty, none) (holding disk start store asked (written ++ text) s begins) in
       (text, wrote, rw works (record { holding = h; counted = counted }))
-  serves_working start store asked held written text writer (Err it) s begins empty none works counted wrote fault = (fault, record {
-    first = asked;
-    rest = [];
-    all = sym (append-nil asked);
-    last = text;
-    actions = length (accepted_all (standing_of start) asked);
-    served = served disk start store asked (written ++ text) s;
-    prefix = wrote;
-  })
+  serves_working start store asked held written text writer (Err it) whole group all few answers s begins empty none works counted wrote fault =
+      (fault, stopped_now start store asked whole group written text writer (length (accepted_all (standing_of start) asked)) all few answers
+      (served disk start store asked (written ++ text) s) wrote)
 
   -- a write failed after what was written whole
   pub stopped_after : (start store : StoreValue D State Action) (asked : List Asked) (written text : List ℕ) (a b c : Option (List ℕ))
       → Appends a b text → IsStopped disk start asked store (written ++ text) (between b c)
       → IsStopped disk start asked store written (between a c)
-  stopped_after start store asked written text a b c wrote stopped = record {
-    first = stopped.first;
-    rest = stopped.rest;
-    all = stopped.all;
-    last = text ++ stopped.last;
-    actions = stopped.actions;
-    served = subst (λ all. IsServed disk start stopped.first store all stopped.actions) (append_assoc written text stopped.last) stopped.served;
-    prefix = takes_prefix a b c text stopped.last wrote stopped.prefix;
-  }
+  stopped_after start store asked written text a b c wrote stopped =
+      let same : (written ++ text) ++ stopped.text ≡ written ++ (text ++ stopped.text) = append_assoc written text stopped.text in record {
+        whole = stopped.whole;
+        group = stopped.group;
+        rest = stopped.rest;
+        all = stopped.all;
+        few = stopped.few;
+        text = text ++ stopped.text;
+        answers = subst (λ xs. AreAnswers (standing_of start) stopped.whole xs) same stopped.answers;
+        begun = stopped.begun;
+        unwritten = stopped.unwritten;
+        actions = stopped.actions;
+        served = subst (λ xs. IsServed disk start (stopped.whole ++ stopped.group) store (xs ++ (stopped.begun ++ stopped.unwritten)) stopped.actions)
+            same stopped.served;
+        wrote = subst (λ xs. Appends a c xs) (sym (append_assoc text stopped.text stopped.begun))
+            (Appends-trans a b c text (stopped.text ++ stopped.begun) wrote stopped.wrote);
+      }
 
   -- after what was written whole
   pub serves_after : (start store : StoreValue D State Action) (asked : List Asked) (held : HeldReplies) (written text : List ℕ) (a b c : Option (List ℕ)) (result : Result (Unit {0}) ServeFault)
@@ -108,22 +151,29 @@ module _ {D : Type 0} (disk : Disk D) where
       → Serves disk start asked new held written writer result
   serves_settled start store new asked text count held written writer result h begins call true is settles fault none empty counted =
       serves_failing start new asked held written (disk_errors count) writer result
+      h.answered h.waiting h.all (omega (arith, h.count_is, h.few)) (replied (standing_of start) h.answered written h.are_replies)
       (rw counted (failed_settling disk start store new asked text count written h settles.0 settles.1 call)) settles.0 none is settles.2 fault
   serves_settled start store new asked text count held written writer result h begins call false is settles fault none empty counted =
-      serves_working start new asked held written text writer result (settled disk start store new asked text count written h settles.0 call)
+      serves_working start new asked held written text writer result h.answered h.waiting h.all (omega (arith, h.count_is, h.few))
+      (replied (standing_of start) h.answered written h.are_replies) (settled disk start store new asked text count written h settles.0 call)
       begins (empty is) none is counted settles.1 fault
 
   -- of lines to be answered the first were, as a write failed
   pub stopped_before : (start store : StoreValue D State Action) (asked more : List Asked) (written : List ℕ) (writer : Stream)
       → IsStopped disk start asked store written writer → IsStopped disk start (asked ++ more) store written writer
   stopped_before start store asked more written writer s = record {
-    first = s.first;
+    whole = s.whole;
+    group = s.group;
     rest = s.rest ++ more;
-    all = ap (λ (xs : List Asked). xs ++ more) s.all ∙ append_assoc s.first s.rest more;
-    last = s.last;
+    all = ap (λ (xs : List Asked). xs ++ more) s.all ∙ append_assoc (s.whole ++ s.group) s.rest more;
+    few = s.few;
+    text = s.text;
+    answers = s.answers;
+    begun = s.begun;
+    unwritten = s.unwritten;
     actions = s.actions;
     served = s.served;
-    prefix = s.prefix;
+    wrote = s.wrote;
   }
 
   -- what was held was to be confirmed and written, and a write failed
@@ -131,24 +181,14 @@ module _ {D : Type 0} (disk : Disk D) where
       → Holding disk start asked store text count written → Continues session_keeping disk store [] new
       → (failed : Bool) → SettlesBy disk failed store new text count writer (Err it)
       → IsStopped disk start asked new written writer
-  stopped_settling start store new asked text count written writer it h call true settles = record {
-    first = asked;
-    rest = [];
-    all = sym (append-nil asked);
-    last = disk_errors count;
-    actions = length (accepted_all (standing_of start) asked);
-    served = failed_settling disk start store new asked text count written h settles.0 settles.1 call;
-    prefix = settles.2;
-  }
-  stopped_settling start store new asked text count written writer it h call false settles = record {
-    first = asked;
-    rest = [];
-    all = sym (append-nil asked);
-    last = text;
-    actions = length (accepted_all (standing_of start) asked);
-    served = served disk start new asked (written ++ text) (settled disk start store new asked text count written h settles.0 call);
-    prefix = settles.1;
-  }
+  stopped_settling start store new asked text count written writer it h call true settles =
+      stopped_now start new asked h.answered h.waiting written (disk_errors count) writer (length (accepted_all (standing_of start) asked))
+      h.all (omega (arith, h.count_is, h.few)) (replied (standing_of start) h.answered written h.are_replies)
+      (failed_settling disk start store new asked text count written h settles.0 settles.1 call) settles.2
+  stopped_settling start store new asked text count written writer it h call false settles =
+      stopped_now start new asked h.answered h.waiting written text writer (length (accepted_all (standing_of start) asked))
+      h.all (omega (arith, h.count_is, h.few)) (replied (standing_of start) h.answered written h.are_replies)
+      (served disk start new asked (written ++ text) (settled disk start store new asked text count written h settles.0 call)) settles.1
 
   -- a line that comes after the store failed
   pub serves_more : (start store : StoreValue D State Action) (asked : List Asked) (one : Asked) (old new : HeldReplies) (written : List ℕ) (writer : Stream) (result : Result (Unit {0}) ServeFault)
@@ -158,6 +198,7 @@ module _ {D : Type 0} (disk : Disk D) where
   serves_more start store asked one old new written writer result f same none fails wrote fault =
       let single : old.count + 1 ≡ 1 = omega (arith, f.none_held) in
       serves_failing start store (asked ++ one ∷ []) new written (disk_errors 1) writer result
+      asked (one ∷ []) refl (omega arith) (answers_served start store asked written old.served.accepted f.served)
       (rw same (failed_more disk start store asked one written old.served.accepted f.served f.failed)) f.failed none fails
       (subst (λ n. Written writer (disk_errors n) result) single wrote) fault
 

@@ -8,7 +8,7 @@ use Rattle.session_store.specs.Value.{StoreValue}
 use Rattle.bridge_session.specs.declared.action.Action.{Action}
 use Rattle.bridge_session.specs.SessionKeeping.{session_keeping}
 use Rattle.bridge_session.specs.State.{State}
-use Rattle.line_text.specs.Streams.{Stream, Takes, TakesPrefix, Written}
+use Rattle.line_text.specs.Streams.{Stream, Takes, Written}
 use Rattle.table_server.specs.declared.asked.Asked.{Asked}
 use Rattle.table_server.specs.declared.fault.ServeFault.{ServeFault}
 use Rattle.table_server.specs.declared.fault.ServeFault.TheVariants.{Write}
@@ -39,6 +39,15 @@ accepted_count BadLine = 0
 accepted_count LongLine = 0
 accepted_count DiskReply = 0
 accepted_count EpochsSpent = 0
+
+-- the text is the replies to the first of these lines, and `ERR 40 Disk` to each of the others
+pub record AreAnswers (from : Standing) (asked : List Asked) (text : List ℕ) : Type 0 where
+  pub answered : List Asked
+  pub others : List Asked
+  pub all : asked ≡ answered ++ others
+  pub replies : List ℕ
+  pub are_replies : AreReplies from answered replies
+  pub says : text ≡ replies ++ disk_errors (length others)
 
 module _ {D : Type 0} (disk : Disk D) where
   -- the reply to a change, and the store that it leaves
@@ -111,15 +120,21 @@ module _ {D : Type 0} (disk : Disk D) where
   abbrev pub Serving : StoreValue D State Action → List Asked → StoreValue D State Action → HeldReplies → List ℕ → Type 0
   Serving start asked store held written = ServingBy held.served.failed start asked store held written
 
-  -- A write failed: the first lines were served, and of the last text that is theirs a prefix was written.
+  -- A write failed. The first lines were served: the texts of some are written whole, and of the last text, that of at most
+  -- 64 lines, a part. No other line was taken.
   pub record IsStopped (start : StoreValue D State Action) (asked : List Asked) (store : StoreValue D State Action) (written : List ℕ) (writer : Stream) : Type 0 where
-    pub first : List Asked
+    pub whole : List Asked
+    pub group : List Asked
     pub rest : List Asked
-    pub all : asked ≡ first ++ rest
-    pub last : List ℕ
+    pub all : asked ≡ (whole ++ group) ++ rest
+    pub few : length group ≤ 64
+    pub text : List ℕ
+    pub answers : AreAnswers (standing_of start) whole (written ++ text)
+    pub begun : List ℕ
+    pub unwritten : List ℕ
     pub actions : ℕ
-    pub served : IsServed disk start first store (written ++ last) actions
-    pub prefix : TakesPrefix writer last
+    pub served : IsServed disk start (whole ++ group) store ((written ++ text) ++ (begun ++ unwritten)) actions
+    pub wrote : Takes writer (text ++ begun)
 
   -- what is written at Ok, and what at a fault
   abbrev pub Serves : StoreValue D State Action → List Asked → StoreValue D State Action → HeldReplies → List ℕ → Stream → Result (Unit {0}) ServeFault → Type 0

@@ -1,4 +1,4 @@
-use Rattle.std.proofs.Common.{◌≡◌, ◌<◌, ◌+◌, ◌∷◌, [], ◌++◌, ◌∙◌, length, refl, sym, ap, arith}
+use Rattle.std.proofs.Common.{◌≡◌, ◌<◌, ◌+◌, ◌∷◌, [], ◌++◌, ◌∙◌, length, refl, sym, ap, arith, append_assoc, length-append}
 use Rattle.table_server.specs.declared.asked.Asked.TheVariants.{Change}
 use Rattle.table_server.specs.Answered.{after_all, accepted_all, disk_errors}
 use Rattle.table_server.specs.ReplyTexts.{short_text}
@@ -7,7 +7,7 @@ use Rattle.table_server.specs.Serving.{accepted_count}
 use Rattle.table_server.specs.Standing.{standing_of, change_reply}
 use Rattle.table_server.proofs.CountLemmas.{accepted_few, counted_change}
 use Rattle.table_server.proofs.ServingLemmas.{held_more, failed_taking}
-use Rattle.table_server.proofs.ServesLemmas.{serves_failing}
+use Rattle.table_server.proofs.ServesLemmas.{replied, serves_failing}
 use Rattle.table_server.proofs.held_replies.HeldReplies.change.Goals as goal
 
 pub returns-in-Some-clause-serves : goal.returns-in-Some-clause-serves
@@ -41,8 +41,12 @@ returns-in-None-clause-serves g c start asked written w =
     let accepted = accepted_few (after_all from h.answered) h.waiting in
     let few : length store.pending < 64 = omega (arith, accepted, h.pending, h.count_is, c.requires.fits.few) in
     let fails = c.in-None.ensures h.works few in
+    let long = length-append h.waiting (Change action ∷ []) in
+    let all : asked ++ Change action ∷ [] ≡ h.answered ++ (h.waiting ++ Change action ∷ [])
+    = ap (λ xs. xs ++ Change action ∷ []) h.all ∙ append_assoc h.answered h.waiting (Change action ∷ []) in
     let count : c.fail.new.self.served.accepted ≡ length (accepted_all from asked) + 1 =
     ap (λ served. served.accepted) f.served ∙ ap (λ n. n + 1) w.counted in
     serves_failing disk start c.take_change.new.store (asked ++ Change action ∷ []) c.fail.new.self written (disk_errors (self.count + 1)) _ c.fail.result
+    h.answered (h.waiting ++ Change action ∷ []) all (omega (arith, long, h.count_is, c.requires.fits.few)) (replied disk from h.answered written h.are_replies)
     (rw count (failed_taking disk start store c.take_change.new.store asked action self.text.bytes self.count written h c.requires.fits.few fails))
     fails.failed f.none_held (ap (λ served. served.failed) f.served) f.written f.fault

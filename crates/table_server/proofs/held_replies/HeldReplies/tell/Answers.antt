@@ -1,4 +1,4 @@
-use Rattle.std.proofs.Common.{◌≡◌, ◌+◌, ◌∷◌, [], ◌++◌, ◌∙◌, true, false, Ok, length, refl, sym, ap, subst}
+use Rattle.std.proofs.Common.{◌≡◌, ◌+◌, ◌∷◌, [], ◌++◌, ◌∙◌, true, false, Ok, length, refl, sym, ap, subst, arith}
 use Rattle.line_text.specs.Streams.{stream}
 use Rattle.table_server.specs.declared.asked.Asked.TheVariants.{Told}
 use Rattle.table_server.specs.declared.fault.ServeFault.{ServeFault}
@@ -9,7 +9,7 @@ use Rattle.table_server.specs.Told.{Tells}
 use Rattle.table_server.proofs.CountLemmas.{counted_none}
 use Rattle.table_server.proofs.Folds.{held_told}
 use Rattle.table_server.proofs.ServingLemmas.{settled, told, failed_settling}
-use Rattle.table_server.proofs.ServesLemmas.{serves_more, serves_working, serves_after, stopped_before, stopped_settling}
+use Rattle.table_server.proofs.ServesLemmas.{replied, serves_more, serves_working, serves_after, stopped_before, stopped_settling}
 use Rattle.table_server.proofs.held_replies.HeldReplies.tell.Goals as goal
 
 pub returns-in-Err-clause-serves : goal.returns-in-Err-clause-serves
@@ -68,5 +68,6 @@ returns-clause-serves g c start asked written w =
     serves_after disk start new (asked ++ Told c.args.question ∷ []) c.settle.new.self written self.text.bytes
     (g.W.Write.contents c.args.writer.now) (g.W.Write.contents c.settle.new.writer) (g.W.Write.contents c.write_told.new.writer) c.write_told.result settles.1
     (serves_working disk start new (asked ++ Told c.args.question ∷ []) c.settle.new.self (written ++ self.text.bytes) t.0 _ c.write_told.result
+    asked (Told c.args.question ∷ []) refl (omega arith) (replied disk from asked (written ++ self.text.bytes) all.are_replies)
     (told disk start new asked c.args.question (written ++ self.text.bytes) t.0 all tells) (held_told asked c.args.question)
     (s.no_text c.if-self.false) s.none_held c.if-self.false count t.2 c.write_told.ensures.fault)
