@@ -7,6 +7,7 @@ mod parts;
 mod random_actions;
 mod random_sessions;
 mod rankings;
+mod restored;
 mod rows;
 mod script;
 mod story;
