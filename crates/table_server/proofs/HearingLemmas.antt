@@ -1,8 +1,7 @@
 -- Lines that are served as their bytes come.
-use Rattle.std.proofs.Common.{◌≡◌, ℕ, ◌+◌, ◌<◌, ◌≤◌, ◌∙◌, Bool, true, false, List, [], ◌∷◌, ◌++◌, length, take, drop, map, Option, Some, None, Result, Ok, Err, refl, sym, ap, subst, arith, append_assoc, append-nil, length-append}
+use Rattle.std.proofs.Common.{◌≡◌, ℕ, ◌+◌, ◌∙◌, Bool, true, false, List, [], ◌∷◌, ◌++◌, length, take, map, Option, Result, Ok, Err, refl, sym, ap, subst, arith, append_assoc, append-nil, length-append}
 use Rattle.std.specs.Prelude.{nat_lt}
 use Rattle.std.specs.List.{list_all}
-use Rattle.std.specs.Option.{option_map_or}
 use Rattle.std.proofs.lemmas.Bool.{ltb-true, ltb-false, lt-ltb}
 use Rattle.std.proofs.KnownBytes.{Appends-nil, Appends-trans}
 use Rattle.std.specs.Io.KnownBytes.{Appends}
@@ -18,7 +17,7 @@ use Rattle.table_server.specs.declared.asked.Asked.{Asked}
 use Rattle.table_server.specs.declared.fault.ServeFault.{ServeFault}
 use Rattle.table_server.specs.declared.line_service.LineService.{LineService}
 use Rattle.table_server.specs.Answered.{AskAll}
-use Rattle.table_server.specs.Asked.{Asks, AsksBy, AsksByWords}
+use Rattle.table_server.specs.Asked.{Asks, AsksBy}
 use Rattle.table_server.specs.Hearing.{Hears, Hearing, HearsOn, IsCutShort}
 use Rattle.table_server.specs.LineFeed.{kept_lines}
 use Rattle.table_server.specs.Serving.{Serves}
@@ -108,31 +107,42 @@ module _ {D : Type 0} (disk : Disk D) where
       → Serves disk start (h.asked ++ one ∷ []) new service.held written writer result
       → service.held.served.lines ≡ old.held.served.lines + 1
       → HearsOn disk start (bytes ++ byte ∷ []) new service written writer result
-  heard_line start store new bytes old service byte one written writer (Ok u) h hears serves lines = (serves.0, serves.1, record {
-    asked = h.asked ++ one ∷ [];
-    hears = hears;
-    serving = serves.2;
-    lines = lines ∙ ap (λ n. n + 1) h.lines ∙ sym (length-append h.asked (one ∷ []));
-  })
-  heard_line start store new bytes old service byte one written writer (Err fault) h hears serves lines = (serves.0, record {
-    heard = bytes ++ byte ∷ [];
-    unheard = [];
-    all = sym (append-nil (bytes ++ byte ∷ []));
-    asked = h.asked ++ one ∷ [];
-    asks = hears_asks (bytes ++ byte ∷ []) service.feed (h.asked ++ one ∷ []) hears;
-    stopped = serves.1;
-  })
+  heard_line start store new bytes old service byte one written writer (Ok u) h hears serves lines = (
+    serves.0,
+    serves.1,
+    record {
+      asked = h.asked ++ one ∷ [];
+      hears = hears;
+      serving = serves.2;
+      lines = lines ∙ ap (λ n. n + 1) h.lines ∙ sym (length-append h.asked (one ∷ []));
+    },
+  )
+  heard_line start store new bytes old service byte one written writer (Err fault) h hears serves lines = (
+    serves.0,
+    record {
+      heard = bytes ++ byte ∷ [];
+      unheard = [];
+      all = sym (append-nil (bytes ++ byte ∷ []));
+      asked = h.asked ++ one ∷ [];
+      asks = hears_asks (bytes ++ byte ∷ []) service.feed (h.asked ++ one ∷ []) hears;
+      stopped = serves.1;
+    },
+  )
 
   -- no line was complete
   pub heard_begun : (start store : StoreValue D State Action) (bytes : List ℕ) (old service : LineService) (byte : ℕ) (written : List ℕ) (before : Option (List ℕ))
       → (h : Hearing disk start bytes store old written) → Hears (bytes ++ byte ∷ []) h.asked service.feed → service.held ≡ old.held
       → HearsOn disk start (bytes ++ byte ∷ []) store service written (between before before) (Ok tt)
-  heard_begun start store bytes old service byte written before h hears same = ([], Appends-nil before, record {
-    asked = h.asked;
-    hears = hears;
-    serving = rw (append-nil written, same) h.serving;
-    lines = rw same h.lines;
-  })
+  heard_begun start store bytes old service byte written before h hears same = (
+    [],
+    Appends-nil before,
+    record {
+      asked = h.asked;
+      hears = hears;
+      serving = rw (append-nil written, same) h.serving;
+      lines = rw same h.lines;
+    },
+  )
 
   -- after what was written whole
   pub hears_after : (start store : StoreValue D State Action) (bytes : List ℕ) (service : LineService) (written text : List ℕ) (a b c : Option (List ℕ)) (result : Result (Unit {0}) ServeFault)
@@ -143,14 +153,17 @@ module _ {D : Type 0} (disk : Disk D) where
     Appends-trans a b c text it.0 wrote it.1,
     subst (λ all. Hearing disk start bytes store service all) (append_assoc written text it.0) it.2,
   )
-  hears_after start store bytes service written text a b c (Err fault) wrote it = let cut = it.1 in (it.0, record {
-    heard = cut.heard;
-    unheard = cut.unheard;
-    all = cut.all;
-    asked = cut.asked;
-    asks = cut.asks;
-    stopped = stopped_after disk start store cut.asked written text a b c wrote cut.stopped;
-  })
+  hears_after start store bytes service written text a b c (Err fault) wrote it = let cut = it.1 in (
+    it.0,
+    record {
+      heard = cut.heard;
+      unheard = cut.unheard;
+      all = cut.all;
+      asked = cut.asked;
+      asks = cut.asks;
+      stopped = stopped_after disk start store cut.asked written text a b c wrote cut.stopped;
+    },
+  )
 
   -- of more bytes the first were heard, as a write failed
   pub cut_before : (start store : StoreValue D State Action) (bytes more : List ℕ) (written : List ℕ) (writer : Stream)

@@ -14,3 +14,4 @@ pub mod CountLemmas
 pub mod ServesLemmas
 pub mod HearingLemmas
 pub mod StreamLemmas
+pub mod FailureLemmas

@@ -1,5 +1,5 @@
 -- What serving lines gives, by what was written.
-use Rattle.std.proofs.Common.{◌≡◌, ℕ, ◌+◌, ◌<◌, ◌≤◌, ◌∙◌, Bool, true, false, List, [], ◌∷◌, ◌++◌, length, Option, Result, Ok, Err, refl, sym, ap, subst, append_assoc, append-nil, arith}
+use Rattle.std.proofs.Common.{◌≡◌, ℕ, ◌+◌, ◌≤◌, ◌∙◌, Bool, true, false, List, [], ◌∷◌, ◌++◌, length, Option, Result, Ok, Err, refl, sym, ap, subst, append_assoc, append-nil, arith}
 use Rattle.std.specs.Prelude.{IfErr}
 use Rattle.std.specs.Io.KnownBytes.{Appends}
 use Rattle.std.proofs.KnownBytes.{Appends-nil, Appends-trans}
@@ -19,9 +19,10 @@ use Rattle.table_server.specs.declared.fault.ServeFault.TheVariants.{Write}
 use Rattle.table_server.specs.declared.held_replies.HeldReplies.{HeldReplies}
 use Rattle.table_server.specs.Answered.{AreReplies, accepted_all, held_after, disk_errors}
 use Rattle.table_server.specs.Served.{IsServed}
-use Rattle.table_server.specs.Serving.{AreAnswers, Holding, Settled, Works, Failed, ServingBy, IsStopped, Serves, SettlesBy, Ends}
+use Rattle.table_server.specs.Serving.{AreAnswers, Holding, Settled, Failed, ServingBy, IsStopped, Serves, SettlesBy, Ends}
 use Rattle.table_server.specs.Standing.{Standing, standing_of}
-use Rattle.table_server.proofs.ServingLemmas.{settled, holding, served, failed_settling, failed_more}
+use Rattle.table_server.proofs.ServingLemmas.{settled, holding, served}
+use Rattle.table_server.proofs.FailureLemmas.{failed_settling, failed_more}
 
 module _ {D : Type 0} (disk : Disk D) where
   -- replies are answers
@@ -104,9 +105,11 @@ module _ {D : Type 0} (disk : Disk D) where
       let h : Holding disk start asked store held.text.bytes held.count (written ++ text)
       = rw (empty, none) (holding disk start store asked (written ++ text) s begins) in
       (text, wrote, rw works (record { holding = h; counted = counted }))
-  serves_working start store asked held written text writer (Err it) whole group all few answers s begins empty none works counted wrote fault =
-      (fault, stopped_now start store asked whole group written text writer (length (accepted_all (standing_of start) asked)) all few answers
-      (served disk start store asked (written ++ text) s) wrote)
+  serves_working start store asked held written text writer (Err it) whole group all few answers s begins empty none works counted wrote fault = (
+    fault,
+    stopped_now start store asked whole group written text writer (length (accepted_all (standing_of start) asked)) all few answers
+        (served disk start store asked (written ++ text) s) wrote,
+  )
 
   -- a write failed after what was written whole
   pub stopped_after : (start store : StoreValue D State Action) (asked : List Asked) (written text : List ℕ) (a b c : Option (List ℕ))

@@ -1,7 +1,6 @@
 -- What holds between two lines, from line to line.
-use Rattle.std.proofs.Common.{◌≡◌, ℕ, zero, suc, ◌+◌, ◌-◌, ◌<◌, ◌≤◌, ◌∙◌, Bool, true, false, List, [], ◌∷◌, ◌++◌, length, drop, refl, sym, ap, subst, arith, append_assoc, append-nil, length-append}
+use Rattle.std.proofs.Common.{◌≡◌, ℕ, ◌+◌, ◌<◌, ◌≤◌, ◌∙◌, true, false, List, [], ◌∷◌, ◌++◌, length, drop, refl, sym, ap, subst, arith, append_assoc, append-nil, length-append}
 use Rattle.std.proofs.lemmas.Bool.{true≢false}
-use Rattle.std.specs.List.{list_all}
 use Rattle.std.proofs.lemmas.List.{length-drop}
 use Rattle.sector_disk.specs.Disk.{Disk}
 use Rattle.session_store.specs.Answers.{after_confirm, room}
@@ -12,17 +11,14 @@ use Rattle.bridge_session.specs.declared.action.Action.{Action}
 use Rattle.bridge_session.specs.SessionKeeping.{session_keeping}
 use Rattle.bridge_session.specs.State.{State}
 use Rattle.table_server.specs.declared.asked.Asked.{Asked}
-use Rattle.table_server.specs.declared.asked.Asked.TheVariants.{Change, Told, BadLine, LongLine}
+use Rattle.table_server.specs.declared.asked.Asked.TheVariants.{Told}
 use Rattle.table_server.specs.declared.asked.Question.{Question}
-use Rattle.table_server.specs.declared.short_reply.ShortReply.{ShortReply}
-use Rattle.table_server.specs.declared.short_reply.ShortReply.TheVariants as short
-use Rattle.table_server.specs.Answered.{IsReply, AreReplies, after, accepted, after_all, accepted_all, is_held, held_after, disk_errors}
-use Rattle.table_server.specs.ReplyTexts.{short_text}
+use Rattle.table_server.specs.Answered.{IsReply, after, accepted, after_all, accepted_all, is_held, held_after}
 use Rattle.table_server.specs.Served.{IsServed}
-use Rattle.table_server.specs.Serving.{IsTaken, FailsTaking, Holding, Settled}
-use Rattle.table_server.specs.Standing.{Standing, standing_of, after_change, accepted_change}
+use Rattle.table_server.specs.Serving.{Holding, Settled}
+use Rattle.table_server.specs.Standing.{Standing, standing_of}
 use Rattle.table_server.specs.Told.{Tells}
-use Rattle.table_server.proofs.Folds.{after_append, accepted_append, accepted_one, replies_append, replies_one, held_told, all_held_one, errors_append}
+use Rattle.table_server.proofs.Folds.{after_append, accepted_one, replies_append, replies_one, all_held_one}
 
 module _ {D : Type 0} where
   -- confirming changes neither the session nor how many actions can be taken
@@ -32,7 +28,7 @@ module _ {D : Type 0} where
 
   module _ (disk : Disk D) where
     -- actions accepted that are no longer pending are confirmed
-    confirmed_enough : (old new : StoreValue D State Action) (all : List Action) (answered waiting : ℕ)
+    pub confirmed_enough : (old new : StoreValue D State Action) (all : List Action) (answered waiting : ℕ)
         → (call : Continues session_keeping disk old all new) → length new.pending ≤ waiting
         → length all ≡ answered + waiting → answered ≤ call.confirmed
     confirmed_enough old new all answered waiting call few count =
@@ -42,7 +38,7 @@ module _ {D : Type 0} where
         omega (arith, long, left, rest, few, count)
 
     -- one call more
-    joined : (start store new : StoreValue D State Action) (s : Standing) (asked : List Asked) (more : List Action) (all : List Action)
+    pub joined : (start store new : StoreValue D State Action) (s : Standing) (asked : List Asked) (more : List Action) (all : List Action)
         → Continues session_keeping disk start (accepted_all s asked) store → Continues session_keeping disk store more new
         → all ≡ accepted_all s asked ++ more → Continues session_keeping disk start all new
     joined start store new s asked more all first second is =
@@ -163,123 +159,6 @@ module _ {D : Type 0} where
           pending = omega (arith, count_waits, few, h.pending);
         }
 
-    -- the store failed as the lines that were held were to be confirmed
-    pub failed_settling : (start store new : StoreValue D State Action) (asked : List Asked) (text : List ℕ) (count : ℕ) (written : List ℕ)
-        → Holding disk start asked store text count written → new.failed ≡ true → new.state ≡ store.state
-        → Continues session_keeping disk store [] new
-        → IsServed disk start asked new (written ++ disk_errors count) (length (accepted_all (standing_of start) asked))
-    failed_settling start store new asked text count written h failed state call =
-        let from = standing_of start in
-        let before = after_all from h.answered in
-        let lines : List Asked = h.answered ++ h.waiting in
-        let none : h.waiting ++ [] ≡ h.waiting = append-nil h.waiting in
-        let few = few_pending session_keeping disk store new [] call in
-        let calls : Continues session_keeping disk start (accepted_all from lines) new
-        = joined start store new from asked [] (accepted_all from lines) h.continues call
-        (ap (accepted_all from) (sym h.all) ∙ sym (append-nil (accepted_all from asked))) in
-        let split = ap length (accepted_append from h.answered h.waiting) ∙ length-append (accepted_all from h.answered) (accepted_all before h.waiting) in record {
-          answered = h.answered;
-          taken = h.waiting;
-          later = [];
-          all = h.all ∙ ap (λ (xs : List Asked). h.answered ++ xs) (sym none);
-          replies = written;
-          are_replies = h.are_replies;
-          says = ap (λ n. written ++ disk_errors n) (sym h.count_is ∙ ap length (sym none));
-          state = state ∙ ap (λ (t : Standing). t.state) h.standing ∙ ap (λ (xs : List Asked). (after_all from xs).state) h.all;
-          continues = calls;
-          counted = ap (λ (xs : List Asked). length (accepted_all from xs)) h.all;
-          confirmed = confirmed_enough start new (accepted_all from lines) (length (accepted_all from h.answered))
-              (length (accepted_all before h.waiting)) calls (omega (arith, few, h.pending)) split;
-          works = λ works. absurd (true≢false (sym failed ∙ works));
-          group = λ it. h.begins;
-          held = h.group;
-          few = omega (arith, h.few, h.count_is);
-          failed_before = λ was. absurd (true≢false (sym was ∙ h.worked));
-        }
-
-    -- the store failed as it took a change
-    pub failed_taking : (start store new : StoreValue D State Action) (asked : List Asked) (action : Action) (text : List ℕ) (count : ℕ) (written : List ℕ)
-        → Holding disk start asked store text count written → count < 64 → FailsTaking disk store action new
-        → IsServed disk start (asked ++ Change action ∷ []) new (written ++ disk_errors (count + 1))
-            (length (accepted_all (standing_of start) asked) + 1)
-    failed_taking start store new asked action text count written h room f =
-        let from = standing_of start in
-        let one : Asked = Change action in
-        let before = after_all from h.answered in
-        let group : List Asked = h.waiting ++ one ∷ [] in
-        let lines : List Asked = h.answered ++ group in
-        let none : group ++ [] ≡ group = append-nil group in
-        let all : asked ++ one ∷ [] ≡ lines
-        = ap (λ (xs : List Asked). xs ++ one ∷ []) h.all ∙ append_assoc h.answered h.waiting (one ∷ []) in
-        let here : standing_of store ≡ after_all before h.waiting
-        = h.standing ∙ ap (after_all from) h.all ∙ after_append from h.answered h.waiting in
-        let more : List Action = accepted_change (standing_of store) action in
-        let waits : accepted_all before group ≡ accepted_all before h.waiting ++ more
-        = accepted_one before h.waiting one ∙ ap (λ (t : Standing). accepted_all before h.waiting ++ accepted t one) (sym here) in
-        let count_waits = ap length waits ∙ length-append (accepted_all before h.waiting) more in
-        let few = few_pending session_keeping disk store new more f.continues in
-        let calls : Continues session_keeping disk start (accepted_all from lines) new
-        = joined start store new from asked more (accepted_all from lines) h.continues f.continues
-        (ap (accepted_all from) (sym all) ∙ accepted_one from asked one
-        ∙ ap (λ (t : Standing). accepted_all from asked ++ accepted t one) (sym h.standing)) in
-        let split = ap length (accepted_append from h.answered group) ∙ length-append (accepted_all from h.answered) (accepted_all before group) in
-        let count_is = length-append h.waiting (one ∷ []) in
-        let lines_more : accepted_all from lines ≡ accepted_all from asked ++ action ∷ []
-        = ap (accepted_all from) (sym all) ∙ accepted_one from asked one
-        ∙ ap (λ (t : Standing). accepted_all from asked ++ accepted t one) (sym h.standing) ∙ ap (λ (xs : List Action). accepted_all from asked ++ xs) f.accepted in
-        let counted : length (accepted_all from asked) + 1 ≡ length (accepted_all from lines)
-        = sym (ap length lines_more ∙ length-append (accepted_all from asked) (action ∷ [])) in
-        let after_is : after_change (standing_of store) action ≡ after_all from lines
-        = ap (λ (t : Standing). after t one) h.standing ∙ sym (after_append from asked (one ∷ [])) ∙ ap (after_all from) all in record {
-          answered = h.answered;
-          taken = group;
-          later = [];
-          all = all ∙ ap (λ (xs : List Asked). h.answered ++ xs) (sym none);
-          replies = written;
-          are_replies = h.are_replies;
-          says = ap (λ n. written ++ disk_errors n) (ap (λ n. n + 1) (sym h.count_is) ∙ sym count_is ∙ ap length (sym none));
-          state = f.state ∙ ap (λ (t : Standing). t.state) after_is;
-          continues = calls;
-          counted = counted;
-          confirmed = confirmed_enough start new (accepted_all from lines) (length (accepted_all from h.answered))
-              (length (accepted_all before group)) calls (omega (arith, few, h.pending, count_waits)) split;
-          works = λ works. absurd (true≢false (sym f.failed ∙ works));
-          group = λ it. h.begins;
-          held = all_held_one h.waiting one h.group refl;
-          few = omega (arith, room, h.count_is, count_is);
-          failed_before = λ was. absurd (true≢false (sym was ∙ h.worked));
-        }
-
-    -- a line that comes after the store failed
-    pub failed_more : (start store : StoreValue D State Action) (asked : List Asked) (one : Asked) (written : List ℕ) (actions : ℕ)
-        → IsServed disk start asked store written actions → store.failed ≡ true
-        → IsServed disk start (asked ++ one ∷ []) store (written ++ disk_errors 1) actions
-    failed_more start store asked one written actions s failed =
-        let rest : List Asked = s.taken ++ s.later in
-        let same : s.taken ++ (s.later ++ one ∷ []) ≡ rest ++ one ∷ [] = sym (append_assoc s.taken s.later (one ∷ [])) in
-        let count : length (s.taken ++ (s.later ++ one ∷ [])) ≡ length rest + 1 = ap length same ∙ length-append rest (one ∷ []) in
-        let errors : disk_errors (length rest) ++ disk_errors 1 ≡ disk_errors (length (s.taken ++ (s.later ++ one ∷ [])))
-        = sym (errors_append (length rest) 1) ∙ ap disk_errors (sym count) in record {
-          answered = s.answered;
-          taken = s.taken;
-          later = s.later ++ one ∷ [];
-          all = ap (λ (xs : List Asked). xs ++ one ∷ []) s.all ∙ append_assoc s.answered rest (one ∷ [])
-              ∙ ap (λ (xs : List Asked). s.answered ++ xs) (sym same);
-          replies = s.replies;
-          are_replies = s.are_replies;
-          says = ap (λ (xs : List ℕ). xs ++ disk_errors 1) s.says ∙ append_assoc s.replies (disk_errors (length rest)) (disk_errors 1)
-              ∙ ap (λ (xs : List ℕ). s.replies ++ xs) errors;
-          state = s.state;
-          continues = s.continues;
-          counted = s.counted;
-          confirmed = s.confirmed;
-          works = λ works. absurd (true≢false (sym failed ∙ works));
-          group = s.group;
-          held = s.held;
-          few = s.few;
-          failed_before = s.failed_before;
-        }
-
     -- before the first line
     pub begins_holding : (store : StoreValue D State Action) → store.failed ≡ false → store.pending ≡ [] → Holding disk store [] store [] 0 []
     begins_holding store works none = record {
@@ -297,25 +176,4 @@ module _ {D : Type 0} where
       standing = refl;
       continues = continues_begins session_keeping disk store;
       pending = rw none (omega arith);
-    }
-
-    -- and where the store had failed
-    pub begins_failed : (store : StoreValue D State Action) → store.failed ≡ true → IsServed disk store [] store [] 0
-    begins_failed store failed = record {
-      answered = [];
-      taken = [];
-      later = [];
-      all = refl;
-      replies = [];
-      are_replies = refl;
-      says = refl;
-      state = refl;
-      continues = continues_begins session_keeping disk store;
-      counted = refl;
-      confirmed = omega arith;
-      works = λ works. absurd (true≢false (sym failed ∙ works));
-      group = λ it. refl;
-      held = refl;
-      few = omega arith;
-      failed_before = λ it. refl;
     }

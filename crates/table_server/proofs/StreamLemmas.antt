@@ -1,5 +1,5 @@
 -- What was served of a reader's bytes, piece by piece.
-use Rattle.std.proofs.Common.{◌≡◌, ℕ, zero, suc, ◌+◌, ◌<◌, ◌≤◌, ◌∙◌, Bool, true, false, List, [], ◌++◌, length, take, Option, Some, None, Result, Ok, Err, inl, inr, refl, sym, ap, subst, arith, length-append, append_assoc, append-nil}
+use Rattle.std.proofs.Common.{◌≡◌, ℕ, zero, suc, ◌+◌, ◌<◌, ◌≤◌, ◌∙◌, true, false, List, [], ◌++◌, length, take, Option, Some, None, Result, Ok, Err, inl, refl, sym, ap, subst, arith, length-append, append-nil}
 use Rattle.std.specs.Prelude.{nat_le, IfSome, IfOk, IfErr}
 use Rattle.std.proofs.lemmas.Bool.{le-leb, lt-leb}
 use Rattle.std.proofs.lemmas.List.{take_at, take_all}
@@ -9,16 +9,15 @@ use Rattle.sector_disk.specs.Disk.{Disk}
 use Rattle.session_store.specs.Value.{StoreValue}
 use Rattle.bridge_session.specs.declared.action.Action.{Action}
 use Rattle.bridge_session.specs.State.{State}
-use Rattle.line_text.specs.Streams.{Stream, between, Takes, TakesPrefix}
+use Rattle.line_text.specs.Streams.{Stream, between, TakesPrefix}
 use Rattle.line_text.proofs.Streams.{takes_prefix}
 use Rattle.table_server.specs.declared.fault.ServeFault.{ServeFault}
-use Rattle.table_server.specs.declared.fault.ServeFault.TheVariants.{Read, Write}
 use Rattle.table_server.specs.declared.line_service.LineService.{LineService}
 use Rattle.table_server.specs.declared.served.Served.{Served}
-use Rattle.table_server.specs.Hearing.{Hearing, HearsOn, IsCutShort}
+use Rattle.table_server.specs.Hearing.{Hearing, HearsOn}
 use Rattle.table_server.specs.Replies.{byte_limit, limit_notice}
 use Rattle.table_server.specs.ServedStreams.{HasRead, HasServed, StopsReading, StopsReplying, StopsNoticing, StopsServing, EndsServing}
-use Rattle.table_server.specs.Serving.{Ends, IsStopped}
+use Rattle.table_server.specs.Serving.{Ends}
 use Rattle.table_server.proofs.HearingLemmas.{hears_after, hears_asks}
 use Rattle.table_server.proofs.ServesLemmas.{stopped_after}
 

@@ -1,5 +1,5 @@
 -- Changes that a store took.
-use Rattle.std.proofs.Common.{◌≡◌, ℕ, zero, suc, ◌<◌, ◌∙◌, Bool, true, false, List, [], ◌∷◌, Result, Ok, Err, refl, sym, ap, arith}
+use Rattle.std.proofs.Common.{◌≡◌, ℕ, zero, suc, ◌<◌, ◌∙◌, Bool, true, false, [], ◌∷◌, Result, Ok, refl, ap, arith}
 use Rattle.std.specs.Prelude.{◌==◌, if◌then◌else◌}
 use Rattle.sector_disk.specs.Disk.{Disk}
 use Rattle.session_store.specs.Answers.{TakesMore, room, after_fault, after_failed_submit, with_action, with_record}

@@ -1,21 +1,18 @@
 -- The lines of bytes that are served as they come.
-use Rattle.std.specs.Prelude.{◌≡◌, ◌≤◌, ◌<◌, ◌+◌, nat_le, ℕ, true, List, [], ◌∷◌, ◌++◌, length, take, Option, IfSome, Result, Ok, Err}
+use Rattle.std.specs.Prelude.{◌≡◌, ℕ, true, List, ◌++◌, length, Result, Ok, Err}
 use Rattle.std.specs.List.{list_all}
 use Rattle.sector_disk.specs.Disk.{Disk}
 use Rattle.session_store.specs.Value.{StoreValue}
 use Rattle.bridge_session.specs.declared.action.Action.{Action}
 use Rattle.bridge_session.specs.State.{State}
 use Rattle.line_text.specs.Lines.{complete_lines, is_within_line}
-use Rattle.line_text.specs.Streams.{Stream, Gives, Takes, TakesPrefix}
+use Rattle.line_text.specs.Streams.{Stream, Takes}
 use Rattle.table_server.specs.declared.asked.Asked.{Asked}
 use Rattle.table_server.specs.declared.fault.ServeFault.{ServeFault}
-use Rattle.table_server.specs.declared.fault.ServeFault.TheVariants.{Read, Write}
+use Rattle.table_server.specs.declared.fault.ServeFault.TheVariants.{Write}
 use Rattle.table_server.specs.declared.line_service.LineService.{LineService}
-use Rattle.table_server.specs.declared.served.Served.{Served}
 use Rattle.table_server.specs.Answered.{AskAll}
 use Rattle.table_server.specs.LineFeed.{kept_lines}
-use Rattle.table_server.specs.Replies.{byte_limit, limit_notice}
-use Rattle.table_server.specs.Served.{IsServed}
 use Rattle.table_server.specs.Serving.{Serving, IsStopped}
 
 -- The complete lines of these bytes ask for these, and this line has begun.

@@ -57,7 +57,9 @@ impl LineService {
     {
         match self.feed.take_byte(byte) {
             None => Ok(()),
-            Some(line) => self.held.answer(asked_by(line.as_slice()), store, cache, writer),
+            Some(line) => self
+                .held
+                .answer(asked_by(line.as_slice()), store, cache, writer),
         }
     }
 

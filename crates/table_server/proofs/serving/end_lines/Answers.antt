@@ -1,8 +1,8 @@
-use Rattle.std.proofs.Common.{◌≡◌, inl, inr, subst}
+use Rattle.std.proofs.Common.{inr, subst}
 use Rattle.std.specs.Prelude.{true}
 use Rattle.line_text.specs.Streams.{Takes, TakesPrefix, stream}
 use Rattle.table_server.specs.Replies.{limit_notice}
-use Rattle.table_server.specs.ServedStreams.{IsEnd, StopsServing}
+use Rattle.table_server.specs.ServedStreams.{IsEnd}
 use Rattle.table_server.proofs.StreamLemmas.{ends_stopped, ends_at_end, ends_at_limit, ends_in_notice, ends_at_fault}
 use Rattle.table_server.proofs.serving.end_lines.Goals as goal
 

@@ -1,7 +1,6 @@
-use Rattle.std.proofs.Common.{◌≡◌, ◌-◌, ◌+◌, [], ◌++◌, length, take, Ok, Err, refl, arith, rules, subst}
+use Rattle.std.proofs.Common.{◌-◌, [], take, refl, arith, rules, subst}
 use Rattle.std.specs.Io.KnownBytes.{Consumes}
 use Rattle.std.proofs.lemmas.List.{length-take-le}
-use Rattle.table_server.specs.Hearing.{HearsOn}
 use Rattle.table_server.proofs.StreamLemmas.{read_nothing, read_more, stops_more, read_kept, read_none}
 use Rattle.table_server.proofs.serving.read_lines.Goals as goal
 

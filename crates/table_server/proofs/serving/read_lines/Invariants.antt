@@ -14,8 +14,8 @@ invariant-loop-left g l = record {
   few : l.service.held.served.lines + l.left ≤ 65536;
   room : length l.piece ≡ 4096;
   read : (start : StoreValue g.row.D.Denot State Action) → Hearing g.D.SectorDisk.disk start [] l.fn.store l.fn.service []
-  → HasRead g.D.SectorDisk.disk start l.store l.service (stream g.R.Read.remaining l.fn.reader l.reader)
-  (stream g.W.Write.contents l.fn.writer l.writer) l.left;
+      → HasRead g.D.SectorDisk.disk start l.store l.service (stream g.R.Read.remaining l.fn.reader l.reader)
+      (stream g.W.Write.contents l.fn.writer l.writer) l.left;
 }
 
 abbrev pub decreases-loop-left : goal.decreases-loop-left

@@ -1,4 +1,4 @@
-use Rattle.std.proofs.Common.{◌≡◌, ◌+◌, ◌∷◌, [], ◌++◌, ◌∙◌, true, false, length, refl, sym, ap, subst}
+use Rattle.std.proofs.Common.{◌≡◌, ◌∷◌, [], ◌++◌, ◌∙◌, length, refl, sym, ap, subst}
 use Rattle.session_store.specs.Calls.{continues_begins}
 use Rattle.bridge_session.specs.SessionKeeping.{session_keeping}
 use Rattle.table_server.specs.declared.asked.Asked.TheVariants.{BadLine, LongLine}

@@ -1,6 +1,6 @@
 use Rattle.std.proofs.Common.{◌≡◌, [], true, sym, ap, subst}
 use Rattle.table_server.specs.Serving.{Failed, ServingBy}
-use Rattle.table_server.proofs.ServingLemmas.{begins_failed}
+use Rattle.table_server.proofs.FailureLemmas.{begins_failed}
 use Rattle.table_server.proofs.ServesLemmas.{had_failed}
 use Rattle.table_server.proofs.held_replies.HeldReplies.begin.Goals as goal
 

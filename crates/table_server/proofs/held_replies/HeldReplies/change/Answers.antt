@@ -2,11 +2,11 @@ use Rattle.std.proofs.Common.{◌≡◌, ◌<◌, ◌+◌, ◌∷◌, [], ◌++�
 use Rattle.table_server.specs.declared.asked.Asked.TheVariants.{Change}
 use Rattle.table_server.specs.Answered.{after_all, accepted_all, disk_errors}
 use Rattle.table_server.specs.ReplyTexts.{short_text}
-use Rattle.table_server.specs.Served.{IsServed}
 use Rattle.table_server.specs.Serving.{accepted_count}
-use Rattle.table_server.specs.Standing.{standing_of, change_reply}
+use Rattle.table_server.specs.Standing.{standing_of}
 use Rattle.table_server.proofs.CountLemmas.{accepted_few, counted_change}
-use Rattle.table_server.proofs.ServingLemmas.{held_more, failed_taking}
+use Rattle.table_server.proofs.ServingLemmas.{held_more}
+use Rattle.table_server.proofs.FailureLemmas.{failed_taking}
 use Rattle.table_server.proofs.ServesLemmas.{replied, serves_failing}
 use Rattle.table_server.proofs.held_replies.HeldReplies.change.Goals as goal
 

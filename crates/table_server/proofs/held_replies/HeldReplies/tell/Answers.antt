@@ -1,4 +1,4 @@
-use Rattle.std.proofs.Common.{◌≡◌, ◌+◌, ◌∷◌, [], ◌++◌, ◌∙◌, true, false, Ok, length, refl, sym, ap, subst, arith}
+use Rattle.std.proofs.Common.{◌≡◌, ◌∷◌, [], ◌++◌, ◌∙◌, true, false, Ok, length, refl, sym, ap, subst, arith}
 use Rattle.line_text.specs.Streams.{stream}
 use Rattle.table_server.specs.declared.asked.Asked.TheVariants.{Told}
 use Rattle.table_server.specs.declared.fault.ServeFault.{ServeFault}
@@ -8,7 +8,8 @@ use Rattle.table_server.specs.Standing.{standing_of}
 use Rattle.table_server.specs.Told.{Tells}
 use Rattle.table_server.proofs.CountLemmas.{counted_none}
 use Rattle.table_server.proofs.Folds.{held_told}
-use Rattle.table_server.proofs.ServingLemmas.{settled, told, failed_settling}
+use Rattle.table_server.proofs.ServingLemmas.{settled, told}
+use Rattle.table_server.proofs.FailureLemmas.{failed_settling}
 use Rattle.table_server.proofs.ServesLemmas.{replied, serves_more, serves_working, serves_after, stopped_before, stopped_settling}
 use Rattle.table_server.proofs.held_replies.HeldReplies.tell.Goals as goal
 

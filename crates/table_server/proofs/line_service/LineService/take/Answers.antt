@@ -1,9 +1,9 @@
-use Rattle.std.proofs.Common.{◌≡◌, ◌+◌, ◌∙◌, ℕ, List, [], ◌∷◌, ◌++◌, take, slice_index_or, Ok, Err, refl, sym, ap, subst, arith, append_assoc, append-nil, rules}
+use Rattle.std.proofs.Common.{◌≡◌, ◌+◌, ◌∙◌, [], ◌∷◌, ◌++◌, take, slice_index_or, Ok, Err, sym, ap, subst, arith, append_assoc, append-nil}
 use Rattle.std.proofs.KnownBytes.{Appends-nil}
 use Rattle.std.proofs.lemmas.List.{take_more, take_all, take-append-drop}
 use Rattle.std.specs.Prelude.{drop}
 use Rattle.line_text.specs.Streams.{stream}
-use Rattle.table_server.specs.Hearing.{Hearing, HearsOn, IsCutShort}
+use Rattle.table_server.specs.Hearing.{Hearing, IsCutShort}
 use Rattle.table_server.proofs.HearingLemmas.{hears_after, cut_before}
 use Rattle.table_server.proofs.line_service.LineService.take.Goals as goal
 

@@ -1,4 +1,4 @@
-use Rattle.std.proofs.Common.{◌≡◌, ◌+◌, ◌≤◌, ℕ, List, ◌++◌, take}
+use Rattle.std.proofs.Common.{◌+◌, ◌≤◌, ℕ, List, ◌++◌, take}
 use Rattle.session_store.specs.Value.{StoreValue}
 use Rattle.bridge_session.specs.declared.action.Action.{Action}
 use Rattle.bridge_session.specs.State.{State}
@@ -12,6 +12,6 @@ invariant-loop-byte g l = record {
   fits : Fits l.self.held;
   lines : l.self.held.served.lines ≤ l.fn.self.held.served.lines + l.byte-index;
   hears : (start : StoreValue g.row.D.Denot State Action) (bytes : List ℕ) (written : List ℕ) → Hearing g.D.SectorDisk.disk start bytes l.fn.store l.fn.self written
-  → (text : List ℕ) × Takes (stream g.W.Write.contents l.fn.writer l.writer) text
-  × Hearing g.D.SectorDisk.disk start (bytes ++ take l.byte-index l.piece) l.store l.self (written ++ text);
+      → (text : List ℕ) × Takes (stream g.W.Write.contents l.fn.writer l.writer) text
+      × Hearing g.D.SectorDisk.disk start (bytes ++ take l.byte-index l.piece) l.store l.self (written ++ text);
 }
