@@ -16,7 +16,6 @@ use Rattle.table_server.specs.Served.{IsServed}
 use Rattle.table_server.specs.Serving.{FailsTaking, Holding}
 use Rattle.table_server.specs.Standing.{Standing, standing_of, after_change, accepted_change}
 use Rattle.table_server.proofs.Folds.{after_append, accepted_append, accepted_one, all_held_one, errors_append}
-
 use Rattle.table_server.proofs.ServingLemmas.{confirmed_enough, joined}
 
 module _ {D : Type 0} (disk : Disk D) where
