@@ -1,16 +1,19 @@
 -- What pairs gain, game by game.
-use Rattle.std.proofs.Common.{◌≡◌, ◌+◌, ◌<◌, ◌≤◌, ◌==◌, ℕ, Bool, true, false, cond, List, [], ◌∷◌, ◌++◌, length, take, map, filter, get_or, Option, ℤ, pos, neg_ℤ, ◌+ℤ◌, ◌≤ℤ◌, refl, sym, ap, ◌∙◌, arith, length-append}
+use Rattle.std.proofs.Common.{◌≡◌, ◌+◌, ◌<◌, ◌≤◌, ◌==◌, ℕ, Bool, true, false, cond, List, [], ◌∷◌, ◌++◌, length, take, map, filter, get_or, Option, Some, ◌-◌, ℤ, pos, neg_ℤ, ◌+ℤ◌, ◌≤ℤ◌, refl, sym, ap, ◌∙◌, arith, length-append}
 use Rattle.std.specs.List.{cons_option, filter_map, range_with_len}
 use Rattle.std.proofs.lemmas.Int.{ints, to_z-of_z}
 use mir.Syntax.{w32}
 use mir.Val.{SFits, of_z, to_z}
-use Rattle.std.specs.Prelude.{AllPairs}
+use Rattle.std.specs.Prelude.{All, AllPairs, slice_get}
 use Rattle.std.proofs.lemmas.Bool.{eq-eqb}
 use Rattle.std.proofs.lemmas.List.FromFn.{length-range_with_len, get_or-map-range_with_len}
 use Rattle.std.proofs.lemmas.List.{map-append, length-map, take_more}
-use Rattle.std.proofs.lemmas.List.Elements.{filter-append, filter_map-append}
+use Rattle.std.proofs.lemmas.List.Elements.{All-map, All-filter, filter-append, filter_map-append}
+use Rattle.std.proofs.lemmas.Option.{get_or_from_slice_get}
 use Rattle.std.proofs.lemmas.List.Sums.{fold_more}
 use Rattle.bridge_cards.specs.declared.seat.Side.{Side}
+use Rattle.bridge_cards.specs.declared.seat.Side.TheVariants.{NorthSouth, EastWest}
+use Rattle.bridge_cards.specs.Board.{IsBoard}
 use Rattle.bridge_score.specs.declared.ranking.Scoring.{Scoring}
 use Rattle.bridge_score.specs.declared.ranking.Scoring.TheVariants.{MatchPoints, Imps}
 use Rattle.bridge_score.specs.declared.ranking.Line.{Line}
@@ -20,6 +23,7 @@ use Rattle.bridge_score.specs.ScoringTable.{IsScore}
 use Rattle.bridge_session.specs.declared.game.Game.{Game}
 use Rattle.bridge_session.specs.Ranking.{is_on, score_for, scores_on, line_of}
 use Rattle.bridge_session.specs.Gains.{IsGainWithin}
+use Rattle.bridge_session.specs.Kept.{IsGame}
 use Rattle.bridge_session.proofs.Games.{few_so_far}
 
 -- one element more, of which something may come
@@ -50,6 +54,23 @@ scored side board games i d here before after within test so_far left =
     (sym (score_of_one here side game) ∙ ap (λ b. map (λ (g : Game). score_for side g.score) (cond b (game ∷ []) [])) (sym test))
     ∙ sym (scores-append side board (take i games) (game ∷ []))
     ∙ ap (λ gs. scores_on gs side board) (sym (take_more games i d within))
+
+-- the scores of plays are within the scoring table
+score_range : (side : Side) (score : ℤ) → IsScore score → IsScore (score_for side score)
+score_range NorthSouth score is = is
+score_range EastWest score is = (omega (arith, ints, is.0, is.1), omega (arith, ints, is.0, is.1))
+
+pub scores_range : (games : List Game) (side : Side) (board : ℕ) → All IsGame games → All IsScore (scores_on games side board)
+scores_range games side board each =
+    All-map IsScore (λ (game : Game). score_for side game.score) (filter (is_on board) games)
+    (λ k d within. score_range side (get_or (filter (is_on board) games) k d).score ((All-filter (is_on board) IsGame games each k d within).0))
+
+-- the list at a board's place is its scores
+pub scores_there : (games : List Game) (side : Side) (lists : List (List ℤ)) (board : ℕ) (found : List ℤ) → lists ≡ map (scores_on games side) (range_with_len 1 36) → slice_get lists (board - 1) ≡ Some found → IsBoard board → found ≡ scores_on games side board
+scores_there games side lists board found are there is =
+    sym (get_or_from_slice_get lists (board - 1) found [] there)
+    ∙ ap (λ ls. get_or ls (board - 1) []) are
+    ∙ get_or-map-range_with_len (scores_on games side) 1 36 (board - 1) board [] (omega (arith, is.0, is.1)) (omega (arith, is.0))
 
 -- there is room for the score of a game on the board
 pub room_for : (board : ℕ) (games : List Game) (i : ℕ) (d : Game) → i < length games → (get_or games i d).board ≡ board → length (filter (is_on board) (take i games)) + 1 ≤ length (filter (is_on board) games)

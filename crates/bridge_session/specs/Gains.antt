@@ -1,10 +1,12 @@
 -- The ranges of what a pair gains.
-use Rattle.std.specs.Prelude.{ℕ, ◌*◌, ◌≤◌, List, length, filter, All, ℤ, pos, neg_ℤ, ◌≤ℤ◌}
+use Rattle.std.specs.Prelude.{◌≡◌, ℕ, ◌*◌, ◌≤◌, List, length, map, filter, All, ℤ, pos, neg_ℤ, ◌≤ℤ◌}
+use Rattle.std.specs.List.{range_with_len}
+use Rattle.bridge_cards.specs.declared.seat.Side.TheVariants.{NorthSouth, EastWest}
 use Rattle.bridge_score.specs.declared.ranking.Scoring.{Scoring}
 use Rattle.bridge_score.specs.declared.ranking.Scoring.TheVariants.{MatchPoints, Imps}
 use Rattle.bridge_session.specs.declared.game.Game.{Game}
-use Rattle.bridge_session.specs.Ranking.{is_on}
-use Rattle.bridge_session.specs.Kept.{HasScore}
+use Rattle.bridge_session.specs.Ranking.{is_on, scores_on}
+use Rattle.bridge_session.specs.Kept.{IsGame}
 
 -- from nothing to all that is available, or so many times 12 IMPs on either side of 0
 abbrev pub IsGainWithin : Scoring → ℤ → ℕ → Type 0
@@ -15,4 +17,10 @@ IsGainWithin Imps gain available = (neg_ℤ (pos (12 * available)) ≤ℤ gain) 
 pub record AreGames (games : List Game) : Type 0 where
   pub most : length games ≤ 432
   pub few : (board : ℕ) → length (filter (is_on board) games) ≤ 144
-  pub scores : All HasScore games
+  pub each : All IsGame games
+
+-- each side's scores, board by board, all within the scoring table
+pub record AreScored (games : List Game) (north_south east_west : List (List ℤ)) : Type 0 where
+  pub each : All IsGame games
+  pub ns : north_south ≡ map (scores_on games NorthSouth) (range_with_len 1 36)
+  pub ew : east_west ≡ map (scores_on games EastWest) (range_with_len 1 36)

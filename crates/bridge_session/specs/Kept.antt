@@ -3,7 +3,7 @@ use Rattle.std.specs.Prelude.{◌≡◌, ℕ, ◌*◌, ◌≤◌, nat_lt, if◌t
 use Rattle.std.specs.List.{filter_map}
 use Rattle.std.specs.Option.{option_map, option_map_or}
 use Rattle.bridge_cards.specs.declared.seat.Seat.{Seat}
-use Rattle.bridge_cards.specs.Board.{dealer_of}
+use Rattle.bridge_cards.specs.Board.{IsBoard, dealer_of}
 use Rattle.bridge_auction.specs.declared.contract.Contract.{Contract}
 use Rattle.bridge_auction.specs.Auction.{with_call}
 use Rattle.bridge_auction.specs.Contract.{contract_of}
@@ -126,6 +126,6 @@ kept_games_in both = filter_map (kept_game both.0) both.1
 abbrev pub kept_games : List Row → List (List Record) → List Game
 kept_games rows tables = flat_map kept_games_in (zip rows tables)
 
--- the score of a game is within the scoring table
-abbrev pub HasScore : Game → Type 0
-HasScore game = IsScore game.score
+-- the score of a game is within the scoring table, and its board is one
+abbrev pub IsGame : Game → Type 0
+IsGame game = IsScore game.score × IsBoard game.board

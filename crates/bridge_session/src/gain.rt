@@ -7,10 +7,11 @@ ghost use Rattle.bridge_score.specs.ScoringTable.{IsScore};
 ghost use Rattle.bridge_score.specs.Ranking.{IsLine, AreOfTwoPairs};
 ghost use Rattle.bridge_session.specs.Ranking.{is_on, score_for, scores_on, gain_at, gain_of, available_of, side_in, value_in, available_in, line_of, has_field, pairs_of_field};
 ghost use Rattle.bridge_session.specs.Gains.{IsGainWithin, AreGames};
-ghost use Rattle.bridge_session.specs.Kept.{HasScore};
+ghost use Rattle.bridge_session.specs.Kept.{IsGame};
 
 use crate::field::Field;
 use crate::game::{Game, score_for};
+use crate::scored::ScoredGames;
 use arrayvec::ArrayVec;
 use bridge_cards::Side;
 use bridge_movement::Shape;
@@ -21,22 +22,6 @@ use bridge_score::{Line, Scoring, cross_imps, matchpoints};
 struct Gain {
     value: i32,
     available: u32,
-}
-
-/// The scores of a side on a board.
-fn scores_on(games: &[Game], side: Side, board: u8) -> ArrayVec<i32, 144>
-    requires few { length (filter (is_on board) games.now) ≤ 144 }
-    requires scores { All HasScore games.now }
-    ensures scores { result.items ≡ scores_on games.now side board }
-    ensures range { All IsScore result.items }
-{
-    let mut scores = ArrayVec::new();
-    for game in games {
-        if game.board == board {
-            scores.push(score_for(side, game.score));
-        }
-    }
-    scores
 }
 
 /// The first place of a score.
@@ -87,26 +72,26 @@ fn side_in(pair: u8, game: Game) -> Option<Side>
 }
 
 /// What a score of a side on a board gains, and what is available to it.
-fn gain_on(scoring: Scoring, games: &[Game], side: Side, game: Game) -> Gain
+fn gain_on(scoring: Scoring, games: &ScoredGames<'_>, side: Side, game: Game) -> Gain
     requires games { AreGames games.now }
-    requires score { HasScore game }
+    requires game { IsGame game }
     ensures value { result.value ≡ gain_of scoring (scores_on games.now side game.board) (score_for side game.score) }
     ensures available { result.available ≡ available_of (scores_on games.now side game.board) }
     ensures within { IsGainWithin scoring result.value result.available }
     ensures most { result.available ≤ 286 }
 {
-    let scores = scores_on(games, side, game.board);
+    let scores = games.scores(side, game.board);
     let others = scores.len().saturating_sub(1) as u32;
     Gain {
-        value: gain_of(scoring, &scores, score_for(side, game.score)),
+        value: gain_of(scoring, scores, score_for(side, game.score)),
         available: 2 * others,
     }
 }
 
 /// What a pair gained in a game, and what was available to it, if it played there.
-fn gain_in(scoring: Scoring, games: &[Game], pair: u8, game: Game) -> Gain
+fn gain_in(scoring: Scoring, games: &ScoredGames<'_>, pair: u8, game: Game) -> Gain
     requires games { AreGames games.now }
-    requires score { HasScore game }
+    requires game { IsGame game }
     ensures value { result.value ≡ value_in scoring games.now pair game }
     ensures available { result.available ≡ available_in games.now pair game }
     ensures within { IsGainWithin scoring result.value result.available }
@@ -122,14 +107,14 @@ fn gain_in(scoring: Scoring, games: &[Game], pair: u8, game: Game) -> Gain
 }
 
 /// What a pair gained in all games.
-fn line_of(scoring: Scoring, games: &[Game], pair: u8) -> Line
+fn line_of(scoring: Scoring, games: &ScoredGames<'_>, pair: u8) -> Line
     requires { AreGames games.now }
     ensures line { result ≡ line_of scoring games.now pair }
     ensures within { IsLine scoring result }
 {
     let mut value = 0;
     let mut available = 0;
-    for game in games {
+    for game in games.games() {
         let gain = gain_in(scoring, games, pair, *game);
         value += gain.value;
         available += gain.available;
@@ -142,7 +127,7 @@ fn line_of(scoring: Scoring, games: &[Game], pair: u8) -> Line
 }
 
 /// The lines of so many pairs, from the first on.
-fn lines_from(scoring: Scoring, games: &[Game], first: u8, count: u8) -> ArrayVec<Line, 24>
+fn lines_from(scoring: Scoring, games: &ScoredGames<'_>, first: u8, count: u8) -> ArrayVec<Line, 24>
     requires games { AreGames games.now }
     requires most { first + count ≤ 25 }
     requires least { 1 ≤ first }
@@ -175,8 +160,9 @@ pub fn lines_of(scoring: Scoring, games: &[Game], shape: Shape, field: Field) ->
     ensures within { All (IsLine scoring) result.items }
     ensures pairs { AllPairs AreOfTwoPairs result.items }
 {
+    let games = ScoredGames::new(games);
     match field {
-        Field::First => lines_from(scoring, games, 1, shape.split),
-        Field::Second => lines_from(scoring, games, shape.split + 1, shape.pairs - shape.split),
+        Field::First => lines_from(scoring, &games, 1, shape.split),
+        Field::Second => lines_from(scoring, &games, shape.split + 1, shape.pairs - shape.split),
     }
 }

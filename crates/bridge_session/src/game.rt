@@ -4,7 +4,7 @@ ghost use Rattle.std.specs.List.{filter_map};
 ghost use Rattle.bridge_score.specs.ScoringTable.{IsScore};
 ghost use Rattle.bridge_session.specs.Outcome.{HasFewTricks};
 ghost use Rattle.bridge_session.specs.Ranking.{score_for, played_score, score_ns, game_by};
-ghost use Rattle.bridge_session.specs.Kept.{HasScore, kept_game, kept_games};
+ghost use Rattle.bridge_session.specs.Kept.{IsGame, kept_game, kept_games};
 
 use crate::outcome::Outcome;
 use crate::record::Record;
@@ -65,7 +65,7 @@ fn score_ns(board: BoardNumber, outcome: Outcome) -> Option<i32>
 /// The play of a record by the pairs of a row, if it counts.
 fn game_in(row: Row, kept: &Record) -> Option<Game>
     ensures game { result ≡ kept_game row kept.now }
-    ensures score { IfSome result HasScore }
+    ensures each { IfSome result IsGame }
 {
     let score = score_ns(kept.board, kept.outcome())?;
     Some(Game {
@@ -80,7 +80,7 @@ fn game_in(row: Row, kept: &Record) -> Option<Game>
 fn games_in(row: Row, table: &[Record]) -> ArrayVec<Game, 3>
     requires { length table.now ≤ 3 }
     ensures games { result.items ≡ filter_map (kept_game row) table.now }
-    ensures scores { All HasScore result.items }
+    ensures each { All IsGame result.items }
 {
     let mut games = ArrayVec::new();
     for record in table {
@@ -97,7 +97,7 @@ pub fn games_of(rows: &[Row], tables: &[Vec<Record>]) -> ArrayVec<Game, 432>
     requires most { length rows.now ≤ 144 }
     requires few { All (λ table. length table.items ≤ 3) tables.now }
     ensures games { result.items ≡ kept_games rows.now (map (λ table. table.items) tables.now) }
-    ensures scores { All HasScore result.items }
+    ensures each { All IsGame result.items }
     ensures most { length result.items ≤ 432 }
 {
     let mut games = ArrayVec::new();

@@ -33,6 +33,7 @@ mod record_fields;
 mod record_read;
 pub mod refused;
 pub mod ruling;
+mod scored;
 mod seating;
 pub mod session;
 pub mod stored;

@@ -1,4 +1,4 @@
-use Rattle.std.proofs.Common.{◌+◌, ◌≤◌, ◌+ℤ◌, ℕ, ℤ, pos, take, sum_by, sym, ap, ◌∙◌, subst, arith}
+use Rattle.std.proofs.Common.{◌≡◌, ◌<◌, ◌+◌, ◌≤◌, ◌+ℤ◌, ℕ, ℤ, List, pos, length, get_or, take, sum_by, sym, ap, ◌∙◌, subst, arith}
 use Rattle.std.proofs.lemmas.Int.{to_z-of_z}
 use Rattle.std.proofs.lemmas.List.Sums.{sum_by_more}
 use mir.Syntax.{w32}
@@ -17,7 +17,7 @@ pub overflow_add-value : goal.overflow_add-value
 overflow_add-value c =
     let v : ℤ = to_z w32 c.loop-game.value-bits in
     let gain = c.gain_in-gain.result in
-    let few : c.loop-game.available + gain.available ≤ 123552 = omega (arith, c.loop-game.invariant.most, c.gain_in-gain.ensures.most, c.loop-game-test.true, c.requires.most) in
+    let few : c.loop-game.available + gain.available ≤ 123552 = omega (arith, c.loop-game.invariant.most, c.gain_in-gain.ensures.most, c.loop-game-test.true, ap length c.games-game-items.ensures, c.requires.most) in
     let fits_gain = small_fits gain.value (within_small c.args.scoring gain.value gain.available c.gain_in-gain.ensures.within (omega arith)) in
     let both = within_both c.args.scoring v gain.value c.loop-game.available gain.available c.loop-game.invariant.within c.gain_in-gain.ensures.within in
     let fits = small_fits (v +ℤ gain.value) (within_small c.args.scoring (v +ℤ gain.value) (c.loop-game.available + gain.available) both few) in
@@ -27,7 +27,7 @@ pub loop-game-preserved : goal.loop-game-preserved
 loop-game-preserved c =
     let v : ℤ = to_z w32 c.loop-game.value-bits in
     let gain = c.gain_in-gain.result in
-    let few : c.loop-game.available + gain.available ≤ 123552 = omega (arith, c.loop-game.invariant.most, c.gain_in-gain.ensures.most, c.loop-game-test.true, c.requires.most) in
+    let few : c.loop-game.available + gain.available ≤ 123552 = omega (arith, c.loop-game.invariant.most, c.gain_in-gain.ensures.most, c.loop-game-test.true, ap length c.games-game-items.ensures, c.requires.most) in
     let fits_gain = small_fits gain.value (within_small c.args.scoring gain.value gain.available c.gain_in-gain.ensures.within (omega arith)) in
     let both = within_both c.args.scoring v gain.value c.loop-game.available gain.available c.loop-game.invariant.within c.gain_in-gain.ensures.within in
     let fits = small_fits (v +ℤ gain.value) (within_small c.args.scoring (v +ℤ gain.value) (c.loop-game.available + gain.available) both few) in
@@ -35,12 +35,17 @@ loop-game-preserved c =
     let games = c.args.games.now in
     let i = c.loop-game.game-index in
     let available : Game → ℕ = available_in games c.args.pair in
+    let within : i < length games = omega (arith, c.loop-game-test.true, ap length c.games-game-items.ensures) in
+    let value : gain.value ≡ value_in c.args.scoring games c.args.pair (get_or games i none) =
+    c.gain_in-gain.ensures.value ∙ ap (λ (gs : List Game). value_in c.args.scoring games c.args.pair (get_or gs i none)) c.games-game-items.ensures in
+    let more : gain.available ≡ available (get_or games i none) =
+    c.gain_in-gain.ensures.available ∙ ap (λ (gs : List Game). available_in games c.args.pair (get_or gs i none)) c.games-game-items.ensures in
     record {
-      value = sum ∙ summed (value_in c.args.scoring games c.args.pair) games i none v gain.value c.loop-game-test.true c.loop-game.invariant.value c.gain_in-gain.ensures.value;
+      value = sum ∙ summed (value_in c.args.scoring games c.args.pair) games i none v gain.value within c.loop-game.invariant.value value;
       available =
           ap (λ n. n + gain.available) c.loop-game.invariant.available
-          ∙ ap (λ n. sum_by available (take i games) + n) c.gain_in-gain.ensures.available
-          ∙ sym (sum_by_more available games i none c.loop-game-test.true);
+          ∙ ap (λ n. sum_by available (take i games) + n) more
+          ∙ sym (sum_by_more available games i none within);
       within = subst (λ z. IsGainWithin c.args.scoring z (c.loop-game.available + gain.available)) (sym sum) both;
       most = omega (arith, c.loop-game.invariant.most, c.gain_in-gain.ensures.most);
     }

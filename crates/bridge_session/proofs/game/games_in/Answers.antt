@@ -3,7 +3,7 @@ use Rattle.std.specs.Prelude.{All, IfSome}
 use Rattle.std.specs.List.{cons_option}
 use Rattle.std.proofs.lemmas.List.{append-nil}
 use Rattle.std.proofs.lemmas.List.Elements.{All-push}
-use Rattle.bridge_session.specs.Kept.{kept_game, HasScore}
+use Rattle.bridge_session.specs.Kept.{kept_game, IsGame}
 use Rattle.bridge_session.proofs.Gains.{filled}
 use Rattle.bridge_session.proofs.game.games_in.Goals as goal
 use Rattle.bridge_session.proofs.game.games_in.Goals.{in-Some, in_default}
@@ -16,14 +16,14 @@ loop-record-preserved c =
       | in-Some w ↦ rw w.games-is (record {
         games = filled_by w.push.new.self.items c.loop-record-test.true c.record-item.is c.loop-record.invariant.games
             (w.push.ensures.items ∙ ap (λ o. games ++ cons_option o []) (sym w.in-Some.is ∙ c.game_in.ensures.game));
-        scores = subst (All HasScore) (sym w.push.ensures.items)
-            (All-push HasScore games w.in-Some.game c.loop-record.invariant.scores (subst (λ o. IfSome o HasScore) w.in-Some.is c.game_in.ensures.score));
+        each = subst (All IsGame) (sym w.push.ensures.items)
+            (All-push IsGame games w.in-Some.game c.loop-record.invariant.each (subst (λ o. IfSome o IsGame) w.in-Some.is c.game_in.ensures.each));
         few = omega (arith, w.push.ensures.len, c.loop-record.invariant.few);
       })
       | in_default w ↦ rw w.games-is (record {
         games = filled_by games c.loop-record-test.true c.record-item.is c.loop-record.invariant.games
             (sym (append-nil games) ∙ ap (λ o. games ++ cons_option o []) (sym w.in_default.is ∙ c.game_in.ensures.game));
-        scores = c.loop-record.invariant.scores;
+        each = c.loop-record.invariant.each;
         few = omega (arith, c.loop-record.invariant.few);
       })
     ]

@@ -5,7 +5,7 @@ use Rattle.std.proofs.lemmas.List.Elements.{All-append}
 use Rattle.std.proofs.lemmas.Option.{get_or_from_slice_get}
 use Rattle.std.proofs.lemmas.Slice.Zip.{length-zip}
 use Rattle.bridge_movement.specs.declared.row.Row.{Row}
-use Rattle.bridge_session.specs.Kept.{HasScore, kept_games_in}
+use Rattle.bridge_session.specs.Kept.{IsGame, kept_games_in}
 use Rattle.bridge_session.proofs.Acted.{lists_in, list_there}
 use Rattle.bridge_session.proofs.Games.{grown_games}
 use Rattle.bridge_session.proofs.game.games_of.Goals as goal
@@ -29,8 +29,8 @@ loop-place-preserved c =
     record {
       games = grown_games rows lists place none table games c.try_extend_from_slice.new.self.items c.loop-place-test.true inside (get_or_from_slice_get lists place table table there) c.loop-place.invariant.games
           (grown ∙ ap (λ gs. games ++ gs) played);
-      scores = subst (All HasScore) (sym grown)
-          (All-append HasScore games c.deref.result.now c.loop-place.invariant.scores (subst (All HasScore) (sym c.deref.ensures.0) c.games_in-played.ensures.scores));
+      each = subst (All IsGame) (sym grown)
+          (All-append IsGame games c.deref.result.now c.loop-place.invariant.each (subst (All IsGame) (sym c.deref.ensures.0) c.games_in-played.ensures.each));
       few = omega (arith, len, c.deref.ensures.1, c.loop-place.invariant.few);
     }
 

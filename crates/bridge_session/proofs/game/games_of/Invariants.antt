@@ -1,12 +1,12 @@
 use Rattle.std.proofs.Common.{◌≡◌, ◌≤◌, ◌*◌, length, take}
 use Rattle.std.specs.Prelude.{All, flat_map, zip}
-use Rattle.bridge_session.specs.Kept.{kept_games_in, HasScore}
+use Rattle.bridge_session.specs.Kept.{kept_games_in, IsGame}
 use Rattle.bridge_session.proofs.Acted.{lists_in}
 use Rattle.bridge_session.proofs.game.games_of.Given as goal
 
 abbrev pub invariant-loop-place : goal.invariant-loop-place
 invariant-loop-place l = record {
   games : l.games.items ≡ flat_map kept_games_in (take l.place (zip l.rows (lists_in l.tables)));
-  scores : All HasScore l.games.items;
+  each : All IsGame l.games.items;
   few : length l.games.items ≤ 3 * l.place;
 }

@@ -14,7 +14,7 @@ use Rattle.bridge_session.specs.declared.refused.Refused.TheVariants.{NoSuchPlay
 use Rattle.bridge_session.specs.State.{State}
 use Rattle.bridge_session.specs.Step.{if_allowed}
 use Rattle.bridge_session.specs.Ranking.{is_on, line_of, lines_of, games_of, pairs_of_field, has_field, IsRankingTo}
-use Rattle.bridge_session.specs.Kept.{HasScore, state_of, kept_games}
+use Rattle.bridge_session.specs.Kept.{IsGame, state_of, kept_games}
 use Rattle.bridge_session.proofs.Acted.{lists_in, list_there, few_row}
 use Rattle.bridge_session.proofs.Games.{few_on_board, games_seen}
 use Rattle.bridge_session.proofs.session.Session.ranking.Goals as goal
@@ -50,7 +50,7 @@ lines_of-lines-requires-clause-games c =
             ap (λ (gs : List Game). length (filter (is_on board) gs)) is,
             few_on_board s.config.boards s.config.movement.rows (lists_in s.tables.items) board c.self.invariant.boards_are,
           );
-      scores = subst (All HasScore) (sym c.deref.ensures.0) c.games_of-games.ensures.scores;
+      each = subst (All IsGame) (sym c.deref.ensures.0) c.games_of-games.ensures.each;
     }
 
 pub returns : goal.returns

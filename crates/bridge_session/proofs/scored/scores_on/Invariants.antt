@@ -2,7 +2,7 @@ use Rattle.std.proofs.Common.{◌≡◌, take}
 use Rattle.std.specs.Prelude.{All}
 use Rattle.bridge_score.specs.ScoringTable.{IsScore}
 use Rattle.bridge_session.specs.Ranking.{scores_on}
-use Rattle.bridge_session.proofs.gain.scores_on.Given as goal
+use Rattle.bridge_session.proofs.scored.scores_on.Given as goal
 
 abbrev pub invariant-loop-game : goal.invariant-loop-game
 invariant-loop-game l = record {

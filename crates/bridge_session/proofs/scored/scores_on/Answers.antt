@@ -10,8 +10,8 @@ use Rattle.bridge_score.specs.ScoringTable.{IsScore}
 use Rattle.bridge_session.specs.declared.game.Game.{Game}
 use Rattle.bridge_session.specs.Ranking.{is_on, score_for}
 use Rattle.bridge_session.proofs.Gains.{scored, room_for, score_fits}
-use Rattle.bridge_session.proofs.gain.scores_on.Goals as goal
-use Rattle.bridge_session.proofs.gain.scores_on.Goals.{then-game-board, else-game-board}
+use Rattle.bridge_session.proofs.scored.scores_on.Goals as goal
+use Rattle.bridge_session.proofs.scored.scores_on.Goals.{then-game-board, else-game-board}
 
 -- the value that a read past the end would give
 abbrev none : Game
@@ -31,7 +31,7 @@ loop-game-preserved c =
     let scores = c.loop-game.scores.items in
     let within = c.loop-game-test.true in
     let own : ℤ = (get_or games i none).score in
-    let own_is : to_z w32 (of_z w32 own) ≡ own = to_z-of_z w32 own (score_fits own (c.requires.scores i none within)) in
+    let own_is : to_z w32 (of_z w32 own) ≡ own = to_z-of_z w32 own (score_fits own ((c.requires.each i none within).0)) in
     elim c.if-game-board.branch [
       | then-game-board w ↦
           let z_is = to_z-of_z w32 w.score_for.result (score_fits w.score_for.result w.score_for.ensures.range) in
