@@ -1,7 +1,12 @@
-//! The lines of the protocol. The auction's stream: what is written for what is read, when it is shown, and streams that
-//! fail once.
+//! The lines of the protocol, and lines that are served over a store. The auction's stream: what is written for what is
+//! read, when it is shown, and streams that fail once.
 mod club;
 mod commands;
+mod disk;
+mod evening;
+mod faults;
+mod hostile;
+mod refusals;
 mod rows;
 mod shown;
 mod streams;

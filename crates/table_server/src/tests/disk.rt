@@ -1,0 +1,62 @@
+//! A session's store on a disk in memory, and what is written for the lines that it serves.
+use super::club::session_of;
+use crate::{ServeFault, Served, serve};
+use bridge_session::Session;
+use sector_disk::{Fail as FailOf, Fuse, MemoryDisk, SectorDisk};
+use session_store::{Store, format};
+use std::alloc::Global;
+use std::io::{Read, Write};
+use std::test::Fail;
+
+/// A store over a disk of which one call may fail.
+pub type ClubStore = Store<Fuse<MemoryDisk>, Session>;
+
+/// The calls of the disk in which a store of 2 tables, 4 pairs and 1 board is opened.
+pub const OPENING_CALLS: u64 = 25;
+
+/// The store on this disk, of which the call after so many fails.
+pub fn reopened(alloc: Global, disk: MemoryDisk, passes: u64) -> Result<ClubStore, Fail> {
+    match Store::open(alloc, Fuse::new(disk, passes, FailOf::Once, false)) {
+        Ok(store) => Ok(store),
+        Err(_) => Err(Fail::from("an opened store")),
+    }
+}
+
+/// The store of a configuration's opening session, on a disk of which the call after so many fails.
+pub fn opened(alloc: Global, text: &str, passes: u64) -> Result<ClubStore, Fail> {
+    let session = session_of(alloc, text)?;
+    let disk = MemoryDisk::new(alloc, 2048)?;
+    match format(disk, &session) {
+        Ok(disk) => reopened(alloc, disk, passes),
+        Err(_) => Err(Fail::from("a formatted disk")),
+    }
+}
+
+/// The store as it is after a power cut in which each sector keeps what was synced.
+pub fn after_power_cut(alloc: Global, store: ClubStore) -> Result<ClubStore, Fail> {
+    let mut disk = store.into_disk().into_inner();
+    disk.crash(&[]);
+    reopened(alloc, disk, u64::MAX)
+}
+
+/// Serves a reader's lines once nothing is pending or the store has failed.
+pub fn serve_all<D: SectorDisk + Drop, R: Read, W: Write>(
+    store: &mut Store<D, Session>,
+    reader: &mut R,
+    writer: &mut W,
+) -> Result<Served, ServeFault> {
+    let _ = store.confirm();
+    serve(store, None, reader, writer)
+}
+
+/// What is written for this text, and the answer.
+pub fn answers(
+    alloc: Global,
+    store: &mut ClubStore,
+    text: &[u8],
+) -> (Vec<u8>, Result<Served, ServeFault>) {
+    let mut reader = text;
+    let mut written = Vec::new(alloc);
+    let result = serve_all(store, &mut reader, &mut written);
+    (written, result)
+}

@@ -1,0 +1,178 @@
+//! Lines and streams as no club sends them, served over a store.
+use super::club::CLUB;
+use super::disk::{answers, opened, serve_all};
+use super::expect_eq;
+use crate::{ServeFault, Served};
+use std::alloc::{AllocError, Global};
+use std::io::{Read, Result as IoResult};
+use std::test::Fail;
+
+const DEAL_AND_CALL: &str =
+    "DEAL 100 1 N:AKQJT98765432... .AKQJT98765432.. ..AKQJT98765432. ...AKQJT98765432\nCALL 11 1 0 7S\n";
+
+/// Gives a text over and over, a byte at each read, and ends after so many bytes.
+#[derive(Drop)]
+struct ByteByByte<'a> {
+    text: &'a [u8],
+    next: usize,
+    left: usize,
+}
+
+impl Read for ByteByByte<'_> {
+    fn read(&mut self, buf: &mut [u8]) -> IoResult<usize> {
+        if self.left == 0 || buf.is_empty() {
+            return Ok(0);
+        }
+        let Some(byte) = self.text.get(self.next) else {
+            return Ok(0);
+        };
+        buf[0] = *byte;
+        self.left = self.left.saturating_sub(1);
+        self.next = self.next.wrapping_add(1);
+        if self.next == self.text.len() {
+            self.next = 0;
+        }
+        Ok(1)
+    }
+}
+
+/// A text, over and over, up to so many bytes.
+fn repeated(alloc: Global, text: &[u8], bytes: usize) -> Result<Vec<u8>, AllocError> {
+    let mut reader = ByteByByte {
+        text,
+        next: 0,
+        left: bytes,
+    };
+    let mut all = Vec::new(alloc);
+    let mut piece = [0; 1];
+    for _ in 0..bytes {
+        let _ = reader.read(&mut piece);
+        all.push(piece[0])?;
+    }
+    Ok(all)
+}
+
+/// So many lines, none of which changed anything.
+fn unchanged(lines: u32) -> Result<Served, ServeFault> {
+    Ok(Served {
+        lines,
+        accepted: 0,
+        failed: false,
+    })
+}
+
+/// What comes in, and all that is written for it.
+const ROWS: [(&[u8], &str); 10] = [
+    (b"", ""),
+    (b"SYNC", ""),
+    (b"SYNC\r\nSYNC\n", "OK\nOK\n"),
+    (b"\n", "ERR 30 BadLine\n"),
+    (b"CALL 11  1 0 PASS\n", "ERR 30 BadLine\n"),
+    (b"CALL 011 1 0 PASS\n", "ERR 30 BadLine\n"),
+    (b"CALL 11 37 0 PASS\n", "ERR 30 BadLine\n"),
+    (b"SEE \xc8\nSYNC\n", "ERR 30 BadLine\nOK\n"),
+    // 128 bytes and a carriage return; 129 bytes
+    (
+        b"AAAAAAAAAAAAAAAAAAAAAAAAAAAAAAAAAAAAAAAAAAAAAAAAAAAAAAAAAAAAAAAAAAAAAAAAAAAAAAAAAAAAAAAAAAAAAAAAAAAAAAAAAAAAAAAAAAAAAAAAAAAAAAAA\r\n",
+        "ERR 31 LongLine\n",
+    ),
+    (
+        b"AAAAAAAAAAAAAAAAAAAAAAAAAAAAAAAAAAAAAAAAAAAAAAAAAAAAAAAAAAAAAAAAAAAAAAAAAAAAAAAAAAAAAAAAAAAAAAAAAAAAAAAAAAAAAAAAAAAAAAAAAAAAAAAAA\n",
+        "ERR 31 LongLine\n",
+    ),
+];
+
+#[test]
+fn lines_whole_and_byte_by_byte(rt: HostRuntime) -> Result<(), Fail> {
+    let mut store = opened(rt.alloc(), CLUB, u64::MAX)?;
+    for (text, due) in ROWS {
+        let (written, _) = answers(rt.alloc(), &mut store, text);
+        expect_eq(&rt, written.as_slice(), due.as_bytes(), text);
+        let mut reader = ByteByByte {
+            text,
+            next: 0,
+            left: text.len(),
+        };
+        let mut written = Vec::new(rt.alloc());
+        let _ = serve_all(&mut store, &mut reader, &mut written);
+        expect_eq(&rt, written.as_slice(), due.as_bytes(), text);
+    }
+    Ok(())
+}
+
+// A call whose line is cut in the middle, or lacks its line feed, is not taken: it is taken when it comes again.
+#[test]
+fn a_line_that_is_cut(rt: HostRuntime) -> Result<(), Fail> {
+    let mut store = opened(rt.alloc(), CLUB, u64::MAX)?;
+    let _ = answers(rt.alloc(), &mut store, DEAL_AND_CALL.as_bytes());
+    for text in ["CALL 31 1 1 PA", "CALL 31 1 1 PASS"] {
+        let (written, result) = answers(rt.alloc(), &mut store, text.as_bytes());
+        expect_eq(&rt, written.len(), 0, text);
+        expect_eq(&rt, result, unchanged(0), text);
+    }
+    let (written, _) = answers(rt.alloc(), &mut store, b"CALL 31 1 1 PASS\n");
+    expect_eq(
+        &rt,
+        written.as_slice(),
+        b"OK\n".as_slice(),
+        "the whole line",
+    );
+    Ok(())
+}
+
+#[test]
+fn bytes_below_the_limit(rt: HostRuntime) -> Result<(), Fail> {
+    let mut store = opened(rt.alloc(), CLUB, u64::MAX)?;
+    let due = repeated(rt.alloc(), b"OK\n", 39_321)?;
+    let mut reader = ByteByByte {
+        text: b"SYNC\n",
+        next: 0,
+        left: 65_535,
+    };
+    let mut written = Vec::new(rt.alloc());
+    let result = serve_all(&mut store, &mut reader, &mut written);
+    expect_eq(&rt, written.as_slice(), due.as_slice(), "written");
+    expect_eq(&rt, result, unchanged(13_107), "served");
+    Ok(())
+}
+
+#[test]
+fn bytes_at_the_limit(rt: HostRuntime) -> Result<(), Fail> {
+    let mut store = opened(rt.alloc(), CLUB, u64::MAX)?;
+    let mut due = repeated(rt.alloc(), b"OK\n", 39_321)?;
+    due.extend_from_slice(b"ERR 32 TooMuch\n")?;
+    let text = repeated(rt.alloc(), b"SYNC\n", 65_536)?;
+    let (written, result) = answers(rt.alloc(), &mut store, text.as_slice());
+    expect_eq(&rt, written.as_slice(), due.as_slice(), "written");
+    expect_eq(&rt, result, unchanged(13_107), "served");
+    Ok(())
+}
+
+#[test]
+fn bytes_of_no_line(rt: HostRuntime) -> Result<(), Fail> {
+    let mut store = opened(rt.alloc(), CLUB, u64::MAX)?;
+    let text = repeated(rt.alloc(), b"A", 65_536)?;
+    let (written, result) = answers(rt.alloc(), &mut store, text.as_slice());
+    let due = b"ERR 32 TooMuch\n".as_slice();
+    expect_eq(&rt, written.as_slice(), due, "written");
+    expect_eq(&rt, result, unchanged(0), "served");
+    Ok(())
+}
+
+#[test]
+fn empty_lines_up_to_the_limit(rt: HostRuntime) -> Result<(), Fail> {
+    let mut store = opened(rt.alloc(), CLUB, u64::MAX)?;
+    let mut due = repeated(rt.alloc(), b"ERR 30 BadLine\n", 983_040)?;
+    due.extend_from_slice(b"ERR 32 TooMuch\n")?;
+    let mut reader = ByteByByte {
+        text: b"\n",
+        next: 0,
+        left: 70_000,
+    };
+    let mut written = Vec::new(rt.alloc());
+    let result = serve_all(&mut store, &mut reader, &mut written);
+    expect_eq(&rt, written.as_slice(), due.as_slice(), "written");
+    expect_eq(&rt, result, unchanged(65_536), "served");
+    expect_eq(&rt, reader.left, 4464, "not read");
+    Ok(())
+}
