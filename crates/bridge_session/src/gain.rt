@@ -1,11 +1,11 @@
 //! What a pair gains in the plays that count (Law 78).
-ghost use Rattle.std.specs.Prelude.{◌≡◌, ◌≤◌, ◌<◌, ◌+◌, ◌-◌, ◌*◌, length, map, position, filter, All, AllPairs, MatchOption};
+ghost use Rattle.std.specs.Prelude.{◌≡◌, ◌≤◌, ◌<◌, ◌+◌, ◌-◌, ◌*◌, length, map, position, All, AllPairs, MatchOption};
 ghost use Rattle.std.specs.List.{range_with_len};
 ghost use Rattle.std.specs.Ordering.{int_eq};
 ghost use Rattle.bridge_movement.specs.Shape.{IsShape};
 ghost use Rattle.bridge_score.specs.ScoringTable.{IsScore};
 ghost use Rattle.bridge_score.specs.Ranking.{IsLine, AreOfTwoPairs};
-ghost use Rattle.bridge_session.specs.Ranking.{is_on, score_for, scores_on, gain_at, gain_of, available_of, side_in, value_in, available_in, line_of, has_field, pairs_of_field};
+ghost use Rattle.bridge_session.specs.Ranking.{score_for, scores_on, gain_at, gain_of, available_of, side_in, value_in, available_in, line_of, has_field, pairs_of_field};
 ghost use Rattle.bridge_session.specs.Gains.{IsGainWithin, AreGames};
 ghost use Rattle.bridge_session.specs.Kept.{IsGame};
 
