@@ -14,6 +14,10 @@ pub type ClubStore = Store<Fuse<MemoryDisk>, Session>;
 /// The calls of the disk in which a store of 2 tables, 4 pairs and 1 board is opened.
 pub const OPENING_CALLS: u64 = 25;
 
+/// A deal of one suit to each hand.
+pub const DEAL: &str =
+    "DEAL 100 1 N:AKQJT98765432... .AKQJT98765432.. ..AKQJT98765432. ...AKQJT98765432\n";
+
 /// The store on this disk, of which the call after so many fails.
 pub fn reopened(alloc: Global, disk: MemoryDisk, passes: u64) -> Result<ClubStore, Fail> {
     match Store::open(alloc, Fuse::new(disk, passes, FailOf::Once, false)) {

@@ -1,14 +1,11 @@
 //! The worked session, served over a store: a board at two tables, its results, rulings, and an ending's worth.
 use super::club::CLUB;
-use super::disk::{answers, opened, reopened};
+use super::disk::{DEAL, answers, opened, reopened};
 use super::expect_eq;
 use crate::{Served, serve};
 use bridge_endings::Cache;
 use std::alloc::Global;
 use std::test::Fail;
-
-const DEAL: &str =
-    "DEAL 100 1 N:AKQJT98765432... .AKQJT98765432.. ..AKQJT98765432. ...AKQJT98765432\n";
 
 /// The first table's first call.
 const FIRST_CALL: &str = "CALL 11 1 0 7S\n";

@@ -1,14 +1,11 @@
 //! Streams and disks that fail while lines are served.
 use super::club::CLUB;
-use super::disk::{OPENING_CALLS, after_power_cut, answers, opened, serve_all};
+use super::disk::{DEAL, OPENING_CALLS, after_power_cut, answers, opened, serve_all};
 use super::expect_eq;
 use super::streams::{Failing, FullOnce, Pieces};
 use crate::{ServeFault, Served};
 use std::cell::Cell;
 use std::test::Fail;
-
-const DEAL: &str =
-    "DEAL 100 1 N:AKQJT98765432... .AKQJT98765432.. ..AKQJT98765432. ...AKQJT98765432\n";
 
 const DEAL_AND_CALL: &str =
     "DEAL 100 1 N:AKQJT98765432... .AKQJT98765432.. ..AKQJT98765432. ...AKQJT98765432\nCALL 11 1 0 7S\n";

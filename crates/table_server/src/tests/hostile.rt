@@ -36,18 +36,11 @@ impl Read for ByteByByte<'_> {
     }
 }
 
-/// A text, over and over, up to so many bytes.
-fn repeated(alloc: Global, text: &[u8], bytes: usize) -> Result<Vec<u8>, AllocError> {
-    let mut reader = ByteByByte {
-        text,
-        next: 0,
-        left: bytes,
-    };
+/// A text so many times.
+fn repeated(alloc: Global, text: &[u8], times: usize) -> Result<Vec<u8>, AllocError> {
     let mut all = Vec::new(alloc);
-    let mut piece = [0; 1];
-    for _ in 0..bytes {
-        let _ = reader.read(&mut piece);
-        all.push(piece[0])?;
+    for _ in 0..times {
+        all.extend_from_slice(text)?;
     }
     Ok(all)
 }
@@ -123,7 +116,7 @@ fn a_line_that_is_cut(rt: HostRuntime) -> Result<(), Fail> {
 #[test]
 fn bytes_below_the_limit(rt: HostRuntime) -> Result<(), Fail> {
     let mut store = opened(rt.alloc(), CLUB, u64::MAX)?;
-    let due = repeated(rt.alloc(), b"OK\n", 39_321)?;
+    let due = repeated(rt.alloc(), b"OK\n", 13_107)?;
     let mut reader = ByteByByte {
         text: b"SYNC\n",
         next: 0,
@@ -139,9 +132,10 @@ fn bytes_below_the_limit(rt: HostRuntime) -> Result<(), Fail> {
 #[test]
 fn bytes_at_the_limit(rt: HostRuntime) -> Result<(), Fail> {
     let mut store = opened(rt.alloc(), CLUB, u64::MAX)?;
-    let mut due = repeated(rt.alloc(), b"OK\n", 39_321)?;
+    let mut due = repeated(rt.alloc(), b"OK\n", 13_107)?;
     due.extend_from_slice(b"ERR 32 TooMuch\n")?;
-    let text = repeated(rt.alloc(), b"SYNC\n", 65_536)?;
+    let mut text = repeated(rt.alloc(), b"SYNC\n", 13_107)?;
+    text.extend_from_slice(b"S")?;
     let (written, result) = answers(rt.alloc(), &mut store, text.as_slice());
     expect_eq(&rt, written.as_slice(), due.as_slice(), "written");
     expect_eq(&rt, result, unchanged(13_107), "served");
@@ -162,7 +156,7 @@ fn bytes_of_no_line(rt: HostRuntime) -> Result<(), Fail> {
 #[test]
 fn empty_lines_up_to_the_limit(rt: HostRuntime) -> Result<(), Fail> {
     let mut store = opened(rt.alloc(), CLUB, u64::MAX)?;
-    let mut due = repeated(rt.alloc(), b"ERR 30 BadLine\n", 983_040)?;
+    let mut due = repeated(rt.alloc(), b"ERR 30 BadLine\n", 65_536)?;
     due.extend_from_slice(b"ERR 32 TooMuch\n")?;
     let mut reader = ByteByByte {
         text: b"\n",

@@ -1,12 +1,12 @@
 //! The refusals of a session, as the replies to lines that are served over a store.
 use super::club::CLUB;
-use super::disk::{ClubStore, answers, opened};
+use super::disk::{ClubStore, DEAL, answers, opened};
 use super::expect_eq;
 use std::alloc::Global;
 use std::process::Abort;
 use std::test::Fail;
 
-/// The same club, of which one pair sits out and another's table has no other pair.
+/// The same club, where pair 2 sits out and pair 4 does not play.
 const SITTING_OUT: &str = "EVENT Club-Night
 SITE Town-Hall
 DATE 2026.03.14
@@ -21,6 +21,34 @@ PAIR 2 Cat 21 Dan 22
 PAIR 3 Eve 31 Fay 32
 PAIR 4 Gus 41 Hal 42
 ";
+
+/// What is written for the results of the board that was claimed.
+const RESULTS: &str = "OK
+% PBN 2.1
+[Event \"Club-Night\"]
+[Site \"Town-Hall\"]
+[Date \"2026.03.14\"]
+[Board \"1\"]
+[West \"Fay\"]
+[North \"Ann\"]
+[East \"Eve\"]
+[South \"Bob\"]
+[Dealer \"N\"]
+[Vulnerable \"None\"]
+[Deal \"N:AKQJ.T98.765.432 T98.765.432.AKQJ 765.432.AKQJ.T98 432.AKQJ.T98.765\"]
+[Scoring \"MP\"]
+[Declarer \"N\"]
+[Contract \"1S\"]
+[Result \"11\"]
+[Round \"1\"]
+[Table \"1\"]
+[Auction \"N\"]
+1S Pass Pass Pass
+[Play \"E\"]
+H7 H2 HA H8
+H6 H3 HK H9
+*
+.";
 
 /// Fails with the line where its reply is not the one that is due; neither has its line feed.
 fn put_each(
@@ -148,6 +176,37 @@ fn cards_and_claims(rt: HostRuntime) -> Result<(), Fail> {
             ("CLAIM 11 1 1 11", "OK"),
             ("AGREE 31 1 2", "OK"),
             ("AGREE 32 1 2", "OK"),
+            ("PBN 100", RESULTS),
         ],
     )
+}
+
+/// A board's deal and calls, then as many claims as there may be, each of them refused, and one claim more.
+fn claims(alloc: Global) -> Result<String, Fail> {
+    let mut lines = String::new(alloc);
+    lines.push_str(DEAL)?;
+    lines.push_str("CALL 11 1 0 7S\nCALL 31 1 1 PASS\nCALL 12 1 2 PASS\nCALL 32 1 3 PASS\n")?;
+    for made in 0..99u8 {
+        let text = format!(in alloc;
+            "CLAIM 11 1 {made} 13\nREFUSE 31 1 {}\n",
+            made.saturating_add(1)
+        )?;
+        lines.push_str(text.as_str())?;
+    }
+    lines.push_str("CLAIM 11 1 99 13\n")?;
+    Ok(lines)
+}
+
+#[test]
+fn once_claims_are_spent(rt: HostRuntime) -> Result<(), Fail> {
+    let mut store = opened(rt.alloc(), CLUB, u64::MAX)?;
+    let lines = claims(rt.alloc())?;
+    let (written, _) = answers(rt.alloc(), &mut store, lines.as_bytes());
+    let mut due = String::new(rt.alloc());
+    for _ in 0..203 {
+        due.push_str("OK\n")?;
+    }
+    due.push_str("ERR 28 ClaimsSpent\n")?;
+    expect_eq(&rt, written.as_slice(), due.as_bytes(), "claims");
+    Ok(())
 }
