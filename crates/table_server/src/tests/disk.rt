@@ -1,6 +1,7 @@
 //! A session's store on a disk in memory, and what is written for the lines that it serves.
 use super::club::session_of;
 use crate::{ServeFault, Served, serve};
+use bridge_endings::Cache;
 use bridge_session::Session;
 use sector_disk::{Fail as FailOf, Fuse, MemoryDisk, SectorDisk};
 use session_store::{Store, format};
@@ -44,13 +45,23 @@ pub fn after_power_cut(alloc: Global, store: ClubStore) -> Result<ClubStore, Fai
 }
 
 /// Serves a reader's lines once nothing is pending or the store has failed.
+pub fn serve_with<D: SectorDisk + Drop, R: Read, W: Write>(
+    store: &mut Store<D, Session>,
+    cache: Option<&mut Cache>,
+    reader: &mut R,
+    writer: &mut W,
+) -> Result<Served, ServeFault> {
+    let _ = store.confirm();
+    serve(store, cache, reader, writer)
+}
+
+/// The same without a cache.
 pub fn serve_all<D: SectorDisk + Drop, R: Read, W: Write>(
     store: &mut Store<D, Session>,
     reader: &mut R,
     writer: &mut W,
 ) -> Result<Served, ServeFault> {
-    let _ = store.confirm();
-    serve(store, None, reader, writer)
+    serve_with(store, None, reader, writer)
 }
 
 /// What is written for this text, and the answer.

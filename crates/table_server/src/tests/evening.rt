@@ -1,8 +1,8 @@
 //! The worked session, served over a store: a board at two tables, its results, rulings, and an ending's worth.
 use super::club::CLUB;
-use super::disk::{DEAL, answers, opened, reopened};
+use super::disk::{DEAL, answers, opened, reopened, serve_with};
 use super::expect_eq;
-use crate::{Served, serve};
+use crate::Served;
 use bridge_endings::Cache;
 use std::alloc::Global;
 use std::test::Fail;
@@ -235,8 +235,7 @@ fn an_endings_worth(rt: HostRuntime) -> Result<(), Fail> {
     );
     let mut reader = ENDINGS.as_bytes();
     let mut written = Vec::new(rt.alloc());
-    let _ = store.confirm();
-    let _ = serve(&mut store, Some(&mut cache), &mut reader, &mut written);
+    let _ = serve_with(&mut store, Some(&mut cache), &mut reader, &mut written);
     expect_eq(&rt, written.as_slice(), WORTHS.as_bytes(), "with a cache");
     Ok(())
 }
