@@ -1,8 +1,12 @@
 -- A scale: numbers that rise, each of which holds up to the next.
-use Rattle.std.proofs.Common.{ℕ, zero, suc, ◌≡◌, ◌+◌, ◌<◌, ◌≤◌, ◌↔◌, Bool, true, false, ◌&&◌, leb, List, [], ◌∷◌, length, get_or, count_by, inl, inr, ap, ◌∙◌, cond, refl, arith}
+use Rattle.std.proofs.Common.{ℕ, zero, suc, ◌≡◌, ◌+◌, ◌<◌, ◌≤◌, ◌*◌, ◌/◌, ◌↔◌, Bool, true, false, ◌&&◌, leb, List, [], ◌∷◌, length, get_or, count_by, inl, inr, ap, sym, ◌∙◌, cond, refl, arith}
+use Rattle.std.specs.Prelude.{map, slice_index_or}
+use Rattle.std.specs.List.{range_with_len}
 use Rattle.std.proofs.lemmas.Bool.Decides.{leb_tells}
-use Rattle.std.proofs.lemmas.Bool.{leb-true, and_parts}
-use Rattle.std.proofs.lemmas.List.Sums.{sum_by-cons}
+use Rattle.std.proofs.lemmas.Bool.{leb-true, le-leb, lt-leb, and_parts}
+use Rattle.std.proofs.lemmas.List.Sums.{sum_by-cons, count_by-le-length}
+use Rattle.std.proofs.lemmas.List.FromFn.{get_or-map-range_with_len}
+use Rattle.bridge_score.specs.ImpScale.{imp_beginnings, imps_of}
 
 -- none is below the one before it, and the first not below a given number
 abbrev pub rises : ℕ → List ℕ → Bool
@@ -66,3 +70,38 @@ reached_iff n least (x ∷ xs) up (suc k) within =
             λ (h : get_or xs k 0 ≤ n). let more : k < reached n xs = later.1 h in absurd (omega (arith, rest, more)),
           )
     ]
+
+-- ten times a number is reached where its tens reach that number
+tens_leb : (n x : ℕ) → leb (10 * x) n ≡ leb x (n / 10)
+tens_leb n x = elim (leb_tells x (n / 10)) [
+  | inl at ↦ let within : x ≤ n / 10 = at.1 in le-leb (10 * x) n (omega arith) ∙ sym at.0
+  | inr below ↦ let short : n / 10 < x = below.1 in lt-leb (10 * x) n (omega arith) ∙ sym below.0
+]
+
+-- a scale of multiples of ten is reached by the tens
+reached_by_tens : (n : ℕ) (xs : List ℕ) → reached n (map (λ x. 10 * x) xs) ≡ reached (n / 10) xs
+reached_by_tens n [] = refl
+reached_by_tens n (x ∷ xs) =
+    reached-cons n (10 * x) (map (λ y. 10 * y) xs)
+    ∙ ap (λ b. cond b 1 0 + reached n (map (λ y. 10 * y) xs)) (tens_leb n x)
+    ∙ ap (λ k. cond (leb x (n / 10)) 1 0 + k) (reached_by_tens n xs)
+    ∙ sym (reached-cons (n / 10) x xs)
+
+-- the beginnings of the IMPs, in tens of points
+abbrev beginnings_in_tens : List ℕ
+beginnings_in_tens =
+    2 ∷ 5 ∷ 9 ∷ 13 ∷ 17 ∷ 22 ∷ 27 ∷ 32 ∷ 37 ∷ 43 ∷ 50 ∷ 60 ∷ 75 ∷ 90 ∷ 110 ∷ 130 ∷ 150 ∷ 175 ∷ 200 ∷ 225 ∷ 250 ∷ 300 ∷ 350
+    ∷ 400 ∷ []
+
+-- the IMPs of 0, 10, 20 and so on up to 3,990 points
+abbrev pub imps_by_tens : List ℕ
+imps_by_tens = map (λ tens. reached tens beginnings_in_tens) (range_with_len 0 400)
+
+pub imps_from_tens : (n : ℕ) → n < 4000 → slice_index_or imps_by_tens (n / 10) 0 ≡ imps_of n
+imps_from_tens n below =
+    get_or-map-range_with_len (λ tens. reached tens beginnings_in_tens) 0 400 (n / 10) (n / 10) 0 (omega arith) (omega arith)
+    ∙ sym (reached_by_tens n beginnings_in_tens)
+
+-- there are 24 beginnings
+pub imps_most : (n : ℕ) → imps_of n ≤ 24
+imps_most n = count_by-le-length (λ x. leb x n) imp_beginnings
