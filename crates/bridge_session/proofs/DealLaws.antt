@@ -1,11 +1,11 @@
 -- The deal of a board is read back from its bytes, and only from these.
-use Rattle.std.proofs.Common.{◌≡◌, ◌≢◌, IfSome, IfNone, ◌==◌, ℕ, suc, List, [], ◌∷◌, length, All, Bool, true, false, Option, Some, None, if◌then◌else◌, refl, sym, ap, ◌∙◌, subst, arith, inl, inr}
+use Rattle.std.proofs.Common.{◌≡◌, ◌≢◌, IfSome, IfNone, ◌==◌, ℕ, suc, List, [], ◌∷◌, Option, Some, None, if◌then◌else◌, refl, sym, ap, ◌∙◌, subst, arith, inl, inr}
 use Rattle.std.proofs.lemmas.Bool.{eqb-true}
 use Rattle.bridge_cards.specs.Deal.{is_dealt_out}
 use Rattle.bridge_session.specs.ActionBytes.{hands_in}
 use Rattle.bridge_session.specs.Parts.{deal_part}
 use Rattle.bridge_session.specs.Reading.{dealt_at, deal_at}
-use Rattle.bridge_session.specs.StateRange.{AreHands, AreHandsOrNone}
+use Rattle.bridge_session.specs.StateRange.{AreHandsOrNone}
 use Rattle.bridge_session.specs.Valid.{IsDealOrNone}
 use Rattle.bridge_session.proofs.ActionLaws.{AreBytes, then_is, if_is, hands_is, hands_back}
 use Rattle.bridge_session.proofs.FieldLaws.{some_is, not_some}

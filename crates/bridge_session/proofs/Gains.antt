@@ -1,13 +1,14 @@
 -- What pairs gain, game by game.
-use Rattle.std.proofs.Common.{◌≡◌, ◌+◌, ◌<◌, ◌≤◌, ◌==◌, ℕ, Bool, true, false, cond, List, [], ◌∷◌, ◌++◌, length, take, map, filter, get_or, Option, Some, ◌-◌, ℤ, pos, neg_ℤ, ◌+ℤ◌, ◌≤ℤ◌, refl, sym, ap, ◌∙◌, arith, length-append}
+use Rattle.std.proofs.Common.{◌≡◌, ◌+◌, ◌<◌, ◌≤◌, ◌==◌, ℕ, Bool, true, false, cond, List, [], ◌∷◌, ◌++◌, length, take, map, filter, get_or, Option, Some, ◌-◌, ◌≢◌, inl, inr, ℤ, pos, neg_ℤ, ◌+ℤ◌, ◌≤ℤ◌, refl, sym, ap, ◌∙◌, arith, length-append}
 use Rattle.std.specs.List.{cons_option, filter_map, range_with_len}
 use Rattle.std.proofs.lemmas.Int.{ints, to_z-of_z}
 use mir.Syntax.{w32}
 use mir.Val.{SFits, of_z, to_z}
 use Rattle.std.specs.Prelude.{All, AllPairs, slice_get}
 use Rattle.std.proofs.lemmas.Bool.{eq-eqb}
-use Rattle.std.proofs.lemmas.List.FromFn.{length-range_with_len, get_or-map-range_with_len}
-use Rattle.std.proofs.lemmas.List.{map-append, length-map, take_more}
+use Rattle.std.proofs.lemmas.Bool.Decides.{eqb_tells}
+use Rattle.std.proofs.lemmas.List.FromFn.{length-range_with_len, length-map-range_with_len, get_or-map-range_with_len}
+use Rattle.std.proofs.lemmas.List.{append-nil, map-append, length-map, length-set, take_more, ext_get_or, get_or-set_same, get_or-set_other}
 use Rattle.std.proofs.lemmas.List.Elements.{All-map, All-filter, filter-append, filter_map-append}
 use Rattle.std.proofs.lemmas.Option.{get_or_from_slice_get}
 use Rattle.std.proofs.lemmas.List.Sums.{fold_more}
@@ -22,7 +23,7 @@ use Rattle.bridge_score.specs.Ranking.{IsLine, AreOfTwoPairs}
 use Rattle.bridge_score.specs.ScoringTable.{IsScore}
 use Rattle.bridge_session.specs.declared.game.Game.{Game}
 use Rattle.bridge_session.specs.Ranking.{is_on, score_for, scores_on, line_of}
-use Rattle.bridge_session.specs.Gains.{IsGainWithin}
+use Rattle.bridge_session.specs.Gains.{IsGainWithin, with_score}
 use Rattle.bridge_session.specs.Kept.{IsGame}
 use Rattle.bridge_session.proofs.Games.{few_so_far}
 
@@ -54,6 +55,37 @@ scored side board games i d here before after within test so_far left =
     (sym (score_of_one here side game) ∙ ap (λ b. map (λ (g : Game). score_for side g.score) (cond b (game ∷ []) [])) (sym test))
     ∙ sym (scores-append side board (take i games) (game ∷ []))
     ∙ ap (λ gs. scores_on gs side board) (sym (take_more games i d within))
+
+-- the list of a board gets the score, and each other list stays
+pub listed : (side : Side) (games : List Game) (i : ℕ) (d : Game) (lists : List (List ℤ)) (score : ℤ) → i < length games → IsBoard (get_or games i d).board → score ≡ score_for side (get_or games i d).score → lists ≡ map (scores_on (take i games) side) (range_with_len 1 36) → with_score lists (get_or games i d).board score ≡ map (scores_on (take (i + 1) games) side) (range_with_len 1 36)
+listed side games i d lists score within is_board is so_far =
+    let board = (get_or games i d).board in
+    let now = map (scores_on (take (i + 1) games) side) (range_with_len 1 36) in
+    let new = with_score lists board score in
+    let place = board - 1 in
+    let added = get_or lists place [] ++ score ∷ [] in
+    let count : length lists ≡ 36 = ap length so_far ∙ length-map-range_with_len (scores_on (take i games) side) 1 36 in
+    let same_length : length new ≡ 36 = length-set lists place added ∙ count in
+    let was : (k : ℕ) → k < 36 → get_or lists k [] ≡ scores_on (take i games) side (k + 1) =
+    λ k inside. ap (λ ls. get_or ls k []) so_far ∙ get_or-map-range_with_len (scores_on (take i games) side) 1 36 k (k + 1) [] inside (omega arith) in
+    let becomes : (k : ℕ) → k < 36 → get_or now k [] ≡ scores_on (take (i + 1) games) side (k + 1) =
+    λ k inside. get_or-map-range_with_len (scores_on (take (i + 1) games) side) 1 36 k (k + 1) [] inside (omega arith) in
+    ext_get_or [] new now (same_length ∙ sym (length-map-range_with_len (scores_on (take (i + 1) games) side) 1 36)) (λ k less.
+    let inside : k < 36 = omega (arith, less, same_length) in
+    elim (eqb_tells board (k + 1)) [
+      | inl at ↦
+          let here : k ≡ place = omega (arith, at.1) in
+          let get : get_or new k [] ≡ added = ap (λ j. get_or new j []) here ∙ get_or-set_same lists place added [] (omega (arith, here, inside, count)) in
+          get
+          ∙ scored side (k + 1) games i d true (get_or lists k []) added within at.0 (was k inside)
+          (ap (λ j. get_or lists j [] ++ score ∷ []) (sym here) ∙ ap (λ z. get_or lists k [] ++ z ∷ []) is)
+          ∙ sym (becomes k inside)
+      | inr other ↦
+          let apart : k ≢ place = λ same. other.1 (omega (arith, same, is_board.0)) in
+          get_or-set_other lists place k added [] apart
+          ∙ scored side (k + 1) games i d false (get_or lists k []) (get_or lists k []) within other.0 (was k inside) (sym (append-nil (get_or lists k [])))
+          ∙ sym (becomes k inside)
+    ])
 
 -- the scores of plays are within the scoring table
 score_range : (side : Side) (score : ℤ) → IsScore score → IsScore (score_for side score)

@@ -1,5 +1,5 @@
 -- What the parts of a configuration state.
-use Rattle.std.proofs.Common.{Option, None, Some, IfSome, ◌≡◌, ◌≢◌, ◌+◌, ◌*◌, ◌<◌, ◌≤◌, ℕ, suc, true, List, [], ◌∷◌, ◌++◌, All, get_or, length, map, take, drop, refl, sym, ap, subst, ◌∙◌, arith, append_assoc}
+use Rattle.std.proofs.Common.{Option, None, Some, IfSome, ◌≡◌, ◌+◌, ◌*◌, ◌<◌, ◌≤◌, ℕ, suc, true, List, [], ◌∷◌, ◌++◌, All, get_or, length, map, take, drop, refl, sym, ap, subst, ◌∙◌, arith, append_assoc}
 use Rattle.std.specs.Prelude.{Any, slice_index}
 use Rattle.bridge_config.specs.Configuration.{Configuration, Pair}
 use Rattle.bridge_config.specs.Limits.{is_name, is_date_form, IsPair, IsConfiguration}

@@ -1,19 +1,18 @@
 -- What is left of a play after seven tricks or more is an ending.
-use Rattle.std.proofs.Common.{◌≡◌, ◌≢◌, ◌+◌, ◌*◌, ◌/◌, ◌≤◌, ◌<◌, ℕ, List, [], ◌∷◌, length, take, Option, Result, Ok, Err, IsOk, All, refl, sym, ap, ◌∙◌, subst, arith}
-use Rattle.std.specs.Prelude.{Any, map, IfOk, ◌↔◌}
+use Rattle.std.proofs.Common.{◌≡◌, ◌+◌, ◌*◌, ◌/◌, ◌≤◌, ◌<◌, ℕ, List, [], ◌∷◌, length, take, Option, Result, Ok, Err, IsOk, All, refl, ap, ◌∙◌, arith}
+use Rattle.std.specs.Prelude.{map}
 use Rattle.bridge_cards.specs.declared.suit.Suit.{Suit}
 use Rattle.bridge_cards.specs.declared.seat.Seat.{Seat}
 use Rattle.bridge_cards.specs.declared.seat.Seat.TheVariants.{North, East, South, West}
 use Rattle.bridge_cards.specs.CardSet.{has_card, cards_of, card_count}
-use Rattle.bridge_cards.specs.Deal.{hand_at, holders, NoneTwice, SomeTwice}
-use Rattle.bridge_auction.specs.declared.contract.Contract.{Contract}
+use Rattle.bridge_cards.specs.Deal.{hand_at, NoneTwice, SomeTwice}
 use Rattle.bridge_play.specs.Legal.{holds}
 use Rattle.bridge_play.specs.Play.{Playing}
 use Rattle.bridge_play.specs.Trick.{trump_of, leader_of}
 use Rattle.bridge_endings.specs.declared.ending.EndingRefused.{EndingRefused}
 use Rattle.bridge_endings.specs.declared.ending.EndingRefused.TheVariants.{Unequal, TooLong, Overlap}
 use Rattle.bridge_endings.specs.Position.{Position}
-use Rattle.bridge_endings.specs.Ending.{tricks_in, AllEqual, SomeUnequal}
+use Rattle.bridge_endings.specs.Ending.{tricks_in, SomeUnequal}
 use Rattle.bridge_session.specs.See.{cards_left}
 use Rattle.bridge_session.specs.Ending.{plain_ending, ending_after}
 use Rattle.bridge_session.proofs.Shown.{left_is}

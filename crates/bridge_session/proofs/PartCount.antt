@@ -1,11 +1,9 @@
 -- A session has at most 494 parts.
-use Rattle.std.proofs.Common.{◌≡◌, ◌+◌, ◌*◌, ◌≤◌, ℕ, List, length, map, sym, ap, ◌∙◌, arith}
+use Rattle.std.proofs.Common.{◌≡◌, ◌+◌, ◌*◌, ◌≤◌, ℕ, List, length, map, ap, ◌∙◌, arith}
 use Rattle.std.specs.Prelude.{Option, nat_le}
 use Rattle.std.proofs.Math.Nat.{mul-le-mul}
 use Rattle.std.proofs.lemmas.Bool.{leb-true, and_parts}
 use Rattle.std.proofs.lemmas.List.{length-map}
-use Rattle.bridge_movement.specs.declared.shape.Shape.{Shape}
-use Rattle.bridge_movement.specs.Shape.{IsShape, row_count}
 use Rattle.bridge_config.specs.Configuration.{Configuration}
 use Rattle.bridge_config.specs.Limits.{IsConfiguration}
 use Rattle.bridge_session.specs.declared.record.Record.{Record}

@@ -1,8 +1,8 @@
 -- Which record the fields of a part are those of.
-use Rattle.std.proofs.Common.{◌≡◌, ◌≢◌, ◌-◌, ◌<◌, ◌≤◌, ◌==◌, nat_le, nat_lt, ℕ, zero, suc, Bool, true, false, not, ◌&&◌, ◌||◌, List, [], ◌∷◌, length, map, take, cond, Option, Some, None, Ok, Err, ◌⊎◌, refl, sym, ap, ◌∙◌, subst, arith, inl, inr}
+use Rattle.std.proofs.Common.{◌≡◌, ◌≢◌, ◌-◌, ◌<◌, ◌≤◌, ◌==◌, nat_le, ℕ, suc, Bool, true, false, not, ◌&&◌, ◌||◌, List, [], ◌∷◌, length, map, take, cond, Option, Some, None, Ok, Err, refl, sym, ap, ◌∙◌, subst, arith}
 use Rattle.std.specs.Prelude.{Any, All, IfSome, IfNone, IsSome, is_some, unwrap_or, slice_get}
 use Rattle.std.specs.Option.{option_map, option_map_or}
-use Rattle.std.proofs.lemmas.Bool.{cases_lt, cases_Bool, and_parts, lt-ltb, le-leb, leb-true, leb-false, lt-leb, eqb-true}
+use Rattle.std.proofs.lemmas.Bool.{and_parts, leb-false, lt-leb, eqb-true}
 use Rattle.std.proofs.lemmas.Option.{slice_get_read}
 use Rattle.std.proofs.lemmas.List.{nil_from_length}
 use Rattle.std.proofs.lemmas.List.Elements.{All-get_or}
@@ -17,13 +17,12 @@ use Rattle.bridge_auction.specs.declared.call.Call.{Call}
 use Rattle.bridge_auction.specs.declared.contract.Contract.{Contract}
 use Rattle.bridge_auction.specs.Auction.{Bidding}
 use Rattle.bridge_auction.specs.Call.{IsCall, call_number, call_at}
-use Rattle.bridge_auction.specs.Contract.{contract_of}
 use Rattle.bridge_auction.specs.Legal.{IsLegal, is_ended}
 use Rattle.bridge_auction.proofs.CallNumbers.{call_at-call_number, call_at-is}
 use Rattle.bridge_auction.proofs.LegalLength.{legal_length}
 use Rattle.bridge_play.specs.declared.claim.Claim.{Claim}
 use Rattle.bridge_play.specs.Legal as cards
-use Rattle.bridge_play.specs.Play.{Playing, IsPlay, is_over, playing}
+use Rattle.bridge_play.specs.Play.{Playing, IsPlay, is_over}
 use Rattle.bridge_play.specs.Trick.{turn_of}
 use Rattle.bridge_session.specs.declared.record.Record.{Record}
 use Rattle.bridge_session.specs.declared.refused.Refused.TheVariants.{NotFinished}
@@ -39,8 +38,8 @@ use Rattle.bridge_session.specs.Valid.{MayStand, IsUnplayed, IsValidRecord}
 use Rattle.bridge_session.specs.Reading.{some_call, Fields, fields_at, fields_of, plain_from, IsPlayed, may_stand, is_in_place}
 use Rattle.bridge_session.proofs.Entries.{all_at}
 use Rattle.bridge_session.proofs.FieldLaws.{some_is, not_some, fields_again}
-use Rattle.bridge_session.proofs.Lists.{not_true, not_false}
-use Rattle.bridge_session.proofs.StaysValid.{mapped_from, none_of}
+use Rattle.bridge_session.proofs.Lists.{not_true}
+use Rattle.bridge_session.proofs.StaysValid.{mapped_from}
 use Rattle.bridge_session.proofs.Tied.{no_contract, open_same}
 use Rattle.bridge_session.proofs.ValidRuling.{over_done}
 

@@ -1,6 +1,6 @@
 -- The records of a row and of all rows, one after the other.
-use Rattle.std.proofs.Common.{◌≡◌, ◌≢◌, ◌+◌, ◌-◌, ◌*◌, ◌<◌, ◌≤◌, ◌==◌, ◌&&◌, ℕ, zero, suc, Bool, true, false, cond, Result, Ok, Err, List, [], ◌∷◌, ◌++◌, length, get_or, map, take, drop, Option, Some, None, refl, sym, ap, ◌∙◌, subst, arith, add-one, inl, inr, length-append, append_assoc}
-use Rattle.std.specs.Prelude.{All, IfOk, IfSome, IfNone, slice_get, flat_map, replicate, unwrap_or}
+use Rattle.std.proofs.Common.{◌≡◌, ◌+◌, ◌-◌, ◌*◌, ◌<◌, ◌==◌, ℕ, zero, suc, true, false, cond, Result, Ok, Err, List, [], ◌∷◌, ◌++◌, length, map, take, drop, Option, Some, None, refl, sym, ap, ◌∙◌, subst, arith, add-one, length-append}
+use Rattle.std.specs.Prelude.{IfOk, IfSome, IfNone, slice_get, flat_map, replicate, unwrap_or}
 use Rattle.arrayvec.specs.ArrayVec.{ArrayVec}
 use Rattle.std.specs.List.{range_with_len, list_all}
 use Rattle.std.specs.Option.{option_map}
@@ -9,23 +9,21 @@ use Rattle.std.specs.Global.{Vec}
 use Rattle.std.proofs.lemmas.List.{map-append, length-map, drop_at}
 use Rattle.std.proofs.lemmas.List.FromFn.{length-range_with_len, length-map-range_with_len}
 use Rattle.std.proofs.lemmas.Simd.{map-map}
-use Rattle.std.proofs.lemmas.List.Elements.{All-push, All-map}
+use Rattle.std.proofs.lemmas.List.Elements.{All-push}
 use Rattle.std.proofs.lemmas.Option.{slice_get_within, slice_get-map, slice_get_past, get_or_from_slice_get}
-use Rattle.bridge_cards.proofs.FollowLaws.{slice_get-left, slice_get-seam}
 use Rattle.bridge_movement.specs.declared.row.Row.{Row}
 use Rattle.bridge_movement.specs.Row.{is_live}
 use Rattle.bridge_session.specs.declared.record.Record.{Record}
 use Rattle.bridge_session.specs.Record.{PlainRecord, empty_record}
-use Rattle.bridge_session.specs.Kept.{plain_of, IsTiedIn}
+use Rattle.bridge_session.specs.Kept.{plain_of}
 use Rattle.bridge_session.specs.Parts.{record_part, record_or_empty, row_parts}
 use Rattle.bridge_session.specs.State.{row_boards}
 use Rattle.bridge_session.specs.StateRange.{IsRecordInRange}
 use Rattle.bridge_session.specs.Valid.{board_of, IsValidRecord}
 use Rattle.bridge_session.specs.Reading.{items_of, is_empty_part, part_kept, plains_of, AreRecords, IsRowOf, AreRows, IsReadFrom}
 use Rattle.bridge_session.proofs.Lists.{range-push}
-use Rattle.bridge_session.proofs.ReadLists.{all_there, mapped_at, some_there, both_push, flat_at, suc_times}
+use Rattle.bridge_session.proofs.ReadLists.{some_there, both_push, flat_at, suc_times}
 use Rattle.bridge_session.proofs.PartLemmas.{next_taken, length-flat_fixed}
-use Rattle.bridge_session.proofs.StaysValid.{mapped_from}
 
 range_next : (first i : ℕ) → range_with_len first (i + 1) ≡ range_with_len first i ++ (first + i) ∷ []
 range_next first i = ap (range_with_len first) (add-one i) ∙ range-push first i

@@ -1,6 +1,6 @@
 -- The session of the parts that were read.
-use Rattle.std.proofs.Common.{◌≡◌, ◌≢◌, ◌+◌, ◌-◌, ◌*◌, ◌<◌, ◌≤◌, ℕ, zero, suc, Bool, true, false, cond, List, [], ◌∷◌, ◌++◌, length, get_or, map, take, drop, All, Option, Some, None, refl, sym, ap, ◌∙◌, subst, arith, inl, inr}
-use Rattle.std.specs.Prelude.{IfSome, nat_le, slice_get, slice_index, slice_index_or, flat_map, unwrap_or}
+use Rattle.std.proofs.Common.{◌≡◌, ◌+◌, ◌-◌, ◌*◌, ◌≤◌, ℕ, suc, Bool, true, false, cond, List, [], ◌∷◌, ◌++◌, length, get_or, map, take, drop, All, Option, Some, refl, sym, ap, ◌∙◌, subst, arith}
+use Rattle.std.specs.Prelude.{nat_le, slice_get, slice_index, slice_index_or, flat_map, unwrap_or}
 use Rattle.std.specs.Option.{option_map}
 use Rattle.std.specs.List.{range_with_len}
 use Rattle.std.specs.Global.{Vec}
@@ -12,26 +12,25 @@ use Rattle.std.proofs.lemmas.List.FromFn.{length-range_with_len}
 use Rattle.std.proofs.lemmas.Simd.{map-map}
 use Rattle.bridge_movement.specs.declared.row.Row.{Row}
 use Rattle.bridge_movement.specs.Row.{is_live}
-use Rattle.bridge_movement.specs.Shape.{row_count}
 use Rattle.bridge_config.specs.Configuration.{Configuration}
 use Rattle.bridge_config.specs.Limits.{IsConfiguration}
 use Rattle.bridge_session.specs.declared.record.Record.{Record}
 use Rattle.bridge_session.specs.Record.{PlainRecord}
-use Rattle.bridge_session.specs.State.{State, row_at, row_boards}
+use Rattle.bridge_session.specs.State.{State, row_boards}
 use Rattle.bridge_session.specs.Kept.{plain_of, board_kept, IsTiedIn, state_of, StateASession, IsKept}
 use Rattle.bridge_session.specs.Head.{head_parts, IsRound}
-use Rattle.bridge_session.specs.Parts.{configuration_part, movement_part, pair_part, deal_part, row_parts, play_parts, board_parts, parts_of}
+use Rattle.bridge_session.specs.Parts.{deal_part, row_parts, play_parts, board_parts}
 use Rattle.bridge_session.specs.PartsRead.{numbers_in, configuration_in, deal_of}
-use Rattle.bridge_session.specs.StateRange.{AreHandsOrNone, IsRecordInRange, IsStateInRange, IsSession}
-use Rattle.bridge_session.specs.Valid.{board_of, IsValidRecord, IsDealOrNone, IsValid}
-use Rattle.bridge_session.specs.Reading.{plains_of, AreDeals, AreRecords, IsRowOf, AreRows}
+use Rattle.bridge_session.specs.StateRange.{IsRecordInRange, IsStateInRange, IsSession}
+use Rattle.bridge_session.specs.Valid.{board_of, IsValidRecord, IsValid}
+use Rattle.bridge_session.specs.Reading.{plains_of, AreDeals, AreRows}
 use Rattle.bridge_session.proofs.Acted.{lists_in}
 use Rattle.bridge_session.proofs.PartPlaces.{count_boards}
 use Rattle.bridge_session.proofs.ReadLists.{all_there, some_there}
 use Rattle.bridge_session.proofs.SessionBack.{numbers_back, configuration_back}
 use Rattle.bridge_session.proofs.PairBack.{deal_back}
 use Rattle.bridge_session.proofs.BytesBack.{all_back, take_front, drop_front}
-use Rattle.bridge_session.proofs.StaysValid.{mapped_from, none_of, row_found}
+use Rattle.bridge_session.proofs.StaysValid.{mapped_from, row_found}
 
 -- Lists, by their places
 

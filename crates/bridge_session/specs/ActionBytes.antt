@@ -1,5 +1,5 @@
 -- The bytes of an action, and the action of such bytes. Numbers of more than one byte are big-endian.
-use Rattle.std.specs.Prelude.{◌+◌, ◌==◌, ◌&&◌, nat_le, ℕ, List, [], ◌∷◌, ◌++◌, flat_map, length, take, drop, if◌then◌else◌, Option, Some, None, option_map, option_and_then}
+use Rattle.std.specs.Prelude.{◌==◌, ◌&&◌, nat_le, ℕ, List, [], ◌∷◌, ◌++◌, flat_map, length, take, drop, if◌then◌else◌, Option, Some, None, option_map, option_and_then}
 use Rattle.std.specs.Int.{w16, w32, w64, to_be_bytes, from_be_bytes}
 use Rattle.bridge_auction.specs.Call.{call_number, call_at}
 use Rattle.bridge_config.specs.declared.fields.Key.{Key}

@@ -1,5 +1,5 @@
 -- The ranges of what a pair gains.
-use Rattle.std.specs.Prelude.{◌≡◌, ℕ, ◌*◌, ◌≤◌, List, length, map, filter, All, ℤ, pos, neg_ℤ, ◌≤ℤ◌}
+use Rattle.std.specs.Prelude.{◌≡◌, ℕ, ◌*◌, ◌-◌, ◌≤◌, List, [], ◌∷◌, ◌++◌, slice_index_or, slice_set, length, map, filter, All, ℤ, pos, neg_ℤ, ◌≤ℤ◌}
 use Rattle.std.specs.List.{range_with_len}
 use Rattle.bridge_cards.specs.declared.seat.Side.TheVariants.{NorthSouth, EastWest}
 use Rattle.bridge_score.specs.declared.ranking.Scoring.{Scoring}
@@ -18,6 +18,10 @@ pub record AreGames (games : List Game) : Type 0 where
   pub most : length games ≤ 432
   pub few : (board : ℕ) → length (filter (is_on board) games) ≤ 144
   pub each : All IsGame games
+
+-- the lists of scores by board, with one score more on a board
+abbrev pub with_score : List (List ℤ) → ℕ → ℤ → List (List ℤ)
+with_score lists board score = slice_set lists (board - 1) (slice_index_or lists (board - 1) [] ++ score ∷ [])
 
 -- each side's scores, board by board, all within the scoring table
 pub record AreScored (games : List Game) (north_south east_west : List (List ℤ)) : Type 0 where

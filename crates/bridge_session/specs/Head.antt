@@ -1,5 +1,5 @@
 -- What the code reads of the parts before those of the boards.
-use Rattle.std.specs.Prelude.{◌≡◌, ◌≢◌, ◌++◌, ◌<◌, ◌≤◌, ◌+◌, ◌*◌, ℕ, true, All, length, List, [], ◌∷◌, map, drop, take, slice_index}
+use Rattle.std.specs.Prelude.{◌≡◌, ◌≢◌, ◌++◌, ◌<◌, ◌≤◌, ◌+◌, ◌*◌, ℕ, true, All, length, List, ◌∷◌, map, drop, take, slice_index}
 use Rattle.bridge_movement.specs.declared.shape.Shape.{Shape}
 use Rattle.bridge_movement.specs.Shape.{row_count}
 use Rattle.bridge_movement.specs.Fair.{IsMovement}

@@ -1,5 +1,5 @@
 -- The records that the code keeps, and what contracts see of them.
-use Rattle.std.specs.Prelude.{◌≡◌, ℕ, ◌*◌, ◌≤◌, nat_lt, if◌then◌else◌, map, flat_map, zip, Err, Bool, not, ◌&&◌, List, [], ◌∷◌, ◌++◌, length, Option, None, Some, unwrap_or, All, Result}
+use Rattle.std.specs.Prelude.{◌≡◌, ℕ, ◌*◌, ◌≤◌, nat_lt, if◌then◌else◌, map, flat_map, zip, Err, Bool, not, ◌&&◌, List, [], ◌∷◌, ◌++◌, length, Option, None, Some, All, Result}
 use Rattle.std.specs.List.{filter_map}
 use Rattle.std.specs.Option.{option_map, option_map_or}
 use Rattle.bridge_cards.specs.declared.seat.Seat.{Seat}

@@ -1,5 +1,5 @@
 -- The ranges of what a session holds.
-use Rattle.std.specs.Prelude.{◌≡◌, ◌<◌, ◌^◌, ℕ, List, length, Option, IfSome, All}
+use Rattle.std.specs.Prelude.{◌≡◌, ℕ, List, length, Option, IfSome, All}
 use Rattle.bridge_cards.specs.CardSet.{IsCardSet}
 use Rattle.bridge_play.specs.declared.claim.Claim.{Claim}
 use Rattle.bridge_session.specs.declared.correction.Correction.{Correction}

@@ -1,10 +1,10 @@
 //! The plays that count, with the scores of each side on each board.
-ghost use Rattle.std.specs.Prelude.{◌≡◌, ◌≤◌, ◌-◌, length, map, filter, All, Some, slice_get};
+ghost use Rattle.std.specs.Prelude.{◌≡◌, ◌≤◌, ◌<◌, ◌-◌, [], length, map, All, Some, slice_get, slice_index_or};
 ghost use Rattle.std.specs.List.{range_with_len};
 ghost use Rattle.bridge_cards.specs.Board.{IsBoard};
 ghost use Rattle.bridge_score.specs.ScoringTable.{IsScore};
-ghost use Rattle.bridge_session.specs.Ranking.{is_on, scores_on};
-ghost use Rattle.bridge_session.specs.Gains.{AreGames};
+ghost use Rattle.bridge_session.specs.Ranking.{scores_on};
+ghost use Rattle.bridge_session.specs.Gains.{AreGames, with_score};
 ghost use Rattle.bridge_session.specs.Kept.{IsGame};
 
 use crate::game::{Game, score_for};
@@ -76,20 +76,25 @@ fn scores_at(lists: &[ArrayVec<i32, 144>], board: u8) -> &[i32]
     lists[usize::from(board - 1)].as_slice()
 }
 
-/// The scores of a side on a board.
-fn scores_on(games: &[Game], side: Side, board: u8) -> ArrayVec<i32, 144>
-    requires few { length (filter (is_on board) games.now) ≤ 144 }
-    requires each { All IsGame games.now }
-    ensures scores { result.items ≡ scores_on games.now side board }
-    ensures range { All IsScore result.items }
+/// Adds a score to the list at the place of its board.
+fn add_score(lists: &mut [ArrayVec<i32, 144>], board: u8, score: i32)
+    requires count { length lists.old ≡ 36 }
+    requires board { IsBoard board }
+    requires room { length (slice_index_or (map (λ scores. scores.items) lists.old) (board - 1) []) < 144 }
+    ensures lists { map (λ scores. scores.items) lists.new ≡ with_score (map (λ scores. scores.items) lists.old) board score }
 {
-    let mut scores = ArrayVec::new();
-    for game in games {
-        if game.board == board {
-            scores.push(score_for(side, game.score));
-        }
+    lists[usize::from(board - 1)].push(score);
+}
+
+/// A list for each board, with no score.
+fn empty_lists() -> ArrayVec<ArrayVec<i32, 144>, 36>
+    ensures { map (λ scores. scores.items) result.items ≡ map (λ _. []) (range_with_len 1 36) }
+{
+    let mut lists = ArrayVec::new();
+    for _ in 0..BoardNumber::MAX {
+        lists.push(ArrayVec::new());
     }
-    scores
+    lists
 }
 
 /// The scores of a side on each board, by the boards' numbers.
@@ -97,9 +102,9 @@ fn scores_by_board(games: &[Game], side: Side) -> ArrayVec<ArrayVec<i32, 144>, 3
     requires games { AreGames games.now }
     ensures scores { map (λ scores. scores.items) result.items ≡ map (scores_on games.now side) (range_with_len 1 36) }
 {
-    let mut lists = ArrayVec::new();
-    for earlier in 0..BoardNumber::MAX {
-        lists.push(scores_on(games, side, earlier + 1));
+    let mut lists = empty_lists();
+    for game in games {
+        add_score(&mut lists, game.board, score_for(side, game.score));
     }
     lists
 }

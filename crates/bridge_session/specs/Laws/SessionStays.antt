@@ -1,5 +1,5 @@
 -- The opening is a session, and an accepted action makes one of one.
-use Rattle.std.proofs.Common.{◌≡◌, Ok, All}
+use Rattle.std.proofs.Common.{◌≡◌, Ok}
 use Rattle.bridge_config.specs.Configuration.{Configuration}
 use Rattle.bridge_config.specs.Limits.{IsConfiguration}
 use Rattle.bridge_session.specs.declared.action.Action.{Action}

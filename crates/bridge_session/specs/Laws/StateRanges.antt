@@ -20,7 +20,6 @@ use Rattle.bridge_session.specs.declared.refused.Refused.{Refused}
 use Rattle.bridge_session.specs.declared.seating.Seating.{Seating}
 use Rattle.bridge_session.specs.ActionRange.{IsInRange}
 use Rattle.bridge_session.specs.Deed.{with_deed}
-use Rattle.bridge_session.specs.Numbers.{IsTrickCount}
 use Rattle.bridge_session.specs.Record.{PlainRecord, empty_record}
 use Rattle.bridge_session.specs.State.{State, opening, opening_row, row_boards, row_place, seating_of, changed_at, current_place}
 use Rattle.bridge_session.specs.StateRange.{IsCorrectionInRange, AreHandsOrNone, IsOfFourSeats, IsRecordInRange, IsStateInRange}

@@ -1,4 +1,4 @@
-use Rattle.std.proofs.Common.{◌≡◌, ℕ, List, true, false, length, sym, ap, ◌∙◌, refl, arith}
+use Rattle.std.proofs.Common.{◌≡◌, ℕ, List, true, false, sym, ap, ◌∙◌, refl, arith}
 use Rattle.bridge_config.specs.declared.fields.PairFields.{PairFields}
 use Rattle.bridge_config.specs.Configuration.{pair_of}
 use Rattle.bridge_session.specs.Parts.{pair_part}

@@ -1,9 +1,9 @@
-use Rattle.std.proofs.Common.{◌≡◌, List, ℕ, All, map, take, sym, ap, ◌∙◌, subst}
+use Rattle.std.proofs.Common.{All, map, take, sym, ap, ◌∙◌, subst}
 use Rattle.std.proofs.lemmas.List.{take-map}
-use Rattle.bridge_config.specs.Configuration.{Pair, pair_of}
+use Rattle.bridge_config.specs.Configuration.{pair_of}
 use Rattle.bridge_config.specs.Limits.{IsConfiguration}
 use Rattle.bridge_movement.specs.declared.shape.Shape.{Shape}
-use Rattle.bridge_session.specs.PartsRead.{pair_in, configuration_in}
+use Rattle.bridge_session.specs.PartsRead.{pair_in}
 use Rattle.bridge_session.specs.Reading.{items_of}
 use Rattle.bridge_session.specs.Head.{IsPairPart}
 use Rattle.bridge_session.proofs.HeadLaws.{config_named, no_pair}

@@ -1,4 +1,4 @@
-use Rattle.std.proofs.Common.{◌≡◌, List, ℕ, Some, None, Result, Ok, Err, IfOk, map}
+use Rattle.std.proofs.Common.{◌≡◌, List, ℕ, Some, Result, Ok, Err, IfOk, map}
 use Rattle.arrayvec.specs.ArrayVec.{ArrayVec}
 use Rattle.session_store.specs.declared.fault.PartsFault.{PartsFault}
 use Rattle.bridge_session.specs.Parts.{parts_of}

@@ -1,10 +1,10 @@
-use Rattle.std.proofs.Common.{◌≡◌, ◌≢◌, ◌+◌, ◌≤◌, ◌++◌, ◌∙◌, ℕ, List, length, map, drop, sym, ap, arith, length-append}
+use Rattle.std.proofs.Common.{◌≡◌, ◌+◌, ◌++◌, ◌∙◌, length, map, drop, sym, ap, arith, length-append}
 use Rattle.std.specs.List.{drop-map}
 use Rattle.std.proofs.lemmas.List.{length-map, take-append-drop}
 use Rattle.bridge_config.specs.Configuration.{Configuration, pair_of}
 use Rattle.bridge_session.specs.State.{State}
 use Rattle.bridge_session.specs.Head.{head_parts}
-use Rattle.bridge_session.specs.Parts.{pair_part, board_parts, parts_of}
+use Rattle.bridge_session.specs.Parts.{pair_part, board_parts}
 use Rattle.bridge_session.specs.Reading.{items_of}
 use Rattle.bridge_session.proofs.ReadTables.{when_none, when_some}
 use Rattle.bridge_session.proofs.Restored.{same_head}

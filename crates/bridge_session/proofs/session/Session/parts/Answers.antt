@@ -1,7 +1,6 @@
-use Rattle.std.proofs.Common.{Vec, Global, ◌≡◌, ◌+◌, ◌*◌, ◌≤◌, ℕ, List, length, map, sym, ap, subst, ◌∙◌, arith}
+use Rattle.std.proofs.Common.{Vec, Global, ◌≡◌, ◌+◌, ◌*◌, length, sym, ap, ◌∙◌, arith}
 use Rattle.std.proofs.lemmas.List.{length-map}
-use Rattle.bridge_config.specs.Configuration.{Configuration, Pair, pair_of}
-use Rattle.bridge_config.specs.Limits.{IsConfiguration}
+use Rattle.bridge_config.specs.Configuration.{Configuration, pair_of}
 use Rattle.bridge_session.specs.declared.record.Record.{Record}
 use Rattle.bridge_session.specs.State.{State}
 use Rattle.bridge_session.specs.Parts.{parts_of}

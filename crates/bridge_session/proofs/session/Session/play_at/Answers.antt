@@ -1,14 +1,14 @@
-use Rattle.std.proofs.Common.{Vec, Global, ◌≡◌, ◌/◌, ◌%◌, ◌<◌, ◌≤◌, ℕ, List, [], length, map, Some, None, sym, ap, subst, ◌∙◌, arith}
-use Rattle.std.specs.Prelude.{slice_get, slice_index_or, nat_le, Option, IfSome}
-use Rattle.std.specs.Option.{option_copied, option_map}
+use Rattle.std.proofs.Common.{Vec, Global, ◌≡◌, ◌/◌, ◌%◌, Some, None, sym, ap, subst, ◌∙◌, arith}
+use Rattle.std.specs.Prelude.{slice_get, nat_le, Option, IfSome}
+use Rattle.std.specs.Option.{option_copied}
 use Rattle.std.proofs.lemmas.Bool.{leb-true, and_parts}
 use Rattle.std.proofs.lemmas.List.{length-map}
 use Rattle.bridge_cards.specs.Board.{dealer_of}
 use Rattle.bridge_config.specs.Configuration.{Configuration}
 use Rattle.bridge_session.specs.declared.record.Record.{Record}
 use Rattle.bridge_session.specs.State.{State}
-use Rattle.bridge_session.specs.Kept.{plain_of, IsTiedIn}
-use Rattle.bridge_session.specs.Parts.{record_part, record_or_empty, play_parts}
+use Rattle.bridge_session.specs.Kept.{IsTiedIn}
+use Rattle.bridge_session.specs.Parts.{record_part}
 use Rattle.bridge_session.proofs.Acted.{tied_row, lists_in, list_there}
 use Rattle.bridge_session.proofs.Entries.{all_at}
 use Rattle.bridge_session.proofs.PlayPlaces.{row_within, play_part_is, found_or_empty}
