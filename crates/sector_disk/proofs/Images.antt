@@ -6,7 +6,8 @@ use Rattle.std.proofs.lemmas.Bool.{cases_eq, cases_lt}
 use Rattle.std.proofs.lemmas.Bool.Decides.{nat_tests}
 use Rattle.std.proofs.lemmas.List.Elements.{Contains-push_cases, Contains-get_or}
 use Rattle.std.proofs.lemmas.List.{length_push, length-replicate, get_or-replicate, get_or_past}
-use Rattle.sector_disk.specs.Disk.{Image, IsSame, with_sector, with_sector-same, with_sector-other}
+use Rattle.sector_disk.specs.Disk.{Image, IsSame, with_sector}
+use Rattle.sector_disk.proofs.ImageLaws.{with_sector-same, with_sector-other}
 use Rattle.sector_disk.specs.Calls.{IsUntouched, IsWritten, IsSynced, WithOrWithout}
 use Rattle.sector_disk.specs.Held.{Held, newest, picked, restarted, written, settled, cut_to, blank, possible, sector_at, after, IsImage}
 use Rattle.sector_disk.specs.Memory.{held, memory_disk}

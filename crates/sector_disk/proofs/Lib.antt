@@ -1,3 +1,6 @@
+pub mod ImageLaws
+pub mod CallLaws
+pub mod RunLaws
 mod Events
 mod Images
 mod Last

@@ -1,7 +1,5 @@
 -- What a disk of sectors means: what a read gives, what a power cut leaves, how many calls failed.
-use Rattle.std.specs.Prelude.{◌≡◌, ◌≢◌, ◌≤◌, ◌+◌, ◌-◌, ◌^◌, min, ℕ, List, if◌then◌else◌, ◌==◌}
-use Rattle.std.proofs.Common.{arith, subst, sym}
-use Rattle.std.proofs.lemmas.Bool.Decides.{nat_tests}
+use Rattle.std.specs.Prelude.{◌≡◌, ◌≤◌, ◌+◌, ◌-◌, ◌^◌, min, ℕ, List, if◌then◌else◌, ◌==◌}
 
 -- what may stand on a disk: the bytes of each sector, by the sector's number
 abbrev pub Image : Type 0
@@ -14,22 +12,6 @@ IsSame a b = (k : ℕ) → a k ≡ b k
 -- the image with these bytes in sector i
 unfoldable pub with_sector : Image → ℕ → List ℕ → Image
 with_sector image i bytes k = if k == i then bytes else image k
-
-pub with_sector-same : (image : Image) (i : ℕ) (bytes : List ℕ) → with_sector image i bytes i ≡ bytes
-unfolding with_sector
-with_sector-same image i bytes = grind (arith, nat_tests)
-
-pub with_sector-other : (image : Image) (i : ℕ) (bytes : List ℕ) (k : ℕ) → k ≢ i → with_sector image i bytes k ≡ image k
-unfolding with_sector
-with_sector-other image i bytes k other = grind (arith, nat_tests)
-
--- images with the same bytes are one
-pub image_is : (a b : Image) → IsSame a b → a ≡ b
-image_is a b same = λ i k. same k i
-
--- what one of them has, the other has
-pub same_has : (P : Image → Type 0) (a b : Image) → IsSame a b → P b → P a
-same_has P a b same has = subst P (sym (image_is a b same)) has
 
 -- The meaning of a disk D. All but `count` and `faults` is said of an honest disk.
 pub record Disk (D : Type 0) : Type 1 where

@@ -58,8 +58,8 @@ impl<D: SectorDisk> Fuse<D> {
     }
 }
 
-/// Counts a call, and says whether it is one to fail.
-fn is_to_fail(passes_left: &mut Option<u64>, fail: Fail) -> bool
+/// Spends a pass, and says whether there was none left: then the call is one to fail.
+fn spend_pass(passes_left: &mut Option<u64>, fail: Fail) -> bool
     ensures fails { IsTrue result ↔ (passes_left.old ≡ Some 0) }
     ensures left { passes_left.new ≡ passes_after fail passes_left.old }
 {
@@ -95,7 +95,7 @@ impl<D: SectorDisk> SectorDisk for Fuse<D> {
         ensures fault { IfErr result (λ fault. fault ≡ DiskFault.Read) }
         ensures fuse { FuseReads D.disk self.old self.new i bytes.new result }
     {
-        let outcome = if is_to_fail(&mut self.passes_left, self.fail) {
+        let outcome = if spend_pass(&mut self.passes_left, self.fail) {
             Err(DiskFault::Read)
         } else {
             self.disk.read(i, bytes)
@@ -111,7 +111,7 @@ impl<D: SectorDisk> SectorDisk for Fuse<D> {
         ensures fault { IfErr result (λ fault. fault ≡ DiskFault.Write) }
         ensures fuse { FuseWrites D.disk self.old self.new i bytes.now result }
     {
-        let outcome = if !is_to_fail(&mut self.passes_left, self.fail) {
+        let outcome = if !spend_pass(&mut self.passes_left, self.fail) {
             self.disk.write(i, bytes)
         } else {
             if self.effect {
@@ -129,7 +129,7 @@ impl<D: SectorDisk> SectorDisk for Fuse<D> {
         ensures fault { IfErr result (λ fault. fault ≡ DiskFault.Sync) }
         ensures fuse { FuseSyncs D.disk self.old self.new result }
     {
-        let outcome = if !is_to_fail(&mut self.passes_left, self.fail) {
+        let outcome = if !spend_pass(&mut self.passes_left, self.fail) {
             self.disk.sync()
         } else {
             if self.effect {

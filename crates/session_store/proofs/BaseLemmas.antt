@@ -1,7 +1,8 @@
 -- Images that stand for the same whatever becomes of the sectors that are not in use.
 use Rattle.std.proofs.Common.{◌≡◌, ◌≢◌, ◌⊎◌, ◌<◌, ◌≤◌, ◌+◌, ◌-◌, ◌^◌, ℕ, suc, List, [], ◌∷◌, ◌++◌, length, take, Some, Ok, inl, inr, refl, sym, ap, subst, ◌∙◌, arith}
 use Rattle.std.proofs.lemmas.Bool.{cases_eq}
-use Rattle.sector_disk.specs.Disk.{Image, with_sector, with_sector-same, with_sector-other}
+use Rattle.sector_disk.specs.Disk.{Image, with_sector}
+use Rattle.sector_disk.proofs.ImageLaws.{with_sector-same, with_sector-other}
 use Rattle.session_store.specs.Keeping.{Keeping, IsLawful, fold}
 use Rattle.session_store.specs.Form.{entry_in, record_sector, place}
 use Rattle.session_store.specs.declared.reading.Header.{Header}

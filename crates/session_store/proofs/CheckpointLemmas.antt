@@ -1,7 +1,8 @@
 -- What checkpoints do to a store.
 use Rattle.std.proofs.Common.{◌≡◌, ◌<◌, ◌≤◌, ◌+◌, ◌-◌, ◌^◌, ℕ, zero, suc, List, [], ◌++◌, length, take, Some, Ok, true, false, inl, inr, refl, sym, ap, ◌∙◌, arith, append-nil}
 use Rattle.sector_disk.specs.Disk.{Image, Disk}
-use Rattle.sector_disk.specs.Runs.{EveryMoment, Remains, weakens, now_has}
+use Rattle.sector_disk.specs.Runs.{EveryMoment, Remains}
+use Rattle.sector_disk.proofs.RunLaws.{weakens, now_has}
 use Rattle.session_store.specs.Keeping.{Keeping, IsLawful, fold}
 use Rattle.session_store.specs.Stands.{recovered}
 use Rattle.session_store.specs.Base.{IsSettled, StandsForPrefix}
@@ -13,7 +14,7 @@ use Rattle.session_store.specs.Answers.{after_fault, after_snapshot}
 use Rattle.session_store.proofs.StandsLemmas.{fold-nil}
 use Rattle.session_store.proofs.BaseLemmas.{settled-stands, settled-same}
 use Rattle.session_store.proofs.SnapshotLemmas.{settled-nothing_later, with_snapshot-settled}
-use Rattle.session_store.specs.Calls.{prefix-longer}
+use Rattle.session_store.proofs.CallLaws.{prefix-longer}
 use Rattle.session_store.proofs.StoreLemmas.{some_is, prefix-all, settled-sound, fault-sound, sound-stands, continues_all, continues_none}
 
 module _ {D S A R : Type 0} (kept : Keeping S A R) (disk : Disk D) where

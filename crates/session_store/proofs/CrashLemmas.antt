@@ -1,8 +1,10 @@
 -- Over whole runs a power cut loses none of the confirmed actions.
 use Rattle.std.proofs.Common.{◌≡◌, ◌≤◌, ◌+◌, ◌-◌, ℕ, List, [], ◌∷◌, ◌++◌, length, take, drop, Some, Ok, refl, sym, ap, subst, ◌∙◌, arith, length-append, append-nil}
 use Rattle.std.proofs.lemmas.List.{drop-drop, drop-append-le, take-append-le, take-take, drop_all, length-drop, length-take-le}
-use Rattle.sector_disk.specs.Disk.{Image, image_is, Disk}
-use Rattle.sector_disk.specs.Runs.{Remains, now_has}
+use Rattle.sector_disk.specs.Disk.{Image, Disk}
+use Rattle.sector_disk.proofs.ImageLaws.{image_is}
+use Rattle.sector_disk.specs.Runs.{Remains}
+use Rattle.sector_disk.proofs.RunLaws.{now_has}
 use Rattle.session_store.specs.Keeping.{Keeping, fold}
 use Rattle.session_store.specs.Stands.{recovered, IsInOrder}
 use Rattle.session_store.specs.Base.{StandsForPrefix}
@@ -11,7 +13,7 @@ use Rattle.session_store.specs.Opening.{IsStillSound, IsOpened}
 use Rattle.session_store.specs.Value.{StoreValue}
 use Rattle.session_store.specs.Store.{IsSoundStore, Continues}
 use Rattle.session_store.specs.Run.{Place, AtRest, AtWork, Doing, Calls, Waits, Closes, Opens, Fails, Event, Done, Cut, Standing, accepts, StandsForAtLeast, IsLongest, Does, MayLeave, HoldsOnly, Happens, Runs, CrashLaw}
-use Rattle.session_store.specs.Calls.{fold-behind}
+use Rattle.session_store.proofs.CallLaws.{fold-behind}
 use Rattle.session_store.proofs.StandsLemmas.{fold-nil}
 use Rattle.session_store.proofs.StoreLemmas.{of_nil}
 use Rattle.session_store.proofs.OpeningLemmas.{reading-ok}

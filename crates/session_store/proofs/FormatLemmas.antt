@@ -2,7 +2,8 @@
 use Rattle.std.proofs.Common.{◌≡◌, ◌<◌, ◌≤◌, ◌+◌, ℕ, List, [], take, zero, suc, inl, inr, replicate, Some, None, Ok, refl, sym, ap, subst, ◌∙◌, arith}
 use Rattle.std.proofs.lemmas.Bool.{cases_eq}
 use Rattle.sector_disk.specs.Disk.{Image, Disk}
-use Rattle.sector_disk.specs.Calls.{Writes, write_here, write_elsewhere}
+use Rattle.sector_disk.specs.Calls.{Writes}
+use Rattle.sector_disk.proofs.CallLaws.{write_here, write_elsewhere}
 use Rattle.session_store.specs.Keeping.{Keeping, IsLawful, fold}
 use Rattle.session_store.specs.Form.{header_of}
 use Rattle.session_store.specs.declared.reading.Header.{Header}

@@ -1,3 +1,4 @@
+pub mod CallLaws
 pub mod FormLemmas
 pub mod PutLemmas
 pub mod ReadLemmas

@@ -1,7 +1,8 @@
 -- What opening does to a disk.
 use Rattle.std.proofs.Common.{◌≡◌, ◌<◌, ◌≤◌, ◌+◌, ◌-◌, ◌^◌, ℕ, zero, suc, List, [], take, Some, Ok, false, refl, sym, ap, subst, ◌∙◌, arith}
 use Rattle.sector_disk.specs.Disk.{Image, Disk}
-use Rattle.sector_disk.specs.Runs.{EveryMoment, Quiet, Remains, now_has, weakens, joins}
+use Rattle.sector_disk.specs.Runs.{EveryMoment, Quiet, Remains}
+use Rattle.sector_disk.proofs.RunLaws.{now_has, weakens, joins}
 use Rattle.session_store.specs.Keeping.{Keeping, IsLawful, fold}
 use Rattle.session_store.specs.Stands.{recovered}
 use Rattle.session_store.specs.Base.{HasEpoch, IsSettled, StandsForPrefix}

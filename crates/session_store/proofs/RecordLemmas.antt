@@ -1,8 +1,10 @@
 -- What the writing of a record does to a store.
 use Rattle.std.proofs.Common.{◌≡◌, ◌<◌, ◌+◌, ◌-◌, ◌^◌, ◌==◌, ℕ, List, [], ◌∷◌, ◌++◌, length, Some, Result, Ok, Bool, true, false, ⊎_elim, refl, sym, ap, subst, ◌∙◌, arith, length-append}
 use Rattle.sector_disk.specs.Disk.{Image, Disk}
-use Rattle.sector_disk.specs.Calls.{WriteCall, write_here, write_elsewhere}
-use Rattle.sector_disk.specs.Runs.{EveryMoment, begins, goes_on, now_has, write_is}
+use Rattle.sector_disk.specs.Calls.{WriteCall}
+use Rattle.sector_disk.proofs.CallLaws.{write_here, write_elsewhere}
+use Rattle.sector_disk.specs.Runs.{EveryMoment}
+use Rattle.sector_disk.proofs.RunLaws.{begins, goes_on, now_has, write_is}
 use Rattle.session_store.specs.Keeping.{Keeping, IsLawful, fold}
 use Rattle.session_store.specs.Form.{record_sector, entry_in}
 use Rattle.session_store.specs.declared.reading.Entry.TheVariants.{Holds}
@@ -13,7 +15,7 @@ use Rattle.session_store.specs.Answers.{after_fault, with_record, with_action, r
 use Rattle.std.proofs.lemmas.Bool.{cond-true, cond-false, eq-eqb, ne_eqb}
 use Rattle.session_store.proofs.FormLemmas.{entry_in-record}
 use Rattle.session_store.proofs.BaseLemmas.{settled-stands, settled-more, settled-written}
-use Rattle.session_store.specs.Calls.{prefix-longer}
+use Rattle.session_store.proofs.CallLaws.{prefix-longer}
 use Rattle.session_store.proofs.StoreLemmas.{fold-more, holds_all-more, fault-sound, continues_none}
 
 module _ {D S A R : Type 0} (kept : Keeping S A R) (disk : Disk D) (old : StoreValue D S A) (a : A) (s : S)

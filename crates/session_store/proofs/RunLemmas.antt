@@ -1,9 +1,12 @@
 -- Runs of calls that write a snapshot.
 use Rattle.std.proofs.Common.{◌≡◌, ◌≢◌, ◌<◌, ◌+◌, ℕ, List, [], get_or, Result, Ok, inl, inr, ⊎_elim, sym, subst, ◌∙◌, arith}
 use Rattle.std.proofs.lemmas.Bool.{cases_eq}
-use Rattle.sector_disk.specs.Disk.{Image, with_sector, with_sector-other, image_is, Disk}
-use Rattle.sector_disk.specs.Calls.{Syncs, WriteCall, write_here, write_elsewhere}
-use Rattle.sector_disk.specs.Runs.{EveryMoment, writes_on, goes_on, weakens, now_has, write_is}
+use Rattle.sector_disk.specs.Disk.{Image, with_sector, Disk}
+use Rattle.sector_disk.proofs.ImageLaws.{with_sector-other, image_is}
+use Rattle.sector_disk.specs.Calls.{Syncs, WriteCall}
+use Rattle.sector_disk.proofs.CallLaws.{write_here, write_elsewhere}
+use Rattle.sector_disk.specs.Runs.{EveryMoment}
+use Rattle.sector_disk.proofs.RunLaws.{writes_on, goes_on, weakens, now_has, write_is}
 use Rattle.session_store.specs.Keeping.{Keeping}
 use Rattle.session_store.specs.Form.{place, sector, part_mark}
 use Rattle.session_store.specs.Snapshot.{ButForParts, HasParts, header_sector, WithSnapshot, IsSnapshotting}

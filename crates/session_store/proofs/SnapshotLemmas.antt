@@ -2,7 +2,8 @@
 use Rattle.std.proofs.Common.{◌≡◌, ◌≢◌, ◌⊎◌, ◌<◌, ◌≤◌, ◌+◌, ◌-◌, ◌*◌, ◌^◌, ◌==◌, ℕ, suc, List, [], ◌∷◌, length, get_or, Option, Some, None, Result, Ok, Err, nat_lt, inl, inr, refl, sym, ap, subst, ◌∙◌, arith}
 use Rattle.std.specs.Prelude.{All, IfSome}
 use Rattle.std.proofs.lemmas.Bool.{cases_eq, cases_Bool, eqb-true, eq-eqb, cond-true, cond-false}
-use Rattle.sector_disk.specs.Disk.{Image, with_sector, with_sector-same, with_sector-other}
+use Rattle.sector_disk.specs.Disk.{Image, with_sector}
+use Rattle.sector_disk.proofs.ImageLaws.{with_sector-same, with_sector-other}
 use Rattle.session_store.specs.Keeping.{Keeping, IsLawful}
 use Rattle.session_store.specs.Form.{header_of, part_mark, sector, payload_in, place}
 use Rattle.session_store.specs.declared.reading.Header.{Header}

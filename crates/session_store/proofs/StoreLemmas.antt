@@ -2,9 +2,11 @@
 use Rattle.std.proofs.Common.{◌≡◌, ◌≢◌, ◌<◌, ◌≤◌, ◌+◌, ◌-◌, ℕ, zero, suc, List, [], ◌∷◌, ◌++◌, length, take, drop, get_or, Option, Some, None, Result, Ok, Err, IsSome, MatchResult, true, false, refl, sym, ap, subst, ◌∙◌, arith, append-nil}
 use Rattle.std.proofs.Math.Seq.{drop-cons, take-length}
 use Rattle.std.proofs.lemmas.List.{drop_all}
-use Rattle.sector_disk.specs.Disk.{Image, image_is, Disk}
+use Rattle.sector_disk.specs.Disk.{Image, Disk}
+use Rattle.sector_disk.proofs.ImageLaws.{image_is}
 use Rattle.sector_disk.specs.Calls.{Called, Syncs}
-use Rattle.sector_disk.specs.Runs.{EveryMoment, begins, now_has, syncs_on}
+use Rattle.sector_disk.specs.Runs.{EveryMoment}
+use Rattle.sector_disk.proofs.RunLaws.{begins, now_has, syncs_on}
 use Rattle.session_store.specs.Keeping.{Keeping, fold}
 use Rattle.session_store.specs.Form.{entry_in}
 use Rattle.session_store.specs.Stands.{recovered, IsInOrder}
@@ -13,7 +15,7 @@ use Rattle.session_store.specs.Base.{IsSettled, HoldsAll, StandsForPrefix}
 use Rattle.session_store.specs.Sound.{StandsOnlyFor}
 use Rattle.session_store.specs.Value.{StoreValue, IsStore}
 use Rattle.session_store.specs.Store.{IsSoundStore, Continues}
-use Rattle.session_store.specs.Calls.{prefix-longer}
+use Rattle.session_store.proofs.CallLaws.{prefix-longer}
 use Rattle.session_store.specs.Answers.{after_fault, after_confirm}
 use Rattle.session_store.proofs.StandsLemmas.{fold-nil, fold-step, fold-cons, fold-refused}
 use Rattle.session_store.proofs.BaseLemmas.{settled-stands, settled-confirmed}

@@ -7,7 +7,6 @@ pub mod Sound
 pub mod Frame
 pub mod Value
 pub mod Store
-pub mod Calls
 pub mod Answers
 pub mod Opening
 pub mod Run

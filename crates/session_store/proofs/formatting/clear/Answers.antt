@@ -1,5 +1,5 @@
 use Rattle.std.proofs.Common.{◌∙◌, arith}
-use Rattle.sector_disk.specs.Runs.{remains_on}
+use Rattle.sector_disk.proofs.RunLaws.{remains_on}
 use Rattle.session_store.proofs.FormatLemmas.{cleared_more}
 use Rattle.session_store.proofs.formatting.clear.Goals as goal
 

@@ -1,5 +1,5 @@
-use Rattle.sector_disk.specs.Disk.{image_is}
-use Rattle.sector_disk.specs.Runs.{quiet, quiet_sync, quiet_joins, only_read_leaves}
+use Rattle.sector_disk.proofs.ImageLaws.{image_is}
+use Rattle.sector_disk.proofs.RunLaws.{quiet, quiet_sync, quiet_joins, only_read_leaves}
 use Rattle.session_store.proofs.opening.recover_behind_barrier.Goals as goal
 
 pub returns-in-Err-clause-quiet : goal.returns-in-Err-clause-quiet

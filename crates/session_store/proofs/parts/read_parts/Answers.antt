@@ -1,6 +1,6 @@
 use Rattle.std.proofs.Common.{◌≡◌, ◌+◌, ◌-◌, map, Err, refl, sym, ap, ◌∙◌, inl, inr, arith}
 use Rattle.std.proofs.lemmas.List.{map-append}
-use Rattle.sector_disk.specs.Runs.{quiet, quiet_joins}
+use Rattle.sector_disk.proofs.RunLaws.{quiet, quiet_joins}
 use Rattle.session_store.specs.Form.{place}
 use Rattle.session_store.specs.Stands.{parts_from}
 use Rattle.session_store.proofs.PartsLemmas.{with_parts, parts-none, parts-more, parts-damaged, parts-all}

@@ -1,5 +1,5 @@
 use Rattle.std.proofs.Common.{sym, ap, ◌∙◌, inr}
-use Rattle.sector_disk.specs.Disk.{image_is}
+use Rattle.sector_disk.proofs.ImageLaws.{image_is}
 use Rattle.session_store.specs.Stands.{after_parts, parts_from}
 use Rattle.session_store.proofs.OpeningLemmas.{cause-from, reading-none, reading-spent, reading-some}
 use Rattle.session_store.proofs.recovering.recover.Goals as goal

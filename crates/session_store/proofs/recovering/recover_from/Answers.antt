@@ -1,5 +1,5 @@
 use Rattle.std.proofs.Common.{Ok, Err, refl, sym, ap, ◌∙◌, inr, map}
-use Rattle.sector_disk.specs.Disk.{image_is}
+use Rattle.sector_disk.proofs.ImageLaws.{image_is}
 use Rattle.session_store.specs.Stands.{replay}
 use Rattle.session_store.specs.declared.fault.StoreFault.TheVariants.{Damaged}
 use Rattle.session_store.proofs.OpeningLemmas.{cause-from, after_parts-err, after_parts-bad, after_parts-ok}

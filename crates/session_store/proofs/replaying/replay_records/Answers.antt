@@ -1,5 +1,5 @@
 use Rattle.std.proofs.Common.{◌+◌, sym, ◌∙◌, inr, arith}
-use Rattle.sector_disk.specs.Runs.{quiet_joins}
+use Rattle.sector_disk.proofs.RunLaws.{quiet_joins}
 use Rattle.session_store.proofs.ReplayLemmas.{record-missing, record-damaged, record-refused, record-taken, records-end}
 use Rattle.session_store.proofs.replaying.replay_records.Goals as goal
 

@@ -1,4 +1,4 @@
-use Rattle.sector_disk.specs.Runs.{syncs_on}
+use Rattle.sector_disk.proofs.RunLaws.{syncs_on}
 use Rattle.session_store.proofs.RunLemmas.{before_header, parts_synced, header_on, header_synced}
 use Rattle.session_store.proofs.snapshot.write_snapshot.Goals as goal
 

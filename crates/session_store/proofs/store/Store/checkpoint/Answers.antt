@@ -3,7 +3,7 @@ use Rattle.session_store.specs.Keeping.{fold}
 use Rattle.session_store.specs.Value.{StoreValue, IsStore}
 use Rattle.session_store.specs.Store.{Continues}
 use Rattle.session_store.specs.Sound.{StandsOnlyFor}
-use Rattle.session_store.specs.Calls.{continues_begins}
+use Rattle.session_store.proofs.CallLaws.{continues_begins}
 use Rattle.session_store.proofs.CheckpointLemmas.{snapshot-continues, snapshot_fault-continues, snapshot-stands, fault-same}
 use Rattle.session_store.proofs.store.Store.checkpoint.Goals as goal
 

@@ -1,7 +1,7 @@
 use Rattle.std.proofs.Common.{[], refl, sym, ap, ◌∙◌, append-nil}
 use Rattle.std.proofs.lemmas.Bool.{eqb-true}
 use Rattle.session_store.specs.Keeping.{fold}
-use Rattle.session_store.specs.Calls.{continues_begins}
+use Rattle.session_store.proofs.CallLaws.{continues_begins}
 use Rattle.session_store.proofs.StoreLemmas.{continues_none, sync-moments, sync-fault, idle-same, empty_list, some_is, confirmed-store, confirmed-continues, confirmed-stands}
 use Rattle.session_store.proofs.store.Store.confirm.Goals as goal
 

@@ -1,5 +1,5 @@
 use Rattle.std.proofs.Common.{◌≤◌, arith}
-use Rattle.sector_disk.specs.Runs.{none_read, quiet, remains, remains_joins}
+use Rattle.sector_disk.proofs.RunLaws.{none_read, quiet, remains, remains_joins}
 use Rattle.session_store.proofs.OpeningLemmas.{cause-stands}
 use Rattle.session_store.proofs.OpenLemmas.{quiet-still, still-sound, snapshot-still, opened-sound, opened-stands, opened-store, opened-view}
 use Rattle.session_store.proofs.store.Store.open.Goals as goal

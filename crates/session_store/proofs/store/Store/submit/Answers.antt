@@ -1,6 +1,6 @@
 use Rattle.std.proofs.Common.{◌≡◌, ◌<◌, ◌-◌, ◌^◌, length, sym, arith, ◌∙◌, refl}
 use Rattle.std.proofs.lemmas.Bool.{eqb-false}
-use Rattle.session_store.specs.Calls.{continues_begins}
+use Rattle.session_store.proofs.CallLaws.{continues_begins}
 use Rattle.session_store.proofs.RecordLemmas.{room-spent}
 use Rattle.session_store.proofs.store.Store.submit.Goals as goal
 

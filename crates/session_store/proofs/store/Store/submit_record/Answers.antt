@@ -1,9 +1,10 @@
 use Rattle.std.proofs.Common.{Ok, [], ◌∷◌, true, ◌∙◌, sym, ap, subst, arith}
 use Rattle.session_store.specs.Value.{StoreValue, IsStore}
 use Rattle.session_store.specs.Store.{Continues}
-use Rattle.session_store.specs.Calls.{continues_begins}
+use Rattle.session_store.proofs.CallLaws.{continues_begins}
 use Rattle.sector_disk.specs.Disk.{one_more}
-use Rattle.sector_disk.specs.Runs.{Remains, remains, remains_on}
+use Rattle.sector_disk.specs.Runs.{Remains}
+use Rattle.sector_disk.proofs.RunLaws.{remains, remains_on}
 use Rattle.session_store.proofs.RecordLemmas.{WritesRecord, record-store, record-continues, record_fault-continues, record-view, fault-view, refused-view, after_submit-record, after_failed-record, room-record, room-some}
 use Rattle.session_store.proofs.store.Store.submit_record.Goals as goal
 

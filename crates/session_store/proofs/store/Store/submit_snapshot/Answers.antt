@@ -5,7 +5,7 @@ use Rattle.session_store.specs.Value.{StoreValue, IsStore}
 use Rattle.session_store.specs.Answers.{after_submit, after_failed_submit, after_snapshot, after_fault, with_action}
 use Rattle.session_store.specs.Store.{Continues}
 use Rattle.session_store.specs.Sound.{StandsOnlyFor}
-use Rattle.session_store.specs.Calls.{continues_begins}
+use Rattle.session_store.proofs.CallLaws.{continues_begins}
 use Rattle.session_store.proofs.CheckpointLemmas.{SnapshotRuns, SnapshotWritten, snapshot-continues, snapshot_fault-continues, snapshot-stands}
 use Rattle.session_store.proofs.RecordLemmas.{action-store, more-made, action-view, refused-view, after_submit-full, after_failed-full, room-snapshot, room-epoch}
 use Rattle.session_store.proofs.store.Store.submit_snapshot.Goals as goal

@@ -1,5 +1,5 @@
 use Rattle.std.proofs.Common.{◌≡◌, ◌∷◌, [], ◌++◌, ◌∙◌, length, refl, sym, ap, subst}
-use Rattle.session_store.specs.Calls.{continues_begins}
+use Rattle.session_store.proofs.CallLaws.{continues_begins}
 use Rattle.bridge_session.specs.SessionKeeping.{session_keeping}
 use Rattle.table_server.specs.declared.asked.Asked.TheVariants.{BadLine, LongLine}
 use Rattle.table_server.specs.declared.short_reply.ShortReply.TheVariants as short
