@@ -3,7 +3,7 @@ use Rattle.std.specs.Prelude.{◌≡◌, ℕ, List, take, codes, IfSome}
 use Rattle.bridge_cards.specs.Board.{dealer_of}
 use Rattle.line_text.specs.Streams.{Stream, Gives, Takes, TakesPrefix, IsUntouched}
 use Rattle.table_server.specs.declared.fault.ServeFault.{ServeFault}
-use Rattle.table_server.specs.declared.fault.ServeFault.TheVariants.{Read, Write}
+use Rattle.table_server.specs.declared.fault.ServeFault.TheVariants.{Read, Write, Accept}
 use Rattle.table_server.specs.Heard.{StopsAt}
 use Rattle.table_server.specs.Replies.{auction_output, byte_limit}
 use Rattle.bridge_club.specs.declared.command.Command.{Command}
@@ -24,6 +24,7 @@ IsDone command input output errors = Does command input output × IsUntouched er
 abbrev pub fault_line : ServeFault → List ℕ
 fault_line Read = codes "cannot read input\n"
 fault_line Write = codes "cannot write output\n"
+fault_line Accept = codes "cannot read input\n"
 
 -- the line on standard error where memory is refused
 abbrev pub memory_line : List ℕ

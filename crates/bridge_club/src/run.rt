@@ -125,7 +125,7 @@ fn fault_text(fault: ServeFault) -> &'static str
     ensures { result.now ≡ fault_line fault }
 {
     match fault {
-        ServeFault::Read => "cannot read input\n",
+        ServeFault::Read | ServeFault::Accept => "cannot read input\n",
         ServeFault::Write => "cannot write output\n",
     }
 }

@@ -15,3 +15,4 @@ pub mod ServesLemmas
 pub mod HearingLemmas
 pub mod StreamLemmas
 pub mod FailureLemmas
+pub mod AcceptingLemmas

@@ -4,7 +4,7 @@ use Rattle.std.specs.List.{list_all}
 use Rattle.std.specs.Io.KnownBytes.{Appends, Consumes}
 use Rattle.bridge_cards.specs.declared.seat.Seat.{Seat}
 use Rattle.table_server.specs.declared.fault.ServeFault.{ServeFault}
-use Rattle.table_server.specs.declared.fault.ServeFault.TheVariants.{Read, Write}
+use Rattle.table_server.specs.declared.fault.ServeFault.TheVariants.{Read, Write, Accept}
 use Rattle.line_text.specs.Lines.{complete_lines, is_within_line}
 use Rattle.table_server.specs.Replies.{replies_to, calls_after, output_for, auction_output, byte_limit}
 use Rattle.table_server.specs.AuctionLines.{AuctionLines, replies_from, calls_from}
@@ -23,10 +23,11 @@ pub record Heard (dealer : Seat) (given rest written_before written : Option (Li
 
 -- What was read and written at a fault, of the reader and the writer:
 -- at a read fault the replies to the complete lines; at a write fault a prefix of the output for the bytes read,
--- which, where all the bytes given are known, is a prefix of the whole output too.
+-- which, where all the bytes given are known, is a prefix of the whole output too. No connection is accepted.
 abbrev pub StopsAt : Seat → Stream → Stream → ServeFault → Type 0
 StopsAt dealer input output Read =
     (bytes : List ℕ) × (length bytes < byte_limit) × Gives input bytes × Takes output (replies_to [] (complete_lines bytes))
 StopsAt dealer input output Write =
     (bytes : List ℕ) × (length bytes ≤ byte_limit) × Gives input bytes × TakesPrefix output (output_for dealer bytes)
     × IfSome input.old (λ given. TakesPrefix output (auction_output dealer given))
+StopsAt dealer input output Accept = ⊥

@@ -15,3 +15,4 @@ pub mod Served
 pub mod Serving
 pub mod Hearing
 pub mod ServedStreams
+pub mod Accepting

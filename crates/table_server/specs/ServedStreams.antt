@@ -9,7 +9,7 @@ use Rattle.line_text.specs.Lines.{complete_lines}
 use Rattle.line_text.specs.Streams.{Stream, Gives, Takes, TakesPrefix}
 use Rattle.table_server.specs.declared.asked.Asked.{Asked}
 use Rattle.table_server.specs.declared.fault.ServeFault.{ServeFault}
-use Rattle.table_server.specs.declared.fault.ServeFault.TheVariants.{Read, Write}
+use Rattle.table_server.specs.declared.fault.ServeFault.TheVariants.{Read, Write, Accept}
 use Rattle.table_server.specs.declared.line_service.LineService.{LineService}
 use Rattle.table_server.specs.declared.served.Served.{Served}
 use Rattle.table_server.specs.declared.serving.Ended.{Ended}
@@ -81,10 +81,11 @@ module _ {D : Type 0} (disk : Disk D) where
     pub actions : ℕ
     pub served : IsServed disk start asked store text actions
 
-  -- what holds at a fault
+  -- what holds at a fault; no connection is accepted
   abbrev pub StopsServing : StoreValue D State Action → StoreValue D State Action → Stream → Stream → ServeFault → Type 0
   StopsServing start store reader writer Read = StopsReading start store reader writer
   StopsServing start store reader writer Write = StopsReplying start store reader writer ⊎ StopsNoticing start store reader writer
+  StopsServing start store reader writer Accept = ⊥
 
   -- what holds at the end
   abbrev pub EndsServing : StoreValue D State Action → StoreValue D State Action → Stream → Stream → Result Served ServeFault → Type 0

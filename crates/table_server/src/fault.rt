@@ -1,6 +1,6 @@
 use thiserror::Error;
 
-/// Why a run over a reader and a writer ended early.
+/// Why a run over a reader and a writer, or over a connection, ended early.
 #[derive(Clone, Copy, Debug, PartialEq, Eq, Error)]
 pub enum ServeFault {
     /// A read failed. The replies to the complete lines before it are written.
@@ -9,4 +9,7 @@ pub enum ServeFault {
     /// A write failed or took no byte. A front of the text is written.
     #[error("cannot write output")]
     Write,
+    /// No connection was had. Only `accept_and_serve` answers this.
+    #[error("cannot accept a connection")]
+    Accept,
 }

@@ -7,6 +7,7 @@
 //! ```
 #![tactic(auto)]
 
+mod accepting;
 pub mod asked;
 mod auction_lines;
 pub mod command;
@@ -31,6 +32,7 @@ mod telling;
 mod tests;
 pub mod view_reply;
 
+pub use accepting::accept_and_serve;
 pub use asked::{Asked, Question, asked_by};
 pub use command::{BadLine, Command};
 pub use fault::ServeFault;

@@ -116,6 +116,7 @@ pub fn serve<D: SectorDisk + Drop, R: Read, W: Write>(
         (stream R.remaining reader.old reader.new) (stream W.contents writer.old writer.new)) }
     ensures fault { IfErr result (StopsServing D.disk store.old store.new
         (stream R.remaining reader.old reader.new) (stream W.contents writer.old writer.new)) }
+    ensures ready { store.new.failed ≡ false → store.new.pending ≡ [] }
 {
     let mut cache = cache;
     let mut service = LineService::begin(store);

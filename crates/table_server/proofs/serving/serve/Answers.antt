@@ -1,4 +1,5 @@
 use Rattle.std.proofs.Common.{inl}
+use Rattle.table_server.proofs.AcceptingLemmas.{served_ready}
 use Rattle.table_server.proofs.StreamLemmas.{ends_ok, ends_err}
 use Rattle.table_server.proofs.serving.serve.Goals as goal
 
@@ -16,7 +17,19 @@ returns-in-Ok-clause-fault g c =
     ends_err g.D.SectorDisk.disk start c.end_lines.new.store _ _ c.end_lines.result
     (c.end_lines.ensures start _ (g.W.Write.contents c.args.writer.now) read.0 read.1 read.2)
 
+pub returns-in-Ok-clause-ready : goal.returns-in-Ok-clause-ready
+returns-in-Ok-clause-ready g c =
+    let start = c.args.store.now in
+    let read = c.in-Ok.ensures.read start c.begin-service.ensures.hearing in
+    served_ready g.D.SectorDisk.disk start c.end_lines.new.store _ _ c.end_lines.result
+    (c.end_lines.ensures start _ (g.W.Write.contents c.args.writer.now) read.0 read.1 read.2)
+
 pub returns-in-Err-clause-fault : goal.returns-in-Err-clause-fault
 returns-in-Err-clause-fault g c =
     let stops = c.in-Err.ensures.fault c.args.store.now c.begin-service.ensures.hearing in
     rw stops.0 (inl stops.1)
+
+pub returns-in-Err-clause-ready : goal.returns-in-Err-clause-ready
+returns-in-Err-clause-ready g c works =
+    let stops = c.in-Err.ensures.fault c.args.store.now c.begin-service.ensures.hearing in
+    (stops.1.cut.stopped.served.works works).1

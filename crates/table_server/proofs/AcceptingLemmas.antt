@@ -1,0 +1,40 @@
+-- What holds once a connection was served.
+use Rattle.std.proofs.Common.{◌≡◌, ℕ, false, List, [], Option, Result, Ok, Err, inl, inr}
+use Rattle.std.specs.Prelude.{IfOk, IfErr}
+use Rattle.sector_disk.specs.Disk.{Disk}
+use Rattle.session_store.specs.Value.{StoreValue}
+use Rattle.bridge_session.specs.declared.action.Action.{Action}
+use Rattle.bridge_session.specs.State.{State}
+use Rattle.line_text.specs.Streams.{Stream, stream}
+use Rattle.table_server.specs.declared.fault.ServeFault.{ServeFault}
+use Rattle.table_server.specs.declared.fault.ServeFault.TheVariants.{Read, Write, Accept}
+use Rattle.table_server.specs.declared.served.Served.{Served}
+use Rattle.table_server.specs.Accepting.{Sides, HasServedOne, StopsAccepting}
+use Rattle.table_server.specs.ServedStreams.{HasServed, StopsServing, EndsServing}
+
+module _ {D : Type 0} (disk : Disk D) where
+  -- nothing is pending once lines were served, where the store works
+  pub served_ready : (start store : StoreValue D State Action) (reader writer : Stream) (result : Result Served ServeFault)
+      → EndsServing disk start store reader writer result → store.failed ≡ false → store.pending ≡ []
+  served_ready start store reader writer (Ok result) s works = (s.served.works works).1
+  served_ready start store reader writer (Err Read) s works = (s.served.works works).1
+  served_ready start store reader writer (Err Write) (inl s) works = (s.cut.stopped.served.works works).1
+  served_ready start store reader writer (Err Write) (inr s) works = (s.served.works works).1
+  served_ready start store reader writer (Err Accept) s works = absurd s
+
+module _ {D : Type 0} (disk : Disk D) {S : Type 0} (remaining contents : S → Option (List ℕ)) where
+  -- the lines of a connection were served, where those of its sides were
+  pub one_served : (start store : StoreValue D State Action) (sides : Sides S) (result : Result Served ServeFault)
+      → IfOk result (HasServed disk start store (stream remaining sides.reader_old sides.reader_new) (stream contents sides.writer_old sides.writer_new))
+      → IfOk result (HasServedOne disk remaining contents start store)
+  one_served start store sides (Ok result) s = record { sides = sides; served = s }
+  one_served start store sides (Err fault) s = tt
+
+  -- and where they were not
+  pub one_stopped : (start store : StoreValue D State Action) (sides : Sides S) (result : Result Served ServeFault)
+      → IfErr result (StopsServing disk start store (stream remaining sides.reader_old sides.reader_new) (stream contents sides.writer_old sides.writer_new))
+      → IfErr result (StopsAccepting disk remaining contents start store)
+  one_stopped start store sides (Ok result) s = tt
+  one_stopped start store sides (Err Read) s = record { sides = sides; stops = s }
+  one_stopped start store sides (Err Write) s = record { sides = sides; stops = s }
+  one_stopped start store sides (Err Accept) s = absurd s
