@@ -11,6 +11,9 @@ use std::marker::Model;
 #[cfg(test)]
 mod tests;
 
+/// How many cards the deck has (Law 1).
+pub const DECK: usize = 52;
+
 /// A card of the deck (Law 1). Cards are in order by suit, then by rank; the default is the lowest,
 /// the 2 of clubs.
 #[derive(Clone, Copy, Debug, Default, PartialEq, Eq, PartialOrd, Ord)]

@@ -2,7 +2,7 @@ ghost use Rattle.std.specs.Prelude.{◌≡◌, ℕ, ◌==◌, ◌&&◌, ◌||◌
 ghost use Rattle.bridge_cards.specs.Card.{IsCard};
 ghost use Rattle.bridge_cards.specs.CardSet.{IsCardSet, has_card, card_count, cards_of, is_of_suit};
 
-use crate::card::Card;
+use crate::card::{Card, DECK};
 use crate::suit::Suit;
 use arrayvec::ArrayVec;
 use std::marker::Model;
@@ -164,7 +164,7 @@ impl CardSet {
     }
 
     /// The set's cards in order.
-    pub fn cards(self) -> ArrayVec<Card, 52>
+    pub fn cards(self) -> ArrayVec<Card, DECK>
         ensures { result.items ≡ cards_of self }
     {
         let mut cards = ArrayVec::new();

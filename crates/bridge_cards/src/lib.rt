@@ -25,7 +25,7 @@ pub mod trick;
 pub mod vulnerability;
 
 pub use board::{BoardNumber, dealer, vulnerability_of, vulnerable};
-pub use card::{Card, read_card};
+pub use card::{Card, DECK, read_card};
 pub use card_set::CardSet;
 pub use deal::{BadDeal, Deal};
 pub use deal_text::{print_deal, read_deal, read_hands};

@@ -5,7 +5,7 @@ ghost use Rattle.bridge_cards.specs.Deal.{IsDeal};
 ghost use Rattle.bridge_cards.specs.Shuffle.{shuffled_deck, IsDealtFrom};
 
 use crate::board::BoardNumber;
-use crate::card::Card;
+use crate::card::{Card, DECK};
 use crate::card_set::CardSet;
 use crate::deal::Deal;
 use rand::seq::SliceRandom;
@@ -27,7 +27,7 @@ pub fn deal_board(seed: &[u8; 32], board: BoardNumber) -> Deal
 }
 
 /// The deal of the deck in that order.
-fn deal_out(order: &[Card; 52]) -> Deal
+fn deal_out(order: &[Card; DECK]) -> Deal
     requires { IsPermutation deck order.now }
     ensures dealt { IsDealtFrom order.now result }
     ensures deal { IsDeal result }
@@ -44,7 +44,7 @@ fn deal_out(order: &[Card; 52]) -> Deal
 }
 
 /// The deck as it is dealt on that board.
-fn shuffled_deck(seed: &[u8; 32], board: BoardNumber) -> [Card; 52]
+fn shuffled_deck(seed: &[u8; 32], board: BoardNumber) -> [Card; DECK]
     ensures order { result ≡ shuffled_deck seed.now board }
     ensures cards { IsPermutation deck result }
 {
@@ -56,7 +56,7 @@ fn shuffled_deck(seed: &[u8; 32], board: BoardNumber) -> [Card; 52]
 }
 
 /// The deck in order, from the 2 of clubs to the ace of spades.
-fn ordered_deck() -> [Card; 52]
+fn ordered_deck() -> [Card; DECK]
     ensures { result ≡ deck }
 {
     array::from_fn(|place| Card::new(place as u8).unwrap())

@@ -8,10 +8,7 @@ ghost use Rattle.bridge_endings.specs.Worth.{dealt};
 ghost use Rattle.bridge_endings.specs.Equal.{IsApart, IsEqualTo, EachIsEqualTo};
 
 use bridge_cards::trick::same_suit;
-use bridge_cards::{Card, CardSet};
-
-/// How many cards the deck has.
-pub const DECK: usize = 52;
+use bridge_cards::{Card, CardSet, DECK};
 
 /// For each card of the hands, by its number, cards that are equal to it.
 pub fn equal_cards(hands: &[CardSet; 4]) -> [CardSet; DECK]

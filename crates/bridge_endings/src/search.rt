@@ -12,11 +12,11 @@ ghost use Rattle.bridge_endings.specs.Searched.{IsFound};
 
 use crate::bounds::{Bounds, narrowed};
 use crate::ending::Ending;
-use crate::equal::{DECK, equal_cards};
+use crate::equal::equal_cards;
 use crate::found::{Found, PLACES, empty_table, place};
 use crate::move_order::next_card;
 use crate::trick::Trick;
-use bridge_cards::{Card, CardSet, Seat, Side, Suit};
+use bridge_cards::{Card, CardSet, DECK, Seat, Side, Suit};
 use std::marker::Model;
 
 /// A search of an ending, and how many cards it has tried. Its table has bounds of what was left at the start of a trick;

@@ -10,11 +10,8 @@ use crate::trick::{next_leader, next_won};
 use arrayvec::ArrayVec;
 use bridge_auction::Contract;
 use bridge_cards::trick::same_suit;
-use bridge_cards::{Card, CardSet, Deal, Seat, Side};
+use bridge_cards::{Card, CardSet, DECK, Deal, Seat, Side};
 use std::marker::Model;
-
-/// How many cards are dealt.
-pub const DECK: usize = 52;
 
 /// The cards played to a contract, and beside them what makes each question about them cheap.
 #[derive(Debug, Drop)]

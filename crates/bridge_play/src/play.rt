@@ -7,13 +7,13 @@ ghost use Rattle.bridge_play.specs.Legal.{IsLegal, holds};
 ghost use Rattle.bridge_cards.specs.CardSet.{has_card, card_count};
 ghost use Rattle.bridge_cards.specs.Deal.{hand_at, NoneTwice};
 
-use crate::card_play::{CardPlay, DECK};
+use crate::card_play::CardPlay;
 use crate::claim::{Claim, agreed_by, all_agreed, consent_to, only_asked_agree};
 use crate::dummy::{actor, dummy};
 use crate::refused::{CardRefused, ClaimRefused, ConsentRefused};
 use crate::trick::leader;
 use bridge_auction::Contract;
-use bridge_cards::{Card, CardSet, Deal, Seat, Side};
+use bridge_cards::{Card, CardSet, DECK, Deal, Seat, Side};
 use std::marker::Model;
 
 /// The tricks of a board.
