@@ -2,6 +2,7 @@
 //! read, when it is shown, and streams that fail once.
 mod club;
 mod commands;
+mod connections;
 mod disk;
 mod evening;
 mod faults;

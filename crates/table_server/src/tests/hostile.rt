@@ -2,39 +2,13 @@
 use super::club::CLUB;
 use super::disk::{answers, opened, serve_all};
 use super::expect_eq;
+use super::streams::ByteByByte;
 use crate::{ServeFault, Served};
 use std::alloc::{AllocError, Global};
-use std::io::{Read, Result as IoResult};
 use std::test::Fail;
 
 const DEAL_AND_CALL: &str =
     "DEAL 100 1 N:AKQJT98765432... .AKQJT98765432.. ..AKQJT98765432. ...AKQJT98765432\nCALL 11 1 0 7S\n";
-
-/// Gives a text over and over, a byte at each read, and ends after so many bytes.
-#[derive(Drop)]
-struct ByteByByte<'a> {
-    text: &'a [u8],
-    next: usize,
-    left: usize,
-}
-
-impl Read for ByteByByte<'_> {
-    fn read(&mut self, buf: &mut [u8]) -> IoResult<usize> {
-        if self.left == 0 || buf.is_empty() {
-            return Ok(0);
-        }
-        let Some(byte) = self.text.get(self.next) else {
-            return Ok(0);
-        };
-        buf[0] = *byte;
-        self.left = self.left.saturating_sub(1);
-        self.next = self.next.wrapping_add(1);
-        if self.next == self.text.len() {
-            self.next = 0;
-        }
-        Ok(1)
-    }
-}
 
 /// A text so many times.
 fn repeated(alloc: Global, text: &[u8], times: usize) -> Result<Vec<u8>, AllocError> {
