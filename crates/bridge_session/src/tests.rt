@@ -1,8 +1,8 @@
 //! Worked sessions, each action with its answer.
 mod action_bytes;
+mod disk;
 mod endings;
-mod memory;
-mod movements;
+mod faults;
 mod parts;
 mod random_actions;
 mod random_sessions;

@@ -1,55 +1,30 @@
 //! Endings of a worked play, and what they are worth.
 use super::expect_eq;
-use super::script::{CLUB, play, run, session_of};
-use crate::{Action, MadeCount, Session};
-use bridge_cards::{BoardNumber, Card, Rank, Seat, Suit};
+use super::script::{A_SLAM, CLUB, play, run, session_of};
+use crate::Session;
+use bridge_cards::{Seat, Suit};
 use bridge_config::Key;
 use bridge_endings::solve;
 use std::process::Abort;
 use std::test::Fail;
 
-/// The players of East's, South's, West's and North's cards, and the suit that each hand has: North, who declares, plays
-/// South's.
-const PLAYERS: [(u32, Suit); 4] = [
-    (31, Suit::Hearts),
-    (11, Suit::Diamonds),
-    (32, Suit::Clubs),
-    (11, Suit::Spades),
+/// The tricks of a grand slam: each hand plays its highest, East leads to the first and North to all others. North, who
+/// declares, plays South's cards.
+const TRICKS: [&str; 13] = [
+    "CARD 31 1 0 HA/CARD 11 1 1 DA/CARD 32 1 2 CA/CARD 11 1 3 SA",
+    "CARD 11 1 4 SK/CARD 31 1 5 HK/CARD 11 1 6 DK/CARD 32 1 7 CK",
+    "CARD 11 1 8 SQ/CARD 31 1 9 HQ/CARD 11 1 10 DQ/CARD 32 1 11 CQ",
+    "CARD 11 1 12 SJ/CARD 31 1 13 HJ/CARD 11 1 14 DJ/CARD 32 1 15 CJ",
+    "CARD 11 1 16 ST/CARD 31 1 17 HT/CARD 11 1 18 DT/CARD 32 1 19 CT",
+    "CARD 11 1 20 S9/CARD 31 1 21 H9/CARD 11 1 22 D9/CARD 32 1 23 C9",
+    "CARD 11 1 24 S8/CARD 31 1 25 H8/CARD 11 1 26 D8/CARD 32 1 27 C8",
+    "CARD 11 1 28 S7/CARD 31 1 29 H7/CARD 11 1 30 D7/CARD 32 1 31 C7",
+    "CARD 11 1 32 S6/CARD 31 1 33 H6/CARD 11 1 34 D6/CARD 32 1 35 C6",
+    "CARD 11 1 36 S5/CARD 31 1 37 H5/CARD 11 1 38 D5/CARD 32 1 39 C5",
+    "CARD 11 1 40 S4/CARD 31 1 41 H4/CARD 11 1 42 D4/CARD 32 1 43 C4",
+    "CARD 11 1 44 S3/CARD 31 1 45 H3/CARD 11 1 46 D3/CARD 32 1 47 C3",
+    "CARD 11 1 48 S2/CARD 31 1 49 H2/CARD 11 1 50 D2/CARD 32 1 51 C2",
 ];
-
-/// North of pair 1 bids a grand slam in spades.
-const A_SLAM: [(&str, u8); 5] = [
-    ("DEAL 100 1 SUITS", 0),
-    ("CALL 11 1 0 7S", 0),
-    ("CALL 31 1 1 P", 0),
-    ("CALL 12 1 2 P", 0),
-    ("CALL 32 1 3 P", 0),
-];
-
-/// The card after so many: each hand plays its highest, East leads to the first trick and North to all others.
-fn card_after(count: u8) -> Option<(u32, Card)> {
-    let leads: u8 = if count < 4 { 0 } else { 3 };
-    let (key, suit) = PLAYERS[usize::from((count % 4 + leads) % 4)];
-    let rank = Rank::new(14u8.saturating_sub(count / 4))?;
-    Some((key, Card::of(suit, rank)))
-}
-
-/// Plays the cards from that one on.
-fn lay(session: &mut Session, first: u8, end: u8) -> Result<(), Fail> {
-    for count in first..end {
-        let (key, card) = card_after(count).ok_or("a card")?;
-        let action = Action::Card {
-            key: Key(key),
-            board: BoardNumber::new(1).ok_or("a board")?,
-            at: MadeCount::new(u16::from(count)).ok_or("a count")?,
-            card,
-        };
-        if session.step(&action).is_err() {
-            return Err(Fail::from("a card that is accepted"));
-        }
-    }
-    Ok(())
-}
 
 /// The answer to who asks for the ending of a play of the first round is that refusal, 0 where there is one.
 fn answers(
@@ -90,48 +65,18 @@ fn endings_of_a_slam(rt: HostRuntime) -> Result<(), Fail> {
     answers(&rt, &session, 11, "3", 1, 2)?;
     answers(&rt, &session, 100, "3", 1, 4)?;
     answers(&rt, &session, 100, "1", 1, 25)?;
-    run(&rt, &mut session, &A_SLAM)?;
+    run(&rt, &mut session, &[A_SLAM])?;
     answers(&rt, &session, 100, "1", 28, 27)?;
-    lay(&mut session, 0, 28)?;
+    run(&rt, &mut session, &TRICKS[..7])?;
     leaves(&rt, &session, 28, 6)?;
     for cards in [0, 24, 29, 32] {
         answers(&rt, &session, 100, "1", cards, 27)?;
     }
-    lay(&mut session, 28, 40)?;
+    run(&rt, &mut session, &TRICKS[7..10])?;
     leaves(&rt, &session, 28, 6)?;
     leaves(&rt, &session, 40, 3)?;
-    lay(&mut session, 40, 52)?;
+    run(&rt, &mut session, &TRICKS[10..])?;
     leaves(&rt, &session, 52, 0)?;
-    run(&rt, &mut session, &[("VOID 100 1 1 1", 0)])?;
+    run(&rt, &mut session, &["VOID 100 1 1 1"])?;
     leaves(&rt, &session, 36, 4)
-}
-
-#[test]
-fn plays_without_a_contract_have_no_endings(rt: HostRuntime) -> Result<(), Fail> {
-    let mut session = session_of(rt.alloc(), CLUB)?;
-    run(
-        &rt,
-        &mut session,
-        &[
-            ("DEAL 100 1 SUITS", 0),
-            ("CALL 21 1 0 P", 0),
-            ("CALL 41 1 1 P", 0),
-            ("CALL 22 1 2 P", 0),
-            ("CALL 42 1 3 P", 0),
-        ],
-    )?;
-    answers(&rt, &session, 100, "2", 28, 25)
-}
-
-#[test]
-fn a_round_that_has_not_begun_has_no_endings(rt: HostRuntime) -> Result<(), Fail> {
-    let session = session_of(rt.alloc(), super::rows::THREE_TABLES)?;
-    let answer = session.ending(Key(100), play("2", "1", "1")?, 28);
-    expect_eq(
-        &rt,
-        answer.err().map(|refused| refused.number()),
-        Some(5),
-        "round 2",
-    );
-    Ok(())
 }

@@ -1,6 +1,6 @@
 //! The parts of a session, byte for byte.
 use super::expect_eq;
-use super::script::{CLUB, run, session_of};
+use super::script::{A_SLAM, CLUB, after, run, session_of};
 use crate::Session;
 use arrayvec::ArrayVec;
 use std::process::Abort;
@@ -22,10 +22,6 @@ fn parts_of_a_new_session(rt: HostRuntime) -> Result<(), Fail> {
     let session = session_of(rt.alloc(), CLUB)?;
     expect_eq(&rt, session.parts(), 9, "parts");
     for (place, bytes) in [
-        (
-            0,
-            b"\x0aClub-Night\x09Town-Hall2026.03.14\x00\x01\x02\x01\x01\x04\x02\x00\x00\x00\x64\x01".as_slice(),
-        ),
         (1, b"\x01\x03\x01\x02\x04\x01".as_slice()),
         (
             2,
@@ -46,23 +42,13 @@ fn parts_of_a_new_session(rt: HostRuntime) -> Result<(), Fail> {
 
 #[test]
 fn parts_of_a_session_that_goes_on(rt: HostRuntime) -> Result<(), Fail> {
-    let mut session = session_of(rt.alloc(), CLUB)?;
-    run(
+    let mut session = after(
         &rt,
-        &mut session,
+        rt.alloc(),
         &[
-            ("DEAL 100 1 SUITS", 0),
-            ("CALL 11 1 0 7S", 0),
-            ("CALL 31 1 1 P", 0),
-            ("CALL 12 1 2 P", 0),
-            ("CALL 32 1 3 P", 0),
-            ("CARD 31 1 0 HA", 0),
-            ("CARD 11 1 1 DA", 0),
-            ("CARD 32 1 2 CA", 0),
-            ("CARD 11 1 3 SA", 0),
-            ("CLAIM 11 1 0 12", 0),
-            ("AGREE 31 1 1", 0),
-            ("VOID 100 1 2 1", 0),
+            A_SLAM,
+            "CARD 31 1 0 HA/CARD 11 1 1 DA/CARD 32 1 2 CA/CARD 11 1 3 SA",
+            "CLAIM 11 1 0 12/AGREE 31 1 1/VOID 100 1 2 1",
         ],
     )?;
     expect_part(
@@ -77,11 +63,7 @@ fn parts_of_a_session_that_goes_on(rt: HostRuntime) -> Result<(), Fail> {
     run(
         &rt,
         &mut session,
-        &[
-            ("AGREE 32 1 1", 0),
-            ("TRICKS 100 1 1 1 11", 0),
-            ("NEXT 100 1", 0),
-        ],
+        &["AGREE 32 1 1/TRICKS 100 1 1 1 11/NEXT 100 1"],
     )?;
     let agreed = b"\x00\x04\x24\x00\x00\x00\x04\x26\x19\x0c\x33\x01\x02\x00\x0c\x0a\x01\x0b";
     expect_part(&rt, &session, 7, agreed)

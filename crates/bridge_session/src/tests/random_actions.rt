@@ -51,20 +51,16 @@ fn any_play(state: &mut u32) -> Option<PlayId> {
     })
 }
 
-/// Four hands: a deal, or one in which a card stands twice.
+/// Four hands: a deal, or one in which North's cards are East's too.
 fn any_hands(state: &mut u32, board: BoardNumber) -> [CardSet; 4] {
     let deal = deal_board(&[small(state, 200); 32], board);
-    let hands = [
-        deal.hand(Seat::North),
-        deal.hand(Seat::East),
-        deal.hand(Seat::South),
-        deal.hand(Seat::West),
-    ];
-    let [north, _, south, west] = hands;
+    let [north, east, south, west] = [Seat::North, Seat::East, Seat::South, Seat::West].map(
+        |seat| deal.hand(seat),
+    );
     if next(state, 8) == 0 {
         [north, north, south, west]
     } else {
-        hands
+        [north, east, south, west]
     }
 }
 
@@ -190,27 +186,14 @@ fn good_deed(state: &mut u32, twin: &Twin, table: u8) -> Option<Action> {
     let cards = u16::try_from(play.cards().len()).ok()?;
     let made = [calls, cards, u16::from(play.claims())];
     let card = pick(state, play.remaining(play.turn()))?;
-    if play.claim().is_some() {
+    let (seat, kind) = if play.claim().is_some() {
         let seat = Seat::North.clockwise(usize::from(small(state, 4)));
-        let kind = next(state, 6) / 5 + 3;
-        return deed(
-            state,
-            key_in(twin, row, seat)?,
-            story.board,
-            kind,
-            made,
-            card,
-        );
-    }
-    let kind = next(state, 6) / 5 + 1;
-    deed(
-        state,
-        key_in(twin, row, play.actor())?,
-        story.board,
-        kind,
-        made,
-        card,
-    )
+        (seat, next(state, 6) / 5 + 3)
+    } else {
+        (play.actor(), next(state, 6) / 5 + 1)
+    };
+    let key = key_in(twin, row, seat)?;
+    deed(state, key, story.board, kind, made, card)
 }
 
 pub fn any_action(state: &mut u32, twin: &Twin) -> Option<Action> {

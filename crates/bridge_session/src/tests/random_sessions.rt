@@ -9,7 +9,7 @@ use std::process::Abort;
 use std::test::Fail;
 
 /// Three tables, three rounds, two boards in each of three sets.
-const TWO_BOARDS: &str = "EVENT Club-Night
+pub const TWO_BOARDS: &str = "EVENT Club-Night
 SITE Town-Hall
 DATE 2026.03.14
 SCORING MP

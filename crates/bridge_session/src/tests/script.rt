@@ -1,7 +1,8 @@
 //! Actions as lines of words, so that a worked session can be read.
 use super::expect_eq;
 use crate::{Action, BoardIndex, MadeCount, PlayId, RoundNumber, Session, TableNumber, TrickCount};
-use bridge_auction::{Bid, Call, Denomination, Level};
+use arrayvec::ArrayVec;
+use bridge_auction::{Call, read_call};
 use bridge_cards::{BoardNumber, Card, CardSet, read_card, read_hands};
 use bridge_config::{Key, read_config};
 use std::alloc::Global;
@@ -24,6 +25,16 @@ PAIR 3 Eve 31 Fay 32
 PAIR 4 Gus 41 Hal 42
 ";
 
+/// North of pair 1 bids a grand slam in spades, one suit in each hand.
+pub const A_SLAM: &str =
+    "DEAL 100 1 SUITS/CALL 11 1 0 7S/CALL 31 1 1 PASS/CALL 12 1 2 PASS/CALL 32 1 3 PASS";
+
+/// He claims it before the lead, and both defenders agree.
+pub const A_CLAIM: &str = "CLAIM 11 1 0 13/AGREE 31 1 1/AGREE 32 1 1";
+
+/// The other table passes the board out.
+pub const A_PASS: &str = "CALL 21 1 0 PASS/CALL 41 1 1 PASS/CALL 22 1 2 PASS/CALL 42 1 3 PASS";
+
 /// One suit to each hand, North's the spades.
 const ONE_SUIT_EACH: &str = "N:AKQJT98765432... .AKQJT98765432.. ..AKQJT98765432. ...AKQJT98765432";
 
@@ -43,24 +54,16 @@ pub fn session_of(alloc: Global, text: &str) -> Result<Session, Fail> {
 }
 
 fn number(word: &str) -> Result<u32, Fail> {
-    match word.parse::<u32>() {
-        Ok(number) => Ok(number),
-        Err(_) => Err(Fail::from("a number")),
-    }
+    Ok(word.parse::<u32>().ok().ok_or("a number")?)
 }
 
 fn byte(word: &str) -> Result<u8, Fail> {
-    match u8::try_from(number(word)?) {
-        Ok(byte) => Ok(byte),
-        Err(_) => Err(Fail::from("a small number")),
-    }
+    Ok(u8::try_from(number(word)?).ok().ok_or("a small number")?)
 }
 
 fn made(word: &str) -> Result<MadeCount, Fail> {
-    match u16::try_from(number(word)?) {
-        Ok(count) => Ok(MadeCount::new(count).ok_or("a number of acts")?),
-        Err(_) => Err(Fail::from("a small number")),
-    }
+    let count = u16::try_from(number(word)?).ok().ok_or("a small number")?;
+    Ok(MadeCount::new(count).ok_or("a number of acts")?)
 }
 
 fn key(word: &str) -> Result<Key, Fail> {
@@ -75,29 +78,8 @@ fn tricks(word: &str) -> Result<TrickCount, Fail> {
     Ok(TrickCount::new(byte(word)?).ok_or("tricks")?)
 }
 
-fn denomination(letter: u8) -> Option<Denomination> {
-    match letter {
-        b'C' => Some(Denomination::Clubs),
-        b'D' => Some(Denomination::Diamonds),
-        b'H' => Some(Denomination::Hearts),
-        b'S' => Some(Denomination::Spades),
-        b'N' => Some(Denomination::NoTrump),
-        _ => None,
-    }
-}
-
-/// `P`, `X`, `XX` or a bid as `1C` or `1N`.
 fn call(word: &str) -> Result<Call, Fail> {
-    match word.as_bytes() {
-        b"P" => Ok(Call::Pass),
-        b"X" => Ok(Call::Double),
-        b"XX" => Ok(Call::Redouble),
-        [level @ b'1'..=b'7', letter] => Ok(Call::Bid(Bid {
-            level: Level::new(level - b'0').ok_or("a level")?,
-            denomination: denomination(*letter).ok_or("a denomination")?,
-        })),
-        _ => Err(Fail::from("a call")),
-    }
+    Ok(read_call(word.as_bytes()).ok_or("a call")?)
 }
 
 fn card(word: &str) -> Result<Card, Fail> {
@@ -123,11 +105,11 @@ pub fn play(round: &str, table: &str, index: &str) -> Result<PlayId, Fail> {
     })
 }
 
-/// The first seven words of a line.
-fn words_of(line: &str) -> [&str; 7] {
-    let mut words = [""; 7];
+/// The first eight words of a line.
+fn words_of(line: &str) -> [&str; 8] {
+    let mut words = [""; 8];
     for (place, word) in line.split(' ').enumerate() {
-        if place < 7 {
+        if place < 8 {
             words[place] = word;
         }
     }
@@ -135,7 +117,7 @@ fn words_of(line: &str) -> [&str; 7] {
 }
 
 /// What a player does, by the line's words.
-fn act(words: [&str; 7]) -> Result<Action, Fail> {
+fn act(words: [&str; 8]) -> Result<Action, Fail> {
     let [kind, key_word, board_word, at_word, what, ..] = words;
     let key = key(key_word)?;
     let board = board(board_word)?;
@@ -168,7 +150,7 @@ fn act(words: [&str; 7]) -> Result<Action, Fail> {
 /// The action that a line states.
 pub fn action(line: &str) -> Result<Action, Fail> {
     let words = words_of(line);
-    let [kind, key_word, first, second, third, fourth, _] = words;
+    let [kind, key_word, first, second, third, fourth, ..] = words;
     match kind.as_bytes() {
         b"DEAL" => Ok(Action::Deal {
             key: key(key_word)?,
@@ -196,14 +178,42 @@ pub fn action(line: &str) -> Result<Action, Fail> {
     }
 }
 
-/// Takes each line's action, whose answer is that number, 0 for one that is accepted.
-pub fn run(rt: &impl Abort, session: &mut Session, lines: &[(&str, u8)]) -> Result<(), Fail> {
-    for (line, due) in lines {
-        let answer = match session.step(&action(line)?) {
-            Ok(()) => 0,
-            Err(refused) => refused.number(),
-        };
-        expect_eq(rt, answer, *due, *line);
+/// The number behind `=`, 0 where there is none.
+fn due_of(line: &str) -> Result<u8, Fail> {
+    match line.split_once(" = ") {
+        Some((_, number)) => byte(number),
+        None => Ok(0),
+    }
+}
+
+/// Takes the actions of each text, with `/` between two. Behind ` = ` stands the number of the refusal that is due.
+pub fn run(rt: &impl Abort, session: &mut Session, texts: &[&str]) -> Result<(), Fail> {
+    for text in texts {
+        for line in text.split('/') {
+            let answer = match session.step(&action(line)?) {
+                Ok(()) => 0,
+                Err(refused) => refused.number(),
+            };
+            expect_eq(rt, answer, due_of(line)?, line);
+        }
     }
     Ok(())
+}
+
+/// The session of the club after those actions.
+pub fn after(rt: &impl Abort, alloc: Global, texts: &[&str]) -> Result<Session, Fail> {
+    let mut session = session_of(alloc, CLUB)?;
+    run(rt, &mut session, texts)?;
+    Ok(session)
+}
+
+/// The parts of a session.
+pub fn written(alloc: Global, session: &Session) -> Result<Vec<ArrayVec<u8, 480>>, Fail> {
+    let mut parts = Vec::new(alloc);
+    for place in 0..session.parts() {
+        let mut part = ArrayVec::new();
+        session.write_part(place, &mut part);
+        parts.push(part)?;
+    }
+    Ok(parts)
 }

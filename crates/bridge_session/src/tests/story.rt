@@ -4,32 +4,14 @@ use bridge_auction::{Auction, Call, CallRefused};
 use bridge_cards::{BoardNumber, Card, Deal, Seat, dealer};
 use bridge_play::Play;
 
-/// The latest ruling.
-#[derive(Clone, Copy, Debug, PartialEq, Eq)]
-pub enum Ruled {
-    Nothing,
-    Tricks(u8),
-    Void,
-}
-
-impl Ruled {
-    /// What a ruling leaves.
-    pub fn by(action: &Action) -> Ruled {
-        match action {
-            Action::Tricks { tricks, .. } => Ruled::Tricks(tricks.number()),
-            Action::Void { .. } => Ruled::Void,
-            _ => Ruled::Nothing,
-        }
-    }
-}
-
 #[derive(Drop)]
 pub struct Story {
     pub board: BoardNumber,
     pub deal: Option<Deal>,
     pub auction: Auction,
     pub play: Option<Play>,
-    pub ruled: Ruled,
+    pub ruled_tricks: Option<u8>,
+    pub is_void: bool,
 }
 
 impl Story {
@@ -39,38 +21,32 @@ impl Story {
             deal: None,
             auction: Auction::new(dealer(board)),
             play: None,
-            ruled: Ruled::Nothing,
+            ruled_tricks: None,
+            is_void: false,
         }
     }
 
-    /// Adds an action that was taken, by the player in that seat.
+    /// Adds an action that was taken: a deal, or what the player in that seat did.
     pub fn tell(&mut self, action: &Action, seat: Option<Seat>) {
         match *action {
             Action::Deal { board, hands, .. } if board == self.board => self.deal =
                 Deal::from_hands(hands).ok(),
-            Action::Call { board, call, .. } if board == self.board && seat.is_some() => self.call(
-                call,
-            ),
-            Action::Card { board, card, .. } if board == self.board => self.card(seat, card),
-            Action::Claim { board, tricks, .. } if board == self.board => {
-                if let (Some(play), Some(seat)) = (&mut self.play, seat) {
-                    let _ = play.try_claim(seat, tricks.number());
+            Action::Call { call, .. } if seat.is_some() => self.call(call),
+            _ => {
+                if let Some(seat) = seat {
+                    self.play_on(action, seat);
                 }
             }
-            Action::Agree { board, .. } if board == self.board => {
-                if let (Some(play), Some(seat)) = (&mut self.play, seat) {
-                    let claims = play.claims();
-                    let _ = play.agree(seat, claims);
-                }
-            }
-            Action::Refuse { board, .. } if board == self.board => {
-                if let (Some(play), Some(seat)) = (&mut self.play, seat) {
-                    let claims = play.claims();
-                    let _ = play.refuse(seat, claims);
-                }
-            }
-            _ => (),
         }
+    }
+
+    /// Adds a ruling, of which the latest holds.
+    pub fn rule(&mut self, action: &Action) {
+        self.is_void = matches!(action, Action::Void { .. });
+        self.ruled_tricks = match action {
+            Action::Tricks { tricks, .. } => Some(tricks.number()),
+            _ => None,
+        };
     }
 
     fn call(&mut self, call: Call) {
@@ -80,10 +56,17 @@ impl Story {
         }
     }
 
-    fn card(&mut self, seat: Option<Seat>, card: Card) {
-        if let (Some(play), Some(seat)) = (&mut self.play, seat) {
-            let _ = play.try_card(seat, card);
-        }
+    fn play_on(&mut self, action: &Action, seat: Seat) {
+        let Some(play) = &mut self.play else {
+            return;
+        };
+        let claims = play.claims();
+        let _ = match *action {
+            Action::Card { card, .. } => play.try_card(seat, card).is_ok(),
+            Action::Claim { tricks, .. } => play.try_claim(seat, tricks.number()).is_ok(),
+            Action::Agree { .. } => play.agree(seat, claims).is_ok(),
+            _ => play.refuse(seat, claims).is_ok(),
+        };
     }
 
     /// Whether the play is finished: passed out, all played, or claimed.
@@ -94,17 +77,15 @@ impl Story {
         }
     }
 
-    pub fn is_void(&self) -> bool {
-        self.ruled == Ruled::Void
-    }
-
     /// What came of the play.
     pub fn outcome(&self) -> Outcome {
-        let tricks = match (self.ruled, &self.play) {
-            (Ruled::Void, _) => return Outcome::Voided,
-            (Ruled::Tricks(tricks), _) => tricks,
-            (Ruled::Nothing, Some(play)) => play.tricks(play.contract().declarer.side()),
-            (Ruled::Nothing, None) => 0,
+        if self.is_void {
+            return Outcome::Voided;
+        }
+        let tricks = match (self.ruled_tricks, &self.play) {
+            (Some(tricks), _) => tricks,
+            (None, Some(play)) => play.tricks(play.contract().declarer.side()),
+            (None, None) => 0,
         };
         match &self.play {
             Some(play) if self.is_over() => Outcome::Played {
@@ -163,17 +144,10 @@ fn card_answer(play: &mut Play, seat: Seat, at: u16, card: Card) -> Result<(), R
     if play.claim().is_some() {
         return Err(Refused::ClaimStands);
     }
-    let declarer = play.contract().declarer;
-    let hand = play.turn();
-    let player = if hand == declarer.partner() {
-        declarer
-    } else {
-        hand
-    };
-    if player != seat {
+    if play.actor() != seat {
         return Err(Refused::NotYourTurn);
     }
-    if !play.remaining(hand).has(card) {
+    if !play.remaining(play.turn()).has(card) {
         return Err(Refused::NotHeld);
     }
     match play.try_card(seat, card) {

@@ -1,5 +1,5 @@
 //! A second reading of a session: it keeps every action that was taken, and works each answer out from all of them.
-use super::story::{Ruled, Story};
+use super::story::Story;
 use crate::{Action, PlayId, Refused};
 use bridge_cards::{BoardNumber, CardSet, Deal, Seat};
 use bridge_config::{Config, Key};
@@ -114,7 +114,7 @@ impl Twin {
                         && play.table.number() == row.table
                         && play.index.number() == index
                     {
-                        story.ruled = Ruled::by(action);
+                        story.rule(action);
                     }
                 }
                 _ => {
@@ -157,7 +157,7 @@ impl Twin {
     pub fn current(&self, row: Row) -> Option<Story> {
         for index in 1..4 {
             let story = self.story(row, index)?;
-            if !story.is_over() && !story.is_void() {
+            if !story.is_over() && !story.is_void {
                 return Some(story);
             }
         }
