@@ -38,7 +38,7 @@ pub use command::{BadLine, Command};
 pub use fault::ServeFault;
 pub use line_command::read_line_command;
 pub use pbn_reply::write_pbn_reply;
-pub use ranking_reply::push_ranking;
+pub use ranking_reply::{push_pairs, push_ranking};
 pub use reply_text::{ReplyText, push_solved, push_too_much};
 pub use run::{MOST_BYTES, run_auction};
 pub use served::Served;

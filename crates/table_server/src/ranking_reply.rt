@@ -92,8 +92,9 @@ fn push_ranked(text: &mut ReplyText, scoring: Scoring, ranked: &Ranked)
     text.push_str("\n");
 }
 
-/// Adds the lines of the pairs.
-fn push_pairs(text: &mut ReplyText, scoring: Scoring, ranking: &[Ranked])
+/// Adds the lines of the pairs: of each its place, its number, and under matchpoints what it gained of what was available,
+/// as `3/6`, and the percentage with two decimals, or `-` where nothing was available; under IMPs the sum.
+pub fn push_pairs(text: &mut ReplyText, scoring: Scoring, ranking: &[Ranked])
     requires few { length ranking.now ≤ 24 }
     requires room { array_string_len text.old + 24 * RANK_BYTES ≤ TEXT_BYTES }
     ensures lines { text.new.bytes ≡ text.old.bytes ++ lines_text (map (rank_line scoring) ranking.now) }
@@ -105,9 +106,6 @@ fn push_pairs(text: &mut ReplyText, scoring: Scoring, ranking: &[Ranked])
 }
 
 /// Adds the reply to a question for a ranking: `OK`, a line for each pair, and a full stop.
-///
-/// A line is the place, the pair, and under matchpoints what it gained of what was available, as `3/6`, and the percentage
-/// with two decimals, or `-` where nothing was available; under IMPs the sum.
 pub fn push_ranking(text: &mut ReplyText, scoring: Scoring, ranking: &[Ranked])
     requires few { length ranking.now ≤ 24 }
     requires empty { text.old.bytes ≡ [] }
