@@ -1,2 +1,9 @@
 pub mod Words
+pub mod Faults
+pub mod Opening
+pub mod Formatted
+pub mod Stored
+pub mod Results
+pub mod Scripted
+pub mod OnFile
 pub mod Run

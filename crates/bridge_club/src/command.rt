@@ -3,9 +3,17 @@ use bridge_cards::BoardNumber;
 
 /// A command with its words.
 #[derive(Clone, Copy, Debug, PartialEq, Eq)]
-pub enum Command {
+pub enum Command<'a> {
     /// `auction BOARD`: one board's auction, from standard input.
     Auction(BoardNumber),
+    /// `format DISK CONFIG`: a new disk for the session that begins by the configuration in a file.
+    Format { disk: &'a str, config: &'a str },
+    /// `script DISK`: lines from standard input, served over the session that a disk holds.
+    Script { disk: &'a str },
+    /// `rank DISK`: the ranking of each field of the session that a disk holds.
+    Rank { disk: &'a str },
+    /// `pbn DISK`: the results of the session that a disk holds, in Portable Bridge Notation.
+    Pbn { disk: &'a str },
 }
 
 /// Why the words ask for no command.

@@ -2,12 +2,25 @@
 //!
 //! ```sh
 //! bridge_club auction 1 < examples/auction.txt
+//! bridge_club format club.disk examples/mitchell.txt
+//! bridge_club script club.disk < lines.txt
+//! bridge_club rank club.disk
+//! bridge_club pbn club.disk
 //! ```
 #![tactic(auto)]
 
 mod command;
+mod config_file;
+mod disk_commands;
+mod fault;
+mod fault_line;
+mod formatting;
+mod output;
 mod read;
+mod results;
 mod run;
+mod script;
+mod stored_session;
 #[cfg(test)]
 mod tests;
 

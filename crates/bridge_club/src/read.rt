@@ -1,8 +1,8 @@
 //! Reads the words after the program's name.
-ghost use Rattle.std.specs.Prelude.{◌≡◌, IfOk, IfErr, IfSome, false, map};
-ghost use Rattle.clap.specs.Words.{app_of, shape_of, rule_of, subcommand_rows_of};
+ghost use Rattle.std.specs.Prelude.{◌≡◌, IfOk, IfErr, IfSome, codes, false, map};
+ghost use Rattle.clap.specs.Words.{app_of, shape_of, rule_of, rows_of, found_of, subcommand_rows_of};
 ghost use Rattle.clap.specs.declared.builder.command.Command.TheViews.{out-Command as fields_of};
-ghost use Rattle.bridge_club.specs.Words.{board_rule, auction_app, bare_app, club_app, IsCommand, Asks, Faults};
+ghost use Rattle.bridge_club.specs.Words.{board_rule, disk_rule, config_rule, auction_app, format_app, script_app, rank_app, pbn_app, bare_app, app_with_auction, app_with_format, app_with_script, app_with_rank, club_app, IsCommand, IsNamed, Asks, Faults};
 
 use crate::command::{Command, WordsFault};
 use bridge_cards::BoardNumber;
@@ -13,7 +13,7 @@ use std::alloc::{AllocError, Global};
 /// Reads a command from the words after the program's name.
 ///
 /// `Usage` where they are no command or call for help, and `Memory` where memory is refused.
-pub fn read_words<'a>(alloc: Global, words: &'a [&'a str]) -> Result<Command, WordsFault>
+pub fn read_words<'a>(alloc: Global, words: &'a [&'a str]) -> Result<Command<'a>, WordsFault>
     ensures ok { IfOk result (Asks (map (λ word. word.now) words.entry.now)) }
     ensures fault { IfErr result (Faults (map (λ word. word.now) words.entry.now)) }
 {
@@ -22,7 +22,10 @@ pub fn read_words<'a>(alloc: Global, words: &'a [&'a str]) -> Result<Command, Wo
         Err(_) => return Err(WordsFault::Memory),
     };
     match command.try_get_matches_from(words) {
-        Ok(matches) => asked(&matches).ok_or(WordsFault::Memory),
+        Ok(matches) => match asked(&matches) {
+            Some(command) => Ok(command),
+            None => Err(WordsFault::Memory),
+        },
         Err(error) => match error.kind() {
             ErrorKind::OutOfMemory => Err(WordsFault::Memory),
             _ => Err(WordsFault::Usage(error)),
@@ -31,22 +34,92 @@ pub fn read_words<'a>(alloc: Global, words: &'a [&'a str]) -> Result<Command, Wo
 }
 
 /// The command that the matches name.
-fn asked(matches: &ArgMatches) -> Option<Command>
+fn asked<'a>(matches: &ArgMatches<'a>) -> Option<Command<'a>>
     ensures { IfSome result (IsCommand (subcommand_rows_of matches.now)) }
 {
     match matches.subcommand()? {
-        ("auction", found) => {
-            let board = BoardNumber::new(found.get_one::<u8>("BOARD")?)?;
-            Some(Command::Auction(board))
-        }
+        ("auction", found) => auction_of(found),
+        ("format", found) => format_of(found),
+        ("script", found) => script_of(found),
+        ("rank", found) => rank_of(found),
+        ("pbn", found) => pbn_of(found),
         // clap's checks leave no other name. The contract allows want of memory alone here.
         _ => None,
     }
 }
 
+/// The command `auction` with its board.
+fn auction_of<'a>(found: &ArgMatches<'a>) -> Option<Command<'a>>
+    ensures { IfSome result (IsNamed (codes "auction") (rows_of (found_of found.now))) }
+{
+    let board = BoardNumber::new(found.get_one::<u8>("BOARD")?)?;
+    Some(Command::Auction(board))
+}
+
+/// The command `format` with its files.
+fn format_of<'a>(found: &ArgMatches<'a>) -> Option<Command<'a>>
+    ensures { IfSome result (IsNamed (codes "format") (rows_of (found_of found.now))) }
+{
+    let disk = found.get_str("DISK")?;
+    let config = found.get_str("CONFIG")?;
+    Some(Command::Format { disk, config })
+}
+
+/// The command `script` with its disk.
+fn script_of<'a>(found: &ArgMatches<'a>) -> Option<Command<'a>>
+    ensures { IfSome result (IsNamed (codes "script") (rows_of (found_of found.now))) }
+{
+    let disk = found.get_str("DISK")?;
+    Some(Command::Script { disk })
+}
+
+/// The command `rank` with its disk.
+fn rank_of<'a>(found: &ArgMatches<'a>) -> Option<Command<'a>>
+    ensures { IfSome result (IsNamed (codes "rank") (rows_of (found_of found.now))) }
+{
+    let disk = found.get_str("DISK")?;
+    Some(Command::Rank { disk })
+}
+
+/// The command `pbn` with its disk.
+fn pbn_of<'a>(found: &ArgMatches<'a>) -> Option<Command<'a>>
+    ensures { IfSome result (IsNamed (codes "pbn") (rows_of (found_of found.now))) }
+{
+    let disk = found.get_str("DISK")?;
+    Some(Command::Pbn { disk })
+}
+
 /// The program's command line.
 fn club_command<'a>(alloc: Global) -> Result<clap::Command<'a>, AllocError>
     ensures { IfOk result (λ command. app_of command ≡ club_app) }
+{
+    with_rank(alloc)?.subcommand(pbn_command(alloc)?)
+}
+
+/// The command line with the commands up to `rank`.
+fn with_rank<'a>(alloc: Global) -> Result<clap::Command<'a>, AllocError>
+    ensures { IfOk result (λ command. app_of command ≡ app_with_rank) }
+{
+    with_script(alloc)?.subcommand(rank_command(alloc)?)
+}
+
+/// The command line with the commands up to `script`.
+fn with_script<'a>(alloc: Global) -> Result<clap::Command<'a>, AllocError>
+    ensures { IfOk result (λ command. app_of command ≡ app_with_script) }
+{
+    with_format(alloc)?.subcommand(script_command(alloc)?)
+}
+
+/// The command line with the commands up to `format`.
+fn with_format<'a>(alloc: Global) -> Result<clap::Command<'a>, AllocError>
+    ensures { IfOk result (λ command. app_of command ≡ app_with_format) }
+{
+    with_auction(alloc)?.subcommand(format_command(alloc)?)
+}
+
+/// The command line with the command `auction`.
+fn with_auction<'a>(alloc: Global) -> Result<clap::Command<'a>, AllocError>
+    ensures { IfOk result (λ command. app_of command ≡ app_with_auction) }
 {
     bare_command(alloc)?.subcommand(auction_command(alloc)?)
 }
@@ -70,6 +143,67 @@ fn auction_command<'a>(alloc: Global) -> Result<clap::Command<'a>, AllocError>
     clap::Command::new(alloc, "auction")
         .about("Reads a board's calls from standard input, a line each, and prints the contract")
         .arg(board_argument(alloc))
+}
+
+/// The command `format DISK CONFIG`.
+fn format_command<'a>(alloc: Global) -> Result<clap::Command<'a>, AllocError>
+    ensures shape { IfOk result (λ command. shape_of command ≡ format_app.top) }
+    ensures local { IfOk result (λ command. (fields_of command).has_globals ≡ false) }
+{
+    clap::Command::new(alloc, "format")
+        .about("Makes the file DISK anew, for the session that begins by a configuration")
+        .arg(disk_argument(alloc))?
+        .arg(config_argument(alloc))
+}
+
+/// The command `script DISK`.
+fn script_command<'a>(alloc: Global) -> Result<clap::Command<'a>, AllocError>
+    ensures shape { IfOk result (λ command. shape_of command ≡ script_app.top) }
+    ensures local { IfOk result (λ command. (fields_of command).has_globals ≡ false) }
+{
+    clap::Command::new(alloc, "script")
+        .about("Answers lines from standard input over the session on a disk")
+        .arg(disk_argument(alloc))
+}
+
+/// The command `rank DISK`.
+fn rank_command<'a>(alloc: Global) -> Result<clap::Command<'a>, AllocError>
+    ensures shape { IfOk result (λ command. shape_of command ≡ rank_app.top) }
+    ensures local { IfOk result (λ command. (fields_of command).has_globals ≡ false) }
+{
+    clap::Command::new(alloc, "rank")
+        .about("Prints the ranking of each field of the session on a disk")
+        .arg(disk_argument(alloc))
+}
+
+/// The command `pbn DISK`.
+fn pbn_command<'a>(alloc: Global) -> Result<clap::Command<'a>, AllocError>
+    ensures shape { IfOk result (λ command. shape_of command ≡ pbn_app.top) }
+    ensures local { IfOk result (λ command. (fields_of command).has_globals ≡ false) }
+{
+    clap::Command::new(alloc, "pbn")
+        .about("Prints the results of the session on a disk in Portable Bridge Notation")
+        .arg(disk_argument(alloc))
+}
+
+/// The argument DISK.
+fn disk_argument<'a>(alloc: Global) -> Arg<'a>
+    ensures rule { rule_of result ≡ disk_rule }
+    ensures local { result.global ≡ false }
+{
+    Arg::new(alloc, "DISK")
+        .help("The file that is the disk")
+        .required(true)
+}
+
+/// The argument CONFIG.
+fn config_argument<'a>(alloc: Global) -> Arg<'a>
+    ensures rule { rule_of result ≡ config_rule }
+    ensures local { result.global ≡ false }
+{
+    Arg::new(alloc, "CONFIG")
+        .help("The file with the configuration")
+        .required(true)
 }
 
 /// The argument BOARD.

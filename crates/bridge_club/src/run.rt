@@ -1,25 +1,30 @@
 //! Runs the command that the words ask for.
-ghost use Rattle.std.specs.Prelude.{◌≡◌, ◌≢◌, ◌⊎◌, [], map, IfOk, IfErr};
+ghost use Rattle.std.specs.Prelude.{◌≡◌, ◌≢◌, ◌⊎◌, [], map, IfOk, IfErr, OnOk};
 ghost use Rattle.clap.specs.Words.{fault_of};
 ghost use Rattle.bridge_club.specs.Words.{club_app, Asks};
 ghost use Rattle.line_text.specs.Streams.{stream, TakesPrefix, IsUntouched};
-ghost use Rattle.bridge_club.specs.Run.{IsDone, IsStopped, IsWithoutMemory, Refuses, fault_line, memory_line, text_line};
+ghost use Rattle.bridge_club.specs.Faults.{fault_line, fault_status};
+ghost use Rattle.bridge_club.specs.Run.{HasAuction, StopsAuction, Does, StopsBy, IsDone, IsStopped, IsWithoutMemory, Refuses, memory_line, text_line};
 ghost use Rattle.bridge_club.specs.declared.command.Command.{Command};
 
 use crate::command::{Command, WordsFault};
+use crate::disk_commands::{run_pbn, run_rank, run_script};
+use crate::fault::RunFault;
+use crate::fault_line::{FAULT, fault_line, fault_status};
+use crate::formatting::run_format;
 use crate::read::read_words;
+use bridge_cards::BoardNumber;
 use line_text::write_text;
 use std::alloc::Global;
+use std::fs::File;
 use std::io::{ErrorKind, Read, Write};
 use std::rt::Files;
-use table_server::{ServeFault, run_auction};
+use table_server::run_auction;
 
 /// The command was done.
 pub const DONE: u8 = 0;
 /// The words are no command, or call for help, or one of them is not UTF-8.
 pub const USAGE: u8 = 2;
-/// Reading, writing or memory failed.
-pub const FAULT: u8 = 3;
 
 const NO_MEMORY: &str = "no memory\n";
 
@@ -29,10 +34,11 @@ const NOT_TEXT: &str = "a word of the command line is not UTF-8\n";
 ///
 /// The runtime gives the files that commands open; `auction` opens none.
 ///
-/// 0: done. 2: the words are no command, or call for help; clap's text stands on `errors`.
-/// 3: a fault, named on one line of `errors`: `cannot read input`, `cannot write output` or `no memory`.
-pub fn run_words<F: Files, R: Read, W: Write, E: Write>(
-    _rt: &F,
+/// 0: done. 2: the words are no command, or call for help; clap's text stands on `errors`. At 3 and 4 one line of `errors`
+/// names a fault. 3: `cannot read input`, `cannot write output`, `config line N: Name`, `disk fault`, `epochs spent` or
+/// `no memory`. 4: the disk holds no session, being `disk too small`, `not formatted` or `damaged sector N`.
+pub fn run_words<S: Files<File = File>, R: Read, W: Write, E: Write>(
+    rt: &S,
     alloc: Global,
     words: &[&str],
     input: &mut R,
@@ -49,11 +55,14 @@ pub fn run_words<F: Files, R: Read, W: Write, E: Write>(
         (stream W.contents output.old output.new) (stream E.contents errors.old errors.new)
         ⊎ ((command : Command) × Asks (map (λ word. word.now) words.entry.now) command
         × IsStopped command (stream R.remaining input.old input.new)
-        (stream W.contents output.old output.new) (stream E.contents errors.old errors.new)) }
-    ensures status { (result ≡ 0) ⊎ ((result ≡ 2) ⊎ (result ≡ 3)) }
+        (stream W.contents output.old output.new) (stream E.contents errors.old errors.new) 3) }
+    ensures no_session { result ≡ 4 → (command : Command) × Asks (map (λ word. word.now) words.entry.now) command
+        × IsStopped command (stream R.remaining input.old input.new)
+        (stream W.contents output.old output.new) (stream E.contents errors.old errors.new) 4 }
+    ensures status { (result ≡ 0) ⊎ ((result ≡ 2) ⊎ ((result ≡ 3) ⊎ (result ≡ 4))) }
 {
     match read_words(alloc, words) {
-        Ok(command) => run_command(command, input, output, errors),
+        Ok(command) => run_command(rt, alloc, &command, input, output, errors),
         Err(fault) => refuse(fault, errors),
     }
 }
@@ -67,27 +76,70 @@ pub fn refuse<E: Write>(fault: WordsFault, errors: &mut E) -> u8
             let _ = write!(errors, "{error}");
             USAGE
         }
-        WordsFault::Memory => fails(NO_MEMORY, errors),
+        WordsFault::Memory => {
+            let _ = write_text(errors, NO_MEMORY.as_bytes());
+            FAULT
+        }
     }
 }
 
-/// Runs a command.
-fn run_command<R: Read, W: Write, E: Write>(
-    command: Command,
+/// Runs a command, and where it stops names the fault on `errors`. The answer is the exit status.
+fn run_command<S: Files<File = File>, R: Read, W: Write, E: Write>(
+    rt: &S,
+    alloc: Global,
+    command: &Command<'_>,
     input: &mut R,
     output: &mut W,
     errors: &mut E,
 ) -> u8
-    ensures done { result ≡ 0 → IsDone command (stream R.remaining input.old input.new)
+    ensures done { result ≡ 0 → IsDone command.now (stream R.remaining input.old input.new)
         (stream W.contents output.old output.new) (stream E.contents errors.old errors.new) }
-    ensures fault { result ≡ 3 → IsStopped command (stream R.remaining input.old input.new)
-        (stream W.contents output.old output.new) (stream E.contents errors.old errors.new) }
-    ensures status { (result ≡ 0) ⊎ (result ≡ 3) }
+    ensures stopped { result ≢ 0 → IsStopped command.now (stream R.remaining input.old input.new)
+        (stream W.contents output.old output.new) (stream E.contents errors.old errors.new) result }
+    ensures status { (result ≡ 0) ⊎ ((result ≡ 3) ⊎ (result ≡ 4)) }
 {
-    let Command::Auction(board) = command;
-    match run_auction(board, input, output) {
+    match do_command(rt, alloc, command, input, output) {
         Ok(()) => DONE,
-        Err(fault) => fails(fault_text(fault), errors),
+        Err(fault) => fails(fault, errors),
+    }
+}
+
+/// Runs a command.
+fn do_command<S: Files<File = File>, R: Read, W: Write>(
+    rt: &S,
+    alloc: Global,
+    command: &Command<'_>,
+    input: &mut R,
+    output: &mut W,
+) -> Result<(), RunFault>
+    ensures done { OnOk result (Does command.now (stream R.remaining input.old input.new)
+        (stream W.contents output.old output.new)) }
+    ensures fault { IfErr result (StopsBy command.now (stream R.remaining input.old input.new)
+        (stream W.contents output.old output.new)) }
+{
+    match *command {
+        Command::Auction(board) => hold_auction(board, input, output),
+        Command::Format { disk, config } => run_format(rt, alloc, disk, config, output),
+        Command::Script { disk } => run_script(rt, alloc, disk, input, output),
+        Command::Rank { disk } => run_rank(rt, alloc, disk, output),
+        Command::Pbn { disk } => run_pbn(rt, alloc, disk, output),
+    }
+}
+
+/// Reads a board's auction from the input.
+fn hold_auction<R: Read, W: Write>(
+    board: BoardNumber,
+    input: &mut R,
+    output: &mut W,
+) -> Result<(), RunFault>
+    ensures done { OnOk result (HasAuction board (stream R.remaining input.old input.new)
+        (stream W.contents output.old output.new)) }
+    ensures fault { IfErr result (StopsAuction board (stream R.remaining input.old input.new)
+        (stream W.contents output.old output.new)) }
+{
+    match run_auction(board, input, output) {
+        Ok(()) => Ok(()),
+        Err(fault) => Err(RunFault::Stream(fault)),
     }
 }
 
@@ -103,7 +155,7 @@ pub fn status_of<E: Write>(outcome: Result<u8, ErrorKind>, errors: &mut E) -> u8
 {
     match outcome {
         Ok(status) => status,
-        Err(ErrorKind::OutOfMemory) => fails(NO_MEMORY, errors),
+        Err(ErrorKind::OutOfMemory) => refuse(WordsFault::Memory, errors),
         Err(_) => {
             let _ = write_text(errors, NOT_TEXT.as_bytes());
             USAGE
@@ -111,21 +163,11 @@ pub fn status_of<E: Write>(outcome: Result<u8, ErrorKind>, errors: &mut E) -> u8
     }
 }
 
-/// Writes the line of a fault.
-fn fails<E: Write>(text: &str, errors: &mut E) -> u8
-    ensures status { result ≡ 3 }
-    ensures line { TakesPrefix (stream E.contents errors.old errors.new) text.now }
+/// Writes the line of a fault, and answers its exit status.
+fn fails<E: Write>(fault: RunFault, errors: &mut E) -> u8
+    ensures status { result ≡ fault_status fault }
+    ensures line { TakesPrefix (stream E.contents errors.old errors.new) (fault_line fault) }
 {
-    let _ = write_text(errors, text.as_bytes());
-    FAULT
-}
-
-/// The line that names the fault.
-fn fault_text(fault: ServeFault) -> &'static str
-    ensures { result.now ≡ fault_line fault }
-{
-    match fault {
-        ServeFault::Read | ServeFault::Accept => "cannot read input\n",
-        ServeFault::Write => "cannot write output\n",
-    }
+    let _ = write_text(errors, fault_line(fault).as_str().as_bytes());
+    fault_status(fault)
 }

@@ -1,0 +1,67 @@
+-- The line on standard error and the exit status that a fault has.
+use Rattle.std.specs.Prelude.{ℕ, List, ◌++◌, codes}
+use Rattle.std.specs.Fmt.{decimal}
+use Rattle.bridge_movement.specs.declared.refused.MovementRefused.{MovementRefused}
+use Rattle.bridge_movement.specs.declared.refused.MovementRefused.TheVariants.{MissingRow, BadPair, SamePair, BadSet, PairTwice, SetAgain}
+use Rattle.bridge_config.specs.declared.refused.ConfigFault.{ConfigFault}
+use Rattle.bridge_config.specs.declared.refused.ConfigRefused.{ConfigRefused}
+use Rattle.bridge_config.specs.declared.refused.ConfigRefused.TheVariants.{TooLong, Form, Range, KeyTwice, Movement}
+use Rattle.session_store.specs.declared.fault.StoreFault.{StoreFault}
+use Rattle.session_store.specs.declared.fault.StoreFault.TheVariants.{TooSmall, Disk, NotFormatted, Damaged, EpochsSpent, NoMemory}
+use Rattle.table_server.specs.declared.fault.ServeFault.{ServeFault}
+use Rattle.table_server.specs.declared.fault.ServeFault.TheVariants.{Read, Write}
+use Rattle.bridge_club.specs.declared.fault.RunFault.{RunFault}
+use Rattle.bridge_club.specs.declared.fault.RunFault.TheVariants.{Stream, Config, Store}
+
+abbrev pub movement_name : MovementRefused → List ℕ
+movement_name (MissingRow place) = codes "MissingRow"
+movement_name (BadPair place) = codes "BadPair"
+movement_name (SamePair place) = codes "SamePair"
+movement_name (BadSet place) = codes "BadSet"
+movement_name (PairTwice place) = codes "PairTwice"
+movement_name (SetAgain place) = codes "SetAgain"
+
+-- what is wrong with a line of a configuration; of a movement that is refused, why
+abbrev pub cause_name : ConfigRefused → List ℕ
+cause_name TooLong = codes "TooLong"
+cause_name Form = codes "Form"
+cause_name Range = codes "Range"
+cause_name KeyTwice = codes "KeyTwice"
+cause_name (Movement refused) = movement_name refused
+
+abbrev pub stream_line : ServeFault → List ℕ
+stream_line Read = codes "cannot read input\n"
+stream_line Write = codes "cannot write output\n"
+
+-- the number of the configuration's line, and what is wrong with it
+abbrev pub config_line : ConfigFault → List ℕ
+config_line fault = (((codes "config line " ++ decimal fault.line) ++ codes ": ") ++ cause_name fault.cause) ++ codes "\n"
+
+abbrev pub store_line : StoreFault → List ℕ
+store_line TooSmall = codes "disk too small\n"
+store_line Disk = codes "disk fault\n"
+store_line NotFormatted = codes "not formatted\n"
+store_line (Damaged sector) = (codes "damaged sector " ++ decimal sector) ++ codes "\n"
+store_line EpochsSpent = codes "epochs spent\n"
+store_line NoMemory = codes "no memory\n"
+
+-- the line on standard error that names a fault
+abbrev pub fault_line : RunFault → List ℕ
+fault_line (Stream fault) = stream_line fault
+fault_line (Config fault) = config_line fault
+fault_line (Store fault) = store_line fault
+
+-- 4 where the disk holds no session, and else 3
+abbrev pub store_status : StoreFault → ℕ
+store_status TooSmall = 4
+store_status Disk = 3
+store_status NotFormatted = 4
+store_status (Damaged sector) = 4
+store_status EpochsSpent = 3
+store_status NoMemory = 3
+
+-- the exit status at a fault
+abbrev pub fault_status : RunFault → ℕ
+fault_status (Stream fault) = 3
+fault_status (Config fault) = 3
+fault_status (Store fault) = store_status fault

@@ -1,0 +1,71 @@
+-- What the command `format` makes.
+use Rattle.std.specs.Prelude.{◌≡◌, ◌⊎◌, ◌≤◌, ℕ, List, length, codes}
+use Rattle.std.specs.declared.fs.File.{File}
+use Rattle.line_text.specs.Streams.{Stream, Takes, TakesPrefix, IsUntouched}
+use Rattle.sector_disk.specs.declared.file.FileDisk.{FileDisk}
+use Rattle.sector_disk.specs.Disk.{Disk}
+use Rattle.sector_disk.specs.File.{file_disk}
+use Rattle.sector_disk.specs.Runs.{Remains}
+use Rattle.session_store.specs.declared.fault.StoreFault.TheVariants.{Disk as DiskFault}
+use Rattle.session_store.specs.Sound.{IsSoundDisk, StandsOnlyFor}
+use Rattle.bridge_session.specs.SessionKeeping.{session_keeping}
+use Rattle.bridge_session.specs.State.{State}
+use Rattle.table_server.specs.declared.fault.ServeFault.TheVariants.{Read, Write}
+use Rattle.bridge_club.specs.declared.fault.RunFault.{RunFault}
+use Rattle.bridge_club.specs.declared.fault.RunFault.TheVariants.{Stream as StreamFault, Config, Store}
+use Rattle.bridge_club.specs.Opening.{Begins, IsNoSession, most_read}
+
+abbrev pub formatted_line : List ℕ
+formatted_line = codes "formatted\n"
+
+module _ {D : Type 0} (disk : Disk D) where
+  -- Of a disk one was made that holds the session: where it is honest, every image that a power cut may leave stands for
+  -- it, and is in order.
+  pub record IsFormatted (made formatted : D) (session : State) : Type 0 where
+    pub remains : Remains disk made formatted
+    pub stands : disk.honest made → StandsOnlyFor session_keeping disk session formatted
+    pub sound : disk.honest made → IsSoundDisk session_keeping disk formatted
+
+  -- a disk was made of it that holds the session, and `formatted` is written
+  abbrev pub Formats : D → State → Stream → Type 0
+  Formats made session output = (formatted : D) × IsFormatted made formatted session × Takes output formatted_line
+
+  -- at a fault: a call of the disk failed, and nothing is written; or the disk holds the session, and a write failed
+  abbrev pub FailsToFormat : D → State → Stream → RunFault → Type 0
+  FailsToFormat made session output (StreamFault fault) = (fault ≡ Write)
+      × ((formatted : D) × IsFormatted made formatted session × TakesPrefix output formatted_line)
+  FailsToFormat made session output (Config fault) = ⊥
+  FailsToFormat made session output (Store fault) = (fault ≡ DiskFault) × IsUntouched output
+
+-- The text of a file, of which no contract can say which it is, spells a configuration, and the session is its opening.
+abbrev pub IsSessionOfFile : State → Type 0
+IsSessionOfFile session = (text : List ℕ) × Begins text session
+
+-- a file could not be read, or its text, of at most the bytes that are read, begins no session
+abbrev pub IsNoSessionOfFile : RunFault → Type 0
+IsNoSessionOfFile fault =
+    (fault ≡ StreamFault Read) ⊎ ((text : List ℕ) × (length text ≤ most_read) × IsNoSession text fault)
+
+-- `format` is done: a disk of 2,048 sectors was made in a file, and of it one that holds the session of a configuration's
+-- file, and `formatted` is written
+pub record HasFormatted (output : Stream) : Type 0 where
+  pub session : State
+  pub session_of : IsSessionOfFile session
+  pub made : FileDisk File
+  pub count : file_disk.count made ≡ 2048
+  pub formats : Formats file_disk made session output
+
+-- of a disk that was made in a file no disk was made that holds the session of a configuration's file, or `formatted` is
+-- not written
+pub record FailsOnFile (output : Stream) (fault : RunFault) : Type 0 where
+  pub session : State
+  pub session_of : IsSessionOfFile session
+  pub made : FileDisk File
+  pub count : file_disk.count made ≡ 2048
+  pub fails : FailsToFormat file_disk made session output fault
+
+-- `format` stopped: there is no session, or no disk was made, and then nothing is written; or making it one that holds
+-- the session failed
+abbrev pub StopsFormatting : Stream → RunFault → Type 0
+StopsFormatting output fault = (IsNoSessionOfFile fault × IsUntouched output)
+    ⊎ (((fault ≡ Store DiskFault) × IsUntouched output) ⊎ FailsOnFile output fault)

@@ -1,0 +1,65 @@
+-- What the commands do over the session that a disk in a file holds.
+use Rattle.std.specs.Prelude.{◌≡◌, ◌⊎◌, ℕ, List}
+use Rattle.std.specs.declared.fs.File.{File}
+use Rattle.line_text.specs.Streams.{Stream, Takes, TakesPrefix, IsUntouched}
+use Rattle.sector_disk.specs.declared.file.FileDisk.{FileDisk}
+use Rattle.sector_disk.specs.File.{file_disk}
+use Rattle.session_store.specs.declared.fault.StoreFault.{StoreFault}
+use Rattle.session_store.specs.declared.fault.StoreFault.TheVariants.{Disk as DiskFault, NoMemory}
+use Rattle.session_store.specs.Opening.{IsOpened}
+use Rattle.session_store.specs.Value.{StoreValue}
+use Rattle.bridge_session.specs.declared.action.Action.{Action}
+use Rattle.bridge_session.specs.SessionKeeping.{session_keeping}
+use Rattle.bridge_session.specs.State.{State}
+use Rattle.table_server.specs.declared.fault.ServeFault.TheVariants.{Write}
+use Rattle.bridge_club.specs.declared.fault.RunFault.{RunFault}
+use Rattle.bridge_club.specs.declared.fault.RunFault.TheVariants.{Stream as StreamFault, Store}
+use Rattle.bridge_club.specs.Scripted.{ServesAll, StopsScript}
+use Rattle.bridge_club.specs.Stored.{RefusesDisk}
+
+-- the store was opened on a disk in a file
+abbrev pub IsOnFile : StoreValue (FileDisk File) State Action → Type 0
+IsOnFile store = (d : FileDisk File) × IsOpened session_keeping file_disk d store
+
+-- a file could not be opened as a disk, or the disk in it gives no session
+abbrev pub RefusesFile : StoreFault → Type 0
+RefusesFile fault = (fault ≡ DiskFault) ⊎ ((d : FileDisk File) × RefusesDisk file_disk d fault)
+
+module _ (IsText : State → List ℕ → Type 0) where
+  -- this is the text of the results of a session that was opened on a disk in a file
+  pub record Tells (text : List ℕ) : Type 0 where
+    pub store : StoreValue (FileDisk File) State Action
+    pub opened : IsOnFile store
+    pub says : IsText store.state text
+
+  -- the text of the results is written
+  abbrev pub HasResults : Stream → Type 0
+  HasResults output = (text : List ℕ) × Tells text × Takes output text
+
+  -- there is no session, and nothing is written; or a write failed
+  abbrev pub StopsResults : Stream → RunFault → Type 0
+  StopsResults output fault = ((cause : StoreFault) × (fault ≡ Store cause) × RefusesFile cause × IsUntouched output)
+      ⊎ ((fault ≡ StreamFault Write) × ((text : List ℕ) × Tells text × TakesPrefix output text))
+
+-- all lines of the input were served over a session that was opened on a disk in a file
+pub record HasScripted (input output : Stream) : Type 0 where
+  pub start : StoreValue (FileDisk File) State Action
+  pub opened : IsOnFile start
+  pub serves : ServesAll file_disk start input output
+
+-- no line was served: there is no session, or memory was refused
+pub record IsNotScripted (input output : Stream) (fault : RunFault) : Type 0 where
+  pub cause : StoreFault
+  pub named : fault ≡ Store cause
+  pub refused : RefusesFile cause ⊎ (cause ≡ NoMemory)
+  pub unread : IsUntouched input
+  pub unwritten : IsUntouched output
+
+-- the store failed, or a stream
+pub record StopsOnFile (input output : Stream) (fault : RunFault) : Type 0 where
+  pub start : StoreValue (FileDisk File) State Action
+  pub opened : IsOnFile start
+  pub stops : StopsScript file_disk start input output fault
+
+abbrev pub StopsScripting : Stream → Stream → RunFault → Type 0
+StopsScripting input output fault = IsNotScripted input output fault ⊎ StopsOnFile input output fault
