@@ -1,10 +1,17 @@
+mod evening;
+mod refused;
+mod script;
+
 use crate::command::{Command, WordsFault};
 use crate::read::read_words;
 use crate::run::{refuse, run_words, status_of};
 use bridge_cards::BoardNumber;
+use std::alloc::Global;
 use std::fmt::Debug;
+use std::fs::File;
 use std::io::{Error, ErrorKind, Read, Write};
 use std::process::Abort;
+use std::rt::Files;
 use std::test::Fail;
 
 /// Fails with the row where a value is not the one that is due.
@@ -15,6 +22,23 @@ fn expect_eq<T: PartialEq + Debug + Drop>(
     row: impl Debug + Drop,
 ) {
     assert_eq!(rt; found, due, "{row:?}");
+}
+
+/// Runs the words over an input, and fails where the status, the output or the errors are not those that are due.
+fn expect_run<T: Abort + Files<File = File>>(
+    rt: &T,
+    alloc: Global,
+    words: &[&str],
+    input: &str,
+    due: (u8, &str, &str),
+) {
+    let mut reader = input.as_bytes();
+    let mut output = Vec::new(alloc);
+    let mut errors = Vec::new(alloc);
+    let status = run_words(rt, alloc, words, &mut reader, &mut output, &mut errors);
+    expect_eq(rt, errors.as_slice(), due.2.as_bytes(), words);
+    expect_eq(rt, output.as_slice(), due.1.as_bytes(), words);
+    expect_eq(rt, status, due.0, words);
 }
 
 /// Fails at every read and every write.
@@ -49,8 +73,27 @@ fn boards_are_read(rt: HostRuntime) -> Result<(), Fail> {
 }
 
 #[test]
+fn files_are_read(rt: HostRuntime) -> Result<(), Fail> {
+    let (disk, config) = ("club.disk", "club.txt");
+    let rows: [(&[&str], Command); 4] = [
+        (&["format", disk, config], Command::Format { disk, config }),
+        (&["script", disk], Command::Script { disk }),
+        (&["rank", disk], Command::Rank { disk }),
+        (&["pbn", disk], Command::Pbn { disk }),
+    ];
+    for (words, due) in rows {
+        let command = read_words(rt.alloc(), words).ok();
+        expect_eq(&rt, command, Some(due), words);
+    }
+    Ok(())
+}
+
+#[test]
 fn other_words_are_usage(rt: HostRuntime) {
-    let rows: [&[&str]; 9] = [
+    let rows: [&[&str]; 12] = [
+        &["format", "club.disk"],
+        &["rank"],
+        &["script", "club.disk", "2"],
         &[],
         &["auction"],
         &["auction", "0"],
