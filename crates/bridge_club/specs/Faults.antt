@@ -9,7 +9,7 @@ use Rattle.bridge_config.specs.declared.refused.ConfigRefused.TheVariants.{TooLo
 use Rattle.session_store.specs.declared.fault.StoreFault.{StoreFault}
 use Rattle.session_store.specs.declared.fault.StoreFault.TheVariants.{TooSmall, Disk, NotFormatted, Damaged, EpochsSpent, NoMemory}
 use Rattle.table_server.specs.declared.fault.ServeFault.{ServeFault}
-use Rattle.table_server.specs.declared.fault.ServeFault.TheVariants.{Read, Write}
+use Rattle.table_server.specs.declared.fault.ServeFault.TheVariants.{Read, Write, Accept}
 use Rattle.bridge_club.specs.declared.fault.RunFault.{RunFault}
 use Rattle.bridge_club.specs.declared.fault.RunFault.TheVariants.{Stream, Config, Store}
 
@@ -32,6 +32,7 @@ cause_name (Movement refused) = movement_name refused
 abbrev pub stream_line : ServeFault → List ℕ
 stream_line Read = codes "cannot read input\n"
 stream_line Write = codes "cannot write output\n"
+stream_line Accept = codes "cannot read input\n"
 
 -- the number of the configuration's line, and what is wrong with it
 abbrev pub config_line : ConfigFault → List ℕ

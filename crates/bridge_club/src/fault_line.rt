@@ -67,7 +67,7 @@ fn stream_line(fault: ServeFault) -> FaultLine
     ensures { result.bytes ≡ stream_line fault }
 {
     match fault {
-        ServeFault::Read => line_of("cannot read input\n"),
+        ServeFault::Read | ServeFault::Accept => line_of("cannot read input\n"),
         ServeFault::Write => line_of("cannot write output\n"),
     }
 }
