@@ -8,7 +8,7 @@ use Rattle.session_store.specs.Keeping.{Keeping, IsLawful, fold}
 use Rattle.session_store.specs.Form.{header_of}
 use Rattle.session_store.specs.declared.reading.Header.{Header}
 use Rattle.session_store.specs.Stands.{placed, header_at, IsLater, recovered, IsInOrder}
-use Rattle.session_store.specs.Base.{IsSettled}
+use Rattle.session_store.specs.Base.{HasEpoch, IsSettled}
 use Rattle.session_store.specs.Snapshot.{NothingLater, WithSnapshot}
 use Rattle.session_store.specs.Sound.{IsSoundDisk, StandsOnlyFor}
 use Rattle.session_store.proofs.FormLemmas.{header_of-zeros, zeros_not_later}
@@ -44,15 +44,26 @@ module _ {S A R : Type 0} (kept : Keeping S A R) where
       of_take zero t made = made
       of_take (suc n) t made = made
 
+  -- the first snapshot over zeros is settled in epoch 1
+  pub first_settled : {D : Type 0} (disk : Disk D) → IsLawful kept → (old new : D) (s : S) → kept.IsState s
+      → ((c : Image) → disk.may_leave old c → (k : ℕ) → k < 2048 → c k ≡ replicate 512 0)
+      → ((c : Image) → disk.may_leave new c → WithSnapshot kept (disk.may_leave old) 1 s c)
+      → (c : Image) → disk.may_leave new c → IsSettled kept 1 s 0 [] c
+  first_settled disk lawful old new s is_state zeros written c left =
+      with_snapshot-settled kept lawful (disk.may_leave old) 0 1 s c refl (omega arith) is_state
+      (λ d before. zeros-nothing_later d (zeros d before)) (written c left)
+
+  -- its header is of epoch 1
+  pub settled-epoch : (epoch n : ℕ) (s : S) (image : Image) → IsSettled kept epoch s n [] image → HasEpoch epoch image
+  settled-epoch epoch n s image settled = settled.is_base.header image (λ k below spare. refl)
+
   pub first_snapshot : {D : Type 0} (disk : Disk D) → IsLawful kept → (old new : D) (s : S) → kept.IsState s → disk.honest new
       → 2048 ≤ disk.count new
       → ((c : Image) → disk.may_leave old c → (k : ℕ) → k < 2048 → c k ≡ replicate 512 0)
       → ((c : Image) → disk.may_leave new c → WithSnapshot kept (disk.may_leave old) 1 s c)
       → IsSoundDisk kept disk new × StandsOnlyFor kept disk s new
   first_snapshot disk lawful old new s is_state honest large zeros written =
-      let settled : (c : Image) → disk.may_leave new c → IsSettled kept 1 s 0 [] c
-      = λ c left. with_snapshot-settled kept lawful (disk.may_leave old) 0 1 s c refl (omega arith) is_state
-      (λ d before. zeros-nothing_later d (zeros d before)) (written c left) in (
+      let settled = first_settled disk lawful old new s is_state zeros written in (
         record {
           honest = honest;
           large = large;

@@ -2,6 +2,7 @@
 ghost use Rattle.std.specs.Prelude.{◌≡◌, ◌<◌, ◌≤◌, Err, IfOk, IfErr, MatchResult, OnOk, OnErr, ℕ, replicate};
 ghost use Rattle.sector_disk.specs.Disk.{Image, Rose};
 ghost use Rattle.sector_disk.specs.Runs.{Remains};
+ghost use Rattle.session_store.specs.Base.{HasEpoch};
 ghost use Rattle.session_store.specs.Sound.{IsSoundDisk, StandsOnlyFor};
 
 use crate::snapshot::write_snapshot;
@@ -32,6 +33,8 @@ fn write_first<D: SectorDisk, K: Kept>(disk: &mut D, state: &K) -> Result<(), Di
     requires { 2048 ≤ D.disk.count disk.old }
     ensures remains { Remains D.disk disk.old disk.new }
     ensures fault { OnErr result (Rose (D.disk.faults disk.old) (D.disk.faults disk.new)) }
+    ensures no_fault { OnOk result (D.disk.faults disk.new ≡ D.disk.faults disk.old) }
+    ensures epoch { D.disk.honest disk.old → OnOk result ((c : Image) → D.disk.may_leave disk.new c → HasEpoch 1 c) }
     ensures stands { D.disk.honest disk.old → OnOk result (StandsOnlyFor K.kept D.disk state.now disk.new) }
     ensures sound { D.disk.honest disk.old → OnOk result (IsSoundDisk K.kept D.disk disk.new) }
 {
@@ -48,6 +51,8 @@ pub fn format<D: SectorDisk, K: Kept>(mut disk: D, state: &K) -> Result<D, (D, S
     ensures fault { 2048 ≤ D.disk.count disk → IfErr result (λ e.
         (e.1 ≡ StoreFault.Disk) × Rose (D.disk.faults disk) (D.disk.faults e.0)) }
     ensures remains { MatchResult result (Remains D.disk disk) (λ e. Remains D.disk disk e.0) }
+    ensures no_fault { IfOk result (λ new. D.disk.faults new ≡ D.disk.faults disk) }
+    ensures epoch { D.disk.honest disk → IfOk result (λ new. (c : Image) → D.disk.may_leave new c → HasEpoch 1 c) }
     ensures stands { D.disk.honest disk → IfOk result (StandsOnlyFor K.kept D.disk state.now) }
     ensures sound { D.disk.honest disk → IfOk result (IsSoundDisk K.kept D.disk) }
     ensures large { IfOk result (λ new. 2048 ≤ D.disk.count new) }

@@ -1,5 +1,5 @@
 //! Opening a store.
-ghost use Rattle.std.specs.Prelude.{◌≡◌, ◌≢◌, ◌⊎◌, ◌<◌, ◌≤◌, ◌-◌, ◌^◌, Err, IfErr, IfOk, Ok, OnErr, OnOk, false};
+ghost use Rattle.std.specs.Prelude.{◌≡◌, ◌≢◌, ◌⊎◌, ◌<◌, ◌≤◌, ◌+◌, ◌-◌, ◌^◌, ℕ, Err, IfErr, IfOk, Ok, OnErr, OnOk, false};
 ghost use Rattle.sector_disk.specs.Disk.{Image, Rose};
 ghost use Rattle.sector_disk.specs.Runs.{OnlyRead, Quiet};
 ghost use Rattle.session_store.specs.Base.{HasEpoch};
@@ -58,6 +58,9 @@ impl<D: SectorDisk + Drop, K: Kept> Store<D, K> {
         ensures opens { IsSoundDisk K.kept D.disk disk → IfErr result (λ e.
             (e.1 ≡ StoreFault.Disk) ⊎ ((e.1 ≡ StoreFault.EpochsSpent) ⊎ (e.1 ≡ StoreFault.NoMemory))) }
         ensures opened { IfOk result (IsOpened K.kept D.disk disk) }
+        ensures no_fault { IfOk result (λ store. D.disk.faults store.disk ≡ D.disk.faults disk) }
+        ensures epoch { D.disk.honest disk → IfOk result (λ store.
+            (epoch : ℕ) × HasEpoch epoch (D.disk.reads disk) × (store.epoch ≡ epoch + 1)) }
         ensures begins { IfOk result (λ store. (store.records ≡ 0) × (store.failed ≡ false)) }
         ensures not_opened { IfErr result (λ e. IsNotOpened K.kept D.disk disk e.0) }
         ensures stands { IsSoundDisk K.kept D.disk disk

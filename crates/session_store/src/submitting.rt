@@ -46,6 +46,7 @@ impl<D: SectorDisk + Drop, K: Kept> Store<D, K> {
         ensures answer { Submits K.kept D.disk self.old action.now self.new result }
         ensures continues { Continues K.kept D.disk self.old (accepted_by action.now result) self.new }
         ensures remains { Remains D.disk self.old.disk self.new.disk }
+        ensures no_fault { OnOk result (D.disk.faults self.new.disk ≡ D.disk.faults self.old.disk) }
     {
         match self.state.step(action) {
             Err(refusal) => Err(SubmitFault::Refused(refusal)),
@@ -73,6 +74,7 @@ impl<D: SectorDisk + Drop, K: Kept> Store<D, K> {
         ensures answer { Submits K.kept D.disk self.old action.now self.new result }
         ensures continues { Continues K.kept D.disk self.old (accepted_by action.now result) self.new }
         ensures remains { Remains D.disk self.old.disk self.new.disk }
+        ensures no_fault { OnOk result (D.disk.faults self.new.disk ≡ D.disk.faults self.old.disk) }
         ensures stands { IsSoundStore K.kept D.disk self.old
             → OnOk result (StandsOnlyFor K.kept D.disk self.new.state self.new.disk) }
     {
@@ -97,6 +99,7 @@ impl<D: SectorDisk + Drop, K: Kept> Store<D, K> {
         ensures answer { Submits K.kept D.disk self.old action.now self.new result }
         ensures continues { Continues K.kept D.disk self.old (accepted_by action.now result) self.new }
         ensures remains { Remains D.disk self.old.disk self.new.disk }
+        ensures no_fault { OnOk result (D.disk.faults self.new.disk ≡ D.disk.faults self.old.disk) }
         ensures checkpointed { IsSoundStore K.kept D.disk self.old → self.old.records ≡ 1024
             → OnOk result (StandsOnlyFor K.kept D.disk self.new.state self.new.disk) }
     {

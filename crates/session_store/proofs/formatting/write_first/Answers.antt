@@ -1,5 +1,5 @@
 use Rattle.std.proofs.Common.{arith}
-use Rattle.session_store.proofs.FormatLemmas.{first_snapshot}
+use Rattle.session_store.proofs.FormatLemmas.{first_settled, settled-epoch, first_snapshot}
 use Rattle.session_store.proofs.formatting.write_first.Goals as goal
 
 pub returns-clause-stands : goal.returns-clause-stands
@@ -17,3 +17,12 @@ returns-clause-sound g c = λ honest.
     (c.write_snapshot.ensures.remains.stays_honest cleared)
     (omega (arith, c.requires, c.in_ok-clear.ensures.remains.count, c.write_snapshot.ensures.remains.count)) (c.in_ok-clear.ensures.cleared honest)
     (c.in_ok-write_snapshot.ensures.written cleared)).0
+
+pub returns-clause-epoch : goal.returns-clause-epoch
+returns-clause-epoch g c = λ honest.
+    let kept = g.K.Kept.kept in
+    let state = c.args.state.now in
+    let cleared = c.in_ok-clear.ensures.remains.stays_honest honest in
+    λ image left. settled-epoch kept 1 0 state image
+    (first_settled kept g.D.SectorDisk.disk g.met.K.Kept.lawful _ _ state c.write_snapshot.ensures.state
+    (c.in_ok-clear.ensures.cleared honest) (c.in_ok-write_snapshot.ensures.written cleared) image left)

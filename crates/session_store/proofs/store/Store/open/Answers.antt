@@ -1,4 +1,4 @@
-use Rattle.std.proofs.Common.{◌≤◌, arith}
+use Rattle.std.proofs.Common.{◌≤◌, refl, arith}
 use Rattle.sector_disk.proofs.RunLaws.{none_read, quiet, remains, remains_joins}
 use Rattle.session_store.proofs.OpeningLemmas.{cause-stands}
 use Rattle.session_store.proofs.OpenLemmas.{quiet-still, still-sound, snapshot-still, opened-sound, opened-stands, opened-store, opened-view}
@@ -83,6 +83,9 @@ returns-in-Ok-write_snapshot-clause-opened g c =
           g.met.K.Kept.lawful c.in-Ok.ensures.epoch c.write_snapshot.ensures.state quietly c.write_snapshot.new.disk
           (remain.stays_honest sound.honest) c.in-Ok-write_snapshot.ensures.written);
     }
+
+pub returns-in-Ok-write_snapshot-clause-epoch : goal.returns-in-Ok-write_snapshot-clause-epoch
+returns-in-Ok-write_snapshot-clause-epoch g c = λ honest. (c.in-Ok.found.epoch, (c.in-Ok.ensures.found honest).2, refl)
 
 pub returns-in-Ok-write_snapshot-clause-stands : goal.returns-in-Ok-write_snapshot-clause-stands
 returns-in-Ok-write_snapshot-clause-stands g c = λ sound.
