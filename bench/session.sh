@@ -3,9 +3,9 @@
 #
 #     bench/session.sh [EVENINGS]     (5 of each scoring when left out: 241,920 actions)
 #
-# Prints the calls and cards in a second and the share of each, the time of a look (`see`, once in each play after its calls)
+# Prints the calls and cards in a second and the share of each, the time of a view (`see`, once in each play after its calls)
 # and of the ranking of a whole evening, both in steps of the same run, and the bytes that a session takes: the growth of the
-# program's memory from 1 session to 201, a 200th of it. The goals: a look at most 10 steps, a ranking at most 500.
+# program's memory from 1 session to 201, a 200th of it. The goals: a view at most 10 steps, a ranking at most 500.
 set -eu
 here=$(cd "$(dirname "$0")" && pwd)
 work=$(mktemp -d "$here/session_bench.XXXXXX")
@@ -21,7 +21,7 @@ awk '{ count[NR] = $1; time[NR] = $2 } END {
     printf "a second                       %10.0f\n", actions / spent * 1e9
     printf "a call                         %10.1f ns, %4.1f %% of the time\n", time[1] / count[1], 100 * time[1] / spent
     printf "a card                         %10.1f ns, %4.1f %% of the time\n", time[2] / count[2], 100 * time[2] / spent
-    printf "a look                         %10.1f ns, %6.1f steps\n", time[3] / count[3], time[3] / count[3] / step
+    printf "a view                         %10.1f ns, %6.1f steps\n", time[3] / count[3], time[3] / count[3] / step
     printf "a ranking by matchpoints       %10.1f us, %6.1f steps\n", time[4] / count[4] / 1000, time[4] / count[4] / step
     printf "a ranking by IMPs              %10.1f us, %6.1f steps\n", time[5] / count[5] / 1000, time[5] / count[5] / step
 }' "$work/step"

@@ -46,6 +46,7 @@ pub fn empty_table() -> [Found; PLACES]
 pub fn place(left: CardSet, leader: Seat) -> usize
     ensures { result < PLACES }
 {
+    // 2^64 over the golden ratio, made odd: the upper bits of a product spread like sets over the places.
     let mixed = (left.bits() ^ u64::from(leader.number())).wrapping_mul(0x9e37_79b9_7f4a_7c15);
     (mixed >> 32) as usize % PLACES
 }

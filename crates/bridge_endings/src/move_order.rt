@@ -6,7 +6,7 @@ ghost use Rattle.bridge_cards.specs.CardSet.{has_card};
 use crate::trick::Trick;
 use bridge_cards::{Card, CardSet, Suit};
 
-/// One of the cards, the most promising for the hand in turn; `None` where there is none.
+/// One of the cards, the one that the hand in turn tries first; `None` where there is none.
 pub fn next_card(cards: CardSet, trick: &Trick) -> Option<Card>
     ensures card { IfSome result (λ card. IsCard card × IsTrue (has_card cards card)) }
     ensures none { IsNone result ↔ (cards ≡ 0) }

@@ -282,7 +282,7 @@ fn suit_of(card: Card) -> Suit
     card.suit()
 }
 
-/// Whether the seat plays for a yes: North and South do.
+/// Whether the seat's side wants the tricks reached: North and South do.
 fn is_sought(seat: Seat) -> bool
     ensures { result ≡ is_sought (side_of seat) }
 {

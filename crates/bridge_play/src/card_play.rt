@@ -13,7 +13,7 @@ use bridge_cards::trick::same_suit;
 use bridge_cards::{Card, CardSet, DECK, Deal, Seat, Side};
 use std::marker::Model;
 
-/// The cards played to a contract, and beside them what makes each question about them cheap.
+/// The cards played to a contract, and beside them what follows from them, so that it need not be counted anew.
 #[derive(Debug, Drop)]
 pub struct CardPlay {
     deal: Deal,

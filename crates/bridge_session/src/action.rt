@@ -7,7 +7,9 @@ use bridge_config::Key;
 /// The play of one board by one table in one round.
 #[derive(Clone, Copy, Debug, PartialEq, Eq)]
 pub struct PlayId {
+    /// The round, 1 to 12.
     pub round: RoundNumber,
+    /// The table, 1 to 12.
     pub table: TableNumber,
     /// Which board of the table's set, in order.
     pub index: BoardIndex,

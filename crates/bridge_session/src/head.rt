@@ -72,7 +72,7 @@ fn shape_of(numbers: &[u8]) -> Shape
     }
 }
 
-/// The key at the front of bytes.
+/// The key that the bytes begin with.
 fn key_of(bytes: &[u8]) -> Key
     requires { 4 ≤ length bytes.now }
     ensures { result.0 ≡ key_in bytes.now }

@@ -35,7 +35,7 @@ impl Default for RoundNumber {
 }
 
 impl RoundNumber {
-    /// `None` where the number is not from 1 to 12.
+    /// The round of that number, or `None` where it is not from 1 to 12.
     pub fn new(number: u8) -> Option<RoundNumber>
         ensures valid { IsSome result ↔ IsRoundNumber number }
         ensures value { IfSome result (λ made. made ≡ number) }
@@ -76,7 +76,7 @@ impl Model for TableNumber {
 }
 
 impl TableNumber {
-    /// `None` where the number is not from 1 to 12.
+    /// The table of that number, or `None` where it is not from 1 to 12.
     pub fn new(number: u8) -> Option<TableNumber>
         ensures valid { IsSome result ↔ IsTableNumber number }
         ensures value { IfSome result (λ made. made ≡ number) }
@@ -117,7 +117,7 @@ impl Model for BoardIndex {
 }
 
 impl BoardIndex {
-    /// `None` where the number is not from 1 to 3.
+    /// The place of that number, or `None` where it is not from 1 to 3.
     pub fn new(number: u8) -> Option<BoardIndex>
         ensures valid { IsSome result ↔ IsBoardIndex number }
         ensures value { IfSome result (λ made. made ≡ number) }
@@ -158,7 +158,7 @@ impl Model for TrickCount {
 }
 
 impl TrickCount {
-    /// `None` where the number is not from 0 to 13.
+    /// That many tricks, or `None` where it is not from 0 to 13.
     pub fn new(number: u8) -> Option<TrickCount>
         ensures valid { IsSome result ↔ IsTrickCount number }
         ensures value { IfSome result (λ made. made ≡ number) }
@@ -199,7 +199,7 @@ impl Model for MadeCount {
 }
 
 impl MadeCount {
-    /// `None` where the number is not from 0 to 999.
+    /// That many, or `None` where it is not from 0 to 999.
     pub fn new(number: u16) -> Option<MadeCount>
         ensures valid { IsSome result ↔ IsMadeCount number }
         ensures value { IfSome result (λ made. made ≡ number) }

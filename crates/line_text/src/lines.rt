@@ -4,10 +4,12 @@ ghost use Rattle.std.specs.Str.Lines.{lines, strip_carriage_return};
 
 use crate::split::split_once;
 
-/// The most bytes that a line may have before its line feed, a carriage return counted.
+/// The most bytes of a line without its line feed. In a line of a table a carriage return before that counts, in a line of a
+/// configuration it does not.
 pub const LINE_BYTES: usize = 128;
 
-/// The first line of the text, and what stands after it.
+/// The first line of the text, without one carriage return before its line feed, and what stands after it; `None` where the
+/// text is empty.
 pub fn first_line(text: &[u8]) -> Option<(&[u8], &[u8])>
     ensures { MatchOption result (lines text.now ≡ []) (λ parts. lines text.now ≡ parts.0.now ∷ lines parts.1.now) }
 {

@@ -25,7 +25,7 @@ pub struct Header {
 pub enum Entry<A> {
     /// It is not that record.
     Missing,
-    /// It bears that record's label, and is out of form.
+    /// It has that record's label, and is out of form.
     Damaged,
     /// It is that record, of this action.
     Holds(A),

@@ -76,7 +76,7 @@ impl<D: SectorDisk + Drop, K: Kept> Store<D, K> {
         self.epoch
     }
 
-    /// The disk.
+    /// Gives the disk back. What is pending is not confirmed.
     pub fn into_disk(self) -> D
         ensures disk { result ≡ self.disk }
         ensures sound { IsSoundStore K.kept D.disk self → IsSoundDisk K.kept D.disk result }

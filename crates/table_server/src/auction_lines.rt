@@ -65,7 +65,7 @@ impl AuctionLines {
         ensures dealer { self.new.dealer ≡ self.old.dealer }
         ensures within { list_all is_within_line self.new.line ≡ true }
     {
-        // Opens the value, so that its invariant is known also where the piece is empty.
+        // Names a field, so that the invariant is known also where the piece is empty.
         let _ = &self.line;
         for byte in piece {
             self.feed_byte(*byte, out);

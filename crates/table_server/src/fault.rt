@@ -6,7 +6,7 @@ pub enum ServeFault {
     /// A read failed. The replies to the complete lines before it are written.
     #[error("cannot read input")]
     Read,
-    /// A write failed or took no byte. A front of the text is written.
+    /// A write failed or took no byte. A prefix of the text is written.
     #[error("cannot write output")]
     Write,
     /// No connection was had. Only `accept_and_serve` answers this.

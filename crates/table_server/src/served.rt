@@ -1,7 +1,10 @@
-/// What was served: how many complete lines, how many actions were accepted, and whether the store has failed.
+/// What was served.
 #[derive(Clone, Copy, Debug, PartialEq, Eq)]
 pub struct Served {
+    /// Complete lines.
     pub lines: u32,
+    /// Actions that were accepted.
     pub accepted: u32,
+    /// Whether the store has failed.
     pub failed: bool,
 }
