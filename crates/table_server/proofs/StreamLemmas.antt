@@ -10,7 +10,6 @@ use Rattle.session_store.specs.Value.{StoreValue}
 use Rattle.bridge_session.specs.declared.action.Action.{Action}
 use Rattle.bridge_session.specs.State.{State}
 use Rattle.line_text.specs.Streams.{Stream, between, TakesPrefix}
-use Rattle.line_text.proofs.Streams.{takes_prefix}
 use Rattle.table_server.specs.declared.fault.ServeFault.{ServeFault}
 use Rattle.table_server.specs.declared.line_service.LineService.{LineService}
 use Rattle.table_server.specs.declared.served.Served.{Served}
@@ -156,7 +155,10 @@ module _ {D : Type 0} (disk : Disk D) where
         asked = r.hearing.asked;
         asks = hears_asks r.bytes service.feed r.hearing.asked r.hearing.hears;
         text = r.text ++ e.0;
-        wrote = takes_prefix before mid after (r.text ++ e.0) (limit_notice true) wrote prefix;
+        begun = prefix.0;
+        unwritten = prefix.1;
+        notice = prefix.2;
+        wrote = Appends-trans before mid after (r.text ++ e.0) prefix.0 wrote prefix.3;
         actions = result.accepted;
         served = e.2;
       }

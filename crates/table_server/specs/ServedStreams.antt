@@ -6,7 +6,7 @@ use Rattle.session_store.specs.Value.{StoreValue}
 use Rattle.bridge_session.specs.declared.action.Action.{Action}
 use Rattle.bridge_session.specs.State.{State}
 use Rattle.line_text.specs.Lines.{complete_lines}
-use Rattle.line_text.specs.Streams.{Stream, Gives, Takes, TakesPrefix}
+use Rattle.line_text.specs.Streams.{Stream, Gives, Takes}
 use Rattle.table_server.specs.declared.asked.Asked.{Asked}
 use Rattle.table_server.specs.declared.fault.ServeFault.{ServeFault}
 use Rattle.table_server.specs.declared.fault.ServeFault.TheVariants.{Read, Write, Accept}
@@ -69,7 +69,7 @@ module _ {D : Type 0} (disk : Disk D) where
     pub given : Gives reader bytes
     pub cut : IsCutShort disk start bytes store [] writer
 
-  -- All replies are written, and a write failed in the notice at the limit.
+  -- All replies are written, and of the notice at the limit a part, as a write failed.
   pub record StopsNoticing (start store : StoreValue D State Action) (reader writer : Stream) : Type 0 where
     pub bytes : List ℕ
     pub limit : length bytes ≡ byte_limit
@@ -77,7 +77,10 @@ module _ {D : Type 0} (disk : Disk D) where
     pub asked : List Asked
     pub asks : AskAll (complete_lines bytes) asked
     pub text : List ℕ
-    pub wrote : TakesPrefix writer (text ++ limit_notice true)
+    pub begun : List ℕ
+    pub unwritten : List ℕ
+    pub notice : limit_notice true ≡ begun ++ unwritten
+    pub wrote : Takes writer (text ++ begun)
     pub actions : ℕ
     pub served : IsServed disk start asked store text actions
 
