@@ -42,6 +42,7 @@ module _ {D : Type 0} (disk : Disk D) where
         are_replies = h.are_replies;
         says = ap (λ n. written ++ disk_errors n) (sym h.count_is ∙ ap length (sym none));
         state = state ∙ ap (λ (t : Standing). t.state) h.standing ∙ ap (λ (xs : List Asked). (after_all from xs).state) h.all;
+        standing = λ works. absurd (true≢false (sym failed ∙ works));
         continues = calls;
         counted = ap (λ (xs : List Asked). length (accepted_all from xs)) h.all;
         confirmed = confirmed_enough disk start new (accepted_all from lines) (length (accepted_all from h.answered))
@@ -95,6 +96,7 @@ module _ {D : Type 0} (disk : Disk D) where
         are_replies = h.are_replies;
         says = ap (λ n. written ++ disk_errors n) (ap (λ n. n + 1) (sym h.count_is) ∙ sym count_is ∙ ap length (sym none));
         state = f.state ∙ ap (λ (t : Standing). t.state) after_is;
+        standing = λ works. absurd (true≢false (sym f.failed ∙ works));
         continues = calls;
         counted = counted;
         confirmed = confirmed_enough disk start new (accepted_all from lines) (length (accepted_all from h.answered))
@@ -126,6 +128,7 @@ module _ {D : Type 0} (disk : Disk D) where
         says = ap (λ (xs : List ℕ). xs ++ disk_errors 1) s.says ∙ append_assoc s.replies (disk_errors (length rest)) (disk_errors 1)
             ∙ ap (λ (xs : List ℕ). s.replies ++ xs) errors;
         state = s.state;
+        standing = s.standing;
         continues = s.continues;
         counted = s.counted;
         confirmed = s.confirmed;
@@ -147,6 +150,7 @@ module _ {D : Type 0} (disk : Disk D) where
     are_replies = refl;
     says = refl;
     state = refl;
+    standing = λ works. refl;
     continues = continues_begins session_keeping disk store;
     counted = refl;
     confirmed = omega arith;

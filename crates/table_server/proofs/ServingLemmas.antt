@@ -96,6 +96,7 @@ module _ {D : Type 0} where
           are_replies = s.are_replies;
           says = sym (append-nil written);
           state = ap (λ (t : Standing). t.state) s.standing ∙ ap (λ (xs : List Asked). (after_all from xs).state) (sym same);
+          standing = λ works. s.standing ∙ ap (after_all from) (sym same);
           continues = calls;
           counted = ap length (sym all);
           confirmed = confirmed_enough start store (accepted_all from (asked ++ [])) (length (accepted_all from asked)) 0 calls
