@@ -1,6 +1,7 @@
 -- What serving lines gives, by what was written.
-use Rattle.std.proofs.Common.{◌≡◌, ℕ, ◌+◌, ◌≤◌, ◌∙◌, Bool, true, false, List, [], ◌∷◌, ◌++◌, length, Option, Result, Ok, Err, refl, sym, ap, subst, append_assoc, append-nil, arith}
+use Rattle.std.proofs.Common.{◌≡◌, ℕ, ◌+◌, ◌≤◌, ◌∙◌, Bool, true, false, List, [], ◌∷◌, ◌++◌, length, Option, Result, Ok, Err, inl, inr, refl, sym, ap, subst, append_assoc, append-nil, arith}
 use Rattle.std.specs.Prelude.{IfErr}
+use Rattle.std.proofs.lemmas.Bool.{true≢false}
 use Rattle.std.specs.Io.KnownBytes.{Appends}
 use Rattle.std.proofs.KnownBytes.{Appends-nil, Appends-trans}
 use Rattle.sector_disk.specs.Disk.{Disk}
@@ -19,7 +20,7 @@ use Rattle.table_server.specs.declared.fault.ServeFault.TheVariants.{Write}
 use Rattle.table_server.specs.declared.held_replies.HeldReplies.{HeldReplies}
 use Rattle.table_server.specs.Answered.{AreReplies, accepted_all, held_after, disk_errors}
 use Rattle.table_server.specs.Served.{IsServed}
-use Rattle.table_server.specs.Serving.{AreAnswers, Holding, Settled, Failed, ServingBy, IsStopped, Serves, SettlesBy, Ends}
+use Rattle.table_server.specs.Serving.{AreAnswers, AreTogether, Holding, Settled, Failed, ServingBy, IsStopped, Serves, SettlesBy, Ends}
 use Rattle.table_server.specs.Standing.{Standing, standing_of}
 use Rattle.table_server.proofs.ServingLemmas.{settled, holding, served}
 use Rattle.table_server.proofs.FailureLemmas.{failed_settling, failed_more}
@@ -50,10 +51,10 @@ module _ {D : Type 0} (disk : Disk D) where
 
   -- a write failed in the text of the last lines
   stopped_now : (start store : StoreValue D State Action) (asked whole group : List Asked) (written text : List ℕ) (writer : Stream) (actions : ℕ)
-      → asked ≡ whole ++ group → length group ≤ 64 → AreAnswers (standing_of start) whole written
+      → asked ≡ whole ++ group → length group ≤ 64 → AreTogether store.failed whole group → AreAnswers (standing_of start) whole written
       → IsServed disk start asked store (written ++ text) actions → TakesPrefix writer text
       → IsStopped disk start asked store written writer
-  stopped_now start store asked whole group written text writer actions all few answers s prefix =
+  stopped_now start store asked whole group written text writer actions all few one_group answers s prefix =
       let none : written ++ [] ≡ written = append-nil written in
       let same : written ++ text ≡ (written ++ []) ++ (prefix.0 ++ prefix.1) = ap (λ xs. xs ++ text) (sym none) ∙ ap (λ xs. (written ++ []) ++ xs) prefix.2 in
       let lines : IsServed disk start (whole ++ group) store (written ++ text) actions
@@ -63,6 +64,7 @@ module _ {D : Type 0} (disk : Disk D) where
         rest = [];
         all = all ∙ sym (append-nil (whole ++ group));
         few = few;
+        one_group = one_group;
         text = [];
         answers = rw none answers;
         begun = prefix.0;
@@ -85,29 +87,29 @@ module _ {D : Type 0} (disk : Disk D) where
 
   -- the store has failed
   pub serves_failing : (start store : StoreValue D State Action) (asked : List Asked) (held : HeldReplies) (written text : List ℕ) (writer : Stream) (result : Result (Unit {0}) ServeFault)
-      → (whole group : List Asked) → asked ≡ whole ++ group → length group ≤ 64 → AreAnswers (standing_of start) whole written
+      → (whole group : List Asked) → asked ≡ whole ++ group → length group ≤ 64 → AreTogether store.failed whole group → AreAnswers (standing_of start) whole written
       → IsServed disk start asked store (written ++ text) held.served.accepted → store.failed ≡ true → held.count ≡ 0
       → held.served.failed ≡ true → Written writer text result → IfErr result (λ fault. fault ≡ Write)
       → Serves disk start asked store held written writer result
-  serves_failing start store asked held written text writer (Ok u) whole group all few answers s failed none fails wrote fault =
+  serves_failing start store asked held written text writer (Ok u) whole group all few one_group answers s failed none fails wrote fault =
       (text, wrote, rw fails (record { failed = failed; none_held = none; served = s }))
-  serves_failing start store asked held written text writer (Err it) whole group all few answers s failed none fails wrote fault =
-      (fault, stopped_now start store asked whole group written text writer held.served.accepted all few answers s wrote)
+  serves_failing start store asked held written text writer (Err it) whole group all few one_group answers s failed none fails wrote fault =
+      (fault, stopped_now start store asked whole group written text writer held.served.accepted all few one_group answers s wrote)
 
   -- the store works, and all is confirmed
   pub serves_working : (start store : StoreValue D State Action) (asked : List Asked) (held : HeldReplies) (written text : List ℕ) (writer : Stream) (result : Result (Unit {0}) ServeFault)
-      → (whole group : List Asked) → asked ≡ whole ++ group → length group ≤ 64 → AreAnswers (standing_of start) whole written
+      → (whole group : List Asked) → asked ≡ whole ++ group → length group ≤ 64 → AreTogether store.failed whole group → AreAnswers (standing_of start) whole written
       → Settled disk start asked store (written ++ text) → held_after asked ≡ 0 → held.text.bytes ≡ [] → held.count ≡ 0
       → held.served.failed ≡ false → held.served.accepted ≡ length (accepted_all (standing_of start) asked)
       → Written writer text result → IfErr result (λ fault. fault ≡ Write)
       → Serves disk start asked store held written writer result
-  serves_working start store asked held written text writer (Ok u) whole group all few answers s begins empty none works counted wrote fault =
+  serves_working start store asked held written text writer (Ok u) whole group all few one_group answers s begins empty none works counted wrote fault =
       let h : Holding disk start asked store held.text.bytes held.count (written ++ text)
       = rw (empty, none) (holding disk start store asked (written ++ text) s begins) in
       (text, wrote, rw works (record { holding = h; counted = counted }))
-  serves_working start store asked held written text writer (Err it) whole group all few answers s begins empty none works counted wrote fault = (
+  serves_working start store asked held written text writer (Err it) whole group all few one_group answers s begins empty none works counted wrote fault = (
     fault,
-    stopped_now start store asked whole group written text writer (length (accepted_all (standing_of start) asked)) all few answers
+    stopped_now start store asked whole group written text writer (length (accepted_all (standing_of start) asked)) all few one_group answers
         (served disk start store asked (written ++ text) s) wrote,
   )
 
@@ -122,6 +124,7 @@ module _ {D : Type 0} (disk : Disk D) where
         rest = stopped.rest;
         all = stopped.all;
         few = stopped.few;
+        one_group = stopped.one_group;
         text = text ++ stopped.text;
         answers = subst (λ xs. AreAnswers (standing_of start) stopped.whole xs) same stopped.answers;
         begun = stopped.begun;
@@ -154,10 +157,10 @@ module _ {D : Type 0} (disk : Disk D) where
       → Serves disk start asked new held written writer result
   serves_settled start store new asked text count held written writer result h begins call true is settles fault none empty counted =
       serves_failing start new asked held written (disk_errors count) writer result
-      h.answered h.waiting h.all (omega (arith, h.count_is, h.few)) (replied (standing_of start) h.answered written h.are_replies)
+      h.answered h.waiting h.all (omega (arith, h.count_is, h.few)) (inl (h.begins, h.group)) (replied (standing_of start) h.answered written h.are_replies)
       (rw counted (failed_settling disk start store new asked text count written h settles.0 settles.1 call)) settles.0 none is settles.2 fault
   serves_settled start store new asked text count held written writer result h begins call false is settles fault none empty counted =
-      serves_working start new asked held written text writer result h.answered h.waiting h.all (omega (arith, h.count_is, h.few))
+      serves_working start new asked held written text writer result h.answered h.waiting h.all (omega (arith, h.count_is, h.few)) (inl (h.begins, h.group))
       (replied (standing_of start) h.answered written h.are_replies) (settled disk start store new asked text count written h settles.0 call)
       begins (empty is) none is counted settles.1 fault
 
@@ -170,6 +173,7 @@ module _ {D : Type 0} (disk : Disk D) where
     rest = s.rest ++ more;
     all = ap (λ (xs : List Asked). xs ++ more) s.all ∙ append_assoc (s.whole ++ s.group) s.rest more;
     few = s.few;
+    one_group = s.one_group;
     text = s.text;
     answers = s.answers;
     begun = s.begun;
@@ -186,11 +190,11 @@ module _ {D : Type 0} (disk : Disk D) where
       → IsStopped disk start asked new written writer
   stopped_settling start store new asked text count written writer it h call true settles =
       stopped_now start new asked h.answered h.waiting written (disk_errors count) writer (length (accepted_all (standing_of start) asked))
-      h.all (omega (arith, h.count_is, h.few)) (replied (standing_of start) h.answered written h.are_replies)
+      h.all (omega (arith, h.count_is, h.few)) (inl (h.begins, h.group)) (replied (standing_of start) h.answered written h.are_replies)
       (failed_settling disk start store new asked text count written h settles.0 settles.1 call) settles.2
   stopped_settling start store new asked text count written writer it h call false settles =
       stopped_now start new asked h.answered h.waiting written text writer (length (accepted_all (standing_of start) asked))
-      h.all (omega (arith, h.count_is, h.few)) (replied (standing_of start) h.answered written h.are_replies)
+      h.all (omega (arith, h.count_is, h.few)) (inl (h.begins, h.group)) (replied (standing_of start) h.answered written h.are_replies)
       (served disk start new asked (written ++ text) (settled disk start store new asked text count written h settles.0 call)) settles.1
 
   -- a line that comes after the store failed
@@ -201,7 +205,7 @@ module _ {D : Type 0} (disk : Disk D) where
   serves_more start store asked one old new written writer result f same none fails wrote fault =
       let single : old.count + 1 ≡ 1 = omega (arith, f.none_held) in
       serves_failing start store (asked ++ one ∷ []) new written (disk_errors 1) writer result
-      asked (one ∷ []) refl (omega arith) (answers_served start store asked written old.served.accepted f.served)
+      asked (one ∷ []) refl (omega arith) (inr (one, refl, λ works. absurd (true≢false (sym f.failed ∙ works)))) (answers_served start store asked written old.served.accepted f.served)
       (rw same (failed_more disk start store asked one written old.served.accepted f.served f.failed)) f.failed none fails
       (subst (λ n. Written writer (disk_errors n) result) single wrote) fault
 

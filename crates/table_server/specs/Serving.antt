@@ -1,5 +1,5 @@
 -- What holds between two lines that are served.
-use Rattle.std.specs.Prelude.{◌≡◌, ◌<◌, ◌≤◌, ◌*◌, ℕ, Bool, true, false, List, [], ◌∷◌, ◌++◌, length, Option, Some, None, Result, Ok, Err}
+use Rattle.std.specs.Prelude.{◌≡◌, ◌<◌, ◌≤◌, ◌*◌, ◌⊎◌, ℕ, Bool, true, false, List, [], ◌∷◌, ◌++◌, length, Option, Some, None, Result, Ok, Err}
 use Rattle.std.specs.List.{list_all}
 use Rattle.sector_disk.specs.Disk.{Disk}
 use Rattle.session_store.specs.Answers.{after_confirm}
@@ -48,6 +48,12 @@ pub record AreAnswers (from : Standing) (asked : List Asked) (text : List ℕ) :
   pub replies : List ℕ
   pub are_replies : AreReplies from answered replies
   pub says : text ≡ replies ++ disk_errors (length others)
+
+-- lines that are answered together after these: held lines, where their group begins, or one line, which is a question
+-- unless the store has failed
+abbrev pub AreTogether : Bool → List Asked → List Asked → Type 0
+AreTogether failed before group = ((held_after before ≡ 0) × (list_all is_held group ≡ true))
+    ⊎ ((one : Asked) × (group ≡ one ∷ []) × (failed ≡ false → is_held one ≡ false))
 
 module _ {D : Type 0} (disk : Disk D) where
   -- the reply to a change, and the store that it leaves
@@ -121,13 +127,14 @@ module _ {D : Type 0} (disk : Disk D) where
   Serving start asked store held written = ServingBy held.served.failed start asked store held written
 
   -- A write failed. The first lines were served: the texts of some are written whole, and of the last text, that of at most
-  -- 64 lines, a part. No other line was taken.
+  -- 64 lines that are answered together, a part. No other line was taken.
   pub record IsStopped (start : StoreValue D State Action) (asked : List Asked) (store : StoreValue D State Action) (written : List ℕ) (writer : Stream) : Type 0 where
     pub whole : List Asked
     pub group : List Asked
     pub rest : List Asked
     pub all : asked ≡ (whole ++ group) ++ rest
     pub few : length group ≤ 64
+    pub one_group : AreTogether store.failed whole group
     pub text : List ℕ
     pub answers : AreAnswers (standing_of start) whole (written ++ text)
     pub begun : List ℕ

@@ -1,10 +1,11 @@
-use Rattle.std.proofs.Common.{◌≡◌, ◌<◌, ◌+◌, ◌∷◌, [], ◌++◌, ◌∙◌, length, refl, sym, ap, arith, append_assoc, length-append}
+use Rattle.std.proofs.Common.{◌≡◌, ◌<◌, ◌+◌, ◌∷◌, [], ◌++◌, ◌∙◌, length, inl, refl, sym, ap, arith, append_assoc, length-append}
 use Rattle.table_server.specs.declared.asked.Asked.TheVariants.{Change}
 use Rattle.table_server.specs.Answered.{after_all, accepted_all, disk_errors}
 use Rattle.table_server.specs.ReplyTexts.{short_text}
 use Rattle.table_server.specs.Serving.{accepted_count}
 use Rattle.table_server.specs.Standing.{standing_of}
 use Rattle.table_server.proofs.CountLemmas.{accepted_few, counted_change}
+use Rattle.table_server.proofs.Folds.{all_held_one}
 use Rattle.table_server.proofs.ServingLemmas.{held_more}
 use Rattle.table_server.proofs.FailureLemmas.{failed_taking}
 use Rattle.table_server.proofs.ServesLemmas.{replied, serves_failing}
@@ -47,6 +48,7 @@ returns-in-None-clause-serves g c start asked written w =
     let count : c.fail.new.self.served.accepted ≡ length (accepted_all from asked) + 1 =
     ap (λ served. served.accepted) f.served ∙ ap (λ n. n + 1) w.counted in
     serves_failing disk start c.take_change.new.store (asked ++ Change action ∷ []) c.fail.new.self written (disk_errors (self.count + 1)) _ c.fail.result
-    h.answered (h.waiting ++ Change action ∷ []) all (omega (arith, long, h.count_is, c.requires.fits.few)) (replied disk from h.answered written h.are_replies)
+    h.answered (h.waiting ++ Change action ∷ []) all (omega (arith, long, h.count_is, c.requires.fits.few))
+    (inl (h.begins, all_held_one h.waiting (Change action) h.group refl)) (replied disk from h.answered written h.are_replies)
     (rw count (failed_taking disk start store c.take_change.new.store asked action self.text.bytes self.count written h c.requires.fits.few fails))
     fails.failed f.none_held (ap (λ served. served.failed) f.served) f.written f.fault

@@ -1,4 +1,4 @@
-use Rattle.std.proofs.Common.{◌≡◌, ◌∷◌, [], ◌++◌, ◌∙◌, true, false, Ok, length, refl, sym, ap, subst, arith}
+use Rattle.std.proofs.Common.{◌≡◌, ◌∷◌, [], ◌++◌, ◌∙◌, true, false, Ok, length, inr, refl, sym, ap, subst, arith}
 use Rattle.line_text.specs.Streams.{stream}
 use Rattle.table_server.specs.declared.asked.Asked.TheVariants.{Told}
 use Rattle.table_server.specs.declared.fault.ServeFault.{ServeFault}
@@ -69,6 +69,6 @@ returns-clause-serves g c start asked written w =
     serves_after disk start new (asked ++ Told c.args.question ∷ []) c.settle.new.self written self.text.bytes
     (g.W.Write.contents c.args.writer.now) (g.W.Write.contents c.settle.new.writer) (g.W.Write.contents c.write_told.new.writer) c.write_told.result settles.1
     (serves_working disk start new (asked ++ Told c.args.question ∷ []) c.settle.new.self (written ++ self.text.bytes) t.0 _ c.write_told.result
-    asked (Told c.args.question ∷ []) refl (omega arith) (replied disk from asked (written ++ self.text.bytes) all.are_replies)
+    asked (Told c.args.question ∷ []) refl (omega arith) (inr (Told c.args.question, refl, λ works. refl)) (replied disk from asked (written ++ self.text.bytes) all.are_replies)
     (told disk start new asked c.args.question (written ++ self.text.bytes) t.0 all tells) (held_told asked c.args.question)
     (s.no_text c.if-self.false) s.none_held c.if-self.false count t.2 c.write_told.ensures.fault)
