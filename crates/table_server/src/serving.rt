@@ -97,10 +97,10 @@ fn end_lines<D: SectorDisk + Drop, W: Write>(
 }
 
 /// Serves a reader's lines over a store: each complete line is answered, of at most 65,536 bytes, and at that number a
-/// notice follows. Lines are answered in order. The replies to changes and bad lines are held until what was accepted is
-/// confirmed: before a question is answered, at 64 held lines, at the limit, at the end of the input and where a read
-/// fails. Replies are passed on before more is read. Nothing may be pending in the store, unless it has failed, and
-/// nothing is left pending.
+/// notice follows. Lines are answered in order. The replies to changes and bad lines are held until what was accepted
+/// is confirmed: before a question is answered, at 64 held lines, at the limit, at the end of the input and where a
+/// read fails. What is written is flushed before more is read; replies that are held stay held. Nothing may be pending
+/// in the store, unless it has failed, and nothing is left pending.
 ///
 /// Where the store fails or had failed, `ERR 40 Disk` answers each line that is held, the line itself and each later
 /// one. `Read` comes at the first error of the reader, and `Write` at the first error of the writer or where it takes no
