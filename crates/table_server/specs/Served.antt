@@ -23,7 +23,7 @@ module _ {D : Type 0} (disk : Disk D) where
     pub replies : List ℕ
     pub are_replies : AreReplies (standing_of start) answered replies
     pub says : text ≡ replies ++ disk_errors (length (taken ++ later))
-    -- the state, and where the store works how many actions can still be taken, and the actions accepted
+    -- the state and the actions accepted, and where the store works how many more can be taken
     pub state : store.state ≡ (after_all (standing_of start) (answered ++ taken)).state
     pub standing : store.failed ≡ false → standing_of store ≡ after_all (standing_of start) (answered ++ taken)
     pub continues : Continues session_keeping disk start (accepted_all (standing_of start) (answered ++ taken)) store
