@@ -1,3 +1,4 @@
 pub mod Found
 pub mod Reading
 pub mod Stopped
+pub mod Connected

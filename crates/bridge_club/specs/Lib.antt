@@ -5,5 +5,6 @@ pub mod Formatted
 pub mod Stored
 pub mod Results
 pub mod Scripted
+pub mod Connections
 pub mod OnFile
 pub mod Run

@@ -1,6 +1,7 @@
 -- What the commands do over the session that a disk in a file holds.
-use Rattle.std.specs.Prelude.{◌≡◌, ◌⊎◌, ℕ, List}
+use Rattle.std.specs.Prelude.{◌≡◌, ◌⊎◌, ℕ, List, Option, None}
 use Rattle.std.specs.declared.fs.File.{File}
+use Rattle.std.specs.declared.net.tcp.TcpStream.{TcpStream}
 use Rattle.line_text.specs.Streams.{Stream, Takes, TakesPrefix, IsUntouched}
 use Rattle.sector_disk.specs.declared.file.FileDisk.{FileDisk}
 use Rattle.sector_disk.specs.File.{file_disk}
@@ -11,9 +12,10 @@ use Rattle.session_store.specs.Value.{StoreValue}
 use Rattle.bridge_session.specs.declared.action.Action.{Action}
 use Rattle.bridge_session.specs.SessionKeeping.{session_keeping}
 use Rattle.bridge_session.specs.State.{State}
-use Rattle.table_server.specs.declared.fault.ServeFault.TheVariants.{Write}
+use Rattle.table_server.specs.declared.fault.ServeFault.TheVariants.{Write, Accept}
 use Rattle.bridge_club.specs.declared.fault.RunFault.{RunFault}
 use Rattle.bridge_club.specs.declared.fault.RunFault.TheVariants.{Stream as StreamFault, Store}
+use Rattle.bridge_club.specs.Connections.{ServesAllConnections, StopsConnections}
 use Rattle.bridge_club.specs.Scripted.{ServesAll, StopsScript}
 use Rattle.bridge_club.specs.Stored.{RefusesDisk}
 
@@ -63,3 +65,33 @@ pub record StopsOnFile (input output : Stream) (fault : RunFault) : Type 0 where
 
 abbrev pub StopsScripting : Stream → Stream → RunFault → Type 0
 StopsScripting input output fault = IsNotScripted input output fault ⊎ StopsOnFile input output fault
+
+-- no contract can say which bytes a connection gives, or has taken
+abbrev pub unknown : TcpStream → Option (List ℕ)
+unknown connection = None
+
+-- there is no listener at the port, or the serving of connections stopped
+abbrev pub StopsListening : ℕ → StoreValue (FileDisk File) State Action → RunFault → Type 0
+StopsListening count start fault =
+    (fault ≡ StreamFault Accept) ⊎ StopsConnections file_disk unknown unknown count start fault
+
+-- the lines of so many connections were served over a session that was opened on a disk in a file
+pub record HasServedConnections (count : ℕ) : Type 0 where
+  pub start : StoreValue (FileDisk File) State Action
+  pub opened : IsOnFile start
+  pub serves : ServesAllConnections file_disk unknown unknown count start
+
+-- there is no session, or memory was refused
+pub record IsNotServed (fault : RunFault) : Type 0 where
+  pub cause : StoreFault
+  pub named : fault ≡ Store cause
+  pub refused : RefusesFile cause ⊎ (cause ≡ NoMemory)
+
+-- the serving of connections stopped over a session that was opened
+pub record StopsOnConnections (count : ℕ) (fault : RunFault) : Type 0 where
+  pub start : StoreValue (FileDisk File) State Action
+  pub opened : IsOnFile start
+  pub stops : StopsListening count start fault
+
+abbrev pub StopsServingConnections : ℕ → RunFault → Type 0
+StopsServingConnections count fault = IsNotServed fault ⊎ StopsOnConnections count fault

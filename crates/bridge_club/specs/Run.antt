@@ -5,14 +5,14 @@ use Rattle.line_text.specs.Streams.{Stream, Gives, Takes, TakesPrefix, IsUntouch
 use Rattle.table_server.specs.Heard.{StopsAt}
 use Rattle.table_server.specs.Replies.{auction_output, byte_limit}
 use Rattle.bridge_club.specs.declared.command.Command.{Command}
-use Rattle.bridge_club.specs.declared.command.Command.TheVariants.{Auction, Format, Script, Rank, Pbn}
+use Rattle.bridge_club.specs.declared.command.Command.TheVariants.{Auction, Format, Script, Serve, Rank, Pbn}
 use Rattle.bridge_club.specs.declared.command.WordsFault.{WordsFault}
 use Rattle.bridge_club.specs.declared.command.WordsFault.TheVariants.{Usage, Memory}
 use Rattle.bridge_club.specs.declared.fault.RunFault.{RunFault}
 use Rattle.bridge_club.specs.declared.fault.RunFault.TheVariants.{Stream as StreamFault, Config, Store}
 use Rattle.bridge_club.specs.Faults.{fault_line, fault_status}
 use Rattle.bridge_club.specs.Formatted.{HasFormatted, StopsFormatting}
-use Rattle.bridge_club.specs.OnFile.{HasResults, StopsResults, HasScripted, StopsScripting}
+use Rattle.bridge_club.specs.OnFile.{HasResults, StopsResults, HasScripted, StopsScripting, HasServedConnections, StopsServingConnections}
 use Rattle.bridge_club.specs.Results.{IsRankingText, IsPbnText}
 
 -- the output of a board's auction is written for what was read of the input
@@ -31,6 +31,7 @@ abbrev pub Does : Command → Stream → Stream → Type 0
 Does (Auction board) input output = HasAuction board input output
 Does (Format disk config) input output = HasFormatted output × IsUntouched input
 Does (Script disk) input output = HasScripted input output
+Does (Serve disk port count) input output = HasServedConnections count × IsUntouched output × IsUntouched input
 Does (Rank disk) input output = HasResults IsRankingText output × IsUntouched input
 Does (Pbn disk) input output = HasResults IsPbnText output × IsUntouched input
 
@@ -39,6 +40,8 @@ abbrev pub StopsBy : Command → Stream → Stream → RunFault → Type 0
 StopsBy (Auction board) input output fault = StopsAuction board input output fault
 StopsBy (Format disk config) input output fault = StopsFormatting output fault × IsUntouched input
 StopsBy (Script disk) input output fault = StopsScripting input output fault
+StopsBy (Serve disk port count) input output fault =
+    StopsServingConnections count fault × IsUntouched output × IsUntouched input
 StopsBy (Rank disk) input output fault = StopsResults IsRankingText output fault × IsUntouched input
 StopsBy (Pbn disk) input output fault = StopsResults IsPbnText output fault × IsUntouched input
 

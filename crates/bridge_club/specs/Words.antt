@@ -5,7 +5,7 @@ use Rattle.std.specs.declared.num.ParseIntError.{ParseIntError}
 use Rattle.clap.specs.Words.{App, Row, Rule, Text, new_app, new_rule, with_rule, with_subcommand, subcommand_of, one_of, first_of, fault_of}
 use Rattle.clap.specs.declared.builder.value_parser.ValueParser.TheVariants as parser
 use Rattle.bridge_club.specs.declared.command.Command.{Command}
-use Rattle.bridge_club.specs.declared.command.Command.TheVariants.{Auction, Format, Script, Rank, Pbn}
+use Rattle.bridge_club.specs.declared.command.Command.TheVariants.{Auction, Format, Script, Serve, Rank, Pbn}
 use Rattle.bridge_club.specs.declared.command.WordsFault.{WordsFault}
 use Rattle.bridge_club.specs.declared.command.WordsFault.TheVariants.{Usage, Memory}
 
@@ -37,6 +37,18 @@ disk_app name = with_rule (new_app name) disk_rule
 abbrev pub script_app : App
 script_app = disk_app (codes "script")
 
+-- the argument PORT, which is required: a number from 1 to 65535
+abbrev pub port_rule : Rule
+port_rule = record (new_rule (codes "PORT")) { required = true; parser = Some (parser.Signed (pos 1) (pos 65535)) }
+
+-- the argument COUNT, which is required: a number from 1 to 1000
+abbrev pub count_rule : Rule
+count_rule = record (new_rule (codes "COUNT")) { required = true; parser = Some (parser.Signed (pos 1) (pos 1000)) }
+
+-- the command `serve DISK PORT COUNT`
+abbrev pub serve_app : App
+serve_app = with_rule (with_rule (disk_app (codes "serve")) port_rule) count_rule
+
 -- the command `rank DISK`
 abbrev pub rank_app : App
 rank_app = disk_app (codes "rank")
@@ -63,16 +75,20 @@ app_with_format = with_subcommand app_with_auction format_app.top
 abbrev pub app_with_script : App
 app_with_script = with_subcommand app_with_format script_app.top
 
+abbrev pub app_with_serve : App
+app_with_serve = with_subcommand app_with_script serve_app.top
+
 abbrev pub app_with_rank : App
-app_with_rank = with_subcommand app_with_script rank_app.top
+app_with_rank = with_subcommand app_with_serve rank_app.top
 
 -- the program: words without its own name, and one of its commands
 abbrev pub club_app : App
 club_app = with_subcommand app_with_rank pbn_app.top
 
--- the argument of that name is this number, in decimal digits
-abbrev pub HasNumber : List Row → Text → ℕ → Type 0
-HasNumber rows id number = (text : Text) × (one_of id rows ≡ Some text) × ParsesUnsigned {E = ParseIntError} 8 10 text (Ok number)
+-- the argument of that name is this number of so many bits, in decimal digits
+abbrev pub HasNumber : ℕ → List Row → Text → ℕ → Type 0
+HasNumber bits rows id number =
+    (text : Text) × (one_of id rows ≡ Some text) × ParsesUnsigned {E = ParseIntError} bits 10 text (Ok number)
 
 -- the argument of that name is this text
 abbrev pub HasText : List Row → Text → Text → Type 0
@@ -80,9 +96,11 @@ HasText rows id text = first_of id rows ≡ Some text
 
 -- the arguments are those of a command
 abbrev pub HasWords : List Row → Command → Type 0
-HasWords rows (Auction board) = HasNumber rows (codes "BOARD") board
+HasWords rows (Auction board) = HasNumber 8 rows (codes "BOARD") board
 HasWords rows (Format disk config) = HasText rows (codes "DISK") disk.now × HasText rows (codes "CONFIG") config.now
 HasWords rows (Script disk) = HasText rows (codes "DISK") disk.now
+HasWords rows (Serve disk port count) = HasText rows (codes "DISK") disk.now
+    × HasNumber 16 rows (codes "PORT") port × HasNumber 16 rows (codes "COUNT") count
 HasWords rows (Rank disk) = HasText rows (codes "DISK") disk.now
 HasWords rows (Pbn disk) = HasText rows (codes "DISK") disk.now
 
@@ -91,6 +109,7 @@ abbrev pub name_of : Command → Text
 name_of (Auction board) = codes "auction"
 name_of (Format disk config) = codes "format"
 name_of (Script disk) = codes "script"
+name_of (Serve disk port count) = codes "serve"
 name_of (Rank disk) = codes "rank"
 name_of (Pbn disk) = codes "pbn"
 

@@ -7,13 +7,29 @@ pub enum Command<'a> {
     /// `auction BOARD`: one board's auction, from standard input.
     Auction(BoardNumber),
     /// `format DISK CONFIG`: a new disk for the session that begins by the configuration in a file.
-    Format { disk: &'a str, config: &'a str },
+    Format {
+        disk: &'a str,
+        config: &'a str,
+    },
     /// `script DISK`: lines from standard input, served over the session that a disk holds.
-    Script { disk: &'a str },
+    Script {
+        disk: &'a str,
+    },
+    /// `serve DISK PORT COUNT`: so many connections at a port, served one after the other over the session that a disk
+    /// holds.
+    Serve {
+        disk: &'a str,
+        port: u16,
+        count: u16,
+    },
     /// `rank DISK`: the ranking of each field of the session that a disk holds.
-    Rank { disk: &'a str },
+    Rank {
+        disk: &'a str,
+    },
     /// `pbn DISK`: the results of the session that a disk holds, in Portable Bridge Notation.
-    Pbn { disk: &'a str },
+    Pbn {
+        disk: &'a str,
+    },
 }
 
 /// Why the words ask for no command.

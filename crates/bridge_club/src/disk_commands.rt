@@ -1,12 +1,15 @@
 //! The commands over the session that a disk in a file holds.
 ghost use Rattle.std.specs.Prelude.{◌≡◌, [], false, OnOk, IfOk, IfErr};
 ghost use Rattle.line_text.specs.Streams.{stream};
+ghost use Rattle.sector_disk.specs.File.{file_disk};
+ghost use Rattle.bridge_club.specs.Connections.{ServesAllConnections};
 ghost use Rattle.bridge_club.specs.Results.{IsRankingText, IsPbnText};
-ghost use Rattle.bridge_club.specs.OnFile.{IsOnFile, RefusesFile, HasResults, StopsResults, HasScripted, StopsScripting};
+ghost use Rattle.bridge_club.specs.OnFile.{IsOnFile, RefusesFile, HasResults, StopsResults, HasScripted, StopsScripting, unknown, HasServedConnections, StopsListening, StopsServingConnections};
 
 use crate::fault::RunFault;
 use crate::results::{write_games, write_ranking};
 use crate::script::serve_store;
+use crate::serving::serve_connections;
 use crate::stored_session::open_session;
 use bridge_endings::Cache;
 use bridge_session::Session;
@@ -15,7 +18,9 @@ use session_store::{Store, StoreFault};
 use std::alloc::Global;
 use std::fs::File;
 use std::io::{Read, Write};
+use std::net::{Ipv4Addr, Net, SocketAddr, TcpListener, TcpStream};
 use std::rt::Files;
+use table_server::ServeFault;
 
 /// How many endings are kept for the answers to `SOLVE`.
 const CACHED_ENDINGS: usize = 4096;
@@ -84,6 +89,44 @@ pub fn run_script<S: Files<File = File>, R: Read, W: Write>(
     match open_store(rt, alloc, disk) {
         Ok(mut store) => match Cache::new(alloc, CACHED_ENDINGS) {
             Ok(mut cache) => serve_store(&mut store, &mut cache, input, output),
+            Err(_) => Err(RunFault::Store(StoreFault::NoMemory)),
+        },
+        Err(fault) => Err(RunFault::Store(fault)),
+    }
+}
+
+/// Listens at a port of 127.0.0.1, and serves so many connections over a store.
+fn listen<N: Net<Listener = TcpListener, Stream = TcpStream>>(
+    rt: &N,
+    port: u16,
+    count: u16,
+    store: &mut Store<FileDisk<File>, Session>,
+    cache: &mut Cache,
+) -> Result<(), RunFault>
+    requires { store.old.failed ≡ false → store.old.pending ≡ [] }
+    ensures done { OnOk result (ServesAllConnections file_disk unknown unknown count store.old) }
+    ensures fault { IfErr result (StopsListening count store.old) }
+{
+    match TcpListener::bind(rt, SocketAddr::from((Ipv4Addr::LOCALHOST, port))) {
+        Ok(listener) => serve_connections(rt, &listener, count, store, cache),
+        Err(_) => Err(RunFault::Stream(ServeFault::Accept)),
+    }
+}
+
+/// Serves the lines of so many connections at a port of 127.0.0.1 over the session that the disk in a file holds.
+pub fn run_serve<S: Files<File = File> + Net<Listener = TcpListener, Stream = TcpStream>>(
+    rt: &S,
+    alloc: Global,
+    disk: &str,
+    port: u16,
+    count: u16,
+) -> Result<(), RunFault>
+    ensures done { OnOk result (HasServedConnections count) }
+    ensures fault { IfErr result (StopsServingConnections count) }
+{
+    match open_store(rt, alloc, disk) {
+        Ok(mut store) => match Cache::new(alloc, CACHED_ENDINGS) {
+            Ok(mut cache) => listen(rt, port, count, &mut store, &mut cache),
             Err(_) => Err(RunFault::Store(StoreFault::NoMemory)),
         },
         Err(fault) => Err(RunFault::Store(fault)),

@@ -4,6 +4,7 @@
 //! bridge_club auction 1 < examples/auction.txt
 //! bridge_club format club.disk examples/mitchell.txt
 //! bridge_club script club.disk < lines.txt
+//! bridge_club serve club.disk 4000 12
 //! bridge_club rank club.disk
 //! bridge_club pbn club.disk
 //! ```
@@ -20,6 +21,7 @@ mod read;
 mod results;
 mod run;
 mod script;
+mod serving;
 mod stored_session;
 #[cfg(test)]
 mod tests;

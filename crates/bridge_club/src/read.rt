@@ -2,7 +2,7 @@
 ghost use Rattle.std.specs.Prelude.{◌≡◌, IfOk, IfErr, IfSome, codes, false, map};
 ghost use Rattle.clap.specs.Words.{app_of, shape_of, rule_of, rows_of, found_of, subcommand_rows_of};
 ghost use Rattle.clap.specs.declared.builder.command.Command.TheViews.{out-Command as fields_of};
-ghost use Rattle.bridge_club.specs.Words.{board_rule, disk_rule, config_rule, auction_app, format_app, script_app, rank_app, pbn_app, bare_app, app_with_auction, app_with_format, app_with_script, app_with_rank, club_app, IsCommand, IsNamed, Asks, Faults};
+ghost use Rattle.bridge_club.specs.Words.{board_rule, disk_rule, config_rule, port_rule, count_rule, auction_app, format_app, script_app, serve_app, rank_app, pbn_app, bare_app, app_with_auction, app_with_format, app_with_script, app_with_serve, app_with_rank, club_app, HasNumber, IsCommand, IsNamed, Asks, Faults};
 
 use crate::command::{Command, WordsFault};
 use bridge_cards::BoardNumber;
@@ -41,6 +41,7 @@ fn asked<'a>(matches: &ArgMatches<'a>) -> Option<Command<'a>>
         ("auction", found) => auction_of(found),
         ("format", found) => format_of(found),
         ("script", found) => script_of(found),
+        ("serve", found) => serve_of(found),
         ("rank", found) => rank_of(found),
         ("pbn", found) => pbn_of(found),
         // clap's checks leave no other name. The contract allows want of memory alone here.
@@ -73,6 +74,24 @@ fn script_of<'a>(found: &ArgMatches<'a>) -> Option<Command<'a>>
     Some(Command::Script { disk })
 }
 
+/// The command `serve` with its disk and its numbers.
+fn serve_of<'a>(found: &ArgMatches<'a>) -> Option<Command<'a>>
+    ensures { IfSome result (IsNamed (codes "serve") (rows_of (found_of found.now))) }
+{
+    let disk = found.get_str("DISK")?;
+    let port = number_of(found, "PORT")?;
+    let count = number_of(found, "COUNT")?;
+    Some(Command::Serve { disk, port, count })
+}
+
+/// The number that an argument is.
+fn number_of(found: &ArgMatches<'_>, name: &str) -> Option<u16>
+    ensures { IfSome result (HasNumber 16 (rows_of (found_of found.now)) name.now) }
+{
+    let number = found.get_one::<u16>(name)?;
+    Some(number)
+}
+
 /// The command `rank` with its disk.
 fn rank_of<'a>(found: &ArgMatches<'a>) -> Option<Command<'a>>
     ensures { IfSome result (IsNamed (codes "rank") (rows_of (found_of found.now))) }
@@ -100,7 +119,14 @@ fn club_command<'a>(alloc: Global) -> Result<clap::Command<'a>, AllocError>
 fn with_rank<'a>(alloc: Global) -> Result<clap::Command<'a>, AllocError>
     ensures { IfOk result (λ command. app_of command ≡ app_with_rank) }
 {
-    with_script(alloc)?.subcommand(rank_command(alloc)?)
+    with_serve(alloc)?.subcommand(rank_command(alloc)?)
+}
+
+/// The command line with the commands up to `serve`.
+fn with_serve<'a>(alloc: Global) -> Result<clap::Command<'a>, AllocError>
+    ensures { IfOk result (λ command. app_of command ≡ app_with_serve) }
+{
+    with_script(alloc)?.subcommand(serve_command(alloc)?)
 }
 
 /// The command line with the commands up to `script`.
@@ -166,6 +192,18 @@ fn script_command<'a>(alloc: Global) -> Result<clap::Command<'a>, AllocError>
         .arg(disk_argument(alloc))
 }
 
+/// The command `serve DISK PORT COUNT`.
+fn serve_command<'a>(alloc: Global) -> Result<clap::Command<'a>, AllocError>
+    ensures shape { IfOk result (λ command. shape_of command ≡ serve_app.top) }
+    ensures local { IfOk result (λ command. (fields_of command).has_globals ≡ false) }
+{
+    clap::Command::new(alloc, "serve")
+        .about("Answers lines from COUNT connections at a port, one after the other")
+        .arg(disk_argument(alloc))?
+        .arg(port_argument(alloc))?
+        .arg(count_argument(alloc))
+}
+
 /// The command `rank DISK`.
 fn rank_command<'a>(alloc: Global) -> Result<clap::Command<'a>, AllocError>
     ensures shape { IfOk result (λ command. shape_of command ≡ rank_app.top) }
@@ -204,6 +242,28 @@ fn config_argument<'a>(alloc: Global) -> Arg<'a>
     Arg::new(alloc, "CONFIG")
         .help("The file with the configuration")
         .required(true)
+}
+
+/// The argument PORT.
+fn port_argument<'a>(alloc: Global) -> Arg<'a>
+    ensures rule { rule_of result ≡ port_rule }
+    ensures local { result.global ≡ false }
+{
+    Arg::new(alloc, "PORT")
+        .help("The port of 127.0.0.1, 1 to 65535")
+        .required(true)
+        .value_parser(clap::value_parser!(u16).range(1..=65535))
+}
+
+/// The argument COUNT.
+fn count_argument<'a>(alloc: Global) -> Arg<'a>
+    ensures rule { rule_of result ≡ count_rule }
+    ensures local { result.global ≡ false }
+{
+    Arg::new(alloc, "COUNT")
+        .help("How many connections are served, 1 to 1000")
+        .required(true)
+        .value_parser(clap::value_parser!(u16).range(1..=1000))
 }
 
 /// The argument BOARD.

@@ -8,7 +8,7 @@ ghost use Rattle.bridge_club.specs.Run.{HasAuction, StopsAuction, Does, StopsBy,
 ghost use Rattle.bridge_club.specs.declared.command.Command.{Command};
 
 use crate::command::{Command, WordsFault};
-use crate::disk_commands::{run_pbn, run_rank, run_script};
+use crate::disk_commands::{run_pbn, run_rank, run_script, run_serve};
 use crate::fault::RunFault;
 use crate::fault_line::{FAULT, fault_line, fault_status};
 use crate::formatting::run_format;
@@ -18,6 +18,7 @@ use line_text::write_text;
 use std::alloc::Global;
 use std::fs::File;
 use std::io::{ErrorKind, Read, Write};
+use std::net::{Net, TcpListener, TcpStream};
 use std::rt::Files;
 use table_server::run_auction;
 
@@ -32,19 +33,17 @@ const NOT_TEXT: &str = "a word of the command line is not UTF-8\n";
 
 /// Runs the command that the words after the program's name ask for, and answers the exit status.
 ///
-/// The runtime gives the files that commands open; `auction` opens none.
+/// The runtime gives the files that commands open, and for `serve` the connections; `auction` opens none.
 ///
 /// 0: done. 2: the words are no command, or call for help; clap's text stands on `errors`. At 3 and 4 one line of `errors`
 /// names a fault. 3: `cannot read input`, `cannot write output`, `config line N: Name`, `disk fault`, `epochs spent` or
 /// `no memory`. 4: the disk holds no session, being `disk too small`, `not formatted` or `damaged sector N`.
-pub fn run_words<S: Files<File = File>, R: Read, W: Write, E: Write>(
-    rt: &S,
-    alloc: Global,
-    words: &[&str],
-    input: &mut R,
-    output: &mut W,
-    errors: &mut E,
-) -> u8
+pub fn run_words<
+    S: Files<File = File> + Net<Listener = TcpListener, Stream = TcpStream>,
+    R: Read,
+    W: Write,
+    E: Write,
+>(rt: &S, alloc: Global, words: &[&str], input: &mut R, output: &mut W, errors: &mut E) -> u8
     ensures done { result ≡ 0 → (command : Command) × Asks (map (λ word. word.now) words.entry.now) command
         × IsDone command (stream R.remaining input.old input.new)
         (stream W.contents output.old output.new) (stream E.contents errors.old errors.new) }
@@ -84,14 +83,12 @@ pub fn refuse<E: Write>(fault: WordsFault, errors: &mut E) -> u8
 }
 
 /// Runs a command, and where it stops names the fault on `errors`. The answer is the exit status.
-fn run_command<S: Files<File = File>, R: Read, W: Write, E: Write>(
-    rt: &S,
-    alloc: Global,
-    command: &Command<'_>,
-    input: &mut R,
-    output: &mut W,
-    errors: &mut E,
-) -> u8
+fn run_command<
+    S: Files<File = File> + Net<Listener = TcpListener, Stream = TcpStream>,
+    R: Read,
+    W: Write,
+    E: Write,
+>(rt: &S, alloc: Global, command: &Command<'_>, input: &mut R, output: &mut W, errors: &mut E) -> u8
     ensures done { result ≡ 0 → IsDone command.now (stream R.remaining input.old input.new)
         (stream W.contents output.old output.new) (stream E.contents errors.old errors.new) }
     ensures stopped { result ≢ 0 → IsStopped command.now (stream R.remaining input.old input.new)
@@ -105,7 +102,11 @@ fn run_command<S: Files<File = File>, R: Read, W: Write, E: Write>(
 }
 
 /// Runs a command.
-fn do_command<S: Files<File = File>, R: Read, W: Write>(
+fn do_command<
+    S: Files<File = File> + Net<Listener = TcpListener, Stream = TcpStream>,
+    R: Read,
+    W: Write,
+>(
     rt: &S,
     alloc: Global,
     command: &Command<'_>,
@@ -121,6 +122,7 @@ fn do_command<S: Files<File = File>, R: Read, W: Write>(
         Command::Auction(board) => hold_auction(board, input, output),
         Command::Format { disk, config } => run_format(rt, alloc, disk, config, output),
         Command::Script { disk } => run_script(rt, alloc, disk, input, output),
+        Command::Serve { disk, port, count } => run_serve(rt, alloc, disk, port, count),
         Command::Rank { disk } => run_rank(rt, alloc, disk, output),
         Command::Pbn { disk } => run_pbn(rt, alloc, disk, output),
     }

@@ -11,8 +11,22 @@ use session_store::{Store, StoreFault};
 use std::io::{Read, Write};
 use table_server::{ServeFault, serve};
 
+/// Whether the store has failed. Nothing may be pending in it, unless it has.
+pub fn has_failed<D: SectorDisk + Drop>(store: &mut Store<D, Session>) -> bool
+    requires { store.old.failed ≡ false → store.old.pending ≡ [] }
+    ensures { result ≡ store.old.failed }
+{
+    match store.confirm() {
+        Ok(()) => false,
+        Err(_) => true,
+    }
+}
+
 /// The fault of a run in which the store failed, or else this one.
-fn fault_over<D: SectorDisk + Drop>(store: &mut Store<D, Session>, fault: ServeFault) -> RunFault
+pub fn fault_over<D: SectorDisk + Drop>(
+    store: &mut Store<D, Session>,
+    fault: ServeFault,
+) -> RunFault
     requires { store.old.failed ≡ false → store.old.pending ≡ [] }
     ensures { result ≡ fault_over store.old.failed fault }
 {

@@ -1,3 +1,4 @@
+mod connections;
 mod evening;
 mod refused;
 mod script;
@@ -10,6 +11,7 @@ use std::alloc::Global;
 use std::fmt::Debug;
 use std::fs::File;
 use std::io::{Error, ErrorKind, Read, Write};
+use std::net::{Net, TcpListener, TcpStream};
 use std::process::Abort;
 use std::rt::Files;
 use std::test::Fail;
@@ -25,7 +27,7 @@ fn expect_eq<T: PartialEq + Debug + Drop>(
 }
 
 /// Runs the words over an input, and fails where the status, the output or the errors are not those that are due.
-fn expect_run<T: Abort + Files<File = File>>(
+fn expect_run<T: Abort + Files<File = File> + Net<Listener = TcpListener, Stream = TcpStream>>(
     rt: &T,
     alloc: Global,
     words: &[&str],

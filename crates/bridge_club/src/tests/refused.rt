@@ -5,6 +5,7 @@ use crate::run::run_words;
 use std::alloc::Global;
 use std::fs;
 use std::fs::File;
+use std::net::{Net, TcpListener, TcpStream};
 use std::process::Abort;
 use std::rt::Files;
 use std::test::Fail;
@@ -86,7 +87,7 @@ fn a_bad_configuration_leaves_the_disk(rt: HostRuntime) -> Result<(), Fail> {
 }
 
 /// Runs each of the commands over this disk, and expects the status and the line.
-fn expect_refused<T: Abort + Files<File = File>>(
+fn expect_refused<T: Abort + Files<File = File> + Net<Listener = TcpListener, Stream = TcpStream>>(
     rt: &T,
     alloc: Global,
     disk: &str,

@@ -16,7 +16,7 @@ use std::test::Fail;
 type Run = Result<(), RunFault>;
 
 /// A disk of a new session, all of whose calls after so many fail.
-fn failing_disk(alloc: Global, passes: u64) -> Result<Fuse<MemoryDisk>, Fail> {
+pub fn failing_disk(alloc: Global, passes: u64) -> Result<Fuse<MemoryDisk>, Fail> {
     let text = format!(in alloc; "{HEADING}{MOVEMENT}{PEOPLE}")?;
     let mut reader = text.as_bytes();
     let Ok(session) = read_session(alloc, &mut reader) else {

@@ -1,0 +1,53 @@
+-- What is served over connections, one after the other.
+use Rattle.std.specs.Prelude.{◌≡◌, ◌≢◌, ◌⊎◌, ℕ, zero, suc, true, false, List, Option}
+use Rattle.sector_disk.specs.Disk.{Disk}
+use Rattle.session_store.specs.declared.fault.StoreFault.TheVariants.{Disk as DiskFault}
+use Rattle.session_store.specs.Value.{StoreValue}
+use Rattle.bridge_session.specs.declared.action.Action.{Action}
+use Rattle.bridge_session.specs.State.{State}
+use Rattle.table_server.specs.Accepting.{HasServedOne, StopsServingOne}
+use Rattle.table_server.specs.declared.fault.ServeFault.{ServeFault}
+use Rattle.table_server.specs.declared.fault.ServeFault.TheVariants.{Accept}
+use Rattle.table_server.specs.declared.served.Served.{Served}
+use Rattle.bridge_club.specs.declared.fault.RunFault.{RunFault}
+use Rattle.bridge_club.specs.declared.fault.RunFault.TheVariants.{Store}
+use Rattle.bridge_club.specs.Scripted.{fault_over}
+
+-- over a net: which bytes a connection still gives, and which it has taken
+module _ {D : Type 0} (disk : Disk D) {S : Type 0} (remaining contents : S → Option (List ℕ)) where
+  -- the lines of one connection were served over a store, or up to a fault of the connection
+  abbrev pub ServesNext : StoreValue D State Action → StoreValue D State Action → Type 0
+  ServesNext start store = ((result : Served) × HasServedOne disk remaining contents start store result)
+      ⊎ ((fault : ServeFault) × StopsServingOne disk remaining contents start store fault)
+
+  -- those of so many connections, one after the other
+  abbrev pub ServesEach : ℕ → StoreValue D State Action → StoreValue D State Action → Type 0
+  ServesEach zero start store = store ≡ start
+  ServesEach (suc count) start store =
+      (before : StoreValue D State Action) × ServesEach count start before × ServesNext before store
+
+  -- those of some connections, after which none was had
+  abbrev pub StopsEach : StoreValue D State Action → StoreValue D State Action → ServeFault → Type 0
+  StopsEach start store fault = (fault ≡ Accept) × (count : ℕ) × ServesEach count start store
+
+  -- the lines of so many connections were served, and the store works
+  pub record ServesAllConnections (count : ℕ) (start : StoreValue D State Action) : Type 0 where
+    pub store : StoreValue D State Action
+    pub served : ServesEach count start store
+    pub works : store.failed ≡ false
+
+  -- they were served, and the store failed; or the lines of some connections were served, after which none was had
+  pub record FailsConnections (count : ℕ) (start : StoreValue D State Action) : Type 0 where
+    pub store : StoreValue D State Action
+    pub served : ServesEach count start store
+    pub failed : store.failed ≡ true
+
+  pub record LacksConnections (start : StoreValue D State Action) (fault : RunFault) : Type 0 where
+    pub store : StoreValue D State Action
+    pub count : ℕ
+    pub served : ServesEach count start store
+    pub named : fault ≡ fault_over store.failed Accept
+
+  abbrev pub StopsConnections : ℕ → StoreValue D State Action → RunFault → Type 0
+  StopsConnections count start fault =
+      (FailsConnections count start × (fault ≡ Store DiskFault)) ⊎ LacksConnections start fault
