@@ -1,21 +1,9 @@
 -- What a look-up found.
-use Rattle.std.proofs.Common.{◌≡◌, ◌∙◌, Option, Some, None, refl, sym, ap, ap₂}
+use Rattle.std.proofs.Common.{◌≡◌, ◌∙◌, Option, Some, None, refl, sym, ap}
 use Rattle.std.specs.Option.{option_map}
 use Rattle.clap.proofs.WalkLemmas.{first_value-rows}
 use Rattle.clap.specs.Words.{Text, first_of, first_value, rows_of}
 use Rattle.clap.specs.declared.parser.matches.Found.{Found}
-
--- some pair
-abbrev pub some_pair : {Y Z : Type 0} → Y → Z → Option (Y × Z)
-some_pair y z = Some (y, z)
-
--- a pair of which both halves are known
-pub both_found : {X Y Z : Type 0} (f : X → Y) (g : X → Z) (found : Option X) (y : Y) (z : Z) → Some y ≡ option_map f found → Some z ≡ option_map (λ (p : Y × Z). p.1) (option_map {U = Y × Z} (λ (x : X). (f x, g x)) found) → option_map {U = Y × Z} (λ (x : X). (f x, g x)) found ≡ some_pair y z
-both_found f g None y z first second = cc
-both_found f g (Some x) y z first second =
-    let is_first : f x ≡ y = cc in
-    let is_second : g x ≡ z = cc in
-    ap₂ some_pair is_first is_second
 
 -- a text that was read is there, and was read so
 pub text_read : {X Y : Type 0} (P : X → Type 0) (found : Option X) (y : Y) → (found ≡ None → Some y ≡ None) → ((x : X) → found ≡ Some x → P x) → (x : X) × (found ≡ Some x) × P x

@@ -1,5 +1,5 @@
 -- Texts that are read piece by piece.
-use Rattle.std.proofs.Common.{◌≡◌, ℕ, Bool, List, ◌++◌, Option, subst, sym}
+use Rattle.std.proofs.Common.{ℕ, Bool, List, Option, subst, sym}
 use Rattle.std.specs.Io.KnownBytes.{Consumes}
 use Rattle.std.proofs.KnownBytes.{Consumes-trans}
 use Rattle.line_text.specs.Streams.{between}

@@ -3,11 +3,8 @@ use Rattle.std.specs.Prelude.{◌≡◌, ◌⊎◌, ◌<◌, ◌≤◌}
 use Rattle.sector_disk.specs.Disk.{Disk}
 use Rattle.session_store.specs.declared.fault.StoreFault.{StoreFault}
 use Rattle.session_store.specs.declared.fault.StoreFault.TheVariants.{TooSmall}
-use Rattle.session_store.specs.Opening.{IsCause, IsOpened, reading}
-use Rattle.session_store.specs.Value.{StoreValue}
-use Rattle.bridge_session.specs.declared.action.Action.{Action}
+use Rattle.session_store.specs.Opening.{IsCause, reading}
 use Rattle.bridge_session.specs.SessionKeeping.{session_keeping}
-use Rattle.bridge_session.specs.State.{State}
 
 module _ {D : Type 0} (disk : Disk D) where
   -- Opening a disk gives no session: it has fewer than 2,048 sectors; or a call of it failed, memory was refused, or what

@@ -1,5 +1,5 @@
 //! The command `format`: a disk for the session that begins by a configuration.
-ghost use Rattle.std.specs.Prelude.{◌≡◌, ◌≤◌, OnOk, IfOk, IfErr};
+ghost use Rattle.std.specs.Prelude.{◌≤◌, OnOk, IfOk, IfErr};
 ghost use Rattle.line_text.specs.Streams.{stream};
 ghost use Rattle.sector_disk.specs.File.{file_disk};
 ghost use Rattle.bridge_club.specs.Formatted.{Formats, FailsToFormat, IsSessionOfFile, IsNoSessionOfFile, HasFormatted, StopsFormatting};

@@ -1,5 +1,4 @@
-use Rattle.std.proofs.Common.{ℕ, suc, arith, refl, subst, sym}
-use Rattle.bridge_club.specs.Connections.{ServesEach}
+use Rattle.std.proofs.Common.{suc, arith, refl}
 use Rattle.bridge_club.proofs.Connected.{with_same_store, with_same_count}
 use Rattle.bridge_club.proofs.serving.serve_each.Goals as goal
 
