@@ -1,5 +1,5 @@
 -- What is served over connections, one after the other.
-use Rattle.std.specs.Prelude.{◌≡◌, ◌⊎◌, ℕ, zero, suc, true, false, List, Option}
+use Rattle.std.specs.Prelude.{◌≡◌, ◌<◌, ◌≤◌, ◌⊎◌, ℕ, zero, suc, true, false, List, Option}
 use Rattle.sector_disk.specs.Disk.{Disk}
 use Rattle.session_store.specs.declared.fault.StoreFault.TheVariants.{Disk as DiskFault}
 use Rattle.session_store.specs.Value.{StoreValue}
@@ -10,8 +10,7 @@ use Rattle.table_server.specs.declared.fault.ServeFault.{ServeFault}
 use Rattle.table_server.specs.declared.fault.ServeFault.TheVariants.{Accept}
 use Rattle.table_server.specs.declared.served.Served.{Served}
 use Rattle.bridge_club.specs.declared.fault.RunFault.{RunFault}
-use Rattle.bridge_club.specs.declared.fault.RunFault.TheVariants.{Store}
-use Rattle.bridge_club.specs.Scripted.{fault_over}
+use Rattle.bridge_club.specs.declared.fault.RunFault.TheVariants.{Store, Stream as StreamFault}
 
 -- over a net: which bytes a connection still gives, and which it has taken
 module _ {D : Type 0} (disk : Disk D) {S : Type 0} (remaining contents : S → Option (List ℕ)) where
@@ -20,34 +19,34 @@ module _ {D : Type 0} (disk : Disk D) {S : Type 0} (remaining contents : S → O
   ServesNext start store = ((result : Served) × HasServedOne disk remaining contents start store result)
       ⊎ ((fault : ServeFault) × StopsServingOne disk remaining contents start store fault)
 
-  -- those of so many connections, one after the other
+  -- those of so many connections, one after the other, each over a store that works
   abbrev pub ServesEach : ℕ → StoreValue D State Action → StoreValue D State Action → Type 0
   ServesEach zero start store = store ≡ start
-  ServesEach (suc count) start store =
-      (before : StoreValue D State Action) × ServesEach count start before × ServesNext before store
-
-  -- those of some connections, after which none was had
-  abbrev pub StopsEach : StoreValue D State Action → StoreValue D State Action → ServeFault → Type 0
-  StopsEach start store fault = (fault ≡ Accept) × (count : ℕ) × ServesEach count start store
+  ServesEach (suc count) start store = (before : StoreValue D State Action) × ServesEach count start before
+      × (before.failed ≡ false) × ServesNext before store
 
   -- the lines of so many connections were served, and the store works
   pub record ServesAllConnections (count : ℕ) (start : StoreValue D State Action) : Type 0 where
     pub store : StoreValue D State Action
-    pub served : ServesEach count start store
+    pub serves : ServesEach count start store
     pub works : store.failed ≡ false
 
-  -- they were served, and the store failed; or the lines of some connections were served, after which none was had
+  -- those of some of so many connections were served, after which the store has failed
   pub record FailsConnections (count : ℕ) (start : StoreValue D State Action) : Type 0 where
     pub store : StoreValue D State Action
-    pub served : ServesEach count start store
+    pub served : ℕ
+    pub most : served ≤ count
+    pub serves : ServesEach served start store
     pub failed : store.failed ≡ true
 
-  pub record LacksConnections (start : StoreValue D State Action) (fault : RunFault) : Type 0 where
+  -- those of fewer connections were served, after which none was had; the store works
+  pub record LacksConnections (count : ℕ) (start : StoreValue D State Action) : Type 0 where
     pub store : StoreValue D State Action
-    pub count : ℕ
-    pub served : ServesEach count start store
-    pub named : fault ≡ fault_over store.failed Accept
+    pub served : ℕ
+    pub fewer : served < count
+    pub serves : ServesEach served start store
+    pub works : store.failed ≡ false
 
   abbrev pub StopsConnections : ℕ → StoreValue D State Action → RunFault → Type 0
   StopsConnections count start fault =
-      (FailsConnections count start × (fault ≡ Store DiskFault)) ⊎ LacksConnections start fault
+      (FailsConnections count start × (fault ≡ Store DiskFault)) ⊎ (LacksConnections count start × (fault ≡ StreamFault Accept))

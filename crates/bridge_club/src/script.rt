@@ -11,10 +11,11 @@ use session_store::{Store, StoreFault};
 use std::io::{Read, Write};
 use table_server::{ServeFault, serve};
 
-/// Whether the store has failed. Nothing may be pending in it, unless it has.
+/// Whether the store has failed, which leaves it as it is. Nothing may be pending in it, unless it has.
 pub fn has_failed<D: SectorDisk + Drop>(store: &mut Store<D, Session>) -> bool
     requires { store.old.failed ≡ false → store.old.pending ≡ [] }
-    ensures { result ≡ store.old.failed }
+    ensures failed { result ≡ store.old.failed }
+    ensures same { store.new ≡ store.old }
 {
     match store.confirm() {
         Ok(()) => false,

@@ -1,10 +1,10 @@
 //! Connections served over a store, as the command `serve` serves them.
 ghost use Rattle.std.specs.Prelude.{◌≡◌, [], false, OnOk, IfErr, OnErr};
 ghost use Rattle.table_server.specs.declared.fault.ServeFault.TheVariants.{Accept as AcceptFault};
-ghost use Rattle.bridge_club.specs.Connections.{ServesNext, ServesEach, StopsEach, ServesAllConnections, StopsConnections};
+ghost use Rattle.bridge_club.specs.Connections.{ServesNext, ServesAllConnections, StopsConnections};
 
 use crate::fault::RunFault;
-use crate::script::{fault_over, has_failed};
+use crate::script::has_failed;
 use bridge_endings::Cache;
 use bridge_session::Session;
 use sector_disk::SectorDisk;
@@ -33,31 +33,8 @@ fn serve_next<N: Net, D: SectorDisk + Drop>(
     }
 }
 
-/// Serves the lines of so many connections, one after the other. The error is that there was none.
-fn serve_each<N: Net, D: SectorDisk + Drop>(
-    rt: &N,
-    listener: &N::Listener,
-    count: u16,
-    store: &mut Store<D, Session>,
-    cache: &mut Cache,
-) -> Result<(), ServeFault>
-    requires { store.old.failed ≡ false → store.old.pending ≡ [] }
-    ensures served { OnOk result (ServesEach D.disk N.Stream.remaining N.Stream.contents count store.old store.new) }
-    ensures fault { IfErr result (StopsEach D.disk N.Stream.remaining N.Stream.contents store.old store.new) }
-    ensures ready { store.new.failed ≡ false → store.new.pending ≡ [] }
-{
-    let mut left = count;
-    while left > 0 {
-        match serve_next(rt, listener, store, cache) {
-            Ok(()) => left -= 1,
-            Err(fault) => return Err(fault),
-        }
-    }
-    Ok(())
-}
-
-/// Serves the lines of so many connections, one after the other, over a store. A fault of a connection ends it alone; at
-/// the first time that there is none, and where the store has failed in the end, the run stops.
+/// Serves the lines of so many connections, one after the other, over a store. A fault of a connection ends it alone; the
+/// run stops after a connection in which the store failed, and at the first time that there is no connection.
 pub fn serve_connections<N: Net, D: SectorDisk + Drop>(
     rt: &N,
     listener: &N::Listener,
@@ -69,14 +46,17 @@ pub fn serve_connections<N: Net, D: SectorDisk + Drop>(
     ensures done { OnOk result (ServesAllConnections D.disk N.Stream.remaining N.Stream.contents count store.old) }
     ensures fault { IfErr result (StopsConnections D.disk N.Stream.remaining N.Stream.contents count store.old) }
 {
-    match serve_each(rt, listener, count, store, cache) {
-        Ok(()) => {
-            if has_failed(store) {
-                Err(RunFault::Store(StoreFault::Disk))
-            } else {
-                Ok(())
-            }
+    let mut left = count;
+    loop {
+        if has_failed(store) {
+            return Err(RunFault::Store(StoreFault::Disk));
         }
-        Err(fault) => Err(fault_over(store, fault)),
+        if left == 0 {
+            return Ok(());
+        }
+        match serve_next(rt, listener, store, cache) {
+            Ok(()) => left -= 1,
+            Err(fault) => return Err(RunFault::Stream(fault)),
+        }
     }
 }

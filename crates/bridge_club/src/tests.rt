@@ -9,12 +9,35 @@ use crate::run::{refuse, run_words, status_of};
 use bridge_cards::BoardNumber;
 use std::alloc::Global;
 use std::fmt::Debug;
+use std::fs;
 use std::fs::File;
 use std::io::{Error, ErrorKind, Read, Write};
 use std::net::{Net, TcpListener, TcpStream};
 use std::process::Abort;
 use std::rt::Files;
 use std::test::Fail;
+
+/// The first lines of a configuration of two tables, one round and one board.
+pub const HEADING: &str = "EVENT Club-Night
+SITE Town-Hall
+DATE 2026.03.14
+SCORING MP
+BOARDS 1
+";
+
+/// Its movement, of two fields.
+pub const MOVEMENT: &str = "MOVEMENT 2 1 1 4 2
+ROW 1 1 1 3 1
+ROW 1 2 2 4 1
+";
+
+/// Its people.
+pub const PEOPLE: &str = "DIRECTOR 100
+PAIR 1 Ann 11 Bob 12
+PAIR 2 Cat 21 Dan 22
+PAIR 3 Eve 31 Fay 32
+PAIR 4 Gus 41 Hal 42
+";
 
 /// Fails with the row where a value is not the one that is due.
 fn expect_eq<T: PartialEq + Debug + Drop>(
@@ -41,6 +64,28 @@ fn expect_run<T: Abort + Files<File = File> + Net<Listener = TcpListener, Stream
     expect_eq(rt, errors.as_slice(), due.2.as_bytes(), words);
     expect_eq(rt, output.as_slice(), due.1.as_bytes(), words);
     expect_eq(rt, status, due.0, words);
+}
+
+/// Writes a configuration with this movement to a file.
+fn write_config<T: Files<File = File>>(
+    rt: &T,
+    alloc: Global,
+    config: &str,
+    movement: &str,
+) -> Result<(), Fail> {
+    let text = format!(in alloc; "{HEADING}{movement}{PEOPLE}")?;
+    fs::write(rt, config, text)?;
+    Ok(())
+}
+
+/// Formats a disk with a configuration of this movement.
+fn expect_formatted<
+    T: Abort + Files<File = File> + Net<Listener = TcpListener, Stream = TcpStream>,
+>(rt: &T, alloc: Global, disk: &str, config: &str, movement: &str) -> Result<(), Fail> {
+    write_config(rt, alloc, config, movement)?;
+    let words = ["format", disk, config];
+    expect_run(rt, alloc, &words, "", (0, "formatted\n", ""));
+    Ok(())
 }
 
 /// Fails at every read and every write.
@@ -99,39 +144,6 @@ fn other_words_are_usage(rt: HostRuntime) {
         expect_eq(&rt, status, 2, words);
         assert!(rt; !errors.is_empty(), "{words:?}");
     }
-}
-
-#[test]
-fn a_fault_is_named(rt: HostRuntime) {
-    let words = ["auction", "1"];
-    let mut output = Vec::new(rt.alloc());
-    let mut errors = Vec::new(rt.alloc());
-    let (rt, alloc) = (&rt, rt.alloc());
-    let status = run_words(
-        rt,
-        alloc,
-        words.as_slice(),
-        &mut Broken,
-        &mut output,
-        &mut errors,
-    );
-    expect_eq(rt, status, 3, "a read that fails");
-    let line = b"cannot read input\n".as_slice();
-    expect_eq(rt, errors.as_slice(), line, "a read that fails");
-
-    errors.clear();
-    let mut input: &[u8] = b"1C\n";
-    let status = run_words(
-        rt,
-        alloc,
-        words.as_slice(),
-        &mut input,
-        &mut Broken,
-        &mut errors,
-    );
-    expect_eq(rt, status, 3, "a write that fails");
-    let line = b"cannot write output\n".as_slice();
-    expect_eq(rt, errors.as_slice(), line, "a write that fails");
 }
 
 #[test]

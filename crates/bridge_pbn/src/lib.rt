@@ -10,8 +10,6 @@ mod game;
 mod names;
 mod play_section;
 mod tags;
-#[cfg(test)]
-mod tests;
 mod text;
 mod write;
 

@@ -39,8 +39,6 @@ pub mod session;
 pub mod stored;
 mod table;
 mod tables_read;
-#[cfg(test)]
-mod tests;
 pub mod valid;
 pub mod view;
 

@@ -20,10 +20,6 @@ short_text LongLine = refusal_line 31 (codes "LongLine")
 short_text Disk = refusal_line 40 (codes "Disk")
 short_text EpochsSpent = refusal_line 41 (codes "EpochsSpent")
 
--- what follows the complete lines where as many bytes were read as may be
-abbrev pub too_much_text : List ℕ
-too_much_text = refusal_line 32 (codes "TooMuch")
-
 -- the words, each after a space
 abbrev pub each_spaced : List (List ℕ) → List ℕ
 each_spaced words = flat_map (λ word. 32 ∷ word) words

@@ -28,9 +28,8 @@ pub mod serving;
 pub mod short_reply;
 mod taking;
 mod telling;
-#[cfg(test)]
-mod tests;
 pub mod view_reply;
+mod writing;
 
 pub use accepting::accept_and_serve;
 pub use asked::{Asked, Question, asked_by};
@@ -39,7 +38,7 @@ pub use fault::ServeFault;
 pub use line_command::read_line_command;
 pub use pbn_reply::write_pbn_reply;
 pub use ranking_reply::{push_pairs, push_ranking};
-pub use reply_text::{ReplyText, push_solved, push_too_much};
+pub use reply_text::{ReplyText, push_solved};
 pub use run::{MOST_BYTES, run_auction};
 pub use served::Served;
 pub use serving::serve;

@@ -2,11 +2,10 @@
 ghost use Rattle.std.specs.Prelude.{◌≡◌, ◌+◌, ◌≤◌, ◌∷◌, ◌++◌, length};
 ghost use Rattle.std.specs.Fmt.{decimal};
 ghost use Rattle.arrayvec.specs.ArrayString.{array_string_len};
-ghost use Rattle.table_server.specs.ReplyTexts.{solved_text, too_much_text};
+ghost use Rattle.table_server.specs.ReplyTexts.{solved_text};
 
 use arrayvec::ArrayString;
 use itoa::Buffer;
-use line_text::push_refusal;
 
 /// The most bytes of a reply of one line.
 pub const SHORT_BYTES: usize = 29;
@@ -45,12 +44,4 @@ pub fn push_solved(text: &mut ReplyText, ns: u8, ew: u8)
     push_number(text, u32::from(ns));
     push_number(text, u32::from(ew));
     text.push_str("\n");
-}
-
-/// Adds the notice that as many bytes were read as may be.
-pub fn push_too_much<const N: usize>(text: &mut ArrayString<N>)
-    requires { array_string_len text.old + SHORT_BYTES ≤ N }
-    ensures { text.new.bytes ≡ text.old.bytes ++ too_much_text }
-{
-    push_refusal(text, 32, "TooMuch");
 }

@@ -9,9 +9,9 @@ ghost use Rattle.table_server.specs.declared.fault.ServeFault.TheVariants.{Read 
 
 use crate::auction_lines::{AuctionLines, PIECE_BYTES, REPLIES_BYTES};
 use crate::fault::ServeFault;
+use crate::writing::write_whole;
 use arrayvec::ArrayString;
 use bridge_cards::{BoardNumber, dealer};
-use line_text::write_text;
 use std::io::{Read, Write};
 
 /// The most bytes that are read.
@@ -104,7 +104,7 @@ fn answer_piece<W: Write>(
 {
     let mut out = ArrayString::<REPLIES_BYTES>::new();
     auction_lines.feed(piece, &mut out);
-    write_replies(writer, out.as_str())
+    write_whole(writer, out.as_str())
 }
 
 /// Writes the last line, below a notice where the limit of bytes was reached.
@@ -120,18 +120,7 @@ fn write_ending<W: Write>(
     let mut out = ArrayString::<REPLIES_BYTES>::new();
     out.push_str(limit_notice(at_limit));
     auction_lines.push_ending(&mut out);
-    write_replies(writer, out.as_str())
-}
-
-/// Writes the whole text; `Write` where that fails.
-fn write_replies<W: Write>(writer: &mut W, text: &str) -> Result<(), ServeFault>
-    ensures written { Written (stream W.contents writer.old writer.new) text.now result }
-    ensures fault { IfErr result (λ fault. fault ≡ WriteFault) }
-{
-    match write_text(writer, text.as_bytes()) {
-        Ok(()) => Ok(()),
-        Err(_) => Err(ServeFault::Write),
-    }
+    write_whole(writer, out.as_str())
 }
 
 /// What stands before the last line.

@@ -13,7 +13,7 @@ use crate::fault::ServeFault;
 use crate::line_service::LineService;
 use crate::run::{MOST_BYTES, limit_notice, read_piece};
 use crate::served::Served;
-use crate::telling::write_whole;
+use crate::writing::write_whole;
 use bridge_endings::Cache;
 use bridge_session::Session;
 use sector_disk::SectorDisk;

@@ -15,22 +15,11 @@ use crate::ranking_reply::push_ranking;
 use crate::reply_text::{ReplyText, push_solved};
 use crate::short_reply::ShortReply;
 use crate::view_reply::push_view;
+use crate::writing::write_whole;
 use bridge_config::Key;
 use bridge_endings::{Cache, Ending, solve};
 use bridge_session::{Field, PlayId, Refused, Session, check_director};
-use line_text::write_text;
 use std::io::Write;
-
-/// Writes the whole text; `Write` where that fails.
-pub fn write_whole<W: Write>(writer: &mut W, text: &str) -> Result<(), ServeFault>
-    ensures written { Written (stream W.contents writer.old writer.new) text.now result }
-    ensures fault { IfErr result (λ fault. fault ≡ WriteFault) }
-{
-    match write_text(writer, text.as_bytes()) {
-        Ok(()) => Ok(()),
-        Err(_) => Err(ServeFault::Write),
-    }
-}
 
 /// The text of a refusal.
 fn refusal_text(refused: Refused) -> ReplyText

@@ -1,7 +1,6 @@
 //! Connections to a listener of the same process.
-use super::evening::{HEADING, MOVEMENT, PEOPLE};
 use super::script::failing_disk;
-use super::{expect_eq, expect_run};
+use super::{MOVEMENT, expect_eq, expect_formatted, expect_run};
 use crate::fault::RunFault;
 use crate::serving::serve_connections;
 use crate::stored_session::open_session;
@@ -29,7 +28,7 @@ fn sent(rt: &HostRuntime, listener: &TcpListener, text: &str) -> Result<TcpStrea
     Ok(client)
 }
 
-/// Serves two connections over a disk of which all calls after so many fail.
+/// Serves at most two connections over a disk of which all calls after so many fail.
 fn serve_two<N: Net>(
     rt: &N,
     listener: &N::Listener,
@@ -43,24 +42,49 @@ fn serve_two<N: Net>(
     }
 }
 
-// The second connection finds what the first one changed. The disk is opened by its first 25 calls.
+/// Two lines that change the session, and the beginning of a third.
+const VOIDS: &str = "VOID 100 1 1 1\nVOID 100 1 2 1\nNEXT 100";
+
+// The second connection finds what the first one changed.
 #[test]
 fn connections_share_the_session(rt: HostRuntime) -> Result<(), Fail> {
     let listener = listening(&rt)?;
-    let fault = Err(RunFault::Store(StoreFault::Disk));
-    for (passes, due, replies) in [
-        (u64::MAX, Ok(()), ["OK\nOK\n", "ERR 7 NotCurrent\n"]),
-        (25, fault, ["ERR 40 Disk\nERR 40 Disk\n", "ERR 40 Disk\n"]),
-    ] {
-        let first = sent(&rt, &listener, "VOID 100 1 1 1\nVOID 100 1 2 1\nNEXT 100")?;
-        let second = sent(&rt, &listener, "SEE 11\n")?;
-        let result = serve_two(&rt, &listener, rt.alloc(), passes)?;
-        expect_eq(&rt, result, due, passes);
-        for (client, reply) in [(first, replies[0]), (second, replies[1])] {
-            let written = io::read_to_string(rt.alloc(), client)?;
-            expect_eq(&rt, written.as_str(), reply, passes);
-        }
+    let first = sent(&rt, &listener, VOIDS)?;
+    let second = sent(&rt, &listener, "SEE 11\n")?;
+    let result = serve_two(&rt, &listener, rt.alloc(), u64::MAX)?;
+    expect_eq(&rt, result, Ok(()), "served");
+    for (client, reply) in [(first, "OK\nOK\n"), (second, "ERR 7 NotCurrent\n")] {
+        let written = io::read_to_string(rt.alloc(), client)?;
+        expect_eq(&rt, written.as_str(), reply, "written");
     }
+    Ok(())
+}
+
+// The disk is opened by its first 25 calls, and fails in the first connection. The second one is still to be accepted.
+#[test]
+fn a_store_that_fails_ends_the_run(rt: HostRuntime) -> Result<(), Fail> {
+    let listener = listening(&rt)?;
+    let first = sent(&rt, &listener, VOIDS)?;
+    let second = sent(&rt, &listener, "SEE 11\n")?;
+    let result = serve_two(&rt, &listener, rt.alloc(), 25)?;
+    expect_eq(
+        &rt,
+        result,
+        Err(RunFault::Store(StoreFault::Disk)),
+        "served",
+    );
+    let written = io::read_to_string(rt.alloc(), first)?;
+    expect_eq(
+        &rt,
+        written.as_str(),
+        "ERR 40 Disk\nERR 40 Disk\n",
+        "written",
+    );
+    listener.set_nonblocking(true)?;
+    let (next, _) = listener.accept()?;
+    let waiting = io::read_to_string(rt.alloc(), next)?;
+    expect_eq(&rt, waiting.as_str(), "SEE 11\n", "not served");
+    drop(second);
     Ok(())
 }
 
@@ -78,18 +102,7 @@ fn expect_taken<T: Abort + Files<File = File> + Net<Listener = TcpListener, Stre
 #[test]
 fn a_port_that_is_taken_is_named(rt: HostRuntime) -> Result<(), Fail> {
     let (disk, config) = ("bridge_club_port.disk", "bridge_club_port.txt");
-    fs::write(
-        &rt,
-        config,
-        format!(in rt.alloc(); "{HEADING}{MOVEMENT}{PEOPLE}")?,
-    )?;
-    expect_run(
-        &rt,
-        rt.alloc(),
-        &["format", disk, config],
-        "",
-        (0, "formatted\n", ""),
-    );
+    expect_formatted(&rt, rt.alloc(), disk, config, MOVEMENT)?;
     let listener = listening(&rt)?;
     let port = listener.local_addr()?.port();
     let port = format!(in rt.alloc(); "{port}")?;

@@ -1,29 +1,13 @@
 //! A session on a disk in a file, by the program's commands.
-use super::expect_run;
+use super::{MOVEMENT, expect_eq, expect_formatted, expect_run};
+use crate::run::run_words;
+use std::alloc::Global;
 use std::fs;
+use std::fs::File;
+use std::net::{Net, TcpListener, TcpStream};
+use std::process::Abort;
+use std::rt::Files;
 use std::test::Fail;
-
-/// The first lines of a configuration of two tables, one round and one board.
-pub const HEADING: &str = "EVENT Club-Night
-SITE Town-Hall
-DATE 2026.03.14
-SCORING MP
-BOARDS 1
-";
-
-/// Its movement, of two fields.
-pub const MOVEMENT: &str = "MOVEMENT 2 1 1 4 2
-ROW 1 1 1 3 1
-ROW 1 2 2 4 1
-";
-
-/// Its people.
-pub const PEOPLE: &str = "DIRECTOR 100
-PAIR 1 Ann 11 Bob 12
-PAIR 2 Cat 21 Dan 22
-PAIR 3 Eve 31 Fay 32
-PAIR 4 Gus 41 Hal 42
-";
 
 /// A board is played at both tables: 7S made, and passed out.
 const LINES: &str =
@@ -51,77 +35,46 @@ FIELD 2
 2 3 0/2 0.00
 ";
 
-const RESULTS: &str = "% PBN 2.1
-[Event \"Club-Night\"]
-[Site \"Town-Hall\"]
-[Date \"2026.03.14\"]
-[Board \"1\"]
-[West \"Fay\"]
-[North \"Ann\"]
-[East \"Eve\"]
-[South \"Bob\"]
-[Dealer \"N\"]
-[Vulnerable \"None\"]
-[Deal \"N:AKQJT98765432... .AKQJT98765432.. ..AKQJT98765432. ...AKQJT98765432\"]
-[Scoring \"MP\"]
-[Declarer \"N\"]
-[Contract \"7S\"]
-[Result \"13\"]
-[Round \"1\"]
-[Table \"1\"]
-[Auction \"N\"]
-7S Pass Pass Pass
-[Play \"E\"]
-*
-
-[Event \"Club-Night\"]
-[Site \"Town-Hall\"]
-[Date \"2026.03.14\"]
-[Board \"1\"]
-[West \"Hal\"]
-[North \"Cat\"]
-[East \"Gus\"]
-[South \"Dan\"]
-[Dealer \"N\"]
-[Vulnerable \"None\"]
-[Deal \"N:AKQJT98765432... .AKQJT98765432.. ..AKQJT98765432. ...AKQJT98765432\"]
-[Scoring \"MP\"]
-[Declarer \"\"]
-[Contract \"Pass\"]
-[Result \"\"]
-[Round \"1\"]
-[Table \"2\"]
-[Auction \"N\"]
-Pass Pass Pass Pass
-";
+/// What a run over this disk writes.
+fn written<T: Abort + Files<File = File> + Net<Listener = TcpListener, Stream = TcpStream>>(
+    rt: &T,
+    alloc: Global,
+    words: &[&str],
+    input: &str,
+) -> Vec<u8> {
+    let mut reader = input.as_bytes();
+    let mut output = Vec::new(alloc);
+    let mut errors = Vec::new(alloc);
+    let status = run_words(rt, alloc, words, &mut reader, &mut output, &mut errors);
+    expect_eq(rt, status, 0, words);
+    output
+}
 
 // What one run of the program confirms, the next run finds on the disk.
 #[test]
 fn an_evening_is_kept_between_runs(rt: HostRuntime) -> Result<(), Fail> {
     let (disk, config) = ("bridge_club_evening.disk", "bridge_club_evening.txt");
-    fs::write(
+    let alloc = rt.alloc();
+    expect_formatted(&rt, alloc, disk, config, MOVEMENT)?;
+    expect_run(&rt, alloc, &["pbn", disk], "", (0, "% PBN 2.1\n", ""));
+    expect_run(&rt, alloc, &["script", disk], LINES, (0, REPLIES, ""));
+    expect_run(&rt, alloc, &["rank", disk], "", (0, RANKING, ""));
+    let results = written(&rt, alloc, &["pbn", disk], "");
+    let reply = written(&rt, alloc, &["script", disk], "PBN 100\n");
+    let mut due = Vec::new(alloc);
+    due.extend_from_slice(b"OK\n")?;
+    due.extend_from_slice(results.as_slice())?;
+    due.extend_from_slice(b".\n")?;
+    expect_eq(&rt, reply.as_slice(), due.as_slice(), "the results");
+    let tags = results.iter().filter(|byte| **byte == b'[').count();
+    expect_eq(
         &rt,
-        config,
-        format!(in rt.alloc(); "{HEADING}{MOVEMENT}{PEOPLE}")?,
-    )?;
-    expect_run(
-        &rt,
-        rt.alloc(),
-        &["format", disk, config],
-        "",
-        (0, "formatted\n", ""),
+        tags,
+        37,
+        "19 tag pairs, and 18 of the board passed out",
     );
-    expect_run(&rt, rt.alloc(), &["pbn", disk], "", (0, "% PBN 2.1\n", ""));
-    expect_run(&rt, rt.alloc(), &["script", disk], LINES, (0, REPLIES, ""));
-    expect_run(&rt, rt.alloc(), &["rank", disk], "", (0, RANKING, ""));
-    expect_run(&rt, rt.alloc(), &["pbn", disk], "", (0, RESULTS, ""));
-    expect_run(
-        &rt,
-        rt.alloc(),
-        &["script", disk],
-        "NEXT 100 1\nSEE 11\n",
-        (0, "OK\nERR 3 Closed\n", ""),
-    );
+    let due = (0, "OK\nERR 3 Closed\n", "");
+    expect_run(&rt, alloc, &["script", disk], "NEXT 100 1\nSEE 11\n", due);
     fs::remove_file(&rt, disk)?;
     fs::remove_file(&rt, config)?;
     Ok(())
@@ -130,19 +83,8 @@ fn an_evening_is_kept_between_runs(rt: HostRuntime) -> Result<(), Fail> {
 #[test]
 fn one_field_has_one_heading(rt: HostRuntime) -> Result<(), Fail> {
     let (disk, config) = ("bridge_club_field.disk", "bridge_club_field.txt");
-    let rows = "ROW 1 1 1 3 1\nROW 1 2 2 4 1\n";
-    fs::write(
-        &rt,
-        config,
-        format!(in rt.alloc(); "{HEADING}MOVEMENT 2 1 1 4 4\n{rows}{PEOPLE}")?,
-    )?;
-    expect_run(
-        &rt,
-        rt.alloc(),
-        &["format", disk, config],
-        "",
-        (0, "formatted\n", ""),
-    );
+    let movement = "MOVEMENT 2 1 1 4 4\nROW 1 1 1 3 1\nROW 1 2 2 4 1\n";
+    expect_formatted(&rt, rt.alloc(), disk, config, movement)?;
     let ranking = "FIELD 1\n1 1 0/0 -\n1 2 0/0 -\n1 3 0/0 -\n1 4 0/0 -\n";
     expect_run(&rt, rt.alloc(), &["rank", disk], "", (0, ranking, ""));
     fs::remove_file(&rt, disk)?;

@@ -1,6 +1,7 @@
 //! Disks and configurations that are refused, and streams that fail.
-use super::evening::{HEADING, MOVEMENT, PEOPLE};
-use super::{Broken, expect_eq, expect_run};
+use super::{
+    Broken, HEADING, MOVEMENT, PEOPLE, expect_eq, expect_formatted, expect_run, write_config,
+};
 use crate::run::run_words;
 use std::alloc::Global;
 use std::fs;
@@ -29,37 +30,14 @@ fn a_bad_configuration_leaves_the_disk(rt: HostRuntime) -> Result<(), Fail> {
             "MOVEMENT 2 1 1 4 2\nROW 1 1 1 3 1\nROW 1 1 2 4 1\n",
             "config line 8: MissingRow\n",
         ),
-        (
-            "MOVEMENT 2 1 1 4 2\nROW 1 1 1 5 1\nROW 1 2 2 4 1\n",
-            "config line 7: BadPair\n",
-        ),
-        (
-            "MOVEMENT 2 1 1 4 2\nROW 1 1 1 3 1\nROW 1 2 2 2 1\n",
-            "config line 8: SamePair\n",
-        ),
-        (
-            "MOVEMENT 2 1 1 4 2\nROW 1 1 1 3 2\nROW 1 2 2 4 1\n",
-            "config line 7: BadSet\n",
-        ),
-        (
-            "MOVEMENT 2 1 1 4 2\nROW 1 1 1 3 1\nROW 1 2 2 3 1\n",
-            "config line 8: PairTwice\n",
-        ),
     ] {
-        fs::write(
-            &rt,
-            config,
-            format!(in rt.alloc(); "{HEADING}{movement}{PEOPLE}")?,
-        )?;
+        write_config(&rt, rt.alloc(), config, movement)?;
         expect_run(&rt, rt.alloc(), words, "", (3, "", line));
         expect_eq(&rt, fs::exists(&rt, disk)?, false, movement);
     }
     fs::write(&rt, disk, b"kept")?;
-    fs::write(
-        &rt,
-        config,
-        format!(in rt.alloc(); "{HEADING}{MOVEMENT}{PEOPLE}PAIR 5 Ida 51 Jan 52\n")?,
-    )?;
+    let text = format!(in rt.alloc(); "{HEADING}{MOVEMENT}{PEOPLE}PAIR 5 Ida 51 Jan 52\n")?;
+    fs::write(&rt, config, text)?;
     expect_run(
         &rt,
         rt.alloc(),
@@ -108,18 +86,7 @@ fn a_disk_without_a_session_is_refused(rt: HostRuntime) -> Result<(), Fail> {
     fs::write(&rt, disk, vec![in rt.alloc(); 0u8; 1_048_576]?)?;
     expect_refused(&rt, rt.alloc(), disk, 4, "not formatted\n");
 
-    fs::write(
-        &rt,
-        config,
-        format!(in rt.alloc(); "{HEADING}{MOVEMENT}{PEOPLE}")?,
-    )?;
-    expect_run(
-        &rt,
-        rt.alloc(),
-        &["format", disk, config],
-        "",
-        (0, "formatted\n", ""),
-    );
+    expect_formatted(&rt, rt.alloc(), disk, config, MOVEMENT)?;
     let mut bytes = fs::read(&rt, disk)?;
     // The third part of the session, in sector 4.
     for byte in bytes.iter_mut().skip(4 * 512).take(512) {
@@ -147,21 +114,18 @@ fn a_disk_without_a_session_is_refused(rt: HostRuntime) -> Result<(), Fail> {
 }
 
 #[test]
-fn output_that_fails_is_named(rt: HostRuntime) -> Result<(), Fail> {
+fn streams_that_fail_are_named(rt: HostRuntime) -> Result<(), Fail> {
     let (disk, config) = ("bridge_club_output.disk", "bridge_club_output.txt");
-    fs::write(
-        &rt,
-        config,
-        format!(in rt.alloc(); "{HEADING}{MOVEMENT}{PEOPLE}")?,
-    )?;
-    let rows: [&[&str]; 4] = [
+    write_config(&rt, rt.alloc(), config, MOVEMENT)?;
+    let rows: [&[&str]; 5] = [
+        &["auction", "1"],
         &["format", disk, config],
         &["rank", disk],
         &["pbn", disk],
         &["script", disk],
     ];
     for words in rows {
-        let mut input: &[u8] = b"SYNC\n";
+        let mut input: &[u8] = b"1C\n";
         let mut errors = Vec::new(rt.alloc());
         let status = run_words(&rt, rt.alloc(), words, &mut input, &mut Broken, &mut errors);
         expect_eq(&rt, status, 3, words);
@@ -172,25 +136,16 @@ fn output_that_fails_is_named(rt: HostRuntime) -> Result<(), Fail> {
             words,
         );
     }
-    let words = ["script", disk];
-    let words = words.as_slice();
-    let mut output = Vec::new(rt.alloc());
-    let mut errors = Vec::new(rt.alloc());
-    let status = run_words(
-        &rt,
-        rt.alloc(),
-        words,
-        &mut Broken,
-        &mut output,
-        &mut errors,
-    );
-    expect_eq(&rt, status, 3, "a read that fails");
-    expect_eq(
-        &rt,
-        errors.as_slice(),
-        b"cannot read input\n".as_slice(),
-        "a read that fails",
-    );
+    let rows: [&[&str]; 2] = [&["auction", "1"], &["script", disk]];
+    for words in rows {
+        let mut input = Broken;
+        let mut output = Vec::new(rt.alloc());
+        let mut errors = Vec::new(rt.alloc());
+        let status = run_words(&rt, rt.alloc(), words, &mut input, &mut output, &mut errors);
+        expect_eq(&rt, status, 3, words);
+        let line = b"cannot read input\n".as_slice();
+        expect_eq(&rt, errors.as_slice(), line, words);
+    }
     fs::remove_file(&rt, config)?;
     fs::remove_file(&rt, disk)?;
     Ok(())

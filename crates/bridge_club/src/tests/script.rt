@@ -1,6 +1,5 @@
 //! A script over a disk that fails.
-use super::evening::{HEADING, MOVEMENT, PEOPLE};
-use super::{Broken, expect_eq};
+use super::{Broken, HEADING, MOVEMENT, PEOPLE, expect_eq};
 use crate::config_file::read_session;
 use crate::fault::RunFault;
 use crate::script::serve_store;

@@ -39,11 +39,7 @@ fn percentages_are_rounded(rt: HostRuntime) {
         (1, 20_001, Some(0)),
         (9_999_999, 10_000_000, Some(10_000)),
     ] {
-        expect_eq(
-            &rt,
-            percent_hundredths(earned, available),
-            due,
-            (earned, available),
-        );
+        let found = percent_hundredths(earned, available);
+        expect_eq(&rt, found, due, (earned, available));
     }
 }

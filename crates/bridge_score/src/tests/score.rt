@@ -32,12 +32,9 @@ fn scores_of_the_printed_table(rt: HostRuntime) -> Result<(), Fail> {
         (3, NoTrump, Undoubled, true, 9, 600),
         (1, Spades, Undoubled, false, 11, 200),
     ] {
-        let found = score(
-            &contract(level, denomination, doubling)?,
-            vulnerable,
-            tricks,
-        );
-        expect_eq(&rt, found, points, (level, denomination, tricks));
+        let contract = contract(level, denomination, doubling)?;
+        let found = score(&contract, vulnerable, tricks);
+        expect_eq(&rt, found, points, (contract, tricks));
     }
     Ok(())
 }
@@ -50,13 +47,9 @@ fn every_score_is_the_plain_one(rt: HostRuntime) -> Result<(), Fail> {
             let contract = contract(bid / 5 + 1, denomination, doubling)?;
             for result in 0..28 {
                 let (vulnerable, tricks) = (result < 14, result % 14);
+                let found = score(&contract, vulnerable, tricks);
                 let due = twin::score(&contract, vulnerable, tricks);
-                expect_eq(
-                    &rt,
-                    score(&contract, vulnerable, tricks),
-                    due,
-                    (contract, result),
-                );
+                expect_eq(&rt, found, due, (contract, result));
             }
         }
     }

@@ -9,5 +9,5 @@ returns-clause-written g c = (
     dealer = c.feed.ensures.dealer;
     within = c.feed.ensures.within;
   },
-  rw c.as_str.ensures.value at c.write_replies.ensures.written,
+  rw c.as_str.ensures.value at c.write_whole.ensures.written,
 )

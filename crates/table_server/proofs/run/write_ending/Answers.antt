@@ -8,4 +8,4 @@ returns-clause-written g c =
       c.push_str.ensures.bytes,
       c.new-out.ensures,
       c.limit_notice.ensures.text,
-    ) at c.write_replies.ensures.written
+    ) at c.write_whole.ensures.written

@@ -1,0 +1,136 @@
+//! Lines and the commands that they state: each form of a line at the ends of its ranges, and lines just beyond.
+use super::expect_eq;
+use std::test::Fail;
+use table_server::{Command, read_line_command};
+
+const GOOD: [&str; 26] = [
+    "DEAL 100 1 N:AKQJT98765432... .AKQJT98765432.. ..AKQJT98765432. ...AKQJT98765432",
+    "DEAL 0 36 N:AKQJ.T98.765.432 T98.765.432.AKQJ 765.432.AKQJ.T98 432.AKQJ.T98.765",
+    "SHUFFLE 100 1 000102030405060708090a0b0c0d0e0f101112131415161718191a1b1c1d1e1f",
+    "SHUFFLE 4294967295 36 fedcba9876543210ffffffffffffffff0000000000000000a9a9a9a9a9a9a9a9",
+    "CALL 0 1 0 PASS",
+    "CALL 4294967295 36 999 7NT",
+    "CARD 31 36 999 SA",
+    "CARD 4294967295 1 1 DT",
+    "CLAIM 11 1 0 0",
+    "CLAIM 11 36 999 13",
+    "AGREE 31 36 999",
+    "REFUSE 31 36 999",
+    "NEXT 100 12",
+    "TRICKS 100 1 1 1 0",
+    "TRICKS 100 12 12 3 13",
+    "VOID 100 12 12 3",
+    "RESTORE 100 12 12 3",
+    "SYNC",
+    "SEE 0",
+    "SEE 4294967295",
+    "RANK 0 1",
+    "RANK 4294967295 2",
+    "SOLVE 100 1 1 1 0",
+    "SOLVE 100 12 12 3 52",
+    "PBN 0",
+    "PBN 4294967295",
+];
+
+const BAD: [&str; 42] = [
+    "sync",
+    " SYNC",
+    "SYNC ",
+    "SYNC 1",
+    "SYNC\r",
+    "SEE",
+    "SEE  1",
+    "SEE 1 ",
+    "SEE 1 2",
+    "SEE 01",
+    "SEE +1",
+    "SEE 4294967296",
+    "SEE\t1",
+    "PBN",
+    "RANK 100",
+    "RANK 100 0",
+    "RANK 100 3",
+    "CALL 11 1",
+    "CALL 11 1 0",
+    "CALL 11 1 0 ",
+    "CALL 11 1 0 PASS ",
+    "CALL 11 1 1000 PASS",
+    "CALL 11 1 0 P",
+    "CALL 11 1 0 8C",
+    "CARD 31 1 0 H1",
+    "CARD 31 1 0 sa",
+    "CLAIM 11 1 0 14",
+    "AGREE 31 1 1000",
+    "REFUSE 31 1 1000",
+    "NEXT 100 0",
+    "NEXT 100 13",
+    "TRICKS 100 1 1 1 14",
+    "TRICKS 100 0 1 1 7",
+    "TRICKS 100 1 13 1 7",
+    "TRICKS 100 1 1 4 7",
+    "VOID 100 1 1 1 1",
+    "RESTORE 100 1 0 1",
+    "RESTORE 100 1 1 0",
+    "SOLVE 100 1 1 1 53",
+    "DEAL 100 1 N:... ... ...",
+    "DEAL 100 37 N:... ... ... ...",
+    "DEAL 100 1  N:... ... ... ...",
+];
+
+const BAD_SEEDS: [&str; 4] = [
+    // 63 digits, 65, one of them a capital, one of them no digit
+    "SHUFFLE 100 1 000102030405060708090a0b0c0d0e0f101112131415161718191a1b1c1d1e1",
+    "SHUFFLE 100 1 000102030405060708090a0b0c0d0e0f101112131415161718191a1b1c1d1e1f0",
+    "SHUFFLE 100 1 000102030405060708090A0b0c0d0e0f101112131415161718191a1b1c1d1e1f",
+    "SHUFFLE 100 1 000102030405060708090g0b0c0d0e0f101112131415161718191a1b1c1d1e1f",
+];
+
+#[test]
+fn each_form_is_a_command(rt: HostRuntime) {
+    for line in GOOD {
+        expect_eq(&rt, read_line_command(line.as_bytes()).is_ok(), true, line);
+    }
+}
+
+// Numbers that differ, each in its place.
+#[test]
+fn numbers_stand_in_their_places(rt: HostRuntime) -> Result<(), Fail> {
+    let line = "TRICKS 4294967295 12 11 3 13";
+    let Ok(Command::Tricks { key, play, tricks }) = read_line_command(line.as_bytes()) else {
+        return Err(Fail::from(line));
+    };
+    let found = (key.0, play.round.number(), play.table.number());
+    expect_eq(&rt, found, (u32::MAX, 12, 11), line);
+    let found = (play.index.number(), tricks.number());
+    expect_eq(&rt, found, (3, 13), line);
+    let line = "CARD 7 36 51 DT";
+    let Ok(
+        Command::Card {
+            key,
+            board,
+            at,
+            card,
+        },
+    ) = read_line_command(line.as_bytes())
+    else {
+        return Err(Fail::from(line));
+    };
+    expect_eq(&rt, (key.0, board.number(), at.number()), (7, 36, 51), line);
+    let text = format!(in rt.alloc(); "{card}")?;
+    expect_eq(&rt, text.as_str(), "DT", line);
+    Ok(())
+}
+
+#[test]
+fn other_lines_are_bad(rt: HostRuntime) {
+    for line in BAD.iter().chain(BAD_SEEDS.iter()) {
+        expect_eq(
+            &rt,
+            read_line_command(line.as_bytes()).is_ok(),
+            false,
+            *line,
+        );
+    }
+    let found = read_line_command(b"SEE \xc8").is_ok();
+    expect_eq(&rt, found, false, "byte 200");
+}

@@ -1,0 +1,127 @@
+//! A session's store on a disk in memory, and what is written for the lines that it serves.
+use super::expect_eq;
+use bridge_config::read_config;
+use bridge_endings::Cache;
+use bridge_session::Session;
+use sector_disk::{Fail as FailOf, Fuse, MemoryDisk, SectorDisk};
+use session_store::{Store, format};
+use std::alloc::Global;
+use std::io::{Read, Write};
+use std::process::Abort;
+use std::test::Fail;
+use table_server::{ServeFault, Served, serve};
+
+/// Two tables, one round, one board: pairs 1 and 3 at table 1, pairs 2 and 4 at table 2.
+pub const CLUB: &str = "EVENT Club-Night
+SITE Town-Hall
+DATE 2026.03.14
+SCORING MP
+BOARDS 1
+MOVEMENT 2 1 1 4 2
+ROW 1 1 1 3 1
+ROW 1 2 2 4 1
+DIRECTOR 100
+PAIR 1 Ann 11 Bob 12
+PAIR 2 Cat 21 Dan 22
+PAIR 3 Eve 31 Fay 32
+PAIR 4 Gus 41 Hal 42
+";
+
+/// A store over a disk of which one call may fail.
+pub type ClubStore = Store<Fuse<MemoryDisk>, Session>;
+
+/// The calls of the disk in which a store of 2 tables, 4 pairs and 1 board is opened.
+pub const OPENING_CALLS: u64 = 25;
+
+/// A deal of one suit to each hand.
+pub const DEAL: &str =
+    "DEAL 100 1 N:AKQJT98765432... .AKQJT98765432.. ..AKQJT98765432. ...AKQJT98765432\n";
+
+/// The same, and the first call.
+pub const DEAL_AND_CALL: &str =
+    "DEAL 100 1 N:AKQJT98765432... .AKQJT98765432.. ..AKQJT98765432. ...AKQJT98765432\nCALL 11 1 0 7S\n";
+
+/// The store on this disk, of which the call after so many fails.
+pub fn reopened(alloc: Global, disk: MemoryDisk, passes: u64) -> Result<ClubStore, Fail> {
+    match Store::open(alloc, Fuse::new(disk, passes, FailOf::Once, false)) {
+        Ok(store) => Ok(store),
+        Err(_) => Err(Fail::from("an opened store")),
+    }
+}
+
+/// The store of a configuration's opening session, on a disk of which the call after so many fails.
+pub fn opened(alloc: Global, text: &str, passes: u64) -> Result<ClubStore, Fail> {
+    let Ok(config) = read_config(text.as_bytes()) else {
+        return Err(Fail::from("a configuration"));
+    };
+    let session = Session::new(alloc, config)?;
+    let disk = MemoryDisk::new(alloc, 2048)?;
+    match format(disk, &session) {
+        Ok(disk) => reopened(alloc, disk, passes),
+        Err(_) => Err(Fail::from("a formatted disk")),
+    }
+}
+
+/// The store as it is after a power cut in which each sector keeps what was synced.
+pub fn after_power_cut(alloc: Global, store: ClubStore) -> Result<ClubStore, Fail> {
+    let mut disk = store.into_disk().into_inner();
+    disk.crash(&[]);
+    reopened(alloc, disk, u64::MAX)
+}
+
+/// So many complete lines were served, as many actions accepted, and the store works.
+pub fn served(lines: u32, accepted: u32) -> Served {
+    Served {
+        lines,
+        accepted,
+        failed: false,
+    }
+}
+
+/// Serves a reader's lines once nothing is pending or the store has failed.
+pub fn serve_with<D: SectorDisk + Drop, R: Read, W: Write>(
+    store: &mut Store<D, Session>,
+    cache: Option<&mut Cache>,
+    reader: &mut R,
+    writer: &mut W,
+) -> Result<Served, ServeFault> {
+    let _ = store.confirm();
+    serve(store, cache, reader, writer)
+}
+
+/// The same without a cache.
+pub fn serve_all<D: SectorDisk + Drop, R: Read, W: Write>(
+    store: &mut Store<D, Session>,
+    reader: &mut R,
+    writer: &mut W,
+) -> Result<Served, ServeFault> {
+    serve_with(store, None, reader, writer)
+}
+
+/// What is written for this text, and the answer.
+pub fn answers(
+    alloc: Global,
+    store: &mut ClubStore,
+    text: &[u8],
+) -> (Vec<u8>, Result<Served, ServeFault>) {
+    let mut reader = text;
+    let mut written = Vec::new(alloc);
+    let result = serve_all(store, &mut reader, &mut written);
+    (written, result)
+}
+
+/// Fails with the line where its reply is not the one that is due; neither has its line feed.
+pub fn put_each(
+    rt: &impl Abort,
+    alloc: Global,
+    store: &mut ClubStore,
+    rows: &[(&'static str, &'static str)],
+) -> Result<(), Fail> {
+    for (line, due) in rows {
+        let text = format!(in alloc; "{line}\n")?;
+        let reply = format!(in alloc; "{due}\n")?;
+        let (written, _) = answers(alloc, store, text.as_bytes());
+        expect_eq(rt, written.as_slice(), reply.as_bytes(), *line);
+    }
+    Ok(())
+}

@@ -1,0 +1,98 @@
+//! Each line's answer is shown before the next line is read, as a player at a terminal needs it, and a run ends at
+//! the first fault, also at one that calls for a further try.
+use super::expect_eq;
+use super::streams::{Failing, FullOnce, Pieces};
+use bridge_cards::BoardNumber;
+use std::alloc::Global;
+use std::cell::Cell;
+use std::test::Fail;
+use table_server::{ServeFault, run_auction};
+
+/// What a run did.
+#[derive(Drop)]
+struct Seen {
+    result: Result<(), ServeFault>,
+    reads: Vec<usize>,
+    bytes: Vec<u8>,
+    shown: usize,
+}
+
+/// A run of board 1 over the pieces, with that much room.
+fn run(
+    alloc: Global,
+    pieces: &[&'static str],
+    room: usize,
+    failing: Failing,
+) -> Result<Seen, Fail> {
+    let board = BoardNumber::new(1).ok_or("a board")?;
+    let shown = Cell::new(0);
+    let mut reader = Pieces {
+        pieces,
+        next: 0,
+        shown: &shown,
+        seen: Vec::new(alloc),
+    };
+    let mut writer = FullOnce {
+        bytes: Vec::new(alloc),
+        room,
+        failing,
+        failed: false,
+        shown: &shown,
+    };
+    let result = run_auction(board, &mut reader, &mut writer);
+    Ok(Seen {
+        result,
+        reads: reader.seen,
+        bytes: writer.bytes,
+        shown: shown.get(),
+    })
+}
+
+#[test]
+fn replies_are_shown_before_the_next_read(rt: HostRuntime) -> Result<(), Fail> {
+    let pieces = ["1C\n", "PA", "SS\n", "1D\nXX\n"];
+    let seen = run(rt.alloc(), pieces.as_slice(), 100, Failing::Refuses)?;
+    expect_eq(&rt, seen.result, Ok(()), "the run");
+    // `OK` and a line feed are 3 bytes, `ERR 19 InadmissibleRedouble` with one is 28, and `UNFINISHED` with one 11
+    let due = [0, 3, 3, 6, 37];
+    expect_eq(
+        &rt,
+        seen.reads.as_slice(),
+        due.as_slice(),
+        "shown before each read",
+    );
+    expect_eq(&rt, seen.shown, 48, "shown at the end");
+    Ok(())
+}
+
+#[test]
+fn a_read_fault_ends_the_run(rt: HostRuntime) -> Result<(), Fail> {
+    let seen = run(rt.alloc(), &["1C\n", "", "1D\n"], 100, Failing::Refuses)?;
+    expect_eq(&rt, seen.result, Err(ServeFault::Read), "the run");
+    expect_eq(&rt, seen.bytes.as_slice(), b"OK\n".as_slice(), "written");
+    expect_eq(&rt, seen.reads.len(), 2, "reads");
+    Ok(())
+}
+
+#[test]
+fn a_write_fault_ends_the_run(rt: HostRuntime) -> Result<(), Fail> {
+    let whole = b"OK\nOK\nUNFINISHED\n";
+    for failing in [Failing::Refuses, Failing::TakesNone] {
+        for room in 0..whole.len() {
+            let seen = run(rt.alloc(), &["1C\n1D\n"], room, failing)?;
+            expect_eq(&rt, seen.result, Err(ServeFault::Write), room);
+            expect_eq(&rt, seen.bytes.as_slice(), &whole[..room], (failing, room));
+        }
+    }
+    Ok(())
+}
+
+#[test]
+fn bytes_kept_back_are_a_write_fault(rt: HostRuntime) -> Result<(), Fail> {
+    for (room, written) in [(0, "OK\n"), (3, "OK\nUNFINISHED\n")] {
+        let seen = run(rt.alloc(), &["1C\n"], room, Failing::KeepsBack)?;
+        expect_eq(&rt, seen.result, Err(ServeFault::Write), room);
+        expect_eq(&rt, seen.bytes.as_slice(), written.as_bytes(), room);
+    }
+    Ok(())
+}

@@ -1,0 +1,36 @@
+//! The bytes of actions, worked by hand.
+use super::{expect_eq, script};
+use arrayvec::ArrayVec;
+use bridge_session::{read_action, write_action};
+use std::process::Abort;
+use std::test::Fail;
+
+/// The action of a line, its bytes.
+const ROWS: [(&str, &[u8]); 11] = [
+    (
+        "DEAL 100 1 SUITS",
+        b"\x01\0\0\0\x64\x01\0\x0f\xff\x80\0\0\0\0\0\0\0\x7f\xfc\0\0\0\0\0\0\0\x03\xff\xe0\0\0\0\0\0\0\0\x1f\xff",
+    ),
+    ("CALL 11 1 0 7S", b"\x02\0\0\0\x0b\x01\0\0\x24"),
+    ("CALL 16909060 1 0 PASS", b"\x02\x01\x02\x03\x04\x01\0\0\0"),
+    ("CARD 31 36 999 HQ", b"\x03\0\0\0\x1f\x24\x03\xe7\x24"),
+    ("CLAIM 11 1 0 13", b"\x04\0\0\0\x0b\x01\0\0\x0d"),
+    ("AGREE 31 1 1", b"\x05\0\0\0\x1f\x01\0\x01"),
+    ("REFUSE 32 1 1", b"\x06\0\0\0\x20\x01\0\x01"),
+    ("NEXT 100 1", b"\x07\0\0\0\x64\x01"),
+    ("TRICKS 100 1 2 3 12", b"\x08\0\0\0\x64\x01\x02\x03\x0c"),
+    ("VOID 100 1 2 3", b"\x09\0\0\0\x64\x01\x02\x03"),
+    ("RESTORE 100 1 2 3", b"\x0a\0\0\0\x64\x01\x02\x03"),
+];
+
+#[test]
+fn each_action_has_its_bytes(rt: HostRuntime) -> Result<(), Fail> {
+    for (line, due) in ROWS {
+        let action = script::action(line)?;
+        let mut bytes = ArrayVec::new();
+        write_action(&action, &mut bytes);
+        expect_eq(&rt, bytes.as_slice(), due, line);
+        expect_eq(&rt, read_action(due), Some(action), line);
+    }
+    Ok(())
+}

@@ -1,0 +1,70 @@
+//! The parts of a session, byte for byte.
+use super::expect_eq;
+use super::script::{A_SLAM, CLUB, after, run, session_of};
+use arrayvec::ArrayVec;
+use bridge_session::Session;
+use std::process::Abort;
+use std::test::Fail;
+
+/// Fails where the part of that place has other bytes.
+fn expect_part(rt: &impl Abort, session: &Session, place: u32, bytes: &[u8]) -> Result<(), Fail> {
+    if place >= session.parts() {
+        return Err(Fail::from("a part"));
+    }
+    let mut part = ArrayVec::new();
+    session.write_part(place, &mut part);
+    expect_eq(rt, part.as_slice(), bytes, place);
+    Ok(())
+}
+
+#[test]
+fn parts_of_a_new_session(rt: HostRuntime) -> Result<(), Fail> {
+    let session = session_of(rt.alloc(), CLUB)?;
+    expect_eq(&rt, session.parts(), 9, "parts");
+    for (place, bytes) in [
+        (1, b"\x01\x03\x01\x02\x04\x01".as_slice()),
+        (
+            2,
+            b"\x03Ann\x00\x00\x00\x0b\x03Bob\x00\x00\x00\x0c".as_slice(),
+        ),
+        (
+            5,
+            b"\x03Gus\x00\x00\x00\x29\x03Hal\x00\x00\x00\x2a".as_slice(),
+        ),
+        (6, b"\x00".as_slice()),
+        (7, b"\x00\x00\x00\x00\x00\x00".as_slice()),
+        (8, b"\x00\x00\x00\x00\x00\x00".as_slice()),
+    ] {
+        expect_part(&rt, &session, place, bytes)?;
+    }
+    Ok(())
+}
+
+#[test]
+fn parts_of_a_session_that_goes_on(rt: HostRuntime) -> Result<(), Fail> {
+    let mut session = after(
+        &rt,
+        rt.alloc(),
+        &[
+            A_SLAM,
+            "CARD 31 1 0 HA/CARD 11 1 1 DA/CARD 32 1 2 CA/CARD 11 1 3 SA",
+            "CLAIM 11 1 0 12/AGREE 31 1 1/VOID 100 1 2 1",
+        ],
+    )?;
+    expect_part(
+        &rt,
+        &session,
+        6,
+        b"\x01\x00\x0f\xff\x80\x00\x00\x00\x00\x00\x00\x00\x7f\xfc\x00\x00\x00\x00\x00\x00\x00\x03\xff\xe0\x00\x00\x00\x00\x00\x00\x00\x1f\xff",
+    )?;
+    let standing = b"\x00\x04\x24\x00\x00\x00\x04\x26\x19\x0c\x33\x01\x01\x00\x0c\x02\x00";
+    expect_part(&rt, &session, 7, standing)?;
+    expect_part(&rt, &session, 8, b"\x00\x00\x00\x00\x00\x02")?;
+    run(
+        &rt,
+        &mut session,
+        &["AGREE 32 1 1/TRICKS 100 1 1 1 11/NEXT 100 1"],
+    )?;
+    let agreed = b"\x00\x04\x24\x00\x00\x00\x04\x26\x19\x0c\x33\x01\x02\x00\x0c\x0a\x01\x0b";
+    expect_part(&rt, &session, 7, agreed)
+}

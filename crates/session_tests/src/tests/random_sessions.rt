@@ -1,0 +1,112 @@
+//! Random sessions of three tables, good and bad actions of all tables mixed, each answered as the twin answers.
+use super::expect_eq;
+use super::random_actions::{any_action, any_key};
+use super::twin::Twin;
+use bridge_config::{Key, read_config};
+use bridge_session::{BoardIndex, PlayId, Refused, RoundNumber, Session, TableNumber};
+use std::alloc::Global;
+use std::process::Abort;
+use std::test::Fail;
+
+/// Three tables, three rounds, two boards in each of three sets.
+pub const TWO_BOARDS: &str = "EVENT Club-Night
+SITE Town-Hall
+DATE 2026.03.14
+SCORING MP
+BOARDS 2
+MITCHELL 3
+DIRECTOR 100
+PAIR 1 Ann 11 Bob 12
+PAIR 2 Cat 21 Dan 22
+PAIR 3 Eve 31 Fay 32
+PAIR 4 Gus 41 Hal 42
+PAIR 5 Ida 51 Jan 52
+PAIR 6 Kim 61 Lea 62
+";
+
+/// What a player sees is what was done in the current play of the table.
+fn expect_view(rt: &impl Abort, session: &Session, twin: &Twin, key: Key) {
+    match (session.see(key), twin.sight(key)) {
+        (Ok(view), Ok((seat, story))) => {
+            let (cards, claims, hand) = match &story.play {
+                Some(play) => (
+                    play.cards().len(),
+                    play.claims(),
+                    Some(play.remaining(seat)),
+                ),
+                None => (0, 0, story.deal.map(|deal| deal.hand(seat))),
+            };
+            expect_eq(rt, view.board, story.board, key);
+            expect_eq(rt, view.seat, seat, key);
+            expect_eq(rt, view.calls, story.auction.calls(), key);
+            expect_eq(rt, usize::from(view.cards_made), cards, key);
+            expect_eq(rt, view.claims_made, claims, key);
+            expect_eq(rt, Some(view.hand), hand, key);
+        }
+        (Err(found), Ok((_, story))) => {
+            expect_eq(rt, found, Refused::NotDealt, key);
+            expect_eq(rt, story.deal.is_none(), true, key);
+        }
+        (Err(found), Err(due)) => expect_eq(rt, found, due, key),
+        (Ok(_), Err(due)) => expect_eq(rt, None, Some(due), key),
+    }
+}
+
+/// What came of each play.
+fn expect_outcomes(rt: &impl Abort, session: &Session, twin: &Twin) -> Option<()> {
+    for row in twin.config.fields().movement.rows() {
+        for index in 1..3 {
+            let play = PlayId {
+                round: RoundNumber::new(row.round)?,
+                table: TableNumber::new(row.table)?,
+                index: BoardIndex::new(index)?,
+            };
+            let (Some(entry), Some(story)) = (session.entry(play), twin.story(*row, index)) else {
+                return None;
+            };
+            expect_eq(rt, entry.outcome, story.outcome(), play);
+        }
+    }
+    Some(())
+}
+
+/// So many actions of one session. The result is how many were taken.
+fn run_session(
+    rt: &impl Abort,
+    alloc: Global,
+    state: &mut u32,
+    actions: u32,
+) -> Result<usize, Fail> {
+    let text = TWO_BOARDS.as_bytes();
+    let (Ok(config), Ok(again)) = (read_config(text), read_config(text)) else {
+        return Err(Fail::from("a configuration"));
+    };
+    let mut session = Session::new(alloc, config)?;
+    let mut twin = Twin {
+        config: again,
+        taken: Vec::new(alloc),
+    };
+    for _ in 0..actions {
+        if let Some(action) = any_action(state, &twin) {
+            let due = twin.answer(&action);
+            expect_eq(rt, session.step(&action), due, action);
+            if due.is_ok() {
+                twin.taken.push(action)?;
+                expect_view(rt, &session, &twin, any_key(state));
+            }
+        }
+    }
+    expect_eq(rt, usize::from(session.round()), twin.round(), "round");
+    expect_outcomes(rt, &session, &twin).ok_or("a play")?;
+    Ok(twin.taken.len())
+}
+
+#[test]
+fn random_sessions_are_answered_alike(rt: HostRuntime) -> Result<(), Fail> {
+    let mut state = 1;
+    for _ in 0..200 {
+        let taken = run_session(&rt, rt.alloc(), &mut state, 150)?;
+        expect_eq(&rt, taken > 20, true, taken);
+    }
+    Ok(())
+}

@@ -1,0 +1,194 @@
+//! What was done in one play, and the answer to what a player does next.
+use bridge_auction::{Auction, Call, CallRefused};
+use bridge_cards::{BoardNumber, Card, Deal, Seat, dealer};
+use bridge_play::Play;
+use bridge_session::{Action, Outcome, Refused};
+
+#[derive(Drop)]
+pub struct Story {
+    pub board: BoardNumber,
+    pub deal: Option<Deal>,
+    pub auction: Auction,
+    pub play: Option<Play>,
+    pub ruled_tricks: Option<u8>,
+    pub is_void: bool,
+}
+
+impl Story {
+    pub fn new(board: BoardNumber) -> Story {
+        Story {
+            board,
+            deal: None,
+            auction: Auction::new(dealer(board)),
+            play: None,
+            ruled_tricks: None,
+            is_void: false,
+        }
+    }
+
+    /// Adds an action that was taken: a deal, or what the player in that seat did.
+    pub fn tell(&mut self, action: &Action, seat: Option<Seat>) {
+        match *action {
+            Action::Deal { board, hands, .. } if board == self.board => self.deal =
+                Deal::from_hands(hands).ok(),
+            Action::Call { call, .. } if seat.is_some() => self.call(call),
+            _ => {
+                if let Some(seat) = seat {
+                    self.play_on(action, seat);
+                }
+            }
+        }
+    }
+
+    /// Adds a ruling, of which the latest holds.
+    pub fn rule(&mut self, action: &Action) {
+        self.is_void = matches!(action, Action::Void { .. });
+        self.ruled_tricks = match action {
+            Action::Tricks { tricks, .. } => Some(tricks.number()),
+            _ => None,
+        };
+    }
+
+    fn call(&mut self, call: Call) {
+        let _ = self.auction.try_call(call);
+        if let (Some(contract), Some(deal)) = (self.auction.contract(), &self.deal) {
+            self.play = Some(Play::new(deal, contract));
+        }
+    }
+
+    fn play_on(&mut self, action: &Action, seat: Seat) {
+        let Some(play) = &mut self.play else {
+            return;
+        };
+        let claims = play.claims();
+        let _ = match *action {
+            Action::Card { card, .. } => play.try_card(seat, card).is_ok(),
+            Action::Claim { tricks, .. } => play.try_claim(seat, tricks.number()).is_ok(),
+            Action::Agree { .. } => play.agree(seat, claims).is_ok(),
+            _ => play.refuse(seat, claims).is_ok(),
+        };
+    }
+
+    /// Whether the play is finished: passed out, all played, or claimed.
+    pub fn is_over(&self) -> bool {
+        match &self.play {
+            Some(play) => play.is_over(),
+            None => self.auction.is_ended(),
+        }
+    }
+
+    /// What came of the play.
+    pub fn outcome(&self) -> Outcome {
+        if self.is_void {
+            return Outcome::Voided;
+        }
+        let tricks = match (self.ruled_tricks, &self.play) {
+            (Some(tricks), _) => tricks,
+            (None, Some(play)) => play.tricks(play.contract().declarer.side()),
+            (None, None) => 0,
+        };
+        match &self.play {
+            Some(play) if self.is_over() => Outcome::Played {
+                contract: *play.contract(),
+                tricks,
+            },
+            None if self.is_over() => Outcome::PassedOut,
+            _ => Outcome::Unfinished,
+        }
+    }
+
+    /// The answer to what the player in that seat does, whose cards and calls may then be tried.
+    pub fn answer(&mut self, seat: Seat, action: &Action) -> Result<(), Refused> {
+        if let Action::Call { at, call, .. } = action {
+            return call_answer(&mut self.auction, seat, at.number(), *call);
+        }
+        let Some(play) = &mut self.play else {
+            return Err(Refused::WrongPhase);
+        };
+        match *action {
+            Action::Card { at, card, .. } => card_answer(play, seat, at.number(), card),
+            Action::Claim { at, tricks, .. } => {
+                claim_answer(play, seat, at.number(), tricks.number())
+            }
+            Action::Agree { at, .. } | Action::Refuse { at, .. } => {
+                consent_answer(play, seat, at.number())
+            }
+            _ => Ok(()),
+        }
+    }
+}
+
+fn call_answer(auction: &mut Auction, seat: Seat, at: u16, call: Call) -> Result<(), Refused> {
+    if auction.is_ended() {
+        return Err(Refused::WrongPhase);
+    }
+    if auction.calls().len() != usize::from(at) {
+        return Err(Refused::Stale);
+    }
+    if auction.turn() != seat {
+        return Err(Refused::NotYourTurn);
+    }
+    match auction.try_call(call) {
+        Ok(()) => Ok(()),
+        Err(CallRefused::InsufficientBid) => Err(Refused::InsufficientBid),
+        Err(CallRefused::InadmissibleDouble) => Err(Refused::InadmissibleDouble),
+        Err(CallRefused::InadmissibleRedouble) => Err(Refused::InadmissibleRedouble),
+        Err(CallRefused::Ended) => Err(Refused::WrongPhase),
+    }
+}
+
+fn card_answer(play: &mut Play, seat: Seat, at: u16, card: Card) -> Result<(), Refused> {
+    if play.cards().len() != usize::from(at) {
+        return Err(Refused::Stale);
+    }
+    if play.claim().is_some() {
+        return Err(Refused::ClaimStands);
+    }
+    if play.actor() != seat {
+        return Err(Refused::NotYourTurn);
+    }
+    if !play.remaining(play.turn()).has(card) {
+        return Err(Refused::NotHeld);
+    }
+    match play.try_card(seat, card) {
+        Ok(()) => Ok(()),
+        Err(_) => Err(Refused::MustFollow),
+    }
+}
+
+fn claim_answer(play: &Play, seat: Seat, at: u16, tricks: u8) -> Result<(), Refused> {
+    let played = play.cards().len();
+    if u16::from(play.claims()) != at {
+        Err(Refused::Stale)
+    } else if play.claim().is_some() {
+        Err(Refused::ClaimStands)
+    } else if seat == play.contract().declarer.partner() {
+        Err(Refused::NotYourTurn)
+    } else if played % 4 != 0 {
+        Err(Refused::MidTrick)
+    } else if usize::from(tricks) > 13usize.saturating_sub(played / 4) {
+        Err(Refused::TooManyTricks)
+    } else if play.claims() >= 99 {
+        Err(Refused::ClaimsSpent)
+    } else {
+        Ok(())
+    }
+}
+
+fn consent_answer(play: &Play, seat: Seat, at: u16) -> Result<(), Refused> {
+    if u16::from(play.claims()) != at {
+        return Err(Refused::Stale);
+    }
+    let claim = play.claim().ok_or(Refused::NoClaim)?;
+    let declarer = play.contract().declarer;
+    let asked = if claim.claimer == declarer {
+        seat != declarer && seat != declarer.partner()
+    } else {
+        seat == declarer
+    };
+    let agreed = claim.agreed.get(usize::from(seat.number())).copied();
+    if !asked || agreed.unwrap_or(false) {
+        return Err(Refused::NotAsked);
+    }
+    Ok(())
+}
