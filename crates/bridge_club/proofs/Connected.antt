@@ -12,3 +12,9 @@ module _ {D : Type 0} (disk : Disk D) {S : Type 0} (remaining contents : S → O
       → ServesEach disk remaining contents count start store → ServesEach disk remaining contents count start same
   with_same_store count start store same is served =
       subst (λ (v : StoreValue D State Action). ServesEach disk remaining contents count start v) (sym is) served
+
+  -- and so is their number
+  pub with_same_count : (count same : ℕ) (start store : StoreValue D State Action) → count ≡ same
+      → ServesEach disk remaining contents count start store → ServesEach disk remaining contents same start store
+  with_same_count count same start store is served =
+      subst (λ (n : ℕ). ServesEach disk remaining contents n start store) is served

@@ -76,20 +76,21 @@ fn a_line_that_is_cut(rt: HostRuntime) -> Result<(), Fail> {
 #[test]
 fn bytes_around_the_limit(rt: HostRuntime) -> Result<(), Fail> {
     let mut store = opened(rt.alloc(), CLUB, u64::MAX)?;
-    let notice = b"ERR 32 TooMuch\n".as_slice();
-    for (text, times, end, last) in [
-        (b"SYNC\n".as_slice(), 13_107, b"".as_slice(), b"".as_slice()),
-        (b"SYNC\n", 13_107, b"S", notice),
-        (b"A", 65_536, b"", notice),
+    let syncs = repeated(rt.alloc(), b"SYNC\n", 13_107)?;
+    let mut more = repeated(rt.alloc(), b"SYNC\n", 13_107)?;
+    more.extend_from_slice(b"S")?;
+    let letters = repeated(rt.alloc(), b"A", 65_536)?;
+    let answered = repeated(rt.alloc(), b"OK\n", 13_107)?;
+    let mut noticed = repeated(rt.alloc(), b"OK\n", 13_107)?;
+    noticed.extend_from_slice(b"ERR 32 TooMuch\n")?;
+    for (text, due, lines) in [
+        (syncs.as_slice(), answered.as_slice(), 13_107),
+        (more.as_slice(), noticed.as_slice(), 13_107),
+        (letters.as_slice(), b"ERR 32 TooMuch\n", 0),
     ] {
-        let mut input = repeated(rt.alloc(), text, times)?;
-        input.extend_from_slice(end)?;
-        let lines = if text.len() == 1 { 0 } else { times };
-        let mut due = repeated(rt.alloc(), b"OK\n", lines)?;
-        due.extend_from_slice(last)?;
-        let (written, result) = answers(rt.alloc(), &mut store, input.as_slice());
-        expect_eq(&rt, written.as_slice(), due.as_slice(), (text, last));
-        expect_eq(&rt, result, Ok(served(lines as u32, 0)), (text, last));
+        let (written, result) = answers(rt.alloc(), &mut store, text);
+        expect_eq(&rt, written.as_slice(), due, text.len());
+        expect_eq(&rt, result, Ok(served(lines, 0)), text.len());
     }
     Ok(())
 }

@@ -2,12 +2,12 @@ use Rattle.std.proofs.Common.{◌≡◌, ◌+◌, ℕ, [], false}
 use Rattle.bridge_club.specs.Connections.{ServesEach}
 use Rattle.bridge_club.proofs.serving.serve_connections.Given as goal
 
-abbrev pub invariant-loop-left : goal.invariant-loop-left
-invariant-loop-left g l = record {
+abbrev pub invariant-loop-count : goal.invariant-loop-count
+invariant-loop-count g l = record {
   served : (count : ℕ) × (count + l.left ≡ l.fn.count)
       × ServesEach g.D.SectorDisk.disk g.N.Stream.Read.remaining g.N.Stream.Write.contents count l.fn.store l.store;
   ready : l.store.failed ≡ false → l.store.pending ≡ [];
 }
 
-abbrev pub decreases-loop-left : goal.decreases-loop-left
-decreases-loop-left g l = l.left
+abbrev pub decreases-loop-count : goal.decreases-loop-count
+decreases-loop-count g l = l.left
