@@ -5,7 +5,6 @@ use Rattle.std.proofs.lemmas.Bool.{cases_eq, eqb-true, and_parts}
 use Rattle.std.proofs.lemmas.List.{map-append}
 use Rattle.bridge_cards.specs.declared.suit.Suit.{Suit}
 use Rattle.bridge_cards.specs.declared.seat.Seat.{Seat}
-use Rattle.bridge_cards.specs.declared.seat.Seat.TheVariants.{North, East, South, West}
 use Rattle.bridge_cards.specs.Seat.{seat_number, clockwise_from, same_seat}
 use Rattle.bridge_cards.specs.Card.{suit_number_of}
 use Rattle.bridge_cards.specs.CardSet.{has_card}

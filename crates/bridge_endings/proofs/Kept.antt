@@ -1,8 +1,10 @@
 -- The entries of a cache: what is found of an ending is true of it, and stays so when one more is kept.
-use Rattle.std.proofs.Common.{◌≡◌, ℕ, zero, suc, ◌⊎◌, inl, inr, nat_eq, List, [], ◌∷◌, ◌++◌, length, Option, Some, None, IfSome, Contains, Result, Ok, Err, OnOk, OnErr, refl, sym, ap, ◌∙◌, subst, arith}
-use Rattle.std.specs.Map.{lookup}
+use Rattle.std.proofs.Common.{◌≡◌, ◌≤◌, ◌-◌, ℕ, zero, suc, Bool, true, false, ◌⊎◌, inl, inr, nat_eq, List, [], ◌∷◌, ◌++◌, length, Option, Some, None, IfSome, IsSome, Contains, take, Result, Ok, Err, IsOk, OnOk, OnErr, refl, sym, ap, ◌∙◌, subst, arith}
+use Rattle.std.specs.Map.{lookup, lookup_entry, remove_entry}
+use Rattle.std.specs.Option.{option_map_or}
 use Rattle.std.specs.Cmp.Lexicographic.{pointwise, same_text}
 use Rattle.std.proofs.lemmas.Cmp.{nat_list_eq_equiv}
+use Rattle.std.proofs.lemmas.List.{length-take}
 use Rattle.lru.specs.LruCache.{LruCache, lru_cache, put_entries}
 use Rattle.lru.proofs.CallerLemmas.{Contains-lookup, Contains-put_entries, lookup-put_entries}
 use Rattle.bridge_cards.specs.declared.suit.Suit.{Suit}
@@ -13,7 +15,7 @@ use Rattle.bridge_endings.specs.declared.bounds.Bounds.{Bounds}
 use Rattle.bridge_endings.specs.Position.{Position}
 use Rattle.bridge_endings.specs.Ending.{IsEnding}
 use Rattle.bridge_endings.specs.Worth.{worth_of}
-use Rattle.bridge_endings.specs.Cached.{trump_number, key_of, EachIsTrue}
+use Rattle.bridge_endings.specs.Cached.{trump_number, key_of, EachIsTrue, AreKept}
 use Rattle.bridge_endings.specs.Between.{IsBetween}
 use Rattle.bridge_endings.proofs.Seats.{seat_at-number}
 
@@ -66,6 +68,30 @@ either : {A E : Type 0} (X Y P : Type 0) (answer : Result A E) → OnOk answer X
 either X Y P (Ok a) ok err f g = f ok
 either X Y P (Err e) ok err f g = g err
 
+on_ok : {A E : Type 0} (P : Type 0) (answer : Result A E) → IsOk answer → OnOk answer P → P
+on_ok P (Ok a) is ok = ok
+on_ok P (Err e) is ok = let never : false ≡ true = is in cc
+
+-- an entry that is found and taken away leaves one less
+removed : (test : List ℕ → Bool) (entries : List (List ℕ × Bounds)) (found : List ℕ × Bounds)
+    → lookup_entry test entries ≡ Some found → suc (length (remove_entry test entries)) ≡ length entries
+removed test [] found is = let never : None ≡ Some found = is in cc
+removed test (first ∷ entries) found is = (elim (test first.0) as (λ here. test first.0 ≡ here
+    → suc (length (remove_entry test (first ∷ entries))) ≡ length (first ∷ entries)) [
+      | true ↦ λ here. rw here refl
+      | false ↦ λ here. rw here (ap (λ n. suc n) (removed test entries found (rw here at is)))
+    ]) refl
+
+-- one more makes no more than there may be
+few_with : (cache : LruCache (List ℕ) Bounds) (key : List ℕ) (bounds : Bounds) → 1 ≤ cache.cap → length cache.entries ≤ cache.cap
+    → length (put_entries (pointwise nat_eq) cache key bounds) ≤ cache.cap
+few_with cache key bounds some few = of_found (lookup_entry (pointwise nat_eq key) cache.entries) refl
+  where
+    of_found : (found : Option (List ℕ × Bounds)) → lookup_entry (pointwise nat_eq key) cache.entries ≡ found
+        → length (option_map_or (λ e. (e.0, bounds) ∷ remove_entry (pointwise nat_eq key) cache.entries) found ((key, bounds) ∷ take (cache.cap - 1) cache.entries)) ≤ cache.cap
+    of_found None is = omega (arith, some, length-take (cache.cap - 1) cache.entries)
+    of_found (Some e) is = omega (arith, few, removed (pointwise nat_eq key) cache.entries e is)
+
 module _ (old new : LruCache (List ℕ) Bounds) (key : List ℕ) (bounds : Bounds) (ending : Position) (key_is : key ≡ key_of ending) where
   abbrev Puts : Type 0
   Puts = new ≡ lru_cache (put_entries (pointwise nat_eq) old key bounds) old.cap
@@ -94,3 +120,34 @@ module _ (old new : LruCache (List ℕ) Bounds) (key : List ℕ) (bounds : Bound
       either Puts (new ≡ old) ((lookup (pointwise nat_eq (key_of ending)) new.entries ≡ Some bounds) ⊎ (new.entries ≡ old.entries)) answer ok err
       (λ puts. inl (ap (λ k. lookup (pointwise nat_eq k) new.entries) (sym key_is) ∙ ap (λ c. lookup (pointwise nat_eq key) c.entries) puts ∙ lookup-put_entries (pointwise nat_eq) old key bounds nat_list_eq_equiv))
       (λ same. inr (ap (λ c. c.entries) same))
+
+  pub with_or_same : {A E : Type 0} (answer : Result A E) → OnOk answer Puts → OnErr answer (new ≡ old)
+      → (new.entries ≡ put_entries (pointwise nat_eq) old (key_of ending) bounds) ⊎ (new.entries ≡ old.entries)
+  with_or_same answer ok err =
+      either Puts (new ≡ old) ((new.entries ≡ put_entries (pointwise nat_eq) old (key_of ending) bounds) ⊎ (new.entries ≡ old.entries)) answer ok err
+      (λ puts. inl (ap (λ c. c.entries) puts ∙ ap (λ k. put_entries (pointwise nat_eq) old k bounds) key_is))
+      (λ same. inr (ap (λ c. c.entries) same))
+
+  -- of an ending that was kept memory is not refused
+  pub with_again : {A E : Type 0} (answer : Result A E) → OnOk answer Puts
+      → (IsSome (lookup (pointwise nat_eq key) old.entries) → IsOk answer)
+      → IsSome (lookup (pointwise nat_eq (key_of ending)) old.entries)
+      → new.entries ≡ put_entries (pointwise nat_eq) old (key_of ending) bounds
+  with_again answer ok succeeds known =
+      let puts = on_ok Puts answer (succeeds (subst (λ k. IsSome (lookup (pointwise nat_eq k) old.entries)) (sym key_is) known)) ok in
+      ap (λ c. c.entries) puts ∙ ap (λ k. put_entries (pointwise nat_eq) old k bounds) key_is
+
+  pub same_capacity : {A E : Type 0} (answer : Result A E) → OnOk answer Puts → OnErr answer (new ≡ old) → new.cap ≡ old.cap
+  same_capacity answer ok err =
+      either Puts (new ≡ old) (new.cap ≡ old.cap) answer ok err (λ puts. ap (λ c. c.cap) puts) (λ same. ap (λ c. c.cap) same)
+
+  -- what holds of every cache holds of this one
+  pub still_kept : {A E : Type 0} (answer : Result A E) → OnOk answer Puts → OnErr answer (new ≡ old) → AreKept old.entries old.cap
+      → IsEnding ending.hands → IsBetween (worth_of ending) bounds → AreKept new.entries new.cap
+  still_kept answer ok err before is between = record {
+    each_true = kept_true answer ok err before.each_true is between;
+    some = omega (arith, before.some, same_capacity answer ok err);
+    few = either Puts (new ≡ old) (length new.entries ≤ new.cap) answer ok err
+        (λ puts. subst (λ c. length c.entries ≤ c.cap) (sym puts) (few_with old key bounds before.some before.few))
+        (λ same. subst (λ c. length c.entries ≤ c.cap) (sym same) before.few);
+  }

@@ -1,17 +1,16 @@
 -- A card is in one hand of an ending at most.
-use Rattle.std.proofs.Common.{◌≡◌, ℕ, zero, suc, ◌+◌, ◌<◌, ◌≤◌, ◌⊎◌, inl, inr, Bool, true, false, cond, ◌||◌, List, [], ◌∷◌, length, get_or, slice_set, count_by, All, refl, sym, ap, ◌∙◌, arith}
-use Rattle.std.proofs.lemmas.Bool.{cases_lt, cases_eq, eq-eqb}
+use Rattle.std.proofs.Common.{◌≡◌, ℕ, ◌<◌, ◌≤◌, ◌⊎◌, inl, inr, Bool, true, false, ◌||◌, List, length, get_or, slice_set, All, refl, sym, ap, ◌∙◌, arith}
+use Rattle.std.proofs.lemmas.Bool.{cases_lt, cases_eq}
 use Rattle.std.proofs.lemmas.List.{get_or-set_same, get_or-set_other, length-set}
 use Rattle.std.proofs.Math.ListN.{get_or-eq_default}
-use Rattle.std.proofs.lemmas.List.Sums.{sum_by-cons}
 use Rattle.bridge_cards.specs.declared.seat.Seat.{Seat}
-use Rattle.bridge_cards.specs.Seat.{seat_number, same_seat}
+use Rattle.bridge_cards.specs.Seat.{same_seat}
 use Rattle.bridge_cards.specs.CardSet.{has_card}
 use Rattle.bridge_endings.specs.Ending.{IsEnding}
 use Rattle.bridge_endings.specs.Worth.{dealt}
 use Rattle.bridge_cards.proofs.CardSetLaws.{has_card-zero}
 use Rattle.bridge_endings.specs.Equal.{IsEqualTo, EachIsEqualTo}
-use Rattle.bridge_cards.proofs.OneHolder.{seat_few, one_holder}
+use Rattle.bridge_cards.proofs.OneHolder.{one_holder}
 
 pub one_owner : (hands : List ℕ) → IsEnding hands → (seat : Seat) (card : ℕ) → dealt hands seat card ≡ true → (other : Seat) → same_seat other seat ≡ false → dealt hands other card ≡ false
 one_owner hands ending = one_holder hands ending.four ending.once

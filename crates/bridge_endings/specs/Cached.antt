@@ -1,9 +1,11 @@
--- What a contract sees of a cache: for endings by their keys two bounds of the worth, and how many cards were tried.
-use Rattle.std.specs.Prelude.{◌≡◌, ℕ, ◌+◌, ◌⊎◌, List, [], ◌∷◌, ◌++◌, Option, Some, None, Contains, nat_eq}
+-- What a contract sees of a cache: for endings by their keys two bounds of the worth, those used last first; how many endings
+-- it may keep; and how many cards were tried.
+use Rattle.std.specs.Prelude.{◌≡◌, ℕ, ◌+◌, ◌≤◌, ◌⊎◌, List, length, [], ◌∷◌, ◌++◌, Option, Some, None, Contains, nat_eq}
 use Rattle.std.proofs.Common.{inl, inr}
 use Rattle.std.specs.Map.{lookup}
 use Rattle.std.specs.Cmp.Lexicographic.{pointwise}
 use Rattle.std.specs.Borrow.{MutBor}
+use Rattle.lru.specs.LruCache.{lru_cache, put_entries}
 use Rattle.bridge_cards.specs.declared.suit.Suit.{Suit}
 use Rattle.bridge_cards.specs.Suit.{suit_number}
 use Rattle.bridge_cards.specs.Seat.{seat_number}
@@ -15,6 +17,7 @@ use Rattle.bridge_endings.specs.Between.{IsBetween}
 
 pub record Cached : Type 0 where
   pub entries : List (List ℕ × Bounds)
+  pub capacity : ℕ
   pub tried : ℕ
 
 -- the trump suit's place, from 1; 0 where there is none
@@ -31,6 +34,12 @@ abbrev pub EachIsTrue : List (List ℕ × Bounds) → Type 0
 EachIsTrue entries = (key : List ℕ) (bounds : Bounds) → Contains entries (key, bounds)
     → (ending : Position) → IsEnding ending.hands → key_of ending ≡ key → IsBetween (worth_of ending) bounds
 
+-- what holds of the entries of every cache
+pub record AreKept (entries : List (List ℕ × Bounds)) (capacity : ℕ) : Type 0 where
+  pub each_true : EachIsTrue entries
+  pub some : 1 ≤ capacity
+  pub few : length entries ≤ capacity
+
 -- the bounds that are kept of an ending
 abbrev pub bounds_of : Cached → Position → Option Bounds
 bounds_of cache ending = lookup (pointwise nat_eq (key_of ending)) cache.entries
@@ -38,6 +47,12 @@ bounds_of cache ending = lookup (pointwise nat_eq (key_of ending)) cache.entries
 -- the ending is kept with that number as both bounds
 abbrev pub Keeps : Cached → Position → ℕ → Type 0
 Keeps cache ending worth = bounds_of cache ending ≡ Some (record { least = worth; most = worth })
+
+-- The entries once the ending is kept with that number as both bounds: it stands first. Where it was not there and the
+-- cache is full, the ending that was used least recently gives way.
+abbrev pub entries_with : Cached → Position → ℕ → List (List ℕ × Bounds)
+entries_with cache ending worth =
+    put_entries (pointwise nat_eq) (lru_cache cache.entries cache.capacity) (key_of ending) (record { least = worth; most = worth })
 
 -- what holds of a cache that is lent, before and after
 abbrev pub OfCache : Option (MutBor Cached) → Unit {0} ⊎ ((MutBor Cached × Unit {0}) ⊎ ⊥) → (Cached → Cached → Type 0) → Type 0

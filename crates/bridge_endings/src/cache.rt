@@ -1,7 +1,7 @@
-ghost use Rattle.std.specs.Prelude.{◌≡◌, ℕ, ◌≤◌, ◌⊎◌, [], IfOk, IfSome, IsSome};
+ghost use Rattle.std.specs.Prelude.{◌≡◌, ℕ, ◌≤◌, ◌⊎◌, [], length, IfOk, IfSome, IsSome};
 ghost use Rattle.bridge_endings.specs.Ending.{IsEnding};
 ghost use Rattle.bridge_endings.specs.Worth.{worth_of};
-ghost use Rattle.bridge_endings.specs.Cached.{bounds_of, Keeps, key_of};
+ghost use Rattle.bridge_endings.specs.Cached.{bounds_of, entries_with, Keeps, key_of};
 ghost use Rattle.bridge_endings.specs.Between.{IsBetween};
 
 use crate::bounds::Bounds;
@@ -23,13 +23,13 @@ pub struct Cache {
 }
 
 impl Model for Cache {
-    ghost use Rattle.bridge_endings.specs.Cached.{Cached, EachIsTrue};
+    ghost use Rattle.bridge_endings.specs.Cached.{Cached, AreKept};
 
     ghost Value = { Cached };
 
-    ghost view = { λ c. record { entries = c.known.entries; tried = c.tried } };
+    ghost view = { λ c. record { entries = c.known.entries; capacity = c.known.cap; tried = c.tried } };
 
-    ghost invariant = { λ c. EachIsTrue c.known.entries };
+    ghost invariant = { λ c. AreKept c.known.entries c.known.cap };
 }
 
 impl Cache {
@@ -41,6 +41,7 @@ impl Cache {
         requires some { 1 ≤ capacity }
         requires most { capacity ≤ Self.MOST }
         ensures empty { IfOk result (λ cache. cache.entries ≡ []) }
+        ensures capacity { IfOk result (λ cache. cache.capacity ≡ capacity) }
         ensures tried { IfOk result (λ cache. cache.tried ≡ 0) }
     {
         let capacity = NonZeroUsize::new(capacity).unwrap();
@@ -80,10 +81,15 @@ impl Cache {
         self.known.peek(&key(ending)).copied()
     }
 
-    /// Keeps the worth of the ending as both its bounds, where memory is not refused. So many cards were tried by now.
+    /// Keeps the worth of the ending as both its bounds, where memory is not refused; for an ending that was kept already
+    /// none is asked for. So many cards were tried by now.
     pub(crate) fn keep(&mut self, ending: &Ending, worth: u8, tried: u64)
         requires { worth ≡ worth_of ending.now }
         ensures kept { Keeps self.new ending.now worth ⊎ (self.new.entries ≡ self.old.entries) }
+        ensures others { (self.new.entries ≡ entries_with self.old ending.now worth) ⊎ (self.new.entries ≡ self.old.entries) }
+        ensures again { IsSome (bounds_of self.old ending.now) → self.new.entries ≡ entries_with self.old ending.now worth }
+        ensures capacity { self.new.capacity ≡ self.old.capacity }
+        ensures room { length self.new.entries ≤ self.new.capacity }
         ensures tried { self.new.tried ≡ tried }
     {
         self.tried = tried;
