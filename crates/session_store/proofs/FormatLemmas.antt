@@ -1,15 +1,18 @@
 -- Formatting: zeros hold nothing, and the first snapshot over them stands for its state.
-use Rattle.std.proofs.Common.{◌≡◌, ◌<◌, ◌≤◌, ◌+◌, ℕ, List, [], take, zero, suc, inl, inr, replicate, Some, None, Ok, refl, sym, ap, subst, ◌∙◌, arith}
+use Rattle.std.proofs.Common.{◌≡◌, ◌≢◌, ◌<◌, ◌≤◌, ◌+◌, ℕ, List, [], take, zero, suc, inl, inr, replicate, Some, None, Result, Ok, refl, sym, ap, subst, ◌∙◌, arith}
 use Rattle.std.proofs.lemmas.Bool.{cases_eq}
 use Rattle.sector_disk.specs.Disk.{Image, Disk}
-use Rattle.sector_disk.specs.Calls.{Writes}
+use Rattle.sector_disk.specs.Calls.{Called, Writes, Syncs}
+use Rattle.sector_disk.specs.Runs.{EveryMoment}
+use Rattle.sector_disk.proofs.ImageLaws.{with_sector-other}
+use Rattle.sector_disk.proofs.RunLaws.{begins, writes_on, syncs_on, joins, weakens, now_has}
 use Rattle.sector_disk.proofs.CallLaws.{write_here, write_elsewhere}
 use Rattle.session_store.specs.Keeping.{Keeping, IsLawful, fold}
-use Rattle.session_store.specs.Form.{header_of}
+use Rattle.session_store.specs.Form.{header_of, place}
 use Rattle.session_store.specs.declared.reading.Header.{Header}
 use Rattle.session_store.specs.Stands.{placed, header_at, IsLater, recovered, IsInOrder}
 use Rattle.session_store.specs.Base.{HasEpoch, IsSettled}
-use Rattle.session_store.specs.Snapshot.{NothingLater, WithSnapshot}
+use Rattle.session_store.specs.Snapshot.{ButForParts, NothingLater, WithSnapshot, IsSnapshotting, SameBehind, header_sector}
 use Rattle.session_store.specs.Sound.{IsSoundDisk, StandsOnlyFor}
 use Rattle.session_store.proofs.FormLemmas.{header_of-zeros, zeros_not_later}
 use Rattle.session_store.proofs.StandsLemmas.{fold-nil}
@@ -72,6 +75,66 @@ module _ {S A R : Type 0} (kept : Keeping S A R) where
         },
         λ c left. (settled-only 1 0 s c (omega arith) (settled c left)).0,
       )
+
+place-low : (epoch : ℕ) → place epoch ≤ 512
+unfolding place
+place-low epoch = omega arith
+
+module _ {D : Type 0} (disk : Disk D) where
+  -- before the first call
+  pub behind_begins : (old : D) → disk.honest old → EveryMoment disk old old (SameBehind (disk.may_leave old))
+  behind_begins old honest =
+      begins disk old (SameBehind (disk.may_leave old)) honest (λ c left. (c, left, λ k above. refl))
+
+  -- a write of a sector that a store uses leaves those behind alone
+  pub behind_write : {T E : Type 0} (old mid new : D) (i : ℕ) (bytes : List ℕ) (result : Result T E) → i < 2048
+      → EveryMoment disk old mid (SameBehind (disk.may_leave old)) → Called disk mid new result
+      → (disk.honest mid → Writes disk mid new i bytes result) → EveryMoment disk old new (SameBehind (disk.may_leave old))
+  behind_write old mid new i bytes result used run called writes =
+      writes_on disk old mid new (SameBehind (disk.may_leave old)) result run called i bytes (writes run.honest)
+      (λ c left from. (
+        from.0,
+        from.1,
+        λ k above.
+            let other : k ≢ i = λ here. omega (arith, here, above, used) in
+            with_sector-other c i bytes k other ∙ from.2 k above,
+      ))
+
+  -- and so does a sync
+  pub behind_sync : {T E : Type 0} (old mid new : D) (result : Result T E)
+      → EveryMoment disk old mid (SameBehind (disk.may_leave old)) → Called disk mid new result
+      → (disk.honest mid → Syncs disk mid new result) → EveryMoment disk old new (SameBehind (disk.may_leave old))
+  behind_sync old mid new result run called syncs =
+      syncs_on disk old mid new (SameBehind (disk.may_leave old)) result run called (syncs run.honest)
+
+  -- and the writing of a snapshot
+  pub behind_snapshot : {S A R : Type 0} (kept : Keeping S A R) (old mid new : D) (epoch : ℕ) (s : S)
+      → EveryMoment disk old mid (SameBehind (disk.may_leave old))
+      → EveryMoment disk mid new (IsSnapshotting kept (disk.may_leave mid) epoch s)
+      → EveryMoment disk old new (SameBehind (disk.may_leave old))
+  behind_snapshot kept old mid new epoch s run snapshot =
+      joins disk old mid new (SameBehind (disk.may_leave old)) run
+      (weakens disk mid new (IsSnapshotting kept (disk.may_leave mid) epoch s) snapshot (SameBehind (disk.may_leave old)) behind)
+    where
+      parts : (c : Image) → ButForParts (disk.may_leave mid) epoch c → SameBehind (disk.may_leave old) c
+      parts c from =
+          let before = now_has disk old mid (SameBehind (disk.may_leave old)) run from.0 from.1 in (
+            before.0,
+            before.1,
+            λ k above. from.2 k (λ inside. omega (arith, inside.1, above, place-low epoch)) ∙ before.2 k above,
+          )
+
+      behind : (c : Image) → IsSnapshotting kept (disk.may_leave mid) epoch s c → SameBehind (disk.may_leave old) c
+      behind c (inl from) = parts c from
+      behind c (inr headed) =
+          let before = parts headed.0 headed.1 in (
+            before.0,
+            before.1,
+            λ k above.
+                let other : k ≢ place epoch = λ here. omega (arith, here, above, place-low epoch) in
+                ap (λ (image : Image). image k) headed.3 ∙ with_sector-other headed.0 (place epoch) (header_sector kept epoch s) k other
+                ∙ before.2 k above,
+          )
 
 -- one sector more is cleared
 pub cleared_more : {D T E : Type 0} (disk : Disk D) (mid new : D) (i : ℕ) (v : T) → Writes {T = T} {E = E} disk mid new i (replicate 512 0) (Ok v)

@@ -18,6 +18,14 @@ IsCause honest before now found fault =
     ((fault ≡ DiskFailed) × Rose before now)
     ⊎ ((fault ≡ NoMemory) ⊎ ((fault ≢ DiskFailed) × (honest → found ≡ Err fault)))
 
+-- the header that counts is of an epoch before the last, so that its parts are read
+abbrev pub HasNext : Image → Type 0
+HasNext image = (h : Header) × (header_in image ≡ Some h) × (h.epoch ≢ 2 ^ 64 - 1)
+
+-- every image of these is that one
+abbrev pub IsOnly : (Image → Type 0) → Image → Type 0
+IsOnly images image = (c : Image) → images c → c ≡ image
+
 module _ {S A R : Type 0} (kept : Keeping S A R) where
   -- the state that a disk of this image is opened with, or why it is not: the epochs are tested before the parts
   unfoldable pub reading_from : Image → Option Header → Result S StoreFault

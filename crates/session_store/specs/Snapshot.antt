@@ -15,6 +15,10 @@ SameButParts epoch a b =
 abbrev pub ButForParts : (Image → Type 0) → ℕ → Image → Type 0
 ButForParts images epoch c = (d : Image) × images d × SameButParts epoch d c
 
+-- from sector 2,048 on, behind those that a store uses, the same as one of these images
+abbrev pub SameBehind : (Image → Type 0) → Image → Type 0
+SameBehind images c = (d : Image) × images d × ((k : ℕ) → 2048 ≤ k → c k ≡ d k)
+
 -- no header and no record is of an epoch above this one
 pub record NothingLater (epoch : ℕ) (image : Image) : Type 0 where
   pub first : (h : Header) → header_at 0 (image 0) ≡ Some h → h.epoch ≤ epoch

@@ -1,8 +1,9 @@
 //! Formatting a disk.
 ghost use Rattle.std.specs.Prelude.{◌≡◌, ◌<◌, ◌≤◌, Err, IfOk, IfErr, MatchResult, OnOk, OnErr, ℕ, replicate};
 ghost use Rattle.sector_disk.specs.Disk.{Image, Rose};
-ghost use Rattle.sector_disk.specs.Runs.{Remains};
+ghost use Rattle.sector_disk.specs.Runs.{EveryMoment, Remains};
 ghost use Rattle.session_store.specs.Base.{HasEpoch};
+ghost use Rattle.session_store.specs.Snapshot.{SameBehind};
 ghost use Rattle.session_store.specs.Sound.{IsSoundDisk, StandsOnlyFor};
 
 use crate::snapshot::write_snapshot;
@@ -20,6 +21,8 @@ fn clear<D: SectorDisk>(disk: &mut D) -> Result<(), DiskFault>
     ensures no_fault { OnOk result (D.disk.faults disk.new ≡ D.disk.faults disk.old) }
     ensures cleared { D.disk.honest disk.old → OnOk result ((c : Image) → D.disk.may_leave disk.new c
         → (k : ℕ) → k < 2048 → c k ≡ replicate 512 0) }
+    ensures behind { D.disk.honest disk.old
+        → EveryMoment D.disk disk.old disk.new (SameBehind (D.disk.may_leave disk.old)) }
 {
     for i in 0..SECTORS {
         disk.write(i, &[0; 512])?;
@@ -37,6 +40,8 @@ fn write_first<D: SectorDisk, K: Kept>(disk: &mut D, state: &K) -> Result<(), Di
     ensures epoch { D.disk.honest disk.old → OnOk result ((c : Image) → D.disk.may_leave disk.new c → HasEpoch 1 c) }
     ensures stands { D.disk.honest disk.old → OnOk result (StandsOnlyFor K.kept D.disk state.now disk.new) }
     ensures sound { D.disk.honest disk.old → OnOk result (IsSoundDisk K.kept D.disk disk.new) }
+    ensures behind { D.disk.honest disk.old
+        → EveryMoment D.disk disk.old disk.new (SameBehind (D.disk.may_leave disk.old)) }
 {
     clear(disk)?;
     write_snapshot(disk, 1, state)?;
@@ -45,7 +50,7 @@ fn write_first<D: SectorDisk, K: Kept>(disk: &mut D, state: &K) -> Result<(), Di
 
 /// Makes of the disk one that holds this state, in epoch 1, and hands it back, at an error too. `TooSmall` where it
 /// has fewer than 2,048 sectors, and then nothing was called; `Disk` where a call of the disk failed. After `Disk`,
-/// and after a power cut inside the call, the disk is to be formatted again.
+/// and after a power cut inside the call, the disk is to be formatted again. Sectors from 2,048 on are left alone.
 pub fn format<D: SectorDisk, K: Kept>(mut disk: D, state: &K) -> Result<D, (D, StoreFault)>
     ensures too_small { D.disk.count disk < 2048 → result ≡ Err (disk, StoreFault.TooSmall) }
     ensures fault { 2048 ≤ D.disk.count disk → IfErr result (λ e.
@@ -56,6 +61,9 @@ pub fn format<D: SectorDisk, K: Kept>(mut disk: D, state: &K) -> Result<D, (D, S
     ensures stands { D.disk.honest disk → IfOk result (StandsOnlyFor K.kept D.disk state.now) }
     ensures sound { D.disk.honest disk → IfOk result (IsSoundDisk K.kept D.disk) }
     ensures large { IfOk result (λ new. 2048 ≤ D.disk.count new) }
+    ensures behind { D.disk.honest disk → MatchResult result
+        (λ new. EveryMoment D.disk disk new (SameBehind (D.disk.may_leave disk)))
+        (λ e. EveryMoment D.disk disk e.0 (SameBehind (D.disk.may_leave disk))) }
 {
     if disk.count() < SECTORS {
         return Err((disk, StoreFault::TooSmall));

@@ -1,9 +1,9 @@
 //! Opening a store.
-ghost use Rattle.std.specs.Prelude.{◌≡◌, ◌≢◌, ◌⊎◌, ◌<◌, ◌≤◌, ◌+◌, ◌-◌, ◌^◌, ℕ, Err, IfErr, IfOk, Ok, OnErr, OnOk, false};
+ghost use Rattle.std.specs.Prelude.{◌≡◌, ◌≢◌, ◌⊎◌, ◌<◌, ◌≤◌, ◌+◌, ◌-◌, ◌^◌, ℕ, Err, IfErr, IfOk, IsErrOf, Ok, OnErr, OnOk, false};
 ghost use Rattle.sector_disk.specs.Disk.{Image, Rose};
 ghost use Rattle.sector_disk.specs.Runs.{OnlyRead, Quiet};
 ghost use Rattle.session_store.specs.Base.{HasEpoch};
-ghost use Rattle.session_store.specs.Opening.{IsCause, IsNotOpened, IsOpened, reading};
+ghost use Rattle.session_store.specs.Opening.{HasNext, IsCause, IsNotOpened, IsOnly, IsOpened, reading};
 ghost use Rattle.session_store.specs.Sound.{IsSoundDisk, StandsOnlyFor};
 ghost use Rattle.session_store.specs.Stands.{recovered};
 
@@ -34,6 +34,9 @@ fn recover_behind_barrier<D: SectorDisk, K: Kept>(
     ensures same { IfOk result (λ found. found.base ≡ found.state) }
     ensures fault { IfErr result (IsCause (D.disk.honest disk.old) (D.disk.faults disk.old) (D.disk.faults disk.new)
         (reading K.kept (D.disk.reads disk.old))) }
+    ensures memory { D.disk.honest disk.old → IsErrOf result StoreFault.NoMemory → HasNext (D.disk.reads disk.old) }
+    ensures at_rest { D.disk.honest disk.old → IfErr result (λ fault. fault ≢ StoreFault.Disk
+        → IsOnly (D.disk.may_leave disk.new) (D.disk.reads disk.old)) }
 {
     match disk.sync() {
         Err(_) => Err(StoreFault::Disk),
@@ -49,12 +52,16 @@ impl<D: SectorDisk + Drop, K: Kept> Store<D, K> {
     /// written. The disk comes back at an error. `TooSmall` where it has fewer than 2,048 sectors, and then no call of
     /// it is made; `Disk` where a call of it failed; `NotFormatted` where neither snapshot has a header; `EpochsSpent`
     /// where the epoch is 2^64 - 1; `Damaged` with the first sector that is out of form or does not fit; `NoMemory`
-    /// where it is out of memory. On each of these but `Disk` nothing was written.
+    /// where it is out of memory, for which only such a disk asks that has a header of an epoch before the last. On each of
+    /// these but `Disk` nothing was written, and on each but `Disk` and `TooSmall` a power cut leaves what was read.
     pub fn open(alloc: Global, mut disk: D) -> Result<Store<D, K>, (D, StoreFault)>
         ensures too_small { D.disk.count disk < 2048 → result ≡ Err (disk, StoreFault.TooSmall) }
         ensures fault { 2048 ≤ D.disk.count disk → IfErr result (λ e. IsCause (D.disk.honest disk) (D.disk.faults disk)
             (D.disk.faults e.0) (reading K.kept (D.disk.reads disk)) e.1) }
         ensures only_read { IfErr result (λ e. e.1 ≢ StoreFault.Disk → D.disk.honest disk → OnlyRead D.disk disk e.0) }
+        ensures memory { D.disk.honest disk → IfErr result (λ e. e.1 ≡ StoreFault.NoMemory → HasNext (D.disk.reads disk)) }
+        ensures at_rest { D.disk.honest disk → 2048 ≤ D.disk.count disk → IfErr result (λ e. e.1 ≢ StoreFault.Disk
+            → IsOnly (D.disk.may_leave e.0) (D.disk.reads disk)) }
         ensures opens { IsSoundDisk K.kept D.disk disk → IfErr result (λ e.
             (e.1 ≡ StoreFault.Disk) ⊎ ((e.1 ≡ StoreFault.EpochsSpent) ⊎ (e.1 ≡ StoreFault.NoMemory))) }
         ensures opened { IfOk result (IsOpened K.kept D.disk disk) }

@@ -2,7 +2,7 @@
 ghost use Rattle.std.specs.Prelude.{◌≡◌, ◌<◌, ◌≤◌, ◌-◌, ◌^◌, IfErr, IfOk, IsErrOf, None, Ok, OnOk, Some, map};
 ghost use Rattle.sector_disk.specs.Runs.{Quiet};
 ghost use Rattle.session_store.specs.Base.{HasEpoch};
-ghost use Rattle.session_store.specs.Opening.{IsCause, reading};
+ghost use Rattle.session_store.specs.Opening.{HasNext, IsCause, reading};
 ghost use Rattle.session_store.specs.Stands.{after_parts, parts_from, recovered};
 
 use crate::headers::find_header;
@@ -91,6 +91,7 @@ pub(crate) fn recover<D: SectorDisk, K: Kept>(
     ensures same { IfOk result (λ found. found.base ≡ found.state) }
     ensures fault { IfErr result (IsCause (D.disk.honest disk.old) (D.disk.faults disk.old) (D.disk.faults disk.new)
         (reading K.kept (D.disk.reads disk.old))) }
+    ensures memory { D.disk.honest disk.old → IsErrOf result StoreFault.NoMemory → HasNext (D.disk.reads disk.old) }
 {
     match find_header(disk) {
         Err(_) => Err(StoreFault::Disk),

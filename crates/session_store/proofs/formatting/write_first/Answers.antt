@@ -1,5 +1,5 @@
 use Rattle.std.proofs.Common.{arith}
-use Rattle.session_store.proofs.FormatLemmas.{first_settled, settled-epoch, first_snapshot}
+use Rattle.session_store.proofs.FormatLemmas.{behind_snapshot, first_settled, settled-epoch, first_snapshot}
 use Rattle.session_store.proofs.formatting.write_first.Goals as goal
 
 pub returns-clause-stands : goal.returns-clause-stands
@@ -26,3 +26,13 @@ returns-clause-epoch g c = λ honest.
     λ image left. settled-epoch kept 1 0 state image
     (first_settled kept g.D.SectorDisk.disk g.met.K.Kept.lawful _ _ state c.write_snapshot.ensures.state
     (c.in_ok-clear.ensures.cleared honest) (c.in_ok-write_snapshot.ensures.written cleared) image left)
+
+pub returns-in_err-write_snapshot-clause-behind : goal.returns-in_err-write_snapshot-clause-behind
+returns-in_err-write_snapshot-clause-behind g c = λ honest.
+    let cleared = c.clear.ensures.behind honest in
+    behind_snapshot g.D.SectorDisk.disk g.K.Kept.kept _ _ _ 1 c.args.state.now cleared (c.write_snapshot.ensures.any_moment cleared.honest)
+
+pub returns-clause-behind : goal.returns-clause-behind
+returns-clause-behind g c = λ honest.
+    let cleared = c.clear.ensures.behind honest in
+    behind_snapshot g.D.SectorDisk.disk g.K.Kept.kept _ _ _ 1 c.args.state.now cleared (c.write_snapshot.ensures.any_moment cleared.honest)

@@ -40,3 +40,7 @@ returns-in-Ok-recover_from-clause-found g c = λ honest.
     let from = ap (λ image. after_parts kept image h (parts_from image h.epoch 0 h.parts)) (sym reads)
     ∙ c.in-Ok-recover_from.ensures.found (c.in-Ok.ensures.quiet.remains.stays_honest honest) in
     (read.0 ∙ read.1 ∙ from, read.1 ∙ from, (h, sym some, sym c.in-Ok-recover_from.ensures.epoch))
+
+pub returns-in-Err-recover_from-clause-memory : goal.returns-in-Err-recover_from-clause-memory
+returns-in-Err-recover_from-clause-memory g c = λ honest refused.
+    (c.in-Some.header, sym (sym c.in-Some.is ∙ c.in-Ok.ensures.found honest), c.if-header.false)
