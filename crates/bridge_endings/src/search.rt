@@ -1,5 +1,5 @@
 //! The search: whether North and South win at least so many of the tricks left.
-ghost use Rattle.std.specs.Prelude.{◌≡◌, ℕ, ◌-◌, ◌*◌, ◌<◌, ◌≤◌, nat_le, ◌==◌, true, length, IfSome, MatchBool, ◌++◌, ◌∷◌, []};
+ghost use Rattle.std.specs.Prelude.{◌≡◌, ℕ, ◌+◌, ◌-◌, ◌*◌, ◌^◌, ◌<◌, ◌≤◌, min, nat_le, ◌==◌, true, length, IfSome, MatchBool, ◌++◌, ◌∷◌, []};
 ghost use Rattle.bridge_cards.specs.Card.{IsCard, card_suit};
 ghost use Rattle.bridge_cards.specs.CardSet.{IsCardSet, has_card};
 ghost use Rattle.bridge_cards.specs.Seat.{clockwise_from, side_of};
@@ -77,6 +77,7 @@ impl Search {
     fn count_card(&mut self)
         ensures hands { self.new.hands ≡ self.old.hands }
         ensures trump { self.new.trump ≡ self.old.trump }
+        ensures one { self.new.tried ≡ min (self.old.tried + 1) (2 ^ 64 - 1) }
         ensures tried { self.old.tried ≤ self.new.tried }
     {
         self.tried = self.tried.saturating_add(1);
