@@ -18,6 +18,20 @@ head_parts configuration round =
 abbrev pub IsRound : Configuration → ℕ → Type 0
 IsRound configuration round = (1 ≤ round) × (round ≤ configuration.movement.shape.rounds + 1)
 
+-- as many parts as a session of the configuration has for its boards, and for its plays
+abbrev pub board_part_count : Configuration → ℕ
+board_part_count configuration =
+    configuration.movement.shape.sets * configuration.boards + length configuration.movement.rows * configuration.boards
+
+-- The parts begin with those of a configuration and a round of it, and are as many as its sessions have.
+pub record HasHead (parts : List (List ℕ)) : Type 0 where
+  pub configuration : Configuration
+  pub round : ℕ
+  pub limits : IsConfiguration configuration
+  pub within : IsRound configuration round
+  pub begins : head_parts configuration round ≡ take (2 + length configuration.pairs) parts
+  pub count : length parts ≡ 2 + length configuration.pairs + board_part_count configuration
+
 -- the fields are what the first part names
 pub record IsHeadingOf (part : List ℕ) (heading : Heading) : Type 0 where
   pub event : heading.event.bytes ≡ text_in part

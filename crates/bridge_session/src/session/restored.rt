@@ -1,9 +1,9 @@
 //! A session read back from its parts.
-ghost use Rattle.std.specs.Prelude.{◌≡◌, ◌≢◌, map, IfOk, IfSome, IfNone, IsErrOf};
+ghost use Rattle.std.specs.Prelude.{◌≡◌, ◌≢◌, length, map, IfOk, IfSome, IfNone, IsErrOf, OnErr};
 ghost use Rattle.bridge_config.specs.Limits.{IsConfiguration};
 ghost use Rattle.bridge_session.specs.State.{State};
 ghost use Rattle.bridge_session.specs.StateRange.{IsSession};
-ghost use Rattle.bridge_session.specs.Head.{IsRound};
+ghost use Rattle.bridge_session.specs.Head.{IsRound, board_part_count, HasHead};
 ghost use Rattle.bridge_session.specs.Parts.{parts_of, board_parts};
 
 use super::Session;
@@ -26,6 +26,7 @@ fn read_boards(
     ensures parts { IfOk result (λ found. IfSome found (λ s. board_parts s ≡ map (λ part. part.items) parts.now)) }
     ensures session { IfOk result (λ found. IfSome found IsSession) }
     ensures other { IfOk result (λ found. IfNone found ((s : State) → IsSession s → s.configuration ≡ config → s.round ≡ round → board_parts s ≢ map (λ part. part.items) parts.now)) }
+    ensures counted { OnErr result (length parts.now ≡ board_part_count config) }
 {
     let fields = config.fields();
     let boards = fields.boards;
@@ -53,11 +54,12 @@ fn read_boards(
 
 impl Session {
     /// The session that the parts were written of. `Bad` where they are not exactly those of a session, `Memory` where it is
-    /// out of memory.
+    /// out of memory, of which it takes none before the configuration, the round and the number of the parts are read.
     pub fn from_parts(alloc: Global, parts: &[ArrayVec<u8, 480>]) -> Result<Session, PartsFault>
         ensures parts { IfOk result (λ s. parts_of s ≡ map (λ part. part.items) parts.now) }
         ensures session { IfOk result IsSession }
         ensures bad { IsErrOf result PartsFault.Bad → (s : State) → IsSession s → parts_of s ≢ map (λ part. part.items) parts.now }
+        ensures memory { IsErrOf result PartsFault.Memory → HasHead (map (λ part. part.items) parts.now) }
     {
         let Some(head) = read_head(parts) else {
             return Err(PartsFault::Bad);
