@@ -3,6 +3,7 @@ mod action_bytes;
 mod disk;
 mod endings;
 mod faults;
+mod largest;
 mod parts;
 mod random_actions;
 mod random_sessions;
