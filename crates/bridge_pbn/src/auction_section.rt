@@ -11,10 +11,10 @@ use crate::text::{GAME_BYTES, GameText, TAG_BYTES, push_tag};
 use bridge_auction::{Bid, Call, denomination_text};
 use bridge_cards::Seat;
 
-/// The most bytes of a call and what stands before or after it.
+/// The room for a call and the space before it.
 pub const CALL_BYTES: usize = 5;
 
-/// The most bytes of a line of calls.
+/// The room for a line of four calls.
 pub const LINE_BYTES: usize = 21;
 
 /// The room for an Auction section: that of its tag pair and of 80 lines, for the longest auction has 319 calls.

@@ -20,7 +20,7 @@ use bridge_movement::Row;
 use bridge_play::Play;
 use bridge_session::{BoardIndex, Entry, Outcome, PlayId, RoundNumber, Session, TableNumber};
 
-/// The most bytes of a game.
+/// The room for the 17 tag pairs of a game and its two sections.
 const ALL_BYTES: usize = 3472;
 
 /// Whether a play is listed.

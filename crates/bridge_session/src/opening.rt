@@ -1,4 +1,4 @@
-//! The parts of a session at the opening.
+//! The deals and the records of a session at its opening.
 ghost use Rattle.std.specs.Prelude.{◌≡◌, ◌≤◌, ◌+◌, ◌-◌, ◌*◌, map, replicate, length, IfOk, All, None};
 ghost use Rattle.std.specs.List.{range_with_len};
 ghost use Rattle.bridge_movement.specs.Row.{is_live};

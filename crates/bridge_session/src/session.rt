@@ -62,8 +62,8 @@ impl Model for Session {
 }
 
 impl Session {
-    /// The session of the configuration in round 1, with no board dealt. It takes all its memory at once; no other call
-    /// takes any.
+    /// The session of the configuration in round 1, with no board dealt. It takes all its memory at once: no call on it
+    /// takes any more.
     pub fn new(alloc: Global, config: Config) -> Result<Session, AllocError>
         ensures opening { IfOk result (λ session. session ≡ opening config) }
     {
