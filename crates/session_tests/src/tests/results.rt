@@ -1,4 +1,5 @@
 //! Results as they are written: worked sessions, an evening of two rounds, and a writer that fails.
+use super::expect_eq;
 use super::script::{A_CLAIM, A_PASS, A_SLAM, after, run, session_of};
 use arrayvec::ArrayVec;
 use bridge_pbn::write_pbn;
@@ -132,20 +133,6 @@ fn a_whole_session_and_a_ruling(rt: HostRuntime) -> Result<(), Fail> {
     expect_result(&rt, &session, "12");
     run(&rt, &mut session, &["VOID 100 1 1 1/VOID 100 1 2 1"])?;
     expect_text(&rt, &session, "% PBN 2.1\n");
-    Ok(())
-}
-
-#[test]
-fn a_writer_that_fails_has_a_prefix(rt: HostRuntime) -> Result<(), Fail> {
-    let session = after(&rt, rt.alloc(), &[A_SLAM, A_CLAIM])?;
-    for room in [0, 5, 10, 20] {
-        let mut writer = pen_with(room);
-        let error = write_pbn(&session, &mut writer).err();
-        assert!(rt; error.map(|error| error.kind()) == Some(ErrorKind::BrokenPipe));
-        let whole = BEFORE_RESULT.as_bytes();
-        assert!(rt; whole.strip_prefix(writer.taken.as_slice()).is_some());
-        assert!(rt; writer.taken.len() == room);
-    }
     Ok(())
 }
 
@@ -299,5 +286,14 @@ fn games_by_board_then_round_then_table(rt: HostRuntime) -> Result<(), Fail> {
     let mut session = session_of(rt.alloc(), EVENING)?;
     run(&rt, &mut session, ACTIONS.as_slice())?;
     expect_text(&rt, &session, GAMES);
+    // At the first byte, in the first line, behind it, in the first game, and in the third.
+    for room in [0, 5, 10, 20, 800] {
+        let mut writer = pen_with(room);
+        let error = write_pbn(&session, &mut writer).err();
+        assert!(rt; error.map(|error| error.kind()) == Some(ErrorKind::BrokenPipe));
+        let rest = GAMES.as_bytes().strip_prefix(writer.taken.as_slice());
+        expect_eq(&rt, rest.is_some(), true, room);
+        expect_eq(&rt, writer.taken.len(), room, room);
+    }
     Ok(())
 }
