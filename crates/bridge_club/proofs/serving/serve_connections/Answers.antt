@@ -21,7 +21,7 @@ returns-then-left-eq0-clause-done g c =
     let before = c.loop-count.invariant.served in record {
       store = c.loop-count.store;
       serves = with_same_count g.D.SectorDisk.disk g.N.Stream.Read.remaining g.N.Stream.Write.contents before.0 c.args.count
-      c.args.store.now c.loop-count.store (omega (arith, before.1, c.if-left-eq0.true)) before.2;
+          c.args.store.now c.loop-count.store (omega (arith, before.1, c.if-left-eq0.true)) before.2;
       works = sym c.has_failed.ensures.failed ∙ c.if-has_failed.false;
     }
 
@@ -35,7 +35,7 @@ loop-count-preserved g c =
         (
           c.has_failed.new.store,
           with_same_store g.D.SectorDisk.disk g.N.Stream.Read.remaining g.N.Stream.Write.contents before.0 c.args.store.now
-          c.loop-count.store c.has_failed.new.store c.has_failed.ensures.same before.2,
+              c.loop-count.store c.has_failed.new.store c.has_failed.ensures.same before.2,
           ap (λ store. store.failed) c.has_failed.ensures.same ∙ (sym c.has_failed.ensures.failed ∙ c.if-has_failed.false),
           c.in-Ok.ensures.served,
         ),
@@ -52,7 +52,7 @@ returns-in-Err-clause-fault g c =
         served = before.0;
         fewer = omega (arith, before.1, c.if-left-eq0.false);
         serves = with_same_store g.D.SectorDisk.disk g.N.Stream.Read.remaining g.N.Stream.Write.contents before.0 c.args.store.now
-        c.loop-count.store c.serve_next.new.store same before.2;
+            c.loop-count.store c.serve_next.new.store same before.2;
         works = ap (λ store. store.failed) same ∙ (sym c.has_failed.ensures.failed ∙ c.if-has_failed.false);
       },
       ap StreamFault c.in-Err.ensures.fault,
