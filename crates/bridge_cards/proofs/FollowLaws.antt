@@ -1,6 +1,6 @@
 -- Lists of which each element may follow those before it, taken apart and made longer.
 use Rattle.std.specs.Prelude.{◌≡◌, ℕ, List, [], ◌∷◌, ◌++◌, length, take, slice_get, Some}
-use Rattle.std.proofs.Common.{zero, suc, ◌+◌, ◌<◌, ◌∙◌, inl, inr, refl, sym, ap, subst, arith, length-append, get_or, drop}
+use Rattle.std.proofs.Common.{zero, suc, ◌<◌, ◌∙◌, inl, inr, refl, sym, ap, subst, arith, length-append, get_or, drop}
 use Rattle.std.proofs.Math.Seq.{take-append_seam, take-suc}
 use Rattle.std.proofs.lemmas.List.{take-append-le, take-append-drop}
 use Rattle.std.proofs.lemmas.Option.{slice_get_within}

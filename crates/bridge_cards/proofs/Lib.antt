@@ -8,7 +8,7 @@ mod SuitText
 mod Joining
 mod HandText
 mod DealLemmas
-mod PrintLemmas
+pub mod PrintLemmas
 mod PrintedDeal
 mod DealtHands
 mod DealTests

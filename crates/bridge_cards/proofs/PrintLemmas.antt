@@ -12,6 +12,7 @@ use Rattle.bridge_cards.specs.Rank.{IsRank, rank_letter}
 use Rattle.bridge_cards.specs.Card.{card_of}
 use Rattle.bridge_cards.specs.CardSet.{has_card, deck, card_count}
 use Rattle.bridge_cards.specs.DealText.{dot, IsRankLetter, SpellsSuit, SpellsHand, descending, letter_of, suit_text, hand_text}
+use Rattle.bridge_cards.proofs.CardCounts.{card_count_le}
 use Rattle.bridge_cards.proofs.SuitText.{rank_letter_once}
 
 -- the lowest ranks, as many as said, from the highest of them down
@@ -159,6 +160,10 @@ length-hand_text hand =
     let counted : length s + length h + length d + length k ≡ card_count hand
     = rw (length-suit_text hand Spades, length-suit_text hand Hearts, length-suit_text hand Diamonds, length-suit_text hand Clubs) (suits_counted hand) in
     with_dots s h d k (card_count hand) counted
+
+-- and takes 55 bytes at most
+pub hand_text_short : (hand : ℕ) → length (hand_text hand) ≤ 55
+hand_text_short hand = omega (arith, length-hand_text hand, card_count_le hand)
 
 -- a hand's text by its suits
 pub hand_text_is : (hand : ℕ) → hand_text hand

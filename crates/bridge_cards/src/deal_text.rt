@@ -144,10 +144,12 @@ fn read_suit(letters: &[u8], suit: Suit) -> Option<CardSet>
     Some(cards)
 }
 
-/// Writes a hand at the text's end.
-fn print_hand(hand: CardSet, text: &mut ArrayString<69>)
-    requires { length text.old.bytes + length (hand_text hand) ≤ 69 }
-    ensures { text.new.bytes ≡ text.old.bytes ++ hand_text hand }
+/// Writes a hand at the text's end: its spades, hearts, diamonds and clubs with dots between, each suit's ranks from the
+/// highest down. It takes a byte for each card and three more, 55 at most.
+pub fn print_hand<const N: usize>(hand: CardSet, text: &mut ArrayString<N>)
+    requires { length text.old.bytes + length (hand_text hand) ≤ N }
+    ensures text { text.new.bytes ≡ text.old.bytes ++ hand_text hand }
+    ensures short { length (hand_text hand) ≤ 55 }
 {
     print_suit(hand, Suit::Spades, text);
     text.push('.');
@@ -159,8 +161,8 @@ fn print_hand(hand: CardSet, text: &mut ArrayString<69>)
 }
 
 /// Writes the letters of a hand's ranks in a suit at the text's end, from the highest down.
-fn print_suit(hand: CardSet, suit: Suit, text: &mut ArrayString<69>)
-    requires { length text.old.bytes + length (suit_text hand suit) ≤ 69 }
+fn print_suit<const N: usize>(hand: CardSet, suit: Suit, text: &mut ArrayString<N>)
+    requires { length text.old.bytes + length (suit_text hand suit) ≤ N }
     ensures { text.new.bytes ≡ text.old.bytes ++ suit_text hand suit }
 {
     for place in (0..13).rev() {

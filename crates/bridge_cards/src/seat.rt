@@ -1,4 +1,4 @@
-ghost use Rattle.std.specs.Prelude.{◌≡◌, ◌≢◌, ◌<◌, IfSome, IfNone};
+ghost use Rattle.std.specs.Prelude.{◌≡◌, ◌≢◌, ◌<◌, ◌≤◌, ◌∷◌, [], length, IfSome, IfNone};
 ghost use Rattle.bridge_cards.specs.Seat.{seat_number, seat_at, clockwise_from, side_of, other_side, seat_letter};
 ghost use Rattle.bridge_cards.specs.declared.seat.Seat.{Seat};
 
@@ -113,6 +113,19 @@ impl Side {
             Side::NorthSouth => Side::EastWest,
             Side::EastWest => Side::NorthSouth,
         }
+    }
+}
+
+/// The seat's letter as a text.
+pub fn seat_text(seat: Seat) -> &'static str
+    ensures text { result.now ≡ seat_letter seat ∷ [] }
+    ensures short { length result.now ≤ 1 }
+{
+    match seat {
+        Seat::North => "N",
+        Seat::East => "E",
+        Seat::South => "S",
+        Seat::West => "W",
     }
 }
 

@@ -1,11 +1,10 @@
 -- The tag pairs of a game: what was played where and by whom, and what came of it.
 use Rattle.std.specs.Prelude.{ℕ, ◌-◌, List, [], ◌∷◌, ◌++◌, codes, slice_get, unwrap_or, option_and_then}
 use Rattle.std.specs.Fmt.{decimal}
-use Rattle.bridge_cards.specs.declared.vulnerability.Vulnerability.{Vulnerability}
-use Rattle.bridge_cards.specs.declared.vulnerability.Vulnerability.TheVariants.{Neither, NorthSouth, EastWest, Both}
 use Rattle.bridge_cards.specs.Board.{dealer_of, vulnerability_on}
 use Rattle.bridge_cards.specs.Seat.{seat_letter}
 use Rattle.bridge_cards.specs.DealText.{deal_text}
+use Rattle.bridge_cards.specs.Vulnerability.{vulnerability_text}
 use Rattle.bridge_auction.specs.Spelling.{bid_text, doubling_text}
 use Rattle.bridge_movement.specs.declared.row.Row.{Row}
 use Rattle.bridge_score.specs.declared.ranking.Scoring.{Scoring}
@@ -18,12 +17,6 @@ use Rattle.bridge_pbn.specs.Lines.{tag}
 -- the name of a pair's first player, at place 0, or second, at place 1
 abbrev pub player_name : List Pair → ℕ → ℕ → List ℕ
 player_name pairs pair place = unwrap_or (option_and_then (λ (p : Pair). slice_get p.names place) (slice_get pairs (pair - 1))) []
-
-abbrev pub vulnerability_text : Vulnerability → List ℕ
-vulnerability_text Neither = codes "None"
-vulnerability_text NorthSouth = codes "NS"
-vulnerability_text EastWest = codes "EW"
-vulnerability_text Both = codes "All"
 
 abbrev pub scoring_text : Scoring → List ℕ
 scoring_text MatchPoints = codes "MP"

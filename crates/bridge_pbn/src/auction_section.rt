@@ -6,10 +6,9 @@ ghost use Rattle.bridge_auction.specs.Spelling.{bid_text};
 ghost use Rattle.bridge_pbn.specs.Lines.{lines_text, spaced};
 ghost use Rattle.bridge_pbn.specs.Sections.{call_text, calls_line, auction_lines};
 
-use crate::names::seat_text;
 use crate::text::{GAME_BYTES, GameText, TAG_BYTES, push_tag};
 use bridge_auction::{Bid, Call, denomination_text};
-use bridge_cards::Seat;
+use bridge_cards::{Seat, seat_text};
 
 /// The room for a call and the space before it.
 pub const CALL_BYTES: usize = 5;

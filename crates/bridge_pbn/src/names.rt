@@ -1,38 +1,10 @@
 //! The short texts of which the values of tag pairs are made.
-ghost use Rattle.std.specs.Prelude.{◌≡◌, ◌≤◌, ◌∷◌, [], length, map};
-ghost use Rattle.bridge_cards.specs.Seat.{seat_letter};
+ghost use Rattle.std.specs.Prelude.{◌≡◌, ◌≤◌, length, map};
 ghost use Rattle.bridge_config.specs.Configuration.{pair_of};
-ghost use Rattle.bridge_pbn.specs.Tags.{vulnerability_text, scoring_text, player_name};
+ghost use Rattle.bridge_pbn.specs.Tags.{scoring_text, player_name};
 
-use bridge_cards::{Seat, Vulnerability};
 use bridge_config::PairFields;
 use bridge_score::Scoring;
-
-/// The seat's letter.
-pub fn seat_text(seat: Seat) -> &'static str
-    ensures text { result.now ≡ seat_letter seat ∷ [] }
-    ensures short { length result.now ≤ 1 }
-{
-    match seat {
-        Seat::North => "N",
-        Seat::East => "E",
-        Seat::South => "S",
-        Seat::West => "W",
-    }
-}
-
-/// `None`, `NS`, `EW` or `All`.
-pub fn vulnerability_text(vulnerability: Vulnerability) -> &'static str
-    ensures text { result.now ≡ vulnerability_text vulnerability }
-    ensures short { length result.now ≤ 4 }
-{
-    match vulnerability {
-        Vulnerability::Neither => "None",
-        Vulnerability::NorthSouth => "NS",
-        Vulnerability::EastWest => "EW",
-        Vulnerability::Both => "All",
-    }
-}
 
 /// `MP` or `IMP`.
 pub fn scoring_text(scoring: Scoring) -> &'static str

@@ -6,9 +6,8 @@ ghost use Rattle.bridge_cards.specs.Card.{card_text};
 ghost use Rattle.bridge_pbn.specs.Lines.{lines_text};
 ghost use Rattle.bridge_pbn.specs.Sections.{places_from, card_by, column_text, trick_line, star_lines, trick_lines};
 
-use crate::names::seat_text;
 use crate::text::{GAME_BYTES, GameText, TAG_BYTES, push_tag};
-use bridge_cards::{Card, Seat};
+use bridge_cards::{Card, Seat, seat_text};
 use bridge_play::Play;
 
 /// The most bytes of a trick's line.

@@ -8,11 +8,13 @@ ghost use Rattle.bridge_config.specs.Configuration.{pair_of};
 ghost use Rattle.bridge_pbn.specs.Lines.{lines_text, tag};
 ghost use Rattle.bridge_pbn.specs.Tags.{event_tags, player_tags, board_tags, outcome_tags, table_tags};
 
-use crate::names::{first_name, scoring_text, seat_text, second_name, vulnerability_text};
+use crate::names::{first_name, scoring_text, second_name};
 use crate::text::{GAME_BYTES, GameText, TAG_BYTES, push_tag};
 use arrayvec::ArrayString;
 use bridge_auction::{Contract, denomination_text, doubling_text};
-use bridge_cards::{BoardNumber, Deal, dealer, print_deal, vulnerability_of};
+use bridge_cards::{
+    BoardNumber, Deal, dealer, print_deal, seat_text, vulnerability_of, vulnerability_text,
+};
 use bridge_config::{Config, PairFields};
 use bridge_movement::Row;
 use bridge_score::Scoring;

@@ -20,7 +20,7 @@ push-requires-3 c =
     let n0 = ap length c.clear.ensures in
     let n1 = simp length-append at (ap length (c.push.ensures.ascii (omega arith))) in
     let n2 = simp length-append at (ap length (c.push-2.ensures.ascii (lit< tt))) in
-    let n3 = simp length-append at (ap length (c.print_hand.ensures)) in
+    let n3 = simp length-append at (ap length (c.print_hand.ensures.text)) in
     let h1 = length-hand_text_dealt c.hand.result c.hand.ensures.thirteen in
     let space = ap length (encode_ascii 32 (lit< tt)) in
     (lit< tt, omega (arith, space, n0, n1, n2, n3, h1))
@@ -30,7 +30,7 @@ print_hand-requires-2 c =
     let n0 = ap length c.clear.ensures in
     let n1 = simp length-append at (ap length (c.push.ensures.ascii (omega arith))) in
     let n2 = simp length-append at (ap length (c.push-2.ensures.ascii (lit< tt))) in
-    let n3 = simp length-append at (ap length (c.print_hand.ensures)) in
+    let n3 = simp length-append at (ap length (c.print_hand.ensures.text)) in
     let n4 = simp length-append at (ap length (c.push-3.ensures.ascii (lit< tt))) in
     let h1 = length-hand_text_dealt c.hand.result c.hand.ensures.thirteen in
     let h2 = length-hand_text_dealt c.hand-2.result c.hand-2.ensures.thirteen in
@@ -41,9 +41,9 @@ push-requires-4 c =
     let n0 = ap length c.clear.ensures in
     let n1 = simp length-append at (ap length (c.push.ensures.ascii (omega arith))) in
     let n2 = simp length-append at (ap length (c.push-2.ensures.ascii (lit< tt))) in
-    let n3 = simp length-append at (ap length (c.print_hand.ensures)) in
+    let n3 = simp length-append at (ap length (c.print_hand.ensures.text)) in
     let n4 = simp length-append at (ap length (c.push-3.ensures.ascii (lit< tt))) in
-    let n5 = simp length-append at (ap length (c.print_hand-2.ensures)) in
+    let n5 = simp length-append at (ap length (c.print_hand-2.ensures.text)) in
     let h1 = length-hand_text_dealt c.hand.result c.hand.ensures.thirteen in
     let h2 = length-hand_text_dealt c.hand-2.result c.hand-2.ensures.thirteen in
     let space = ap length (encode_ascii 32 (lit< tt)) in
@@ -54,9 +54,9 @@ print_hand-requires-3 c =
     let n0 = ap length c.clear.ensures in
     let n1 = simp length-append at (ap length (c.push.ensures.ascii (omega arith))) in
     let n2 = simp length-append at (ap length (c.push-2.ensures.ascii (lit< tt))) in
-    let n3 = simp length-append at (ap length (c.print_hand.ensures)) in
+    let n3 = simp length-append at (ap length (c.print_hand.ensures.text)) in
     let n4 = simp length-append at (ap length (c.push-3.ensures.ascii (lit< tt))) in
-    let n5 = simp length-append at (ap length (c.print_hand-2.ensures)) in
+    let n5 = simp length-append at (ap length (c.print_hand-2.ensures.text)) in
     let n6 = simp length-append at (ap length (c.push-4.ensures.ascii (lit< tt))) in
     let h1 = length-hand_text_dealt c.hand.result c.hand.ensures.thirteen in
     let h2 = length-hand_text_dealt c.hand-2.result c.hand-2.ensures.thirteen in
@@ -68,11 +68,11 @@ push-requires-5 c =
     let n0 = ap length c.clear.ensures in
     let n1 = simp length-append at (ap length (c.push.ensures.ascii (omega arith))) in
     let n2 = simp length-append at (ap length (c.push-2.ensures.ascii (lit< tt))) in
-    let n3 = simp length-append at (ap length (c.print_hand.ensures)) in
+    let n3 = simp length-append at (ap length (c.print_hand.ensures.text)) in
     let n4 = simp length-append at (ap length (c.push-3.ensures.ascii (lit< tt))) in
-    let n5 = simp length-append at (ap length (c.print_hand-2.ensures)) in
+    let n5 = simp length-append at (ap length (c.print_hand-2.ensures.text)) in
     let n6 = simp length-append at (ap length (c.push-4.ensures.ascii (lit< tt))) in
-    let n7 = simp length-append at (ap length (c.print_hand-3.ensures)) in
+    let n7 = simp length-append at (ap length (c.print_hand-3.ensures.text)) in
     let h1 = length-hand_text_dealt c.hand.result c.hand.ensures.thirteen in
     let h2 = length-hand_text_dealt c.hand-2.result c.hand-2.ensures.thirteen in
     let h3 = length-hand_text_dealt c.hand-3.result c.hand-3.ensures.thirteen in
@@ -84,11 +84,11 @@ print_hand-requires-4 c =
     let n0 = ap length c.clear.ensures in
     let n1 = simp length-append at (ap length (c.push.ensures.ascii (omega arith))) in
     let n2 = simp length-append at (ap length (c.push-2.ensures.ascii (lit< tt))) in
-    let n3 = simp length-append at (ap length (c.print_hand.ensures)) in
+    let n3 = simp length-append at (ap length (c.print_hand.ensures.text)) in
     let n4 = simp length-append at (ap length (c.push-3.ensures.ascii (lit< tt))) in
-    let n5 = simp length-append at (ap length (c.print_hand-2.ensures)) in
+    let n5 = simp length-append at (ap length (c.print_hand-2.ensures.text)) in
     let n6 = simp length-append at (ap length (c.push-4.ensures.ascii (lit< tt))) in
-    let n7 = simp length-append at (ap length (c.print_hand-3.ensures)) in
+    let n7 = simp length-append at (ap length (c.print_hand-3.ensures.text)) in
     let n8 = simp length-append at (ap length (c.push-5.ensures.ascii (lit< tt))) in
     let h1 = length-hand_text_dealt c.hand.result c.hand.ensures.thirteen in
     let h2 = length-hand_text_dealt c.hand-2.result c.hand-2.ensures.thirteen in
@@ -98,7 +98,7 @@ print_hand-requires-4 c =
 
 at_text : goal.returns-clause-text
 at_text c =
-    rw (c.print_hand-4.ensures, c.push-5.ensures.ascii (lit< tt), c.print_hand-3.ensures, c.push-4.ensures.ascii (lit< tt), c.print_hand-2.ensures, c.push-3.ensures.ascii (lit< tt), c.print_hand.ensures, c.push-2.ensures.ascii (lit< tt), c.push.ensures.ascii (omega arith), c.clear.ensures)
+    rw (c.print_hand-4.ensures.text, c.push-5.ensures.ascii (lit< tt), c.print_hand-3.ensures.text, c.push-4.ensures.ascii (lit< tt), c.print_hand-2.ensures.text, c.push-3.ensures.ascii (lit< tt), c.print_hand.ensures.text, c.push-2.ensures.ascii (lit< tt), c.push.ensures.ascii (omega arith), c.clear.ensures)
     (deal_text_of c.args.deal.now c.args.first _ _ _ _ _ (c.from.ensures ∙ c.letter.ensures.letter) c.hand.ensures.hand
     (c.hand-2.ensures.hand ∙ ap (hand_at c.args.deal.now) c.clockwise.ensures)
     (c.hand-3.ensures.hand ∙ ap (hand_at c.args.deal.now) c.clockwise-2.ensures)

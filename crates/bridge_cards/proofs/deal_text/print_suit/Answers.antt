@@ -1,4 +1,4 @@
-use Rattle.std.proofs.Common.{◌≡◌, ◌+◌, ◌-◌, suc, true, ◌++◌, [], ◌∷◌, length, ap, sym, ◌∙◌, arith, lit<}
+use Rattle.std.proofs.Common.{◌≡◌, ◌+◌, ◌-◌, suc, true, ◌++◌, [], ◌∷◌, length, ap, sym, ◌∙◌, arith, rules}
 use Rattle.std.proofs.lemmas.List.{append-nil, length-append}
 use Rattle.std.proofs.lemmas.Str.{encode_ascii}
 use Rattle.bridge_cards.specs.Card.{card_of}
@@ -9,20 +9,20 @@ use Rattle.bridge_cards.proofs.PrintLemmas.{lowest_letters, lowest_letters-none,
 use Rattle.bridge_cards.proofs.deal_text.print_suit.Goals as goal
 
 pub loop-place-init : goal.loop-place-init
-loop-place-init c = ap (λ l. c.args.text.now.bytes ++ l) (lowest_letters-all c.args.hand c.args.suit)
+loop-place-init g c = ap (λ l. c.args.text.now.bytes ++ l) (lowest_letters-all c.args.hand c.args.suit)
 
 pub push-requires : goal.push-requires
-push-requires c =
+push-requires g c =
     let place = c.loop-place.place in
     let is_next : place ≡ suc (place - 1) = omega arith in
     let has : has_card c.args.hand (card_of c.args.suit (place - 1 + 2)) ≡ true = cc in
     let room = printed_room c.loop-place.text.bytes _ c.args.hand c.args.suit (place - 1) place is_next has c.loop-place.invariant in
     let whole = length-append c.args.text.now.bytes (suit_text c.args.hand c.args.suit) in
     let one = ap length (encode_ascii c.from.result (omega arith)) in
-    (lit< tt, omega (arith, c.requires, room, whole, one))
+    (search rules, omega (arith, c.requires, room, whole, one))
 
 pub loop-place-preserved-then-has : goal.loop-place-preserved-then-has
-loop-place-preserved-then-has c =
+loop-place-preserved-then-has g c =
     let place = c.loop-place.place in
     let is_next : place ≡ suc (place - 1) = omega arith in
     let has : has_card c.args.hand (card_of c.args.suit (place - 1 + 2)) ≡ true = cc in
@@ -32,12 +32,12 @@ loop-place-preserved-then-has c =
     ap (λ l. l ++ lowest_letters c.args.hand c.args.suit (place - 1)) pushed ∙ step
 
 pub loop-place-preserved : goal.loop-place-preserved
-loop-place-preserved c =
+loop-place-preserved g c =
     let place = c.loop-place.place in
     printed_no c.loop-place.text.bytes _ c.args.hand c.args.suit (place - 1) place (omega arith) (cc) c.loop-place.invariant
 
 pub returns : goal.returns
-returns c =
+returns g c =
     let done : c.loop-place.place ≡ 0 = omega arith in
     sym (append-nil c.loop-place.text.bytes)
     ∙ ap (λ l. c.loop-place.text.bytes ++ l) (sym (ap (lowest_letters c.args.hand c.args.suit) done ∙ lowest_letters-none c.args.hand c.args.suit))
