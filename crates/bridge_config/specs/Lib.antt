@@ -1,3 +1,4 @@
+pub mod Refused
 pub mod Configuration
 pub mod Limits
 pub mod Spelling

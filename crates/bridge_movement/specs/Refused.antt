@@ -1,5 +1,5 @@
 -- Why rows are no movement.
-use Rattle.std.specs.Prelude.{ℕ, ◌≡◌, ◌+◌, ◌<◌, List, length, slice_index_or, take, Any}
+use Rattle.std.specs.Prelude.{ℕ, ◌≡◌, ◌+◌, ◌<◌, List, length, codes, slice_index_or, take, Any}
 use Rattle.bridge_movement.specs.declared.refused.MovementRefused.{MovementRefused}
 use Rattle.bridge_movement.specs.declared.refused.MovementRefused.TheVariants.{MissingRow, BadPair, SamePair, BadSet, PairTwice, SetAgain}
 use Rattle.bridge_movement.specs.declared.row.Row.{Row}
@@ -49,6 +49,15 @@ refused_place (SamePair place) = place
 refused_place (BadSet place) = place
 refused_place (PairTwice place) = place
 refused_place (SetAgain place) = place
+
+-- why the rows are no movement, in a word
+abbrev pub refusal_name : MovementRefused → List ℕ
+refusal_name (MissingRow place) = codes "MissingRow"
+refusal_name (BadPair place) = codes "BadPair"
+refusal_name (SamePair place) = codes "SamePair"
+refusal_name (BadSet place) = codes "BadSet"
+refusal_name (PairTwice place) = codes "PairTwice"
+refusal_name (SetAgain place) = codes "SetAgain"
 
 -- the row at a place, after the rows before it, has no fault
 abbrev pub IsFaultlessAt : Shape → List Row → ℕ → Type 0
