@@ -1,10 +1,10 @@
 //! Which card is tried first. Any order gives the same answer; a good one gives it sooner.
-ghost use Rattle.std.specs.Prelude.{◌≡◌, ◌⊎◌, ◌↔◌, IsTrue, IsNone, IfSome, Some};
+ghost use Rattle.std.specs.Prelude.{◌≡◌, ◌<◌, ◌↔◌, ℕ, true, IsTrue, IsNone, IfSome};
 ghost use Rattle.bridge_cards.specs.Card.{IsCard};
 ghost use Rattle.bridge_cards.specs.CardSet.{has_card};
 
 use crate::trick::Trick;
-use bridge_cards::{Card, CardSet, Suit};
+use bridge_cards::{Card, CardSet};
 
 /// One of the cards, the one that the hand in turn tries first; `None` where there is none.
 pub fn next_card(cards: CardSet, trick: &Trick) -> Option<Card>
@@ -16,74 +16,59 @@ pub fn next_card(cards: CardSet, trick: &Trick) -> Option<Card>
         return Some(lowest);
     }
     let Some(led) = trick.led() else {
-        return highest_rank(cards);
+        return Some(highest_rank(cards, lowest));
     };
     if !trick.partner_wins()
-        && let Some(card) = lowest_winner(cards, trick)
+        && let Some(card) = trick.winners(cards).lowest()
     {
         return Some(card);
     }
     if lowest.suit() == led.suit() {
         Some(lowest)
     } else {
-        lowest_rank(cards)
+        Some(lowest_rank(cards, lowest))
     }
 }
 
-/// The card of the highest rank.
-fn highest_rank(cards: CardSet) -> Option<Card>
-    ensures card { IfSome result (λ card. IsCard card × IsTrue (has_card cards card)) }
-    ensures none { IsNone result ↔ (cards ≡ 0) }
+/// The card of the highest rank, of equal ranks that of the highest suit; the other card is one of them.
+fn highest_rank(cards: CardSet, other: Card) -> Card
+    requires { IsCard other × IsTrue (has_card cards other) }
+    ensures { IsCard result × IsTrue (has_card cards result) }
 {
-    let mut best = cards.highest()?;
-    for suit in Suit::ALL {
-        best = higher(best, cards.of_suit(suit).highest());
-    }
-    Some(best)
-}
-
-/// The card of the lowest rank.
-fn lowest_rank(cards: CardSet) -> Option<Card>
-    ensures card { IfSome result (λ card. IsCard card × IsTrue (has_card cards card)) }
-    ensures none { IsNone result ↔ (cards ≡ 0) }
-{
-    let mut best = cards.lowest()?;
-    for suit in Suit::ALL {
-        best = lower(best, cards.of_suit(suit).lowest());
-    }
-    Some(best)
-}
-
-/// The card, or the other one if its rank is lower.
-fn lower(card: Card, other: Option<Card>) -> Card
-    ensures { (result ≡ card) ⊎ (other ≡ Some result) }
-{
-    match other {
-        Some(other) if other.rank().number() < card.rank().number() => other,
-        _ => card,
+    let highest = 63_u32.saturating_sub(ranks(cards).leading_zeros());
+    match of_rank(cards, highest).highest() {
+        Some(card) => card,
+        None => other,
     }
 }
 
-/// The card, or the other one if its rank is higher.
-fn higher(card: Card, other: Option<Card>) -> Card
-    ensures { (result ≡ card) ⊎ (other ≡ Some result) }
+/// The card of the lowest rank, of equal ranks that of the lowest suit; the other card is one of them.
+fn lowest_rank(cards: CardSet, other: Card) -> Card
+    requires { IsCard other × IsTrue (has_card cards other) }
+    ensures { IsCard result × IsTrue (has_card cards result) }
 {
-    match other {
-        Some(other) if other.rank().number() > card.rank().number() => other,
-        _ => card,
+    let lowest = ranks(cards).trailing_zeros().min(63);
+    match of_rank(cards, lowest).lowest() {
+        Some(card) => card,
+        None => other,
     }
 }
 
-/// The lowest card that beats the one that wins so far.
-fn lowest_winner(cards: CardSet, trick: &Trick) -> Option<Card>
-    ensures { IfSome result (λ card. IsCard card × IsTrue (has_card cards card)) }
+/// The number in which bit n says whether the cards have one of the rank so many places above the 2.
+fn ranks(cards: CardSet) -> u64 {
+    let bits = cards.bits();
+    (bits | bits >> 13 | bits >> 26 | bits >> 39) & 0x1fff
+}
+
+/// Those of the cards that have the rank so many places above the 2.
+fn of_rank(cards: CardSet, place: u32) -> CardSet
+    requires { place < 64 }
+    ensures { (card : ℕ) → has_card result card ≡ true → has_card cards card ≡ true }
 {
-    let mut rest = cards;
-    while let Some(card) = rest.lowest() {
-        if trick.would_win(card) {
-            return Some(card);
-        }
-        rest = rest.without(card);
+    // The 2 of each suit.
+    let twos: u64 = 0x80_0400_2001;
+    match CardSet::from_bits(twos << place) {
+        Some(rank) => cards.intersection(rank),
+        None => CardSet::new(),
     }
-    None
 }

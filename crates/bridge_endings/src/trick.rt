@@ -1,11 +1,12 @@
 //! A trick that is being played: whose turn it is, and who wins it.
-ghost use Rattle.std.specs.Prelude.{◌≡◌, ◌+◌, ◌<◌, ◌≤◌, [], ◌∷◌, ◌++◌, length, take, slice_get};
+ghost use Rattle.std.specs.Prelude.{◌≡◌, ℕ, ◌+◌, ◌<◌, ◌≤◌, true, [], ◌∷◌, ◌++◌, length, take, slice_get};
 ghost use Rattle.bridge_cards.specs.Seat.{clockwise_from};
 ghost use Rattle.bridge_cards.specs.Trick.{next_leader};
+ghost use Rattle.bridge_cards.specs.CardSet.{has_card};
 ghost use Rattle.bridge_endings.specs.TrickCards.{IsKeptWinner};
 
 use bridge_cards::trick::beats;
-use bridge_cards::{Card, Seat, Suit};
+use bridge_cards::{Card, CardSet, Seat, Suit};
 use std::marker::Model;
 
 /// The cards of a trick so far, the seat that led, and the trump suit if there is one.
@@ -136,9 +137,17 @@ impl Trick {
         self.played >= 2 && self.winning.place == self.played - 2
     }
 
-    /// Whether the card would beat the one that wins so far.
-    pub fn would_win(&self, card: Card) -> bool {
-        self.played == 0 || beats(self.trump, self.cards[0], card, self.winning.card)
+    /// Those of the cards that would beat the one that wins so far: the higher ones of its suit, and trumps where it is
+    /// none.
+    pub fn winners(&self, cards: CardSet) -> CardSet
+        ensures { (card : ℕ) → has_card result card ≡ true → has_card cards card ≡ true }
+    {
+        let best = self.winning.card;
+        let higher = above(cards.of_suit(best.suit()), best);
+        match self.trump {
+            Some(trump) if trump != best.suit() => higher.union(cards.of_suit(trump)),
+            _ => higher,
+        }
     }
 
     /// Who wins the trick, and so leads to the next (Law 44).
@@ -147,5 +156,16 @@ impl Trick {
         ensures { result ≡ next_leader self.now.trump self.now.leader self.now.cards }
     {
         self.leader.clockwise(usize::from(self.winning.place))
+    }
+}
+
+/// Those of the cards that are above that one in the order of the deck.
+fn above(cards: CardSet, card: Card) -> CardSet
+    ensures { (other : ℕ) → has_card result other ≡ true → has_card cards other ≡ true }
+{
+    let bits = (cards.bits() >> card.number() >> 1) << 1 << card.number();
+    match CardSet::from_bits(bits) {
+        Some(higher) => cards.intersection(higher),
+        None => CardSet::new(),
     }
 }
