@@ -5,7 +5,6 @@ pub mod CardWords
 pub mod FirstWords
 pub mod CommandLaws
 pub mod Pairs
-pub mod HandLetters
 pub mod WrittenParts
 pub mod Folds
 pub mod ServingLemmas
@@ -16,3 +15,4 @@ pub mod HearingLemmas
 pub mod StreamLemmas
 pub mod FailureLemmas
 pub mod AcceptingLemmas
+pub mod FaultLemmas

@@ -23,7 +23,7 @@ state_there zero standing answer s some is = absurd (omega (arith, some))
 state_there (suc n) standing answer s some is = rw is refl
 
 -- either way the store has failed
-failed_either : {D : Type 0} (full : Bool) (v w : StoreValue D State Action) (d : D) → (if full then after_fault v d else after_fault w d).failed ≡ true
+pub failed_either : {D : Type 0} (full : Bool) (v w : StoreValue D State Action) (d : D) → (if full then after_fault v d else after_fault w d).failed ≡ true
 failed_either true v w d = refl
 failed_either false v w d = refl
 

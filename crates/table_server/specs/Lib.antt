@@ -13,6 +13,7 @@ pub mod Told
 pub mod Answered
 pub mod Served
 pub mod Serving
+pub mod Faulted
 pub mod Hearing
 pub mod ServedStreams
 pub mod Accepting

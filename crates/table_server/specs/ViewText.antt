@@ -6,7 +6,7 @@ use Rattle.bridge_cards.specs.Seat.{seat_letter}
 use Rattle.bridge_cards.specs.Card.{card_text}
 use Rattle.bridge_cards.specs.DealText.{hand_text}
 use Rattle.bridge_auction.specs.Spelling.{call_text}
-use Rattle.bridge_pbn.specs.Tags.{vulnerability_text}
+use Rattle.bridge_cards.specs.Vulnerability.{vulnerability_text}
 use Rattle.bridge_session.specs.declared.view.Trick.{Trick}
 use Rattle.bridge_session.specs.declared.view.View.{View}
 use Rattle.table_server.specs.ReplyTexts.{line_of, listed}

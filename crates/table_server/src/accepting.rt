@@ -1,6 +1,7 @@
 //! Serving the connections of a listener.
 ghost use Rattle.std.specs.Prelude.{◌≡◌, [], false, IfOk, IfErr};
 ghost use Rattle.table_server.specs.Accepting.{HasServedOne, StopsAccepting};
+ghost use Rattle.table_server.specs.Faulted.{FailsWithDisk};
 
 use crate::fault::ServeFault;
 use crate::served::Served;
@@ -28,6 +29,7 @@ pub fn accept_and_serve<N: Net, D: SectorDisk + Drop>(
     ensures ok { IfOk result (HasServedOne D.disk N.Stream.remaining N.Stream.contents store.old store.new) }
     ensures fault { IfErr result (StopsAccepting D.disk N.Stream.remaining N.Stream.contents store.old store.new) }
     ensures ready { store.new.failed ≡ false → store.new.pending ≡ [] }
+    ensures faults { FailsWithDisk D.disk store.old store.new }
 {
     let Ok((mut reader, _)) = listener.accept() else {
         return Err(ServeFault::Accept);

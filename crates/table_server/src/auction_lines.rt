@@ -5,8 +5,9 @@ ghost use Rattle.line_text.specs.Lines.{is_within_line};
 ghost use Rattle.table_server.specs.AuctionLines.{replies_from, calls_from};
 ghost use Rattle.std.specs.List.{list_all};
 
+use crate::line_feed::LineFeed;
 use crate::reply::{REPLY_BYTES, Reply};
-use arrayvec::{ArrayString, ArrayVec};
+use arrayvec::ArrayString;
 use bridge_auction::{Auction, Contract, denomination_text, doubling_text, read_call};
 use bridge_cards::Seat;
 use line_text::{LINE_BYTES, without_return};
@@ -19,12 +20,10 @@ pub const PIECE_BYTES: usize = 1024;
 pub const REPLIES_BYTES: usize = REPLY_BYTES * PIECE_BYTES;
 
 /// An auction that is fed the bytes of its lines, in whatever pieces they come.
-///
-/// Of a line that is too long it keeps the first 129 bytes.
 #[derive(Drop)]
 pub struct AuctionLines {
     auction: Auction,
-    line: ArrayVec<u8, 129>,
+    feed: LineFeed,
 }
 
 impl Model for AuctionLines {
@@ -35,9 +34,9 @@ impl Model for AuctionLines {
 
     ghost Value = { LinesValue };
 
-    ghost view = { λ d. record { dealer = d.auction.dealer; calls = d.auction.calls; line = d.line.items } };
+    ghost view = { λ d. record { dealer = d.auction.dealer; calls = d.auction.calls; line = d.feed } };
 
-    ghost invariant = { λ d. list_all is_within_line d.line.items ≡ true };
+    ghost invariant = { λ d. list_all is_within_line d.feed ≡ true };
 }
 
 impl AuctionLines {
@@ -49,7 +48,7 @@ impl AuctionLines {
     {
         AuctionLines {
             auction: Auction::new(dealer),
-            line: ArrayVec::new(),
+            feed: LineFeed::new(),
         }
     }
 
@@ -66,7 +65,7 @@ impl AuctionLines {
         ensures within { list_all is_within_line self.new.line ≡ true }
     {
         // Names a field, so that the invariant is known also where the piece is empty.
-        let _ = &self.line;
+        let _ = &self.feed;
         for byte in piece {
             self.feed_byte(*byte, out);
         }
@@ -81,12 +80,12 @@ impl AuctionLines {
         ensures within { list_all is_within_line self.new.line ≡ true }
         ensures room { array_string_len out.new ≤ array_string_len out.old + REPLY_BYTES }
     {
-        if byte == b'\n' {
-            let reply = answer(&mut self.auction, self.line.as_slice());
-            self.line.clear();
-            reply.push_to(out);
-        } else if !self.line.is_full() {
-            self.line.push(byte);
+        match self.feed.take_byte(byte) {
+            None => {}
+            Some(line) => {
+                let reply = answer(&mut self.auction, line.as_slice());
+                reply.push_to(out);
+            }
         }
     }
 

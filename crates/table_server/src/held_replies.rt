@@ -11,6 +11,7 @@ ghost use Rattle.table_server.specs.declared.asked.Asked.TheVariants.{Change, To
 ghost use Rattle.table_server.specs.declared.fault.ServeFault.TheVariants.{Write as WriteFault};
 ghost use Rattle.table_server.specs.Answered.{accepted_all, disk_errors};
 ghost use Rattle.table_server.specs.ReplyTexts.{short_text};
+ghost use Rattle.table_server.specs.Faulted.{FailsWithDisk};
 ghost use Rattle.table_server.specs.Standing.{standing_of};
 ghost use Rattle.table_server.specs.Serving.{IsCounted, Fits, Holding, Works, SettlesBy, Serving, Serves, Ends, accepted_count};
 
@@ -86,11 +87,13 @@ impl HeldReplies {
     }
 
     /// Before the first line that is served over this store, of which nothing is pending unless it has failed.
+    #[tactic(auto, using(crate::proofs::FaultLemmas::confirm_fails))]
     pub fn begin<D: SectorDisk + Drop>(store: &mut Store<D, Session>) -> HeldReplies
         requires { store.old.failed ≡ false → store.old.pending ≡ [] }
         ensures fits { Fits result }
         ensures lines { result.served.lines ≡ 0 }
         ensures serving { Serving D.disk store.old [] store.new result [] }
+        ensures faults { FailsWithDisk D.disk store.old store.new }
     {
         match store.confirm() {
             Ok(()) => HeldReplies::new(false),
@@ -135,6 +138,7 @@ impl HeldReplies {
     }
 
     /// Confirms what was accepted, and writes the replies that are held; where that fails, their errors.
+    #[tactic(auto, using(crate::proofs::FaultLemmas::confirm_fails))]
     fn settle<D: SectorDisk + Drop, W: Write>(
         &mut self,
         store: &mut Store<D, Session>,
@@ -151,6 +155,7 @@ impl HeldReplies {
         ensures settled { SettlesBy D.disk self.new.served.failed store.old store.new self.old.text.bytes self.old.count
             (stream W.contents writer.old writer.new) result }
         ensures fault { IfErr result (λ fault. fault ≡ WriteFault) }
+        ensures faults { FailsWithDisk D.disk store.old store.new }
     {
         match store.confirm() {
             Ok(()) => self.release(writer),
@@ -173,6 +178,7 @@ impl HeldReplies {
             → Holding D.disk start asked store.old (self.old.text.bytes ++ short_text reply) (self.old.count + 1) written
             → self.old.served.accepted ≡ length (accepted_all (standing_of start) asked)
             → Serves D.disk start asked store.new self.new written (stream W.contents writer.old writer.new) result }
+        ensures faults { FailsWithDisk D.disk store.old store.new }
     {
         reply.push_to(&mut self.text);
         self.count += 1;
@@ -197,6 +203,7 @@ impl HeldReplies {
         ensures serves { (start : StoreValue D State ActionValue) (asked : List AskedValue) (written : List ℕ)
             → Works D.disk start asked store.old self.old written
             → Serves D.disk start (asked ++ Change action.now ∷ []) store.new self.new written (stream W.contents writer.old writer.new) result }
+        ensures faults { FailsWithDisk D.disk store.old store.new }
     {
         match take_change(store, action) {
             Some(reply) => {
@@ -225,6 +232,7 @@ impl HeldReplies {
         ensures serves { (start : StoreValue D State ActionValue) (asked : List AskedValue) (written : List ℕ)
             → Works D.disk start asked store.old self.old written
             → Serves D.disk start (asked ++ Told question ∷ []) store.new self.new written (stream W.contents writer.old writer.new) result }
+        ensures faults { FailsWithDisk D.disk store.old store.new }
     {
         if let Err(fault) = self.settle(store, writer) {
             return Err(fault);
@@ -250,6 +258,7 @@ impl HeldReplies {
         ensures serves { (start : StoreValue D State ActionValue) (before : List AskedValue) (written : List ℕ)
             → Serving D.disk start before store.old self.old written
             → Serves D.disk start (before ++ asked ∷ []) store.new self.new written (stream W.contents writer.old writer.new) result }
+        ensures faults { FailsWithDisk D.disk store.old store.new }
     {
         self.served.lines += 1;
         if self.served.failed {
@@ -274,6 +283,7 @@ impl HeldReplies {
         ensures ends { (start : StoreValue D State ActionValue) (asked : List AskedValue) (written : List ℕ)
             → Serving D.disk start asked store.old self.old written
             → Ends D.disk start asked store.new written (stream W.contents writer.old writer.new) result }
+        ensures faults { FailsWithDisk D.disk store.old store.new }
     {
         if self.served.failed {
             return Ok(self.served);

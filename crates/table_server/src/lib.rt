@@ -12,7 +12,6 @@ pub mod asked;
 mod auction_lines;
 pub mod command;
 mod fault;
-mod hand_text;
 mod held_replies;
 mod line_command;
 mod line_feed;

@@ -4,6 +4,7 @@ ghost use Rattle.session_store.specs.Value.{StoreValue};
 ghost use Rattle.bridge_session.specs.State.{State};
 ghost use Rattle.bridge_session.specs.declared.action.Action.{Action as ActionValue};
 ghost use Rattle.line_text.specs.Streams.{stream};
+ghost use Rattle.table_server.specs.Faulted.{FailsWithDisk};
 ghost use Rattle.table_server.specs.Hearing.{Hearing, HearsOn};
 ghost use Rattle.table_server.specs.Serving.{Fits};
 
@@ -32,6 +33,7 @@ impl LineService {
         ensures fits { Fits result.held }
         ensures lines { result.held.served.lines ≡ 0 }
         ensures hearing { Hearing D.disk store.old [] store.new result [] }
+        ensures faults { FailsWithDisk D.disk store.old store.new }
     {
         LineService {
             feed: LineFeed::new(),
@@ -54,6 +56,7 @@ impl LineService {
         ensures hears { (start : StoreValue D State ActionValue) (bytes : List ℕ) (written : List ℕ)
             → Hearing D.disk start bytes store.old self.old written
             → HearsOn D.disk start (bytes ++ byte ∷ []) store.new self.new written (stream W.contents writer.old writer.new) result }
+        ensures faults { FailsWithDisk D.disk store.old store.new }
     {
         match self.feed.take_byte(byte) {
             None => Ok(()),
@@ -78,6 +81,7 @@ impl LineService {
         ensures hears { (start : StoreValue D State ActionValue) (bytes : List ℕ) (written : List ℕ)
             → Hearing D.disk start bytes store.old self.old written
             → HearsOn D.disk start (bytes ++ piece.now) store.new self.new written (stream W.contents writer.old writer.new) result }
+        ensures faults { FailsWithDisk D.disk store.old store.new }
     {
         for byte in piece {
             if let Err(fault) = self.take_byte(*byte, store, cache, writer) {

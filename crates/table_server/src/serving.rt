@@ -6,6 +6,7 @@ ghost use Rattle.table_server.specs.ServedStreams.{HasRead, IsEnd, HasServed, St
 ghost use Rattle.session_store.specs.Value.{StoreValue};
 ghost use Rattle.bridge_session.specs.State.{State};
 ghost use Rattle.bridge_session.specs.declared.action.Action.{Action as ActionValue};
+ghost use Rattle.table_server.specs.Faulted.{FailsWithDisk};
 ghost use Rattle.table_server.specs.Hearing.{Hearing};
 ghost use Rattle.table_server.specs.Serving.{Fits};
 
@@ -52,6 +53,7 @@ fn read_lines<D: SectorDisk + Drop, R: Read, W: Write>(
     ensures fault { IfErr result (λ fault. (start : StoreValue D State ActionValue) → Hearing D.disk start [] store.old service.old []
         → (fault ≡ WriteFault) × StopsReplying D.disk start store.new
         (stream R.remaining reader.old reader.new) (stream W.contents writer.old writer.new)) }
+    ensures faults { FailsWithDisk D.disk store.old store.new }
 {
     let mut piece = [0; PIECE_BYTES];
     let mut left = MOST_BYTES;
@@ -78,10 +80,11 @@ fn end_lines<D: SectorDisk + Drop, W: Write>(
     writer: &mut W,
 ) -> Result<Served, ServeFault>
     requires { Fits service.old.held }
-    ensures { (start : StoreValue D State ActionValue) (reader : Stream) (before : Option (List ℕ)) (left : ℕ)
+    ensures ends { (start : StoreValue D State ActionValue) (reader : Stream) (before : Option (List ℕ)) (left : ℕ)
         → IsEnd ended left reader.new
         → HasRead D.disk start store.old service.old reader (between before (W.contents writer.old)) left
         → EndsServing D.disk start store.new reader (between before (W.contents writer.new)) result }
+    ensures faults { FailsWithDisk D.disk store.old store.new }
 {
     match service.held.finish(store, writer) {
         Err(fault) => Err(fault),
@@ -117,6 +120,7 @@ pub fn serve<D: SectorDisk + Drop, R: Read, W: Write>(
     ensures fault { IfErr result (StopsServing D.disk store.old store.new
         (stream R.remaining reader.old reader.new) (stream W.contents writer.old writer.new)) }
     ensures ready { store.new.failed ≡ false → store.new.pending ≡ [] }
+    ensures faults { FailsWithDisk D.disk store.old store.new }
 {
     let mut cache = cache;
     let mut service = LineService::begin(store);

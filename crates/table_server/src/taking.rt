@@ -1,6 +1,7 @@
 //! Taking changes.
 ghost use Rattle.std.specs.Prelude.{◌≡◌, ◌<◌, false, length};
 ghost use Rattle.table_server.specs.Serving.{Gives};
+ghost use Rattle.table_server.specs.Faulted.{FailsWithDisk};
 
 use crate::short_reply::ShortReply;
 use bridge_session::{Action, Session};
@@ -9,12 +10,14 @@ use session_store::{Store, SubmitFault};
 
 /// Takes a change, and answers the reply that is due once it is confirmed; `None` where the store accepted the change and
 /// then failed.
+#[tactic(auto, using(crate::proofs::FaultLemmas::submit_fails))]
 pub fn take_change<D: SectorDisk + Drop>(
     store: &mut Store<D, Session>,
     action: &Action,
 ) -> Option<ShortReply>
-    ensures { store.old.failed ≡ false → length store.old.pending < 64
+    ensures taken { store.old.failed ≡ false → length store.old.pending < 64
         → Gives D.disk store.old action.now store.new result }
+    ensures faults { FailsWithDisk D.disk store.old store.new }
 {
     match store.submit(action) {
         Ok(()) => Some(ShortReply::Done),

@@ -5,41 +5,13 @@ ghost use Rattle.arrayvec.specs.ArrayString.{array_string_len};
 ghost use Rattle.bridge_cards.specs.Card.{card_text};
 ghost use Rattle.bridge_cards.specs.DealText.{hand_text};
 ghost use Rattle.bridge_auction.specs.Spelling.{call_text};
-ghost use Rattle.bridge_pbn.specs.Tags.{vulnerability_text};
 ghost use Rattle.table_server.specs.ReplyTexts.{line_of, each_spaced};
 ghost use Rattle.table_server.specs.ViewText.{seat_word, phase_text, hand_or_dash, trick_words, claim_words, play_line, dealer_line, at_line, view_text};
 
-use crate::hand_text::push_hand;
 use crate::reply_text::{ReplyText, TEXT_BYTES, push_number, push_word};
 use bridge_auction::{Call, denomination_text};
-use bridge_cards::{Card, CardSet, Seat, Vulnerability};
+use bridge_cards::{Card, CardSet, Seat, print_hand, seat_text, vulnerability_text};
 use bridge_session::{Trick, View};
-
-/// The seat's letter.
-fn seat_text(seat: Seat) -> &'static str
-    ensures text { result.now ≡ seat_word seat }
-    ensures short { length result.now ≤ 1 }
-{
-    match seat {
-        Seat::North => "N",
-        Seat::East => "E",
-        Seat::South => "S",
-        Seat::West => "W",
-    }
-}
-
-/// `None`, `NS`, `EW` or `All`.
-fn vulnerability_text(vulnerability: Vulnerability) -> &'static str
-    ensures text { result.now ≡ vulnerability_text vulnerability }
-    ensures short { length result.now ≤ 4 }
-{
-    match vulnerability {
-        Vulnerability::Neither => "None",
-        Vulnerability::NorthSouth => "NS",
-        Vulnerability::EastWest => "EW",
-        Vulnerability::Both => "All",
-    }
-}
 
 fn phase_text(in_play: bool) -> &'static str
     ensures text { result.now ≡ phase_text in_play }
@@ -118,7 +90,7 @@ fn push_hand_line(text: &mut ReplyText, hand: CardSet)
     ensures room { array_string_len text.new ≤ array_string_len text.old + 61 }
 {
     text.push_str("HAND ");
-    push_hand(text, hand);
+    print_hand(hand, text);
     text.push_str("\n");
 }
 
@@ -130,7 +102,7 @@ fn push_dummy_line(text: &mut ReplyText, dummy: Option<CardSet>)
 {
     text.push_str("DUMMY ");
     match dummy {
-        Some(hand) => push_hand(text, hand),
+        Some(hand) => print_hand(hand, text),
         None => text.push_str("-"),
     }
     text.push_str("\n");

@@ -187,16 +187,13 @@ fn an_endings_worth(rt: HostRuntime) -> Result<(), Fail> {
         expect_eq(&rt, result, Ok(served(accepted, accepted)), "seven tricks");
     }
     for capacity in [0, 1, 4096] {
-        let mut cache = Cache::new(rt.alloc(), capacity.max(1))?;
-        let cache = if capacity == 0 {
-            None
-        } else {
-            Some(&mut cache)
-        };
+        let mut kept = Cache::new(rt.alloc(), capacity.max(1))?;
+        let cache = if capacity == 0 { None } else { Some(&mut kept) };
         let mut reader = ENDINGS.as_bytes();
         let mut written = Vec::with_capacity(rt.alloc(), 256)?;
         let _ = serve_with(&mut store, cache, &mut reader, &mut written);
         expect_eq(&rt, written.as_slice(), WORTHS.as_bytes(), capacity);
+        expect_eq(&rt, kept.tried() > 0, capacity > 0, "the cache is used");
     }
     Ok(())
 }

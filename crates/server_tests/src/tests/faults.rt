@@ -77,6 +77,20 @@ fn a_sync_that_fails(rt: HostRuntime) -> Result<(), Fail> {
     Ok(())
 }
 
+// Two changes that come together take three calls of the disk: a record each, and one sync. The fourth call fails.
+#[test]
+fn changes_are_synced_together(rt: HostRuntime) -> Result<(), Fail> {
+    let mut store = opened(rt.alloc(), CLUB, OPENING_CALLS + 3)?;
+    for (text, due) in [
+        (DEAL_AND_CALL, "OK\nOK\n"),
+        ("CALL 31 1 1 PASS\n", "ERR 40 Disk\n"),
+    ] {
+        let (written, _) = answers(rt.alloc(), &mut store, text.as_bytes());
+        expect_eq(&rt, written.as_slice(), due.as_bytes(), text);
+    }
+    Ok(())
+}
+
 // The write of the second record fails: the first of the two lines that are held is not answered `OK` either.
 #[test]
 fn a_write_of_a_record_that_fails(rt: HostRuntime) -> Result<(), Fail> {

@@ -1,4 +1,5 @@
 use Rattle.table_server.proofs.AcceptingLemmas.{one_served, one_stopped}
+use Rattle.table_server.proofs.FaultLemmas.{no_fault}
 use Rattle.table_server.proofs.accepting.accept_and_serve.Goals as goal
 
 pub returns-clause-ok : goal.returns-clause-ok
@@ -12,3 +13,6 @@ returns-clause-fault g c =
     one_stopped g.D.SectorDisk.disk g.N.Stream.Read.remaining g.N.Stream.Write.contents c.args.store.now c.serve.new.store
     (record { reader_old = c.in-Ok.reader; reader_new = c.serve.new.reader; writer_old = c.in-Ok-try_clone.writer; writer_new = c.serve.new.writer })
     c.serve.result c.serve.ensures.fault
+
+pub returns-in_default-clause-faults : goal.returns-in_default-clause-faults
+returns-in_default-clause-faults g c = no_fault g.D.SectorDisk.disk c.args.store.now

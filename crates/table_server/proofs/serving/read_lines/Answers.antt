@@ -2,6 +2,7 @@ use Rattle.std.proofs.Common.{◌-◌, [], take, refl, arith, rules, subst}
 use Rattle.std.specs.Io.KnownBytes.{Consumes}
 use Rattle.std.proofs.lemmas.List.{length-take-le}
 use Rattle.table_server.proofs.StreamLemmas.{read_nothing, read_more, stops_more, read_kept, read_none}
+use Rattle.table_server.proofs.FaultLemmas.{no_fault, fails_on}
 use Rattle.table_server.proofs.serving.read_lines.Goals as goal
 
 pub loop-left-init : goal.loop-left-init
@@ -11,6 +12,7 @@ loop-left-init g c = record {
   room = refl;
   read = λ start h.
       read_nothing g.D.SectorDisk.disk start c.args.store.now c.args.service.now (g.R.Read.remaining c.args.reader.now) (g.W.Write.contents c.args.writer.now) h;
+  faults = no_fault g.D.SectorDisk.disk c.args.store.now;
 }
 
 pub returns-in_default-clause-read : goal.returns-in_default-clause-read
@@ -58,7 +60,12 @@ loop-left-preserved g c =
           (g.R.Read.remaining c.loop-left.reader) (g.R.Read.remaining c.read_piece.new.reader) (g.W.Write.contents c.args.writer.now)
           (g.W.Write.contents c.loop-left.writer) (g.W.Write.contents c.take.new.writer) c.loop-left.left (c.loop-left.left - c.in-Ok.taken) piece r
           (omega (arith, taken, c.in-Ok.ensures.bound.0)) c.in-Ok.ensures.ok (c.in_default-take.ensures.hears start r.bytes r.text r.hearing);
+      faults = fails_on g.D.SectorDisk.disk c.args.store.now c.loop-left.store c.take.new.store c.loop-left.invariant.faults c.take.ensures.faults;
     }
 
 pub returns-clause-read : goal.returns-clause-read
 returns-clause-read g c start h = (c.loop-left.left, omega (arith, c.loop-left-test.false), c.loop-left.invariant.read start h)
+
+pub returns-in-Err-clause-faults : goal.returns-in-Err-clause-faults
+returns-in-Err-clause-faults g c =
+    fails_on g.D.SectorDisk.disk c.args.store.now c.loop-left.store c.take.new.store c.loop-left.invariant.faults c.take.ensures.faults

@@ -3,6 +3,7 @@ use Rattle.session_store.specs.Value.{StoreValue}
 use Rattle.bridge_session.specs.declared.action.Action.{Action}
 use Rattle.bridge_session.specs.State.{State}
 use Rattle.line_text.specs.Streams.{stream}
+use Rattle.table_server.specs.Faulted.{FailsWithDisk}
 use Rattle.table_server.specs.Hearing.{Hearing}
 use Rattle.table_server.specs.ServedStreams.{HasRead}
 use Rattle.table_server.specs.Serving.{Fits}
@@ -16,6 +17,7 @@ invariant-loop-left g l = record {
   read : (start : StoreValue g.row.D.Denot State Action) → Hearing g.D.SectorDisk.disk start [] l.fn.store l.fn.service []
       → HasRead g.D.SectorDisk.disk start l.store l.service (stream g.R.Read.remaining l.fn.reader l.reader)
       (stream g.W.Write.contents l.fn.writer l.writer) l.left;
+  faults : FailsWithDisk g.D.SectorDisk.disk l.fn.store l.store;
 }
 
 abbrev pub decreases-loop-left : goal.decreases-loop-left

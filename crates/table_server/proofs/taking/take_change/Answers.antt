@@ -5,8 +5,8 @@ use Rattle.bridge_session.specs.SessionKeeping.{session_keeping}
 use Rattle.table_server.proofs.TakingLemmas.{fails_taking}
 use Rattle.table_server.proofs.taking.take_change.Goals as goal
 
-pub returns-in-Err-Disk : goal.returns-in-Err-Disk
-returns-in-Err-Disk g c works few =
+pub returns-in-Err-Disk-clause-taken : goal.returns-in-Err-Disk-clause-taken
+returns-in-Err-Disk-clause-taken g c works few =
     let disk = g.D.SectorDisk.disk in
     let old = c.args.store.now in
     let new = c.submit.new.self in

@@ -1,32 +1,27 @@
-use Rattle.std.proofs.Common.{◌++◌, ap, arith, sym}
-use Rattle.std.proofs.lemmas.Bool.{eqb-true, ne_eqb}
-use Rattle.table_server.proofs.LineLemmas.{replies_fed, calls_fed, long_replies_same, long_calls_same}
+use Rattle.std.proofs.Common.{◌++◌, ◌∷◌, ap}
+use Rattle.table_server.proofs.LineLemmas.{replies_same, calls_same, replies_fed, calls_fed}
 use Rattle.table_server.proofs.auction_lines.AuctionLines.feed_byte.Goals as goal
 
-pub returns-then-byte-eq10-clause-replies : goal.returns-then-byte-eq10-clause-replies
-returns-then-byte-eq10-clause-replies c rest =
-    rw (← c.self.view_is)
-    (replies_fed c.self.inside.auction.calls c.answer-reply.new.auction.calls c.self.inside.line.items c.clear.new.self.items
-    c.as_slice.result.now rest c.args.out.now.bytes c.push_to.new.out.bytes c.args.byte c.answer-reply.result
-    c.self.invariant c.if-byte-eq10.true c.as_slice.ensures.value c.answer-reply.ensures.reply c.answer-reply.ensures.calls
-    c.clear.ensures c.push_to.ensures.text)
-
-pub returns-then-byte-eq10-clause-calls : goal.returns-then-byte-eq10-clause-calls
-returns-then-byte-eq10-clause-calls c rest =
-    rw (← c.self.view_is)
-    (calls_fed c.self.inside.auction.calls c.answer-reply.new.auction.calls c.self.inside.line.items c.clear.new.self.items
-    c.as_slice.result.now rest c.args.byte c.self.invariant c.if-byte-eq10.true c.as_slice.ensures.value
-    c.answer-reply.ensures.calls c.clear.ensures)
-
-pub returns-else-not-is_full-clause-replies : goal.returns-else-not-is_full-clause-replies
-returns-else-not-is_full-clause-replies c rest =
+pub returns-in-None-clause-replies : goal.returns-in-None-clause-replies
+returns-in-None-clause-replies c rest =
     rw (← c.self.view_is)
     (ap (λ text. c.args.out.now.bytes ++ text)
-    (long_replies_same c.self.inside.auction.calls c.self.inside.line.items c.args.byte rest c.self.invariant
-    (let full = eqb-true _ _ (sym c.if-not-is_full.ensures.value) in omega (arith, full)) (ne_eqb c.args.byte 10 c.if-byte-eq10.false)))
+    (replies_same c.self.inside.auction.calls (c.self.inside.feed ++ c.args.byte ∷ rest) (c.take_byte.new.self ++ rest) (c.in-None.ensures.lines rest)))
 
-pub returns-else-not-is_full-clause-calls : goal.returns-else-not-is_full-clause-calls
-returns-else-not-is_full-clause-calls c rest =
+pub returns-in-None-clause-calls : goal.returns-in-None-clause-calls
+returns-in-None-clause-calls c rest =
     rw (← c.self.view_is)
-    (long_calls_same c.self.inside.auction.calls c.self.inside.line.items c.args.byte rest c.self.invariant
-    (let full = eqb-true _ _ (sym c.if-not-is_full.ensures.value) in omega (arith, full)) (ne_eqb c.args.byte 10 c.if-byte-eq10.false))
+    (calls_same c.self.inside.auction.calls (c.self.inside.feed ++ c.args.byte ∷ rest) (c.take_byte.new.self ++ rest) (c.in-None.ensures.lines rest))
+
+pub returns-in-Some-clause-replies : goal.returns-in-Some-clause-replies
+returns-in-Some-clause-replies c rest =
+    rw (← c.self.view_is)
+    (replies_fed c.self.inside.auction.calls c.answer-reply.new.auction.calls (c.self.inside.feed ++ c.args.byte ∷ rest) (c.take_byte.new.self ++ rest)
+    c.in-Some.line.items c.as_slice.result.now c.args.out.now.bytes c.push_to.new.out.bytes c.answer-reply.result (c.in-Some.ensures.lines rest)
+    c.as_slice.ensures.value c.answer-reply.ensures.reply c.answer-reply.ensures.calls c.push_to.ensures.text)
+
+pub returns-in-Some-clause-calls : goal.returns-in-Some-clause-calls
+returns-in-Some-clause-calls c rest =
+    rw (← c.self.view_is)
+    (calls_fed c.self.inside.auction.calls c.answer-reply.new.auction.calls (c.self.inside.feed ++ c.args.byte ∷ rest) (c.take_byte.new.self ++ rest)
+    c.in-Some.line.items c.as_slice.result.now (c.in-Some.ensures.lines rest) c.as_slice.ensures.value c.answer-reply.ensures.calls)

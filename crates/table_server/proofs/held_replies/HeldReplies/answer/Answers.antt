@@ -10,6 +10,7 @@ use Rattle.table_server.specs.Standing.{standing_of}
 use Rattle.table_server.proofs.CountLemmas.{counted_none}
 use Rattle.table_server.proofs.ServingLemmas.{held_more}
 use Rattle.table_server.proofs.ServesLemmas.{serves_more}
+use Rattle.table_server.proofs.FaultLemmas.{no_fault}
 use Rattle.table_server.proofs.held_replies.HeldReplies.answer.Goals as goal
 
 pub returns-then-self-clause-serves : goal.returns-then-self-clause-serves
@@ -46,3 +47,6 @@ returns-in-LongLine-clause-serves g c start before written serving =
     (c.hold-in-LongLine.ensures.serves start (before ++ LongLine ∷ []) written
     (held_more disk start store store before LongLine self.text.bytes (short_text short.LongLine) self.count written w.holding c.requires.fits.few
     refl refl w.holding.works refl (continues_begins session_keeping disk store)) count)
+
+pub returns-then-self-clause-faults : goal.returns-then-self-clause-faults
+returns-then-self-clause-faults g c = no_fault g.D.SectorDisk.disk c.args.store.now

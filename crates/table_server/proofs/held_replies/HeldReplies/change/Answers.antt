@@ -9,6 +9,7 @@ use Rattle.table_server.proofs.Folds.{all_held_one}
 use Rattle.table_server.proofs.ServingLemmas.{held_more}
 use Rattle.table_server.proofs.FailureLemmas.{failed_taking}
 use Rattle.table_server.proofs.ServesLemmas.{replied, serves_failing}
+use Rattle.table_server.proofs.FaultLemmas.{fails_on}
 use Rattle.table_server.proofs.held_replies.HeldReplies.change.Goals as goal
 
 pub returns-in-Some-clause-serves : goal.returns-in-Some-clause-serves
@@ -21,7 +22,7 @@ returns-in-Some-clause-serves g c start asked written w =
     let h = w.holding in
     let accepted = accepted_few (after_all from h.answered) h.waiting in
     let few : length store.pending < 64 = omega (arith, accepted, h.pending, h.count_is, c.requires.fits.few) in
-    let taken = c.in-Some.ensures h.works few in
+    let taken = c.in-Some.ensures.taken h.works few in
     let count : self.served.accepted + c.accepted_count.result ≡ length (accepted_all from (asked ++ Change action ∷ [])) =
     ap (λ n. n + c.accepted_count.result) w.counted
     ∙ ap (λ n. length (accepted_all from asked) + n) (c.accepted_count.ensures.count ∙ ap accepted_count taken.reply_is)
@@ -41,7 +42,7 @@ returns-in-None-clause-serves g c start asked written w =
     let f = c.fail.ensures in
     let accepted = accepted_few (after_all from h.answered) h.waiting in
     let few : length store.pending < 64 = omega (arith, accepted, h.pending, h.count_is, c.requires.fits.few) in
-    let fails = c.in-None.ensures h.works few in
+    let fails = c.in-None.ensures.taken h.works few in
     let long = length-append h.waiting (Change action ∷ []) in
     let all : asked ++ Change action ∷ [] ≡ h.answered ++ (h.waiting ++ Change action ∷ [])
     = ap (λ xs. xs ++ Change action ∷ []) h.all ∙ append_assoc h.answered h.waiting (Change action ∷ []) in
@@ -52,3 +53,7 @@ returns-in-None-clause-serves g c start asked written w =
     (inl (h.begins, all_held_one h.waiting (Change action) h.group refl)) (replied disk from h.answered written h.are_replies)
     (rw count (failed_taking disk start store c.take_change.new.store asked action self.text.bytes self.count written h c.requires.fits.few fails))
     fails.failed f.none_held (ap (λ served. served.failed) f.served) f.written f.fault
+
+pub returns-in-Some-clause-faults : goal.returns-in-Some-clause-faults
+returns-in-Some-clause-faults g c =
+    fails_on g.D.SectorDisk.disk c.args.store.now c.take_change.new.store c.hold.new.store c.take_change.ensures.faults c.hold.ensures.faults

@@ -4,6 +4,7 @@ use Rattle.table_server.specs.Answered.{accepted_all}
 use Rattle.table_server.specs.Serving.{Failed, Works, ServingBy}
 use Rattle.table_server.specs.Standing.{standing_of}
 use Rattle.table_server.proofs.ServesLemmas.{ends_settled, stopped_settling}
+use Rattle.table_server.proofs.FaultLemmas.{no_fault}
 use Rattle.table_server.proofs.held_replies.HeldReplies.finish.Goals as goal
 
 pub returns-then-self-clause-ends : goal.returns-then-self-clause-ends
@@ -36,3 +37,6 @@ returns-clause-ends g c start asked written serving =
     = ap (λ served. served.accepted) s.served ∙ w.counted in
     ends_settled disk start c.args.store.now c.settle.new.store asked self.text.bytes self.count c.settle.new.self written _
     w.holding s.continues c.settle.new.self.served.failed refl s.settled count
+
+pub returns-then-self-clause-faults : goal.returns-then-self-clause-faults
+returns-then-self-clause-faults g c = no_fault g.D.SectorDisk.disk c.args.store.now

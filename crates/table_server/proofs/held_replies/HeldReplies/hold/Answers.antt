@@ -3,6 +3,7 @@ use Rattle.table_server.specs.Answered.{held_after}
 use Rattle.table_server.specs.Serving.{Holding}
 use Rattle.table_server.proofs.Folds.{group_whole}
 use Rattle.table_server.proofs.ServesLemmas.{serves_held, serves_settled}
+use Rattle.table_server.proofs.FaultLemmas.{no_fault}
 use Rattle.table_server.proofs.held_replies.HeldReplies.hold.Goals as goal
 
 pub returns-then-self-lt-HELD_LINES-clause-serves : goal.returns-then-self-lt-HELD_LINES-clause-serves
@@ -22,3 +23,6 @@ returns-clause-serves g c start asked written h counted =
     serves_settled disk start c.args.store.now c.settle.new.store asked text (c.args.self.now.count + 1) c.settle.new.self written
     _ c.settle.result holding whole s.continues c.settle.new.self.served.failed refl s.settled s.fault s.none_held s.no_text
     (ap (λ served. served.accepted) s.served ∙ counted)
+
+pub returns-then-self-lt-HELD_LINES-clause-faults : goal.returns-then-self-lt-HELD_LINES-clause-faults
+returns-then-self-lt-HELD_LINES-clause-faults g c = no_fault g.D.SectorDisk.disk c.args.store.now

@@ -5,6 +5,7 @@ use Rattle.std.specs.Prelude.{drop}
 use Rattle.line_text.specs.Streams.{stream}
 use Rattle.table_server.specs.Hearing.{Hearing, IsCutShort}
 use Rattle.table_server.proofs.HearingLemmas.{hears_after, cut_before}
+use Rattle.table_server.proofs.FaultLemmas.{no_fault, fails_on}
 use Rattle.table_server.proofs.line_service.LineService.take.Goals as goal
 
 pub loop-byte-init : goal.loop-byte-init
@@ -13,6 +14,7 @@ loop-byte-init g c = record {
   lines = omega arith;
   hears = λ start bytes written h.
       ([], Appends-nil (g.W.Write.contents c.args.writer.now), rw (append-nil bytes, append-nil written) h);
+  faults = no_fault g.D.SectorDisk.disk c.args.store.now;
 }
 
 pub returns-in-Err-clause-lines : goal.returns-in-Err-clause-lines
@@ -55,6 +57,7 @@ loop-byte-preserved g c = record {
       let all : heard ++ byte ∷ [] ≡ bytes ++ take (i + 1) piece
       = append_assoc bytes (take i piece) (byte ∷ []) ∙ ap (λ xs. bytes ++ xs) (sym (take_more piece i 0 c.loop-byte-test.true)) in
       (on.0, on.1, subst (λ xs. Hearing disk start xs c.take_byte.new.store c.take_byte.new.self (written ++ on.0)) all on.2);
+  faults = fails_on g.D.SectorDisk.disk c.args.store.now c.loop-byte.store c.take_byte.new.store c.loop-byte.invariant.faults c.take_byte.ensures.faults;
 }
 
 pub returns-clause-hears : goal.returns-clause-hears
@@ -64,3 +67,7 @@ returns-clause-hears g c start bytes written h =
     let all : bytes ++ take c.loop-byte.byte-index piece ≡ bytes ++ piece
     = ap (λ xs. bytes ++ xs) (take_all c.loop-byte.byte-index piece c.loop-byte-test.false) in
     (so_far.0, so_far.1, subst (λ xs. Hearing g.D.SectorDisk.disk start xs c.loop-byte.store c.loop-byte.self (written ++ so_far.0)) all so_far.2)
+
+pub returns-in-Err-clause-faults : goal.returns-in-Err-clause-faults
+returns-in-Err-clause-faults g c =
+    fails_on g.D.SectorDisk.disk c.args.store.now c.loop-byte.store c.take_byte.new.store c.loop-byte.invariant.faults c.take_byte.ensures.faults

@@ -3,6 +3,7 @@ use Rattle.session_store.specs.Value.{StoreValue}
 use Rattle.bridge_session.specs.declared.action.Action.{Action}
 use Rattle.bridge_session.specs.State.{State}
 use Rattle.line_text.specs.Streams.{stream, Takes}
+use Rattle.table_server.specs.Faulted.{FailsWithDisk}
 use Rattle.table_server.specs.Hearing.{Hearing}
 use Rattle.table_server.specs.Serving.{Fits}
 use Rattle.table_server.proofs.line_service.LineService.take.Given as goal
@@ -14,4 +15,5 @@ invariant-loop-byte g l = record {
   hears : (start : StoreValue g.row.D.Denot State Action) (bytes : List ℕ) (written : List ℕ) → Hearing g.D.SectorDisk.disk start bytes l.fn.store l.fn.self written
       → (text : List ℕ) × Takes (stream g.W.Write.contents l.fn.writer l.writer) text
       × Hearing g.D.SectorDisk.disk start (bytes ++ take l.byte-index l.piece) l.store l.self (written ++ text);
+  faults : FailsWithDisk g.D.SectorDisk.disk l.fn.store l.store;
 }

@@ -1,6 +1,7 @@
 use Rattle.std.proofs.Common.{refl, subst}
 use Rattle.table_server.specs.Asked.{Asks}
 use Rattle.table_server.proofs.HearingLemmas.{hears_begun, hears_line, heard_line, heard_begun}
+use Rattle.table_server.proofs.FaultLemmas.{no_fault}
 use Rattle.table_server.proofs.line_service.LineService.take_byte.Goals as goal
 
 pub returns-in-None-clause-hears : goal.returns-in-None-clause-hears
@@ -22,3 +23,6 @@ returns-in-Some-clause-hears g c start bytes written h =
     _ c.answer.result h
     (hears_line bytes self.feed feed c.in-Some.line.items c.args.byte h.asked one h.hears c.in-Some.ensures.lines c.in-Some.ensures.within asks)
     (c.answer.ensures.serves start h.asked written h.serving) c.answer.ensures.lines
+
+pub returns-in-None-clause-faults : goal.returns-in-None-clause-faults
+returns-in-None-clause-faults g c = no_fault g.D.SectorDisk.disk c.args.store.now
