@@ -1,6 +1,6 @@
 -- What is served over connections, one after the other.
 use Rattle.std.specs.Prelude.{◌≡◌, ◌<◌, ◌≤◌, ◌⊎◌, ℕ, zero, suc, true, false, List, Option}
-use Rattle.sector_disk.specs.Disk.{Disk}
+use Rattle.sector_disk.specs.Disk.{Disk, Rose}
 use Rattle.session_store.specs.declared.fault.StoreFault.TheVariants.{Disk as DiskFault}
 use Rattle.session_store.specs.Value.{StoreValue}
 use Rattle.bridge_session.specs.declared.action.Action.{Action}
@@ -25,28 +25,29 @@ module _ {D : Type 0} (disk : Disk D) {S : Type 0} (remaining contents : S → O
   ServesEach (suc count) start store = (before : StoreValue D State Action) × ServesEach count start before
       × (before.failed ≡ false) × ServesNext before store
 
-  -- the lines of so many connections were served, and the store works
-  pub record ServesAllConnections (count : ℕ) (start : StoreValue D State Action) : Type 0 where
-    pub store : StoreValue D State Action
+  -- the lines of so many connections were served, and no call of the disk failed
+  pub record ServesAllConnections (count : ℕ) (start store : StoreValue D State Action) : Type 0 where
     pub serves : ServesEach count start store
     pub works : store.failed ≡ false
+    pub no_fault : disk.faults store.disk ≡ disk.faults start.disk
 
-  -- those of some of so many connections were served, after which the store has failed
-  pub record FailsConnections (count : ℕ) (start : StoreValue D State Action) : Type 0 where
-    pub store : StoreValue D State Action
+  -- those of some of so many connections were served, in the last of which a call of the disk failed, and with it the store
+  pub record FailsConnections (count : ℕ) (start store : StoreValue D State Action) : Type 0 where
     pub served : ℕ
     pub most : served ≤ count
     pub serves : ServesEach served start store
     pub failed : store.failed ≡ true
+    pub faults : Rose (disk.faults start.disk) (disk.faults store.disk)
 
-  -- those of fewer connections were served, after which none was had; the store works
-  pub record LacksConnections (count : ℕ) (start : StoreValue D State Action) : Type 0 where
-    pub store : StoreValue D State Action
+  -- those of fewer connections were served, after which none was had; no call of the disk failed
+  pub record LacksConnections (count : ℕ) (start store : StoreValue D State Action) : Type 0 where
     pub served : ℕ
     pub fewer : served < count
     pub serves : ServesEach served start store
     pub works : store.failed ≡ false
+    pub no_fault : disk.faults store.disk ≡ disk.faults start.disk
 
-  abbrev pub StopsConnections : ℕ → StoreValue D State Action → RunFault → Type 0
-  StopsConnections count start fault =
-      (FailsConnections count start × (fault ≡ Store DiskFault)) ⊎ (LacksConnections count start × (fault ≡ StreamFault Accept))
+  abbrev pub StopsConnections : ℕ → StoreValue D State Action → StoreValue D State Action → RunFault → Type 0
+  StopsConnections count start store fault =
+      (FailsConnections count start store × (fault ≡ Store DiskFault))
+      ⊎ (LacksConnections count start store × (fault ≡ StreamFault Accept))

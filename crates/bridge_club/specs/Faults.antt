@@ -1,33 +1,14 @@
 -- The line on standard error and the exit status that a fault has.
 use Rattle.std.specs.Prelude.{ℕ, List, ◌++◌, codes}
 use Rattle.std.specs.Fmt.{decimal}
-use Rattle.bridge_movement.specs.declared.refused.MovementRefused.{MovementRefused}
-use Rattle.bridge_movement.specs.declared.refused.MovementRefused.TheVariants.{MissingRow, BadPair, SamePair, BadSet, PairTwice, SetAgain}
 use Rattle.bridge_config.specs.declared.refused.ConfigFault.{ConfigFault}
-use Rattle.bridge_config.specs.declared.refused.ConfigRefused.{ConfigRefused}
-use Rattle.bridge_config.specs.declared.refused.ConfigRefused.TheVariants.{TooLong, Form, Range, KeyTwice, Movement}
+use Rattle.bridge_config.specs.Refused.{refusal_name}
 use Rattle.session_store.specs.declared.fault.StoreFault.{StoreFault}
 use Rattle.session_store.specs.declared.fault.StoreFault.TheVariants.{TooSmall, Disk, NotFormatted, Damaged, EpochsSpent, NoMemory}
 use Rattle.table_server.specs.declared.fault.ServeFault.{ServeFault}
 use Rattle.table_server.specs.declared.fault.ServeFault.TheVariants.{Read, Write, Accept}
 use Rattle.bridge_club.specs.declared.fault.RunFault.{RunFault}
 use Rattle.bridge_club.specs.declared.fault.RunFault.TheVariants.{Stream, Config, Store}
-
-abbrev pub movement_name : MovementRefused → List ℕ
-movement_name (MissingRow place) = codes "MissingRow"
-movement_name (BadPair place) = codes "BadPair"
-movement_name (SamePair place) = codes "SamePair"
-movement_name (BadSet place) = codes "BadSet"
-movement_name (PairTwice place) = codes "PairTwice"
-movement_name (SetAgain place) = codes "SetAgain"
-
--- what is wrong with a line of a configuration; of a movement that is refused, why
-abbrev pub cause_name : ConfigRefused → List ℕ
-cause_name TooLong = codes "TooLong"
-cause_name Form = codes "Form"
-cause_name Range = codes "Range"
-cause_name KeyTwice = codes "KeyTwice"
-cause_name (Movement refused) = movement_name refused
 
 abbrev pub stream_line : ServeFault → List ℕ
 stream_line Read = codes "cannot read input\n"
@@ -36,7 +17,7 @@ stream_line Accept = codes "cannot read input\n"
 
 -- the number of the configuration's line, and what is wrong with it
 abbrev pub config_line : ConfigFault → List ℕ
-config_line fault = (((codes "config line " ++ decimal fault.line) ++ codes ": ") ++ cause_name fault.cause) ++ codes "\n"
+config_line fault = (((codes "config line " ++ decimal fault.line) ++ codes ": ") ++ refusal_name fault.cause) ++ codes "\n"
 
 abbrev pub store_line : StoreFault → List ℕ
 store_line TooSmall = codes "disk too small\n"

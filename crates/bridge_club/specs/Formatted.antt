@@ -3,10 +3,11 @@ use Rattle.std.specs.Prelude.{◌≡◌, ◌⊎◌, ◌≤◌, ℕ, List, length
 use Rattle.std.specs.declared.fs.File.{File}
 use Rattle.line_text.specs.Streams.{Stream, Takes, TakesPrefix, IsUntouched}
 use Rattle.sector_disk.specs.declared.file.FileDisk.{FileDisk}
-use Rattle.sector_disk.specs.Disk.{Disk}
+use Rattle.sector_disk.specs.Disk.{Disk, Image}
 use Rattle.sector_disk.specs.File.{file_disk}
 use Rattle.sector_disk.specs.Runs.{Remains}
 use Rattle.session_store.specs.declared.fault.StoreFault.TheVariants.{Disk as DiskFault}
+use Rattle.session_store.specs.Base.{HasEpoch}
 use Rattle.session_store.specs.Sound.{IsSoundDisk, StandsOnlyFor}
 use Rattle.bridge_session.specs.SessionKeeping.{session_keeping}
 use Rattle.bridge_session.specs.State.{State}
@@ -20,11 +21,12 @@ formatted_line = codes "formatted\n"
 
 module _ {D : Type 0} (disk : Disk D) where
   -- Of a disk one was made that holds the session: where it is honest, every image that a power cut may leave stands for
-  -- it, and is in order.
+  -- it, is in order, and is of the first epoch.
   pub record IsFormatted (made formatted : D) (session : State) : Type 0 where
     pub remains : Remains disk made formatted
     pub stands : disk.honest made → StandsOnlyFor session_keeping disk session formatted
     pub sound : disk.honest made → IsSoundDisk session_keeping disk formatted
+    pub first_epoch : disk.honest made → (c : Image) → disk.may_leave formatted c → HasEpoch 1 c
 
   -- a disk was made of it that holds the session, and `formatted` is written
   abbrev pub Formats : D → State → Stream → Type 0

@@ -7,21 +7,19 @@ use Rattle.sector_disk.specs.declared.file.FileDisk.{FileDisk}
 use Rattle.sector_disk.specs.File.{file_disk}
 use Rattle.session_store.specs.declared.fault.StoreFault.{StoreFault}
 use Rattle.session_store.specs.declared.fault.StoreFault.TheVariants.{Disk as DiskFault, NoMemory}
-use Rattle.session_store.specs.Opening.{IsOpened}
 use Rattle.session_store.specs.Value.{StoreValue}
 use Rattle.bridge_session.specs.declared.action.Action.{Action}
-use Rattle.bridge_session.specs.SessionKeeping.{session_keeping}
 use Rattle.bridge_session.specs.State.{State}
 use Rattle.table_server.specs.declared.fault.ServeFault.TheVariants.{Write, Accept}
 use Rattle.bridge_club.specs.declared.fault.RunFault.{RunFault}
 use Rattle.bridge_club.specs.declared.fault.RunFault.TheVariants.{Stream as StreamFault, Store}
 use Rattle.bridge_club.specs.Connections.{ServesAllConnections, StopsConnections}
 use Rattle.bridge_club.specs.Scripted.{ServesAll, StopsScript}
-use Rattle.bridge_club.specs.Stored.{RefusesDisk}
+use Rattle.bridge_club.specs.Stored.{OpensSession, RefusesDisk}
 
 -- the store was opened on a disk in a file
 abbrev pub IsOnFile : StoreValue (FileDisk File) State Action → Type 0
-IsOnFile store = (d : FileDisk File) × IsOpened session_keeping file_disk d store
+IsOnFile store = (d : FileDisk File) × OpensSession file_disk d store
 
 -- a file could not be opened as a disk, or the disk in it gives no session
 abbrev pub RefusesFile : StoreFault → Type 0
@@ -47,7 +45,8 @@ module _ (IsText : State → List ℕ → Type 0) where
 pub record HasScripted (input output : Stream) : Type 0 where
   pub start : StoreValue (FileDisk File) State Action
   pub opened : IsOnFile start
-  pub serves : ServesAll file_disk start input output
+  pub store : StoreValue (FileDisk File) State Action
+  pub serves : ServesAll file_disk start store input output
 
 -- no line was served: there is no session, or memory was refused
 pub record IsNotScripted (input output : Stream) (fault : RunFault) : Type 0 where
@@ -61,7 +60,8 @@ pub record IsNotScripted (input output : Stream) (fault : RunFault) : Type 0 whe
 pub record StopsOnFile (input output : Stream) (fault : RunFault) : Type 0 where
   pub start : StoreValue (FileDisk File) State Action
   pub opened : IsOnFile start
-  pub stops : StopsScript file_disk start input output fault
+  pub store : StoreValue (FileDisk File) State Action
+  pub stops : StopsScript file_disk start store input output fault
 
 abbrev pub StopsScripting : Stream → Stream → RunFault → Type 0
 StopsScripting input output fault = IsNotScripted input output fault ⊎ StopsOnFile input output fault
@@ -70,16 +70,17 @@ StopsScripting input output fault = IsNotScripted input output fault ⊎ StopsOn
 abbrev pub unknown : TcpStream → Option (List ℕ)
 unknown connection = None
 
--- there is no listener at the port, or the serving of connections stopped
-abbrev pub StopsListening : ℕ → StoreValue (FileDisk File) State Action → RunFault → Type 0
-StopsListening count start fault =
-    (fault ≡ StreamFault Accept) ⊎ StopsConnections file_disk unknown unknown count start fault
+-- there is no listener at the port, and the store is as it was; or the serving of connections stopped
+abbrev pub StopsListening : ℕ → StoreValue (FileDisk File) State Action → StoreValue (FileDisk File) State Action → RunFault → Type 0
+StopsListening count start store fault =
+    ((fault ≡ StreamFault Accept) × (store ≡ start)) ⊎ StopsConnections file_disk unknown unknown count start store fault
 
 -- the lines of so many connections were served over a session that was opened on a disk in a file
 pub record HasServedConnections (count : ℕ) : Type 0 where
   pub start : StoreValue (FileDisk File) State Action
   pub opened : IsOnFile start
-  pub serves : ServesAllConnections file_disk unknown unknown count start
+  pub store : StoreValue (FileDisk File) State Action
+  pub serves : ServesAllConnections file_disk unknown unknown count start store
 
 -- there is no session, or memory was refused
 pub record IsNotServed (fault : RunFault) : Type 0 where
@@ -91,7 +92,8 @@ pub record IsNotServed (fault : RunFault) : Type 0 where
 pub record StopsOnConnections (count : ℕ) (fault : RunFault) : Type 0 where
   pub start : StoreValue (FileDisk File) State Action
   pub opened : IsOnFile start
-  pub stops : StopsListening count start fault
+  pub store : StoreValue (FileDisk File) State Action
+  pub stops : StopsListening count start store fault
 
 abbrev pub StopsServingConnections : ℕ → RunFault → Type 0
 StopsServingConnections count fault = IsNotServed fault ⊎ StopsOnConnections count fault

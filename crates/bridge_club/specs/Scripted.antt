@@ -1,13 +1,14 @@
 -- What the command `script` does.
 use Rattle.std.specs.Prelude.{◌≡◌, ◌⊎◌, Bool, true, false}
 use Rattle.line_text.specs.Streams.{Stream}
-use Rattle.sector_disk.specs.Disk.{Disk}
+use Rattle.sector_disk.specs.Disk.{Disk, Rose}
 use Rattle.session_store.specs.declared.fault.StoreFault.TheVariants.{Disk as DiskFault}
 use Rattle.session_store.specs.Value.{StoreValue}
 use Rattle.bridge_session.specs.declared.action.Action.{Action}
 use Rattle.bridge_session.specs.State.{State}
 use Rattle.table_server.specs.declared.fault.ServeFault.{ServeFault}
 use Rattle.table_server.specs.declared.served.Served.{Served}
+use Rattle.table_server.specs.Faulted.{FailsWithDisk}
 use Rattle.table_server.specs.ServedStreams.{HasServed, StopsServing}
 use Rattle.bridge_club.specs.declared.fault.RunFault.{RunFault}
 use Rattle.bridge_club.specs.declared.fault.RunFault.TheVariants.{Stream as StreamFault, Store}
@@ -18,27 +19,27 @@ fault_over true fault = Store DiskFault
 fault_over false fault = StreamFault fault
 
 module _ {D : Type 0} (disk : Disk D) where
-  -- all lines were served over a store, which works
-  pub record ServesAll (start : StoreValue D State Action) (input output : Stream) : Type 0 where
-    pub store : StoreValue D State Action
+  -- all lines were served over a store, which works: no call of its disk failed
+  pub record ServesAll (start store : StoreValue D State Action) (input output : Stream) : Type 0 where
     pub result : Served
     pub served : HasServed disk start store input output result
     pub works : result.failed ≡ false
+    pub no_fault : disk.faults store.disk ≡ disk.faults start.disk
 
-  -- all lines were served, and the store failed
-  pub record FailsServing (start : StoreValue D State Action) (input output : Stream) : Type 0 where
-    pub store : StoreValue D State Action
+  -- all lines were served, and the store failed: a call of its disk did
+  pub record FailsServing (start store : StoreValue D State Action) (input output : Stream) : Type 0 where
     pub result : Served
     pub served : HasServed disk start store input output result
     pub failed : result.failed ≡ true
+    pub faults : Rose (disk.faults start.disk) (disk.faults store.disk)
 
   -- a fault of the streams ended the serving of lines
-  pub record EndsEarly (start : StoreValue D State Action) (input output : Stream) (fault : RunFault) : Type 0 where
-    pub store : StoreValue D State Action
+  pub record EndsEarly (start store : StoreValue D State Action) (input output : Stream) (fault : RunFault) : Type 0 where
     pub cause : ServeFault
     pub stops : StopsServing disk start store input output cause
     pub named : fault ≡ fault_over store.failed cause
+    pub faults : FailsWithDisk disk start store
 
-  abbrev pub StopsScript : StoreValue D State Action → Stream → Stream → RunFault → Type 0
-  StopsScript start input output fault =
-      (FailsServing start input output × (fault ≡ Store DiskFault)) ⊎ EndsEarly start input output fault
+  abbrev pub StopsScript : StoreValue D State Action → StoreValue D State Action → Stream → Stream → RunFault → Type 0
+  StopsScript start store input output fault =
+      (FailsServing start store input output × (fault ≡ Store DiskFault)) ⊎ EndsEarly start store input output fault

@@ -1,12 +1,25 @@
 -- The session that a disk holds.
-use Rattle.std.specs.Prelude.{◌≡◌, ◌⊎◌, ◌<◌, ◌≤◌}
+use Rattle.std.specs.Prelude.{◌≡◌, ◌⊎◌, ◌<◌, ◌≤◌, ◌+◌, ℕ, false}
 use Rattle.sector_disk.specs.Disk.{Disk}
 use Rattle.session_store.specs.declared.fault.StoreFault.{StoreFault}
 use Rattle.session_store.specs.declared.fault.StoreFault.TheVariants.{TooSmall}
-use Rattle.session_store.specs.Opening.{IsCause, reading}
+use Rattle.session_store.specs.Base.{HasEpoch}
+use Rattle.session_store.specs.Opening.{IsCause, IsOpened, reading}
+use Rattle.session_store.specs.Value.{StoreValue}
+use Rattle.bridge_session.specs.declared.action.Action.{Action}
 use Rattle.bridge_session.specs.SessionKeeping.{session_keeping}
+use Rattle.bridge_session.specs.State.{State}
 
 module _ {D : Type 0} (disk : Disk D) where
+  -- Opening a disk gave this store, which works: no call of the disk failed. Its epoch is the one after the disk's, and has
+  -- no record so far.
+  pub record OpensSession (d : D) (store : StoreValue D State Action) : Type 0 where
+    pub opened : IsOpened session_keeping disk d store
+    pub works : store.failed ≡ false
+    pub no_records : store.records ≡ 0
+    pub no_fault : disk.faults store.disk ≡ disk.faults d
+    pub next_epoch : disk.honest d → (epoch : ℕ) × HasEpoch epoch (disk.reads d) × (store.epoch ≡ epoch + 1)
+
   -- Opening a disk gives no session: it has fewer than 2,048 sectors; or a call of it failed, memory was refused, or what
   -- it reads is refused.
   abbrev pub RefusesDisk : D → StoreFault → Type 0

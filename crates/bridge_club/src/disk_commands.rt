@@ -103,9 +103,10 @@ fn listen<N: Net<Listener = TcpListener, Stream = TcpStream>>(
     store: &mut Store<FileDisk<File>, Session>,
     cache: &mut Cache,
 ) -> Result<(), RunFault>
-    requires { store.old.failed ≡ false → store.old.pending ≡ [] }
-    ensures done { OnOk result (ServesAllConnections file_disk unknown unknown count store.old) }
-    ensures fault { IfErr result (StopsListening count store.old) }
+    requires works { store.old.failed ≡ false }
+    requires none_pending { store.old.pending ≡ [] }
+    ensures done { OnOk result (ServesAllConnections file_disk unknown unknown count store.old store.new) }
+    ensures fault { IfErr result (StopsListening count store.old store.new) }
 {
     match TcpListener::bind(rt, SocketAddr::from((Ipv4Addr::LOCALHOST, port))) {
         Ok(listener) => serve_connections(rt, &listener, count, store, cache),

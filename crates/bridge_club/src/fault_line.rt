@@ -1,11 +1,10 @@
 //! The line of standard error and the exit status that a fault has.
 ghost use Rattle.std.specs.Prelude.{◌≡◌, ◌≤◌, length};
-ghost use Rattle.bridge_club.specs.Faults.{movement_name, cause_name, stream_line, config_line, store_line, fault_line, store_status, fault_status};
+ghost use Rattle.bridge_club.specs.Faults.{stream_line, config_line, store_line, fault_line, store_status, fault_status};
 
 use crate::fault::RunFault;
 use arrayvec::ArrayString;
-use bridge_config::{ConfigFault, ConfigRefused};
-use bridge_movement::MovementRefused;
+use bridge_config::ConfigFault;
 use itoa::Buffer;
 use session_store::StoreFault;
 use table_server::ServeFault;
@@ -79,38 +78,9 @@ fn config_line(fault: ConfigFault) -> FaultLine
     line.push_str("config line ");
     line.push_str(Buffer::new().format(fault.line));
     line.push_str(": ");
-    line.push_str(cause_name(fault.cause));
+    line.push_str(fault.cause.name());
     line.push_str("\n");
     line
-}
-
-/// What is wrong with a line of a configuration, in a word.
-fn cause_name(cause: ConfigRefused) -> &'static str
-    ensures name { result.now ≡ cause_name cause }
-    ensures short { length result.now ≤ 10 }
-{
-    match cause {
-        ConfigRefused::TooLong => "TooLong",
-        ConfigRefused::Form => "Form",
-        ConfigRefused::Range => "Range",
-        ConfigRefused::KeyTwice => "KeyTwice",
-        ConfigRefused::Movement(refused) => movement_name(refused),
-    }
-}
-
-/// Why rows are no movement, in a word.
-fn movement_name(refused: MovementRefused) -> &'static str
-    ensures name { result.now ≡ movement_name refused }
-    ensures short { length result.now ≤ 10 }
-{
-    match refused {
-        MovementRefused::MissingRow(_) => "MissingRow",
-        MovementRefused::BadPair(_) => "BadPair",
-        MovementRefused::SamePair(_) => "SamePair",
-        MovementRefused::BadSet(_) => "BadSet",
-        MovementRefused::PairTwice(_) => "PairTwice",
-        MovementRefused::SetAgain(_) => "SetAgain",
-    }
 }
 
 fn store_line(fault: StoreFault) -> FaultLine

@@ -29,7 +29,8 @@ pub fn fault_over<D: SectorDisk + Drop>(
     fault: ServeFault,
 ) -> RunFault
     requires { store.old.failed ≡ false → store.old.pending ≡ [] }
-    ensures { result ≡ fault_over store.old.failed fault }
+    ensures fault { result ≡ fault_over store.old.failed fault }
+    ensures same { store.new ≡ store.old }
 {
     match store.confirm() {
         Ok(()) => RunFault::Stream(fault),
@@ -37,17 +38,18 @@ pub fn fault_over<D: SectorDisk + Drop>(
     }
 }
 
-/// Serves the lines of the input over a store.
+/// Serves the lines of the input over a store that works.
 pub fn serve_store<D: SectorDisk + Drop, R: Read, W: Write>(
     store: &mut Store<D, Session>,
     cache: &mut Cache,
     input: &mut R,
     output: &mut W,
 ) -> Result<(), RunFault>
-    requires { store.old.failed ≡ false → store.old.pending ≡ [] }
-    ensures done { OnOk result (ServesAll D.disk store.old
+    requires works { store.old.failed ≡ false }
+    requires none_pending { store.old.pending ≡ [] }
+    ensures done { OnOk result (ServesAll D.disk store.old store.new
         (stream R.remaining input.old input.new) (stream W.contents output.old output.new)) }
-    ensures fault { IfErr result (StopsScript D.disk store.old
+    ensures fault { IfErr result (StopsScript D.disk store.old store.new
         (stream R.remaining input.old input.new) (stream W.contents output.old output.new)) }
 {
     match serve(store, Some(cache), input, output) {

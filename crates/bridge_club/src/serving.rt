@@ -1,6 +1,7 @@
 //! Connections served over a store, as the command `serve` serves them.
 ghost use Rattle.std.specs.Prelude.{◌≡◌, [], false, OnOk, IfErr, OnErr};
 ghost use Rattle.table_server.specs.declared.fault.ServeFault.TheVariants.{Accept as AcceptFault};
+ghost use Rattle.table_server.specs.Faulted.{FailsWithDisk};
 ghost use Rattle.bridge_club.specs.Connections.{ServesNext, ServesAllConnections, StopsConnections};
 
 use crate::fault::RunFault;
@@ -24,6 +25,7 @@ fn serve_next<N: Net, D: SectorDisk + Drop>(
     ensures fault { IfErr result (λ fault. fault ≡ AcceptFault) }
     ensures unserved { OnErr result (store.new ≡ store.old) }
     ensures ready { store.new.failed ≡ false → store.new.pending ≡ [] }
+    ensures faults { FailsWithDisk D.disk store.old store.new }
 {
     match accept_and_serve(rt, listener, store, Some(cache)) {
         Ok(_) => Ok(()),
@@ -33,8 +35,8 @@ fn serve_next<N: Net, D: SectorDisk + Drop>(
     }
 }
 
-/// Serves the lines of so many connections, one after the other, over a store. A fault of a connection ends it alone; the
-/// run stops after a connection in which the store failed, and at the first time that there is no connection.
+/// Serves the lines of so many connections, one after the other, over a store that works. A fault of a connection ends it
+/// alone; the run stops after a connection in which the store failed, and at the first time that there is no connection.
 pub fn serve_connections<N: Net, D: SectorDisk + Drop>(
     rt: &N,
     listener: &N::Listener,
@@ -42,9 +44,10 @@ pub fn serve_connections<N: Net, D: SectorDisk + Drop>(
     store: &mut Store<D, Session>,
     cache: &mut Cache,
 ) -> Result<(), RunFault>
-    requires { store.old.failed ≡ false → store.old.pending ≡ [] }
-    ensures done { OnOk result (ServesAllConnections D.disk N.Stream.remaining N.Stream.contents count store.old) }
-    ensures fault { IfErr result (StopsConnections D.disk N.Stream.remaining N.Stream.contents count store.old) }
+    requires works { store.old.failed ≡ false }
+    requires none_pending { store.old.pending ≡ [] }
+    ensures done { OnOk result (ServesAllConnections D.disk N.Stream.remaining N.Stream.contents count store.old store.new) }
+    ensures fault { IfErr result (StopsConnections D.disk N.Stream.remaining N.Stream.contents count store.old store.new) }
 {
     let mut left = count;
     loop {

@@ -1,8 +1,6 @@
 //! The session that a disk holds.
 ghost use Rattle.std.specs.Prelude.{◌≡◌, [], false, IfOk, IfErr};
-ghost use Rattle.session_store.specs.Opening.{IsOpened};
-ghost use Rattle.bridge_session.specs.SessionKeeping.{session_keeping};
-ghost use Rattle.bridge_club.specs.Stored.{RefusesDisk};
+ghost use Rattle.bridge_club.specs.Stored.{OpensSession, RefusesDisk};
 
 use bridge_session::Session;
 use sector_disk::SectorDisk;
@@ -14,7 +12,7 @@ pub fn open_session<D: SectorDisk + Drop>(
     alloc: Global,
     disk: D,
 ) -> Result<Store<D, Session>, StoreFault>
-    ensures opened { IfOk result (IsOpened session_keeping D.disk disk) }
+    ensures opened { IfOk result (OpensSession D.disk disk) }
     ensures begins { IfOk result (λ store. (store.failed ≡ false) × (store.pending ≡ [])) }
     ensures fault { IfErr result (RefusesDisk D.disk disk) }
 {

@@ -1,4 +1,5 @@
 use Rattle.std.proofs.Common.{◌≡◌, ◌+◌, ℕ, [], false}
+use Rattle.table_server.specs.Faulted.{FailsWithDisk}
 use Rattle.bridge_club.specs.Connections.{ServesEach}
 use Rattle.bridge_club.proofs.serving.serve_connections.Given as goal
 
@@ -7,6 +8,7 @@ invariant-loop-count g l = record {
   served : (count : ℕ) × (count + l.left ≡ l.fn.count)
       × ServesEach g.D.SectorDisk.disk g.N.Stream.Read.remaining g.N.Stream.Write.contents count l.fn.store l.store;
   ready : l.store.failed ≡ false → l.store.pending ≡ [];
+  faults : FailsWithDisk g.D.SectorDisk.disk l.fn.store l.store;
 }
 
 abbrev pub decreases-loop-count : goal.decreases-loop-count
