@@ -10,7 +10,7 @@ use Rattle.bridge_movement.specs.declared.shape.Shape.{Shape}
 use Rattle.bridge_movement.specs.Schedule.{Schedule}
 use Rattle.bridge_movement.specs.Shape.{IsBetween, row_count}
 use Rattle.bridge_movement.specs.Mitchell.{mitchell_shape, FollowsMitchell}
-use Rattle.bridge_config.specs.Configuration.{Configuration, Pair, keys_of, Heading, heading_of, People, people_of}
+use Rattle.bridge_config.specs.Configuration.{Configuration, Pair, Heading, heading_of, People, people_of}
 use Rattle.bridge_config.specs.Limits.{IsConfiguration}
 
 abbrev pub scoring_word : Scoring → List ℕ

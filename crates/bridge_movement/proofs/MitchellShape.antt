@@ -1,5 +1,5 @@
 -- The shape of a Mitchell movement.
-use Rattle.std.specs.Prelude.{ℕ, ◌≤◌, ◌%◌, ◌==◌, if◌then◌else◌}
+use Rattle.std.specs.Prelude.{ℕ, ◌≤◌}
 use Rattle.std.proofs.Common.{arith}
 use Rattle.std.proofs.lemmas.Bool.Decides.{nat_tests}
 use Rattle.bridge_movement.specs.Shape.{IsShape}
