@@ -84,7 +84,7 @@ module _ (c d : ℕ) (suit : suit_number_of c ≡ suit_number_of d) (held : Seat
 
 -- ---- inside an ending
 
-dealt_card : (hands : List ℕ) → IsEnding hands → (s : Seat) (card : ℕ) → dealt hands s card ≡ true → card < 52
+pub dealt_card : (hands : List ℕ) → IsEnding hands → (s : Seat) (card : ℕ) → dealt hands s card ≡ true → card < 52
 dealt_card hands ending s card has =
     let few = seat_few s in
     inside_deck (hand_at hands s) card (ending.sets (seat_number s) 0 (omega (arith, ending.four))) has

@@ -18,3 +18,6 @@ pub mod Owners
 pub mod EqualSteps
 pub mod Winning
 pub mod LastTrick
+pub mod TrickWon
+pub mod SureTrick
+pub mod SureCard

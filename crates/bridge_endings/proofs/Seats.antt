@@ -1,5 +1,5 @@
 -- Seats by their numbers, and the four of a trick.
-use Rattle.std.proofs.Common.{◌≡◌, ℕ, ◌+◌, ◌%◌, ◌<◌, true, refl, sym, ap, ◌∙◌, arith}
+use Rattle.std.proofs.Common.{◌≡◌, ℕ, ◌+◌, ◌%◌, ◌<◌, Bool, true, false, refl, sym, ap, ◌∙◌, arith}
 use Rattle.std.proofs.lemmas.Bool.{eqb-true, eq-eqb}
 use Rattle.bridge_cards.specs.declared.seat.Seat.{Seat}
 use Rattle.bridge_cards.specs.declared.seat.Seat.TheVariants.{North, East, South, West}
@@ -29,3 +29,19 @@ one_place leader seat j k p q one other =
     let e = seat_number-clockwise leader j p in
     let f = seat_number-clockwise leader k q in
     omega arith
+
+-- two places of a trick are two seats
+pub other_place : (leader : Seat) (j k : ℕ) → j < 4 → k < 4 → (j ≡ k → ⊥) → same_seat (clockwise_from leader k) (clockwise_from leader j) ≡ false
+other_place leader j k p q differ = at (same_seat (clockwise_from leader k) (clockwise_from leader j)) refl
+  where
+    at : (is : Bool) → same_seat (clockwise_from leader k) (clockwise_from leader j) ≡ is → same_seat (clockwise_from leader k) (clockwise_from leader j) ≡ false
+    at true is =
+        let same = one_place leader (clockwise_from leader j) j k p q (same_seat-self (clockwise_from leader j)) is in
+        absurd (differ same)
+    at false is = is
+
+pub first_place : (seat : Seat) → clockwise_from seat 0 ≡ seat
+first_place North = refl
+first_place East = refl
+first_place South = refl
+first_place West = refl

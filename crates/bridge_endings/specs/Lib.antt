@@ -3,6 +3,7 @@ pub mod Ending
 pub mod Worth
 pub mod TrickCards
 pub mod Left
+pub mod Sure
 pub mod Equal
 pub mod Between
 pub mod Searched

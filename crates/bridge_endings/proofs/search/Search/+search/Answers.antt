@@ -1,16 +1,29 @@
-use Rattle.std.proofs.Common.{rules, ◌≡◌, ℕ, ◌-◌, ◌*◌, true, not, nat_le, List, length, refl, sym, ap, ◌∙◌, subst, arith}
+use Rattle.std.proofs.Common.{rules, ◌≡◌, ℕ, ◌-◌, ◌*◌, true, not, nat_le, List, [], length, refl, sym, ap, ◌∙◌, subst, arith}
 use Rattle.bridge_cards.specs.CardSet.{has_card}
 use Rattle.bridge_cards.proofs.CardSetLaws.{has_card-zero}
 use Rattle.bridge_cards.specs.declared.seat.Seat.{Seat}
-use Rattle.bridge_cards.specs.Seat.{clockwise_from}
+use Rattle.bridge_cards.specs.Seat.{clockwise_from, side_of}
 use Rattle.bridge_endings.specs.Ending.{IsEnding}
-use Rattle.bridge_endings.specs.Left.{left_to, EachDealt}
+use Rattle.bridge_endings.specs.Left.{left_to, is_sought, EachDealt}
+use Rattle.bridge_endings.specs.Worth.{worth_with}
 use Rattle.bridge_endings.specs.Equal.{IsEqualTo}
 use Rattle.bridge_endings.proofs.WorthSteps.{worth_of_card}
 use Rattle.bridge_endings.proofs.Answered.{same_answer, other_answer, answer_kept}
 use Rattle.bridge_endings.proofs.SearchSteps.{settled, none_legal, found, none_found, after_part, after_whole}
 use Rattle.bridge_endings.proofs.EqualSteps.{legal_held, answered_with_equals, fewer}
+use Rattle.bridge_endings.proofs.SureTrick.{sure_answer}
 use Rattle.bridge_endings.proofs.search.Search.+search.Goals as goal
+use Rattle.bridge_endings.proofs.search.Search.+search.Goals.{reaches_from-else-tricks-eq1-via-else-tricks-eq1, reaches_from-else-tricks-eq1-via-then-tricks-eq1+in-None-1}
+
+pub reaches_from-returns-then-is_some-clause-worth : goal.reaches_from-returns-then-is_some-clause-worth
+reaches_from-returns-then-is_some-clause-worth t c =
+    let same = elim c.else-tricks-eq1.branch as (λ _. c.else-tricks-eq1.self ≡ c.args.self.now) [
+      | reaches_from-else-tricks-eq1-via-else-tricks-eq1 w ↦ w.self-is
+      | reaches_from-else-tricks-eq1-via-then-tricks-eq1+in-None-1 w ↦ absurd (omega arith)
+    ] in
+    let told = sure_answer c.else-tricks-eq1.self.hands c.else-tricks-eq1.self.trump c.args.left c.args.leader c.sure_card.result c.sure_card.ensures.sure c.sure_card.ensures.ending (sym c.is_some.ensures ∙ c.if-is_some.true) c.args.tricks c.args.need (omega arith) (omega arith) in
+    c.is_sought.ensures
+    ∙ answer_kept c.else-tricks-eq1.self.hands c.else-tricks-eq1.self.trump c.args.self.now.hands c.args.self.now.trump (λ hands trump. is_sought (side_of c.args.leader) ≡ nat_le c.args.need (worth_with trump (4 * c.args.tricks) (left_to hands c.args.left) c.args.leader [])) (ap (λ s. s.hands) same) (ap (λ s. s.trump) same) told
 
 pub reaches-returns-then-is_settled-clause-worth : goal.reaches-returns-then-is_settled-clause-worth
 reaches-returns-then-is_settled-clause-worth t c =

@@ -8,13 +8,13 @@ use Rattle.bridge_endings.proofs.search.Search.legal_cards.Goals as goal
 pub returns-then-is_empty-clause-legal : goal.returns-then-is_empty-clause-legal
 returns-then-is_empty-clause-legal c =
     let hand : ℕ → Bool = left_to c.args.self.now.hands c.args.left (clockwise_from c.args.trick.now.leader (length c.args.trick.now.cards)) in
-    let holds : (card : ℕ) → has_card c.held-held.result card ≡ hand card = λ card. rw (← c.turn.ensures) (c.held-held.ensures card) in
+    let holds : (card : ℕ) → has_card c.held-held.result card ≡ hand card = λ card. rw (← c.turn.ensures) (c.held-held.ensures.cards card) in
     legal_void hand c.args.trick.now.cards c.in-Some.led c.held-held.result c.of_suit-suited.result (sym c.led.ensures ∙ c.in-Some.is) c.suit_of.ensures.known holds
     (λ card. rw (← c.suit_of.ensures.suit) (c.of_suit-suited.ensures card)) c.if-is_empty.ensures.cards
 
 pub returns-else-is_empty-clause-legal : goal.returns-else-is_empty-clause-legal
 returns-else-is_empty-clause-legal c =
     let hand : ℕ → Bool = left_to c.args.self.now.hands c.args.left (clockwise_from c.args.trick.now.leader (length c.args.trick.now.cards)) in
-    let holds : (card : ℕ) → has_card c.held-held.result card ≡ hand card = λ card. rw (← c.turn.ensures) (c.held-held.ensures card) in
+    let holds : (card : ℕ) → has_card c.held-held.result card ≡ hand card = λ card. rw (← c.turn.ensures) (c.held-held.ensures.cards card) in
     legal_suited hand c.args.trick.now.cards c.in-Some.led c.held-held.result c.of_suit-suited.result (sym c.led.ensures ∙ c.in-Some.is) c.suit_of.ensures.known holds
     (λ card. rw (← c.suit_of.ensures.suit) (c.of_suit-suited.ensures card)) c.if-is_empty.ensures.cards
