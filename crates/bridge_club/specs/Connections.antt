@@ -39,7 +39,8 @@ module _ {D : Type 0} (disk : Disk D) {S : Type 0} (remaining contents : S → O
     pub failed : store.failed ≡ true
     pub faults : Rose (disk.faults start.disk) (disk.faults store.disk)
 
-  -- those of fewer connections were served, after which none was had; no call of the disk failed
+  -- those of fewer connections were served, and then none could be had, of which no contract can say more; no call of the
+  -- disk failed
   pub record LacksConnections (count : ℕ) (start store : StoreValue D State Action) : Type 0 where
     pub served : ℕ
     pub fewer : served < count

@@ -3,7 +3,7 @@ use Rattle.std.specs.Prelude.{◌≡◌, ◌⊎◌, ◌≤◌, ℕ, List, length
 use Rattle.std.specs.declared.fs.File.{File}
 use Rattle.line_text.specs.Streams.{Stream, Takes, TakesPrefix, IsUntouched}
 use Rattle.sector_disk.specs.declared.file.FileDisk.{FileDisk}
-use Rattle.sector_disk.specs.Disk.{Disk, Image}
+use Rattle.sector_disk.specs.Disk.{Disk, Image, Rose}
 use Rattle.sector_disk.specs.File.{file_disk}
 use Rattle.sector_disk.specs.Runs.{Remains}
 use Rattle.session_store.specs.declared.fault.StoreFault.TheVariants.{Disk as DiskFault}
@@ -20,10 +20,11 @@ abbrev pub formatted_line : List ℕ
 formatted_line = codes "formatted\n"
 
 module _ {D : Type 0} (disk : Disk D) where
-  -- Of a disk one was made that holds the session: where it is honest, every image that a power cut may leave stands for
-  -- it, is in order, and is of the first epoch.
+  -- Of a disk one was made that holds the session, and no call of it failed: where it is honest, every image that a power
+  -- cut may leave stands for the session, is in order, and is of the first epoch.
   pub record IsFormatted (made formatted : D) (session : State) : Type 0 where
     pub remains : Remains disk made formatted
+    pub no_fault : disk.faults formatted ≡ disk.faults made
     pub stands : disk.honest made → StandsOnlyFor session_keeping disk session formatted
     pub sound : disk.honest made → IsSoundDisk session_keeping disk formatted
     pub first_epoch : disk.honest made → (c : Image) → disk.may_leave formatted c → HasEpoch 1 c
@@ -37,13 +38,15 @@ module _ {D : Type 0} (disk : Disk D) where
   FailsToFormat made session output (StreamFault fault) = (fault ≡ Write)
       × ((formatted : D) × IsFormatted made formatted session × TakesPrefix output formatted_line)
   FailsToFormat made session output (Config fault) = ⊥
-  FailsToFormat made session output (Store fault) = (fault ≡ DiskFault) × IsUntouched output
+  FailsToFormat made session output (Store fault) = (fault ≡ DiskFault)
+      × ((left : D) × Rose (disk.faults made) (disk.faults left)) × IsUntouched output
 
--- The text of a file, of which no contract can say which it is, spells a configuration, and the session is its opening.
+-- Some text spells a configuration, and the session is its opening. That it is the text of a file no contract can say.
 abbrev pub IsSessionOfFile : State → Type 0
 IsSessionOfFile session = (text : List ℕ) × Begins text session
 
--- a file could not be read, or its text, of at most the bytes that are read, begins no session
+-- the fault is that of a file that cannot be read, of which no contract can say more; or some text, of at most the bytes
+-- that are read, begins no session
 abbrev pub IsNoSessionOfFile : RunFault → Type 0
 IsNoSessionOfFile fault =
     (fault ≡ StreamFault Read) ⊎ ((text : List ℕ) × (length text ≤ most_read) × IsNoSession text fault)
@@ -66,8 +69,8 @@ pub record FailsOnFile (output : Stream) (fault : RunFault) : Type 0 where
   pub count : file_disk.count made ≡ 2048
   pub fails : FailsToFormat file_disk made session output fault
 
--- `format` stopped: there is no session, or no disk was made, and then nothing is written; or making it one that holds
--- the session failed
+-- `format` stopped: there is no session, or the fault is that of a disk that cannot be made, of which no contract can say
+-- more, and then nothing is written; or making it one that holds the session failed
 abbrev pub StopsFormatting : Stream → RunFault → Type 0
 StopsFormatting output fault = (IsNoSessionOfFile fault × IsUntouched output)
     ⊎ (((fault ≡ Store DiskFault) × IsUntouched output) ⊎ FailsOnFile output fault)

@@ -21,7 +21,8 @@ use Rattle.bridge_club.specs.Stored.{OpensSession, RefusesDisk}
 abbrev pub IsOnFile : StoreValue (FileDisk File) State Action → Type 0
 IsOnFile store = (d : FileDisk File) × OpensSession file_disk d store
 
--- a file could not be opened as a disk, or the disk in it gives no session
+-- the fault is that of a file that cannot be opened as a disk, of which no contract can say more; or the disk in it gives
+-- no session
 abbrev pub RefusesFile : StoreFault → Type 0
 RefusesFile fault = (fault ≡ DiskFault) ⊎ ((d : FileDisk File) × RefusesDisk file_disk d fault)
 

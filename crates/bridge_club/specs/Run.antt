@@ -10,7 +10,8 @@ use Rattle.bridge_club.specs.declared.command.WordsFault.{WordsFault}
 use Rattle.bridge_club.specs.declared.command.WordsFault.TheVariants.{Usage, Memory}
 use Rattle.bridge_club.specs.declared.fault.RunFault.{RunFault}
 use Rattle.bridge_club.specs.declared.fault.RunFault.TheVariants.{Stream as StreamFault, Config, Store}
-use Rattle.bridge_club.specs.Faults.{fault_line, fault_status}
+use Rattle.session_store.specs.declared.fault.StoreFault.TheVariants.{NoMemory}
+use Rattle.bridge_club.specs.Faults.{store_line, fault_line, fault_status}
 use Rattle.bridge_club.specs.Formatted.{HasFormatted, StopsFormatting}
 use Rattle.bridge_club.specs.OnFile.{HasResults, StopsResults, HasScripted, StopsScripting, HasServedConnections, StopsServingConnections}
 use Rattle.bridge_club.specs.Results.{IsRankingText, IsPbnText}
@@ -59,7 +60,7 @@ pub record IsStopped (command : Command) (input output errors : Stream) (status 
 
 -- the line on standard error where memory is refused
 abbrev pub memory_line : List ℕ
-memory_line = codes "no memory\n"
+memory_line = store_line NoMemory
 
 -- the line on standard error where the program's words cannot be read as text
 abbrev pub text_line : List ℕ

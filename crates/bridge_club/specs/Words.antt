@@ -127,6 +127,6 @@ abbrev pub Asks : List Text → Command → Type 0
 Asks texts words = (fault_of club_app texts ≡ []) × IsCommand (subcommand_of club_app texts) words
 
 -- clap finds a fault in the texts, or memory was refused
-abbrev pub Faults : List Text → WordsFault → Type 0
-Faults texts (Usage error) = fault_of club_app texts ≢ []
-Faults texts Memory = Unit {0}
+abbrev pub IsRefusedBy : List Text → WordsFault → Type 0
+IsRefusedBy texts (Usage error) = fault_of club_app texts ≢ []
+IsRefusedBy texts Memory = Unit {0}

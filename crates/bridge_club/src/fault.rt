@@ -6,7 +6,7 @@ use table_server::ServeFault;
 /// Why a command stopped.
 #[derive(Clone, Copy, Debug, PartialEq, Eq)]
 pub enum RunFault {
-    /// Standard input or the configuration cannot be read, or standard output cannot be written.
+    /// Standard input or the configuration cannot be read, standard output cannot be written, or no connection can be had.
     Stream(ServeFault),
     /// The configuration is refused.
     Config(ConfigFault),

@@ -9,7 +9,8 @@ use itoa::Buffer;
 use session_store::StoreFault;
 use table_server::ServeFault;
 
-/// Reading, writing, the disk or memory failed, or the configuration is refused.
+/// Reading, writing, accepting a connection, the disk or memory failed, the configuration is refused, or the epochs are
+/// spent.
 pub const FAULT: u8 = 3;
 /// The disk holds no session.
 pub const NO_SESSION: u8 = 4;

@@ -32,8 +32,8 @@ fn format_disk<W: Write>(
     }
 }
 
-/// The session that begins by the configuration in a file.
-fn open_session<S: Files<File = File>>(
+/// The session that begins by the configuration in a file. One that cannot be opened counts as one that cannot be read.
+fn session_of_file<S: Files<File = File>>(
     rt: &S,
     alloc: Global,
     config: &str,
@@ -48,7 +48,8 @@ fn open_session<S: Files<File = File>>(
 }
 
 /// Makes the file DISK anew, as a disk that holds the session that begins by the configuration in the file CONFIG, and
-/// writes `formatted`. The configuration is read first: where that fails, DISK is not opened.
+/// writes `formatted`. The configuration is read first, and where that fails DISK is not opened, which tests show: no
+/// clause speaks of a file that is left alone.
 pub fn run_format<S: Files<File = File>, W: Write>(
     rt: &S,
     alloc: Global,
@@ -59,7 +60,7 @@ pub fn run_format<S: Files<File = File>, W: Write>(
     ensures done { OnOk result (HasFormatted (stream W.contents output.old output.new)) }
     ensures fault { IfErr result (StopsFormatting (stream W.contents output.old output.new)) }
 {
-    match open_session(rt, alloc, config) {
+    match session_of_file(rt, alloc, config) {
         Ok(session) => match FileDisk::create(rt, disk) {
             Ok(disk) => format_disk(disk, &session, output),
             Err(_) => Err(RunFault::Store(StoreFault::Disk)),

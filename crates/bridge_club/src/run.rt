@@ -10,11 +10,12 @@ ghost use Rattle.bridge_club.specs.declared.command.Command.{Command};
 use crate::command::{Command, WordsFault};
 use crate::disk_commands::{run_pbn, run_rank, run_script, run_serve};
 use crate::fault::RunFault;
-use crate::fault_line::{FAULT, fault_line, fault_status};
+use crate::fault_line::{fault_line, fault_status};
 use crate::formatting::run_format;
 use crate::read::read_words;
 use bridge_cards::BoardNumber;
 use line_text::write_text;
+use session_store::StoreFault;
 use std::alloc::Global;
 use std::fs::File;
 use std::io::{ErrorKind, Read, Write};
@@ -27,16 +28,14 @@ pub const DONE: u8 = 0;
 /// The words are no command, or call for help, or one of them is not UTF-8.
 pub const USAGE: u8 = 2;
 
-const NO_MEMORY: &str = "no memory\n";
-
 const NOT_TEXT: &str = "a word of the command line is not UTF-8\n";
 
 /// Runs the command that the words after the program's name ask for, and answers the exit status.
 ///
 /// The runtime gives the files that commands open, and for `serve` the connections; `auction` opens none.
 ///
-/// 0: done. 2: the words are no command, or call for help; clap's text stands on `errors`. At 3 and 4 one line of `errors`
-/// names a fault. 3: `cannot read input`, `cannot write output`, `config line N: Name`, `disk fault`, `epochs spent` or
+/// 0: done. 2: the words are no command, or call for help; what clap says of them goes to `errors`, and no clause speaks of
+/// that text. At 3 and 4 `errors` takes the line that names the fault, or a prefix of it where it fails itself. 3: `cannot read input`, `cannot write output`, `config line N: Name`, `disk fault`, `epochs spent` or
 /// `no memory`. 4: the disk holds no session, being `disk too small`, `not formatted` or `damaged sector N`.
 pub fn run_words<
     S: Files<File = File> + Net<Listener = TcpListener, Stream = TcpStream>,
@@ -75,10 +74,7 @@ pub fn refuse<E: Write>(fault: WordsFault, errors: &mut E) -> u8
             let _ = write!(errors, "{error}");
             USAGE
         }
-        WordsFault::Memory => {
-            let _ = write_text(errors, NO_MEMORY.as_bytes());
-            FAULT
-        }
+        WordsFault::Memory => fails(RunFault::Store(StoreFault::NoMemory), errors),
     }
 }
 
@@ -146,7 +142,7 @@ fn hold_auction<R: Read, W: Write>(
 }
 
 /// The exit status of the program: that of the run, or where its words could not be had, which a line of `errors` says,
-/// 3 where memory is refused, and 2 at any other error, which is that a word is not UTF-8.
+/// 3 where memory is refused, and 2 at any other error, which is taken to be that a word is not UTF-8.
 pub fn status_of<E: Write>(outcome: Result<u8, ErrorKind>, errors: &mut E) -> u8
     ensures run { IfOk outcome (λ status. (result ≡ status)
         × IsUntouched (stream E.contents errors.old errors.new)) }
@@ -165,7 +161,7 @@ pub fn status_of<E: Write>(outcome: Result<u8, ErrorKind>, errors: &mut E) -> u8
     }
 }
 
-/// Writes the line of a fault, and answers its exit status.
+/// Writes the line of a fault, as much of it as `errors` takes, and answers its exit status.
 fn fails<E: Write>(fault: RunFault, errors: &mut E) -> u8
     ensures status { result ≡ fault_status fault }
     ensures line { TakesPrefix (stream E.contents errors.old errors.new) (fault_line fault) }

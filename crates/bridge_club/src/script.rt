@@ -32,9 +32,10 @@ pub fn fault_over<D: SectorDisk + Drop>(
     ensures fault { result ≡ fault_over store.old.failed fault }
     ensures same { store.new ≡ store.old }
 {
-    match store.confirm() {
-        Ok(()) => RunFault::Stream(fault),
-        Err(_) => RunFault::Store(StoreFault::Disk),
+    if has_failed(store) {
+        RunFault::Store(StoreFault::Disk)
+    } else {
+        RunFault::Stream(fault)
     }
 }
 

@@ -123,26 +123,80 @@ fn boards_are_read(rt: HostRuntime) -> Result<(), Fail> {
 
 #[test]
 fn other_words_are_usage(rt: HostRuntime) {
-    let rows: [&[&str]; 12] = [
-        &["format", "club.disk"],
-        &["rank"],
-        &["script", "club.disk", "2"],
-        &[],
-        &["auction"],
-        &["auction", "0"],
-        &["auction", "37"],
-        &["auction", "1", "2"],
-        &["auction", "-1"],
-        &["auctions", "1"],
-        &["--help"],
-        &["auction", "--help"],
+    let rows: [(&[&str], &str); 17] = [
+        (
+            &["format", "club.disk"],
+            "error: the following required arguments were not provided:\n  <CONFIG>\n",
+        ),
+        (
+            &["rank"],
+            "error: the following required arguments were not provided:\n  <DISK>\n",
+        ),
+        (
+            &["script", "club.disk", "2"],
+            "error: unexpected argument '2' found\n",
+        ),
+        (
+            &["serve", "club.disk", "0", "1"],
+            "error: invalid value '0' for '<PORT>': 0 is not in 1..=65535\n",
+        ),
+        (
+            &["serve", "club.disk", "65536", "1"],
+            "error: invalid value '65536' for '<PORT>': 65536 is not in 1..=65535\n",
+        ),
+        (
+            &["serve", "club.disk", "4000", "0"],
+            "error: invalid value '0' for '<COUNT>': 0 is not in 1..=1000\n",
+        ),
+        (
+            &["serve", "club.disk", "4000", "1001"],
+            "error: invalid value '1001' for '<COUNT>': 1001 is not in 1..=1000\n",
+        ),
+        (
+            &["serve", "club.disk", "4000", "1", "2"],
+            "error: unexpected argument '2' found\n",
+        ),
+        (
+            &[],
+            "error: 'bridge_club' requires a subcommand but one was not provided\n",
+        ),
+        (
+            &["auction"],
+            "error: the following required arguments were not provided:\n  <BOARD>\n",
+        ),
+        (
+            &["auction", "0"],
+            "error: invalid value '0' for '<BOARD>': 0 is not in 1..=36\n",
+        ),
+        (
+            &["auction", "37"],
+            "error: invalid value '37' for '<BOARD>': 37 is not in 1..=36\n",
+        ),
+        (
+            &["auction", "1", "2"],
+            "error: unexpected argument '2' found\n",
+        ),
+        (
+            &["auction", "-1"],
+            "error: unexpected argument '-1' found\n",
+        ),
+        (
+            &["auctions", "1"],
+            "error: unrecognized subcommand 'auctions'\n",
+        ),
+        (&["--help"], "The server of a duplicate bridge club\n"),
+        (
+            &["auction", "--help"],
+            "Reads a board's calls from standard input",
+        ),
     ];
-    for words in rows {
+    for (words, begins) in rows {
         let mut errors = Vec::new(rt.alloc());
         let (mut input, mut output) = (Broken, Broken);
         let status = run_words(&rt, rt.alloc(), words, &mut input, &mut output, &mut errors);
         expect_eq(&rt, status, 2, words);
-        assert!(rt; !errors.is_empty(), "{words:?}");
+        let shown = errors.iter().take(begins.len());
+        expect_eq(&rt, shown.eq(begins.as_bytes()), true, words);
     }
 }
 

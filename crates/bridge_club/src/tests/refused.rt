@@ -45,7 +45,12 @@ fn a_bad_configuration_leaves_the_disk(rt: HostRuntime) -> Result<(), Fail> {
         "",
         (3, "", "config line 14: Form\n"),
     );
-    fs::write(&rt, config, vec![in rt.alloc(); b'A'; 20_000]?)?;
+    // Past the bytes that are read a configuration stands, which is not looked for.
+    let mut long = vec![in rt.alloc(); b'A'; 16_385]?;
+    for part in [HEADING, MOVEMENT, PEOPLE] {
+        long.extend_from_slice(part.as_bytes())?;
+    }
+    fs::write(&rt, config, long)?;
     expect_run(
         &rt,
         rt.alloc(),
@@ -64,6 +69,23 @@ fn a_bad_configuration_leaves_the_disk(rt: HostRuntime) -> Result<(), Fail> {
     Ok(())
 }
 
+#[test]
+fn a_late_fault_is_named_by_its_line(rt: HostRuntime) -> Result<(), Fail> {
+    let (disk, config) = ("bridge_club_late.disk", "bridge_club_late.txt");
+    let mut text = Vec::new(rt.alloc());
+    text.extend_from_slice(HEADING.as_bytes())?;
+    text.extend_from_slice(b"MOVEMENT 12 12 12 24 12\n")?;
+    for _ in 0..93 {
+        text.extend_from_slice(b"ROW 1 1 1 3 1\n")?;
+    }
+    text.extend_from_slice(b"ROW\n")?;
+    fs::write(&rt, config, text)?;
+    let due = (3, "", "config line 100: Form\n");
+    expect_run(&rt, rt.alloc(), &["format", disk, config], "", due);
+    fs::remove_file(&rt, config)?;
+    Ok(())
+}
+
 /// Runs each of the commands over this disk, and expects the status and the line.
 fn expect_refused<T: Abort + Files<File = File> + Net<Listener = TcpListener, Stream = TcpStream>>(
     rt: &T,
@@ -75,6 +97,8 @@ fn expect_refused<T: Abort + Files<File = File> + Net<Listener = TcpListener, St
     for command in ["rank", "pbn", "script"] {
         expect_run(rt, alloc, &[command, disk], "SYNC\n", (status, "", line));
     }
+    let words = ["serve", disk, "4000", "1"];
+    expect_run(rt, alloc, &words, "SYNC\n", (status, "", line));
 }
 
 #[test]
@@ -83,12 +107,14 @@ fn a_disk_without_a_session_is_refused(rt: HostRuntime) -> Result<(), Fail> {
     expect_refused(&rt, rt.alloc(), disk, 3, "disk fault\n");
     fs::write(&rt, disk, vec![in rt.alloc(); 0u8; 1_048_575]?)?;
     expect_refused(&rt, rt.alloc(), disk, 4, "disk too small\n");
-    fs::write(&rt, disk, vec![in rt.alloc(); 0u8; 1_048_576]?)?;
+    fs::write(&rt, disk, vec![in rt.alloc(); b'A'; 1_048_576]?)?;
     expect_refused(&rt, rt.alloc(), disk, 4, "not formatted\n");
+    let others = fs::read(&rt, disk)?.iter().any(|byte| *byte != b'A');
+    expect_eq(&rt, others, false, "a file that is no disk");
 
     expect_formatted(&rt, rt.alloc(), disk, config, MOVEMENT)?;
     let mut bytes = fs::read(&rt, disk)?;
-    // The third part of the session, in sector 4.
+    // Part 3 of the session, in sector 4.
     for byte in bytes.iter_mut().skip(4 * 512).take(512) {
         *byte = 0;
     }
@@ -110,6 +136,29 @@ fn a_disk_without_a_session_is_refused(rt: HostRuntime) -> Result<(), Fail> {
     );
     fs::remove_file(&rt, config)?;
     fs::remove_file(&rt, disk)?;
+    Ok(())
+}
+
+// The record of a confirmed action, in sector 1024, whose payload begins with a byte that no action has; and a disk of a
+// session that is made anew.
+#[test]
+fn a_damaged_record_is_named(rt: HostRuntime) -> Result<(), Fail> {
+    let (disk, config) = ("bridge_club_record.disk", "bridge_club_record.txt");
+    let alloc = rt.alloc();
+    expect_formatted(&rt, alloc, disk, config, MOVEMENT)?;
+    let due = (0, "OK\n", "");
+    expect_run(&rt, alloc, &["script", disk], "VOID 100 1 1 1\n", due);
+    let mut bytes = fs::read(&rt, disk)?;
+    for byte in bytes.iter_mut().skip(1024 * 512 + 18).take(1) {
+        *byte = 0xff;
+    }
+    fs::write(&rt, disk, bytes)?;
+    expect_refused(&rt, alloc, disk, 4, "damaged sector 1024\n");
+    expect_formatted(&rt, alloc, disk, config, MOVEMENT)?;
+    let due = (0, "ERR 8 NotDealt\n", "");
+    expect_run(&rt, alloc, &["script", disk], "SEE 11\n", due);
+    fs::remove_file(&rt, disk)?;
+    fs::remove_file(&rt, config)?;
     Ok(())
 }
 
