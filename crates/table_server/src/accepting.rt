@@ -14,11 +14,12 @@ use std::net::{Net, OpenListener, OpenStream};
 
 /// Accepts one connection of the listener and serves its lines over a store, as `serve` does: the lines come in at the
 /// connection, and the replies go out at it. It waits for a connection, and for its peer, as long as they take. The
-/// connection is closed at the end. Nothing may be pending in the store, unless it has failed, and nothing is left
+/// connection is closed at the end, of which no clause speaks. Nothing may be pending in the store, unless it has failed, and nothing is left
 /// pending.
 ///
 /// `Accept` comes where no connection is had, or no second handle of it to write at; the store is then as it was. `Read`
-/// and `Write` are faults of this connection, as `serve` has them; another connection may be served after them.
+/// and `Write` are faults of this connection, as `serve` has them; another connection may be served after them. That
+/// `Accept` comes only there no clause says.
 pub fn accept_and_serve<N: Net, D: SectorDisk + Drop>(
     _rt: &N,
     listener: &N::Listener,

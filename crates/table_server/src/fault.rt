@@ -3,7 +3,7 @@ use thiserror::Error;
 /// Why a run over a reader and a writer, or over a connection, ended early.
 #[derive(Clone, Copy, Debug, PartialEq, Eq, Error)]
 pub enum ServeFault {
-    /// A read failed. The replies to the complete lines before it are written.
+    /// A read failed. Where lines were read, the replies to the complete ones before it are written.
     #[error("cannot read input")]
     Read,
     /// A write failed or took no byte. A prefix of the text is written.

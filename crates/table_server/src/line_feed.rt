@@ -5,11 +5,12 @@ ghost use Rattle.line_text.specs.Lines.{is_within_line};
 ghost use Rattle.table_server.specs.LineFeed.{kept_lines};
 
 use arrayvec::ArrayVec;
+use line_text::LINE_BYTES;
 use std::marker::Model;
 use std::mem;
 
 /// What is kept of a line, without its line feed: one byte more than a line may have tells that it is too long.
-pub const KEPT_BYTES: usize = 129;
+pub const KEPT_BYTES: usize = LINE_BYTES + 1;
 
 /// A complete line, or its first 129 bytes.
 pub type KeptLine = ArrayVec<u8, KEPT_BYTES>;

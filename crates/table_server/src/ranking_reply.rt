@@ -6,11 +6,11 @@ ghost use Rattle.bridge_pbn.specs.Lines.{lines_text};
 ghost use Rattle.bridge_score.specs.declared.ranking.Scoring.TheVariants.{MatchPoints};
 ghost use Rattle.table_server.specs.ReplyTexts.{two_digits, percent_text, each_spaced, gain_words, rank_line, ranking_text, share_percent};
 
-use crate::reply_text::{ReplyText, TEXT_BYTES, push_number, push_word};
+use crate::reply_text::{ReplyText, TEXT_BYTES, push_word};
 use bridge_score::{Ranked, Scoring, percent_hundredths};
 use itoa::Buffer;
 
-/// The most bytes of a line of a ranking.
+/// The room for a line of a ranking.
 pub const RANK_BYTES: usize = 80;
 
 /// The most that may be available to a pair.

@@ -6,7 +6,7 @@ use arrayvec::ArrayString;
 use bridge_auction::CallRefused;
 use line_text::push_refusal;
 
-/// The most bytes that a reply has.
+/// The room for a reply.
 pub const REPLY_BYTES: usize = 29;
 
 /// The reply to a line.

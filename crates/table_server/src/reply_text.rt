@@ -7,7 +7,7 @@ ghost use Rattle.table_server.specs.ReplyTexts.{solved_text};
 use arrayvec::ArrayString;
 use itoa::Buffer;
 
-/// The most bytes of a reply of one line.
+/// The room for a reply of one line.
 pub const SHORT_BYTES: usize = 29;
 
 /// The room for a reply: a view with the longest auction, of 319 calls, or the ranking of 24 pairs.

@@ -22,7 +22,8 @@ pub const MOST_BYTES: usize = 65536;
 /// The replies to the lines that a read completes are written before the next read. Of the reader's bytes
 /// at most 65,536 are read. It takes no memory.
 ///
-/// `Read` comes at the first error of the reader, and `Write` at the first error of the writer or where it takes no byte.
+/// `Read` comes at the first error of the reader, and `Write` at the first error of the writer or where it takes no byte:
+/// that they come only there no clause says, and tests show it.
 pub fn run_auction<R: Read, W: Write>(
     board: BoardNumber,
     reader: &mut R,

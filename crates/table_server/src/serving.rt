@@ -22,7 +22,7 @@ use session_store::Store;
 use std::io::{Read, Write};
 
 /// The most bytes that are read at a time.
-const PIECE_BYTES: usize = 4096;
+const READ_BYTES: usize = 4096;
 
 /// How the reading of lines ended.
 #[derive(Clone, Copy, Debug, PartialEq, Eq)]
@@ -55,7 +55,7 @@ fn read_lines<D: SectorDisk + Drop, R: Read, W: Write>(
         (stream R.remaining reader.old reader.new) (stream W.contents writer.old writer.new)) }
     ensures faults { FailsWithDisk D.disk store.old store.new }
 {
-    let mut piece = [0; PIECE_BYTES];
+    let mut piece = [0; READ_BYTES];
     let mut left = MOST_BYTES;
     while left > 0 {
         let Ok(taken) = read_piece(reader, &mut piece, left) else {
@@ -100,14 +100,15 @@ fn end_lines<D: SectorDisk + Drop, W: Write>(
 }
 
 /// Serves a reader's lines over a store: each complete line is answered, of at most 65,536 bytes, and at that number a
-/// notice follows. Lines are answered in order. The replies to changes and bad lines are held until what was accepted
+/// notice follows. Lines are answered in order. The replies to changes, bad lines and long ones are held until what was accepted
 /// is confirmed: before a question is answered, at 64 held lines, at the limit, at the end of the input and where a
 /// read fails. What is written is flushed before more is read; replies that are held stay held. Nothing may be pending
 /// in the store, unless it has failed, and nothing is left pending.
 ///
 /// Where the store fails or had failed, `ERR 40 Disk` answers each line that is held, the line itself and each later
 /// one. `Read` comes at the first error of the reader, and `Write` at the first error of the writer or where it takes no
-/// byte. It takes no memory but the cache's.
+/// byte: that they come only there, and that what is written is flushed, no clause says, and tests show it. It takes no
+/// memory but the cache's.
 pub fn serve<D: SectorDisk + Drop, R: Read, W: Write>(
     store: &mut Store<D, Session>,
     cache: Option<&mut Cache>,

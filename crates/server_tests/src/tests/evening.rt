@@ -145,7 +145,7 @@ fn rulings_once_the_session_is_closed(rt: HostRuntime) -> Result<(), Fail> {
 const CALLS: &str = "CALL 11 1 0 7S\nCALL 31 1 1 PASS\nCALL 12 1 2 PASS\nCALL 32 1 3 PASS\n";
 
 /// Seven tricks of the highest cards, the first led by East and the others by North.
-fn seven_tricks(alloc: Global) -> Result<String, Fail> {
+pub fn seven_tricks(alloc: Global) -> Result<String, Fail> {
     let mut lines = String::new(alloc);
     lines.push_str(CALLS)?;
     let from_north = [(11u8, 'S'), (31, 'H'), (11, 'D'), (32, 'C')];
@@ -194,6 +194,40 @@ fn an_endings_worth(rt: HostRuntime) -> Result<(), Fail> {
         let _ = serve_with(&mut store, cache, &mut reader, &mut written);
         expect_eq(&rt, written.as_slice(), WORTHS.as_bytes(), capacity);
         expect_eq(&rt, kept.tried() > 0, capacity > 0, "the cache is used");
+    }
+    Ok(())
+}
+
+// Of two endings of one run each is kept: asked again, in the other order, none is searched.
+#[test]
+fn each_ending_is_kept(rt: HostRuntime) -> Result<(), Fail> {
+    let mut store = opened(rt.alloc(), CLUB, u64::MAX)?;
+    let tricks = seven_tricks(rt.alloc())?;
+    let eighth = "CARD 11 1 28 S7\nCARD 31 1 29 H7\nCARD 11 1 30 D7\nCARD 32 1 31 C7\n";
+    for (text, accepted) in [(DEAL, 1), (tricks.as_str(), 32), (eighth, 4)] {
+        let (_, result) = answers(rt.alloc(), &mut store, text.as_bytes());
+        expect_eq(&rt, result, Ok(served(accepted, accepted)), "eight tricks");
+    }
+    let mut kept = Cache::new(rt.alloc(), 2)?;
+    let mut tried = 0;
+    for (text, due) in [
+        (
+            "SOLVE 100 1 1 1 28\nSOLVE 100 1 1 1 32\n",
+            "OK 6 0\nOK 5 0\n",
+        ),
+        (
+            "SOLVE 100 1 1 1 32\nSOLVE 100 1 1 1 28\n",
+            "OK 5 0\nOK 6 0\n",
+        ),
+    ] {
+        let before = tried;
+        let mut reader = text.as_bytes();
+        let mut written = Vec::new(rt.alloc());
+        let result = serve_with(&mut store, Some(&mut kept), &mut reader, &mut written);
+        expect_eq(&rt, result, Ok(served(2, 0)), text);
+        expect_eq(&rt, written.as_slice(), due.as_bytes(), text);
+        tried = kept.tried();
+        expect_eq(&rt, tried > before, before == 0, "searched once alone");
     }
     Ok(())
 }

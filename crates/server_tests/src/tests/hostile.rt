@@ -39,16 +39,19 @@ const ROWS: [(&[u8], &str); 10] = [
 fn lines_whole_and_byte_by_byte(rt: HostRuntime) -> Result<(), Fail> {
     let mut store = opened(rt.alloc(), CLUB, u64::MAX)?;
     for (text, due) in ROWS {
-        let (written, _) = answers(rt.alloc(), &mut store, text);
+        let lines = text.iter().filter(|byte| **byte == b'\n').count() as u32;
+        let (written, result) = answers(rt.alloc(), &mut store, text);
         expect_eq(&rt, written.as_slice(), due.as_bytes(), text);
+        expect_eq(&rt, result, Ok(served(lines, 0)), text);
         let mut reader = ByteByByte {
             text,
             next: 0,
             left: text.len(),
         };
         let mut written = Vec::new(rt.alloc());
-        let _ = serve_all(&mut store, &mut reader, &mut written);
+        let result = serve_all(&mut store, &mut reader, &mut written);
         expect_eq(&rt, written.as_slice(), due.as_bytes(), text);
+        expect_eq(&rt, result, Ok(served(lines, 0)), text);
     }
     Ok(())
 }
