@@ -11,7 +11,8 @@ pub const GAME_BYTES: usize = 4096;
 /// The text of a game.
 pub type GameText = ArrayString<GAME_BYTES>;
 
-/// The room for a line with a tag pair: a name of at most 10 bytes, and a value of at most the 69 of a deal.
+/// The room for a line with a tag pair: a name of at most 10 bytes, and a value of at most the 69 of a deal. One byte is
+/// to spare.
 pub const TAG_BYTES: usize = 86;
 
 /// Adds a line with a tag pair.

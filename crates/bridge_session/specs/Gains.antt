@@ -1,4 +1,4 @@
--- The ranges of what a pair gains.
+-- The ranges of what a pair gains, and the lists of scores that it is computed from.
 use Rattle.std.specs.Prelude.{◌≡◌, ℕ, ◌*◌, ◌-◌, ◌≤◌, List, [], ◌∷◌, ◌++◌, slice_index_or, slice_set, length, map, filter, All, ℤ, pos, neg_ℤ, ◌≤ℤ◌}
 use Rattle.std.specs.List.{range_with_len}
 use Rattle.bridge_cards.specs.declared.seat.Side.TheVariants.{NorthSouth, EastWest}

@@ -82,11 +82,11 @@ state_of configuration round deals tables = record {
   records = map (map plain_of) tables;
 }
 
--- what the parts of a session state is a session
+-- what the fields of a session state is a session
 unfoldable pub StateASession : Configuration → ℕ → List (Option (List ℕ)) → List (List Record) → Type 0
 StateASession configuration round deals tables = IsSession (state_of configuration round deals tables)
 
--- The parts of a session: they state one, there are as many as the configuration says, and the records are tied to
+-- The fields of a session: they state one, there are as many as the configuration says, and the records are tied to
 -- the deals and of the boards of their rows.
 pub record IsKept (configuration : Configuration) (round : ℕ) (deals : List (Option (List ℕ))) (tables : List (List Record)) : Type 0 where
   pub session : StateASession configuration round deals tables

@@ -1,4 +1,4 @@
--- Reading the part of a play from left to right: a value, and the bytes behind it.
+-- Reading the parts of plays, deals and rows from left to right: a value, and the bytes behind it.
 use Rattle.std.specs.Prelude.{◌≡◌, ℕ, ◌≤◌, ◌==◌, nat_lt, nat_le, Bool, true, false, not, ◌&&◌, ◌||◌, if◌then◌else◌, map, List, [], ◌∷◌, ◌++◌, length, take, drop, Option, Some, None, is_some, IfSome, option_and_then, slice_get, All}
 use Rattle.std.specs.List.{list_all}
 use Rattle.std.specs.Global.{Vec}

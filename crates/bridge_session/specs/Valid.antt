@@ -73,7 +73,7 @@ IsDeed deed.Refuse = Unit {0}
 abbrev pub IsPlayId : PlayId → Type 0
 IsPlayId play = (1 ≤ play.round) × (1 ≤ play.table) × (1 ≤ play.index)
 
--- the numbers that an action names are within their ranges
+-- what the laws of valid sessions need of the numbers that an action names; `ActionRange` has their whole ranges
 abbrev pub IsAction : Action → Type 0
 IsAction (Deal key board hands) = 1 ≤ board
 IsAction (Call key board at call) = IsCall call

@@ -11,7 +11,7 @@ pub struct PlayId {
     pub round: RoundNumber,
     /// The table, 1 to 12.
     pub table: TableNumber,
-    /// Which board of the table's set, in order.
+    /// Which board of the table's set, 1 to 3.
     pub index: BoardIndex,
 }
 

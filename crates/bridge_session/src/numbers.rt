@@ -97,7 +97,7 @@ impl TableNumber {
     }
 }
 
-/// The place of a board in its set, 1 to 3.
+/// Which board of its set, 1 to 3.
 #[derive(Clone, Copy, Debug, PartialEq, Eq)]
 pub struct BoardIndex {
     number: u8,
@@ -117,7 +117,7 @@ impl Model for BoardIndex {
 }
 
 impl BoardIndex {
-    /// The place of that number, or `None` where it is not from 1 to 3.
+    /// The board of that number in its set, or `None` where it is not from 1 to 3.
     pub fn new(number: u8) -> Option<BoardIndex>
         ensures valid { IsSome result ↔ IsBoardIndex number }
         ensures value { IfSome result (λ made. made ≡ number) }

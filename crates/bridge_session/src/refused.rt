@@ -14,7 +14,7 @@ pub enum Refused {
     NotAllowed,
     /// The session is closed.
     Closed,
-    /// There is no such play at a live table, no such board in the session, or no such field.
+    /// There is no such play of a live row, no such board in the session, or no such field.
     NoSuchPlay,
     /// The play's round has not begun.
     NotYet,

@@ -21,7 +21,7 @@ pub trait Kept: Sized + Drop {
         ensures count { result ≡ length (kept.parts self.now) }
         ensures state { kept.IsState self.now };
 
-    /// Clears `part`, and writes part `i` of the state into it.
+    /// Clears `part`, and writes part `i` of the state into it, counted from 0.
     fn write_part(&self, i: u32, part: &mut ArrayVec<u8, 480>)
         requires { i < length (kept.parts self.now) }
         ensures { part.new.items ≡ slice_index_or (kept.parts self.now) i [] };

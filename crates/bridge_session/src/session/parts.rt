@@ -53,7 +53,7 @@ impl Session {
     }
 
     /// Writes the part of a board or a play by its place among these into an empty list.
-    fn write_board(&self, place: usize, part: &mut ArrayVec<u8, 480>)
+    fn write_from_boards(&self, place: usize, part: &mut ArrayVec<u8, 480>)
         requires within { place < length (board_parts self.now) }
         requires empty { part.old.items ≡ [] }
         ensures { part.new.items ≡ slice_index_or (board_parts self.now) place [] }
@@ -67,7 +67,7 @@ impl Session {
     }
 
     /// Writes the part of a pair, a board or a play by its place among these into an empty list.
-    fn write_pair(&self, place: usize, part: &mut ArrayVec<u8, 480>)
+    fn write_from_pairs(&self, place: usize, part: &mut ArrayVec<u8, 480>)
         requires within { place < length (pair_parts self.now) }
         requires empty { part.old.items ≡ [] }
         ensures { part.new.items ≡ slice_index_or (pair_parts self.now) place [] }
@@ -76,20 +76,20 @@ impl Session {
         if place < pairs.len() {
             write_pair(&pairs[place], part);
         } else {
-            self.write_board(place - pairs.len(), part);
+            self.write_from_boards(place - pairs.len(), part);
         }
     }
 
-    /// Clears `part`, and writes the part of the session of that place into it, the places counted from 0.
-    pub fn write_part(&self, place: u32, part: &mut ArrayVec<u8, 480>)
-        requires { place < length (parts_of self.now) }
-        ensures { part.new.items ≡ slice_index_or (parts_of self.now) place [] }
+    /// Clears `part`, and writes the part of the session of that index into it, counted from 0.
+    pub fn write_part(&self, index: u32, part: &mut ArrayVec<u8, 480>)
+        requires { index < length (parts_of self.now) }
+        ensures { part.new.items ≡ slice_index_or (parts_of self.now) index [] }
     {
         part.clear();
-        match place {
+        match index {
             0 => write_configuration(&self.config, self.round, part),
             1 => write_movement(self.config.fields().movement.rows(), part),
-            _ => self.write_pair(place as usize - 2, part),
+            _ => self.write_from_pairs(index as usize - 2, part),
         }
     }
 }

@@ -221,7 +221,8 @@ fn changed(
     Ok(disk)
 }
 
-// Too small, not formatted, without the pair of the fourth part, and in the last epoch.
+// Too small, not formatted, without the pair of part 3, with a space in the name of its first player, which is a part in
+// form but of no session, and in the last epoch.
 #[test]
 fn disks_that_are_not_opened(rt: HostRuntime) -> Result<(), Fail> {
     for (disk, due) in [
@@ -230,6 +231,10 @@ fn disks_that_are_not_opened(rt: HostRuntime) -> Result<(), Fail> {
         (
             changed(rt.alloc(), 1, 4, 0, 512, 0)?,
             StoreFault::Damaged(4),
+        ),
+        (
+            changed(rt.alloc(), 1, 4, 19, 20, b' ')?,
+            StoreFault::Damaged(0),
         ),
         (
             changed(rt.alloc(), 10, 0, 4, 12, 255)?,

@@ -24,6 +24,22 @@ PAIR 5 Ida 51 Jan 52
 PAIR 6 Kim 61 Lea 62
 ";
 
+/// The same with one board in each set.
+const ONE_BOARD: &str = "EVENT Club-Night
+SITE Town-Hall
+DATE 2026.03.14
+SCORING IMP
+BOARDS 1
+MITCHELL 3
+DIRECTOR 100
+PAIR 1 Ann 11 Bob 12
+PAIR 2 Cat 21 Dan 22
+PAIR 3 Eve 31 Fay 32
+PAIR 4 Gus 41 Hal 42
+PAIR 5 Ida 51 Jan 52
+PAIR 6 Kim 61 Lea 62
+";
+
 /// What a player sees is what was done in the current play of the table.
 fn expect_view(rt: &impl Abort, session: &Session, twin: &Twin, key: Key) {
     match (session.see(key), twin.sight(key)) {
@@ -54,8 +70,9 @@ fn expect_view(rt: &impl Abort, session: &Session, twin: &Twin, key: Key) {
 
 /// What came of each play.
 fn expect_outcomes(rt: &impl Abort, session: &Session, twin: &Twin) -> Option<()> {
-    for row in twin.config.fields().movement.rows() {
-        for index in 1..3 {
+    let fields = twin.config.fields();
+    for row in fields.movement.rows() {
+        for index in 1..=fields.boards {
             let play = PlayId {
                 round: RoundNumber::new(row.round)?,
                 table: TableNumber::new(row.table)?,
@@ -70,14 +87,15 @@ fn expect_outcomes(rt: &impl Abort, session: &Session, twin: &Twin) -> Option<()
     Some(())
 }
 
-/// So many actions of one session. The result is how many were taken.
+/// So many actions of one session. The result is the session, and how many were taken.
 fn run_session(
     rt: &impl Abort,
     alloc: Global,
+    text: &str,
     state: &mut u32,
     actions: u32,
-) -> Result<usize, Fail> {
-    let text = TWO_BOARDS.as_bytes();
+) -> Result<(Session, usize), Fail> {
+    let text = text.as_bytes();
     let (Ok(config), Ok(again)) = (read_config(text), read_config(text)) else {
         return Err(Fail::from("a configuration"));
     };
@@ -98,15 +116,29 @@ fn run_session(
     }
     expect_eq(rt, usize::from(session.round()), twin.round(), "round");
     expect_outcomes(rt, &session, &twin).ok_or("a play")?;
-    Ok(twin.taken.len())
+    Ok((session, twin.taken.len()))
 }
 
 #[test]
 fn random_sessions_are_answered_alike(rt: HostRuntime) -> Result<(), Fail> {
     let mut state = 1;
-    for _ in 0..200 {
-        let taken = run_session(&rt, rt.alloc(), &mut state, 150)?;
+    for _ in 0..190 {
+        let (_, taken) = run_session(&rt, rt.alloc(), TWO_BOARDS, &mut state, 150)?;
         expect_eq(&rt, taken > 20, true, taken);
     }
+    Ok(())
+}
+
+// Sessions of nine plays, of which some are played to the end.
+#[test]
+fn long_random_sessions_are_answered_alike(rt: HostRuntime) -> Result<(), Fail> {
+    let (mut state, mut closed) = (2, 0u32);
+    for _ in 0..10 {
+        let (session, _) = run_session(&rt, rt.alloc(), ONE_BOARD, &mut state, 1200)?;
+        if session.see(Key(11)).err() == Some(Refused::Closed) {
+            closed = closed.saturating_add(1);
+        }
+    }
+    expect_eq(&rt, closed > 1, true, closed);
     Ok(())
 }

@@ -5,7 +5,7 @@ use Rattle.bridge_config.specs.Configuration.{Configuration, Pair, pair_of}
 use Rattle.bridge_session.specs.State.{State}
 use Rattle.bridge_session.specs.Parts.{pair_part}
 use Rattle.bridge_session.proofs.PartPlaces.{place_of_pair}
-use Rattle.bridge_session.proofs.session.Session.write_pair.Goals as goal
+use Rattle.bridge_session.proofs.session.Session.write_from_pairs.Goals as goal
 
 pub returns-then-place-pairs : goal.returns-then-place-pairs
 returns-then-place-pairs c =
