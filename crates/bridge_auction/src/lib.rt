@@ -26,4 +26,4 @@ pub use contract::{Contract, Doubling};
 pub use level::Level;
 pub use longest::{MOST_CALLS, longest_auction};
 pub use refused::CallRefused;
-pub use spelling::{denomination_text, doubling_text, read_call};
+pub use spelling::{denomination_text, doubling_text, print_bid, read_call};

@@ -1,13 +1,15 @@
 //! How calls and contracts are spelled.
-ghost use Rattle.std.specs.Prelude.{◌≡◌, ◌≢◌, ◌≤◌, length, IfSome, IfNone};
+ghost use Rattle.std.specs.Prelude.{◌≡◌, ◌≢◌, ◌+◌, ◌≤◌, ◌++◌, length, IfSome, IfNone};
+ghost use Rattle.arrayvec.specs.ArrayString.{array_string_len};
 ghost use Rattle.bridge_auction.specs.declared.call.Call.{Call};
 ghost use Rattle.bridge_auction.specs.Call.{IsCall};
-ghost use Rattle.bridge_auction.specs.Spelling.{denomination_text, doubling_text, call_text, denomination_of, bid_of, call_of};
+ghost use Rattle.bridge_auction.specs.Spelling.{denomination_text, doubling_text, bid_text, call_text, denomination_of, bid_of, call_of};
 
 use crate::bid::{Bid, Denomination};
 use crate::call::Call;
 use crate::contract::Doubling;
 use crate::level::Level;
+use arrayvec::ArrayString;
 
 /// Reads a call: `PASS`, `X`, `XX`, or a bid from `1C` to `7NT`.
 pub fn read_call(text: &[u8]) -> Option<Call>
@@ -72,6 +74,16 @@ pub fn denomination_text(denomination: Denomination) -> &'static str
         Denomination::Spades => "S",
         Denomination::NoTrump => "NT",
     }
+}
+
+/// Writes a bid at the text's end, as `1NT`. It takes three bytes at most.
+pub fn print_bid<const N: usize>(bid: Bid, text: &mut ArrayString<N>)
+    requires { array_string_len text.old + 3 ≤ N }
+    ensures text { text.new.bytes ≡ text.old.bytes ++ bid_text bid }
+    ensures room { array_string_len text.new ≤ array_string_len text.old + 3 }
+{
+    text.push(char::from(b'0' + bid.level.number()));
+    text.push_str(denomination_text(bid.denomination));
 }
 
 /// Nothing, `X` or `XX`.

@@ -14,9 +14,9 @@ use Rattle.bridge_session.specs.declared.outcome.Outcome.{Outcome}
 use Rattle.bridge_session.specs.declared.outcome.Outcome.TheVariants.{Unfinished, PassedOut, Played, Voided}
 use Rattle.bridge_pbn.specs.Lines.{tag}
 
--- the name of a pair's first player, at place 0, or second, at place 1
+-- the name of a pair's first player, at index 0, or second, at index 1
 abbrev pub player_name : List Pair → ℕ → ℕ → List ℕ
-player_name pairs pair place = unwrap_or (option_and_then (λ (p : Pair). slice_get p.names place) (slice_get pairs (pair - 1))) []
+player_name pairs pair index = unwrap_or (option_and_then (λ (p : Pair). slice_get p.names index) (slice_get pairs (pair - 1))) []
 
 abbrev pub scoring_text : Scoring → List ℕ
 scoring_text MatchPoints = codes "MP"

@@ -2,12 +2,11 @@
 ghost use Rattle.std.specs.Prelude.{◌≡◌, ◌+◌, ◌*◌, ◌/◌, ◌≤◌, ◌∷◌, ◌++◌, [], if◌then◌else◌, codes, length, map};
 ghost use Rattle.std.specs.List.{range_with_len};
 ghost use Rattle.arrayvec.specs.ArrayString.{array_string_len};
-ghost use Rattle.bridge_auction.specs.Spelling.{bid_text};
 ghost use Rattle.bridge_pbn.specs.Lines.{lines_text, spaced};
 ghost use Rattle.bridge_pbn.specs.Sections.{call_text, calls_line, auction_lines};
 
 use crate::text::{GAME_BYTES, GameText, TAG_BYTES, push_tag};
-use bridge_auction::{Bid, Call, denomination_text};
+use bridge_auction::{Call, print_bid};
 use bridge_cards::{Seat, seat_text};
 
 /// The room for a call and the space before it.
@@ -19,16 +18,6 @@ pub const LINE_BYTES: usize = 21;
 /// The room for an Auction section: that of its tag pair and of 80 lines, for the longest auction has 319 calls.
 pub const AUCTION_BYTES: usize = TAG_BYTES + 80 * LINE_BYTES;
 
-/// Adds a bid.
-fn push_bid(text: &mut GameText, bid: Bid)
-    requires { array_string_len text.old + 3 ≤ GAME_BYTES }
-    ensures text { text.new.bytes ≡ text.old.bytes ++ bid_text bid }
-    ensures room { array_string_len text.new ≤ array_string_len text.old + 3 }
-{
-    text.push(char::from(b'0' + bid.level.number()));
-    text.push_str(denomination_text(bid.denomination));
-}
-
 /// Adds a call, as `Pass`, `X`, `XX` or `1NT`.
 fn push_call(text: &mut GameText, call: Call)
     requires { array_string_len text.old + 4 ≤ GAME_BYTES }
@@ -37,7 +26,7 @@ fn push_call(text: &mut GameText, call: Call)
 {
     match call {
         Call::Pass => text.push_str("Pass"),
-        Call::Bid(bid) => push_bid(text, bid),
+        Call::Bid(bid) => print_bid(bid, text),
         Call::Double => text.push_str("X"),
         Call::Redouble => text.push_str("XX"),
     }

@@ -1,5 +1,5 @@
 //! The short texts of which the values of tag pairs are made.
-ghost use Rattle.std.specs.Prelude.{◌≡◌, ◌≤◌, length, map};
+ghost use Rattle.std.specs.Prelude.{◌≡◌, ◌<◌, ◌≤◌, length, map};
 ghost use Rattle.bridge_config.specs.Configuration.{pair_of};
 ghost use Rattle.bridge_pbn.specs.Tags.{scoring_text, player_name};
 
@@ -17,24 +17,14 @@ pub fn scoring_text(scoring: Scoring) -> &'static str
     }
 }
 
-/// The name of a pair's first player.
-pub fn first_name(pairs: &[PairFields], pair: u8) -> &str
-    ensures name { result.now ≡ player_name (map pair_of pairs.now) pair 0 }
+/// The name of a pair's player, the first at index 0 and the second at 1.
+pub fn player_name(pairs: &[PairFields], pair: u8, index: usize) -> &str
+    requires { index < 2 }
+    ensures name { result.now ≡ player_name (map pair_of pairs.now) pair index }
     ensures short { length result.now ≤ 24 }
 {
     match pairs.get(usize::from(pair.saturating_sub(1))) {
-        Some(found) => found.names[0].as_str(),
-        None => "",
-    }
-}
-
-/// The name of a pair's second player.
-pub fn second_name(pairs: &[PairFields], pair: u8) -> &str
-    ensures name { result.now ≡ player_name (map pair_of pairs.now) pair 1 }
-    ensures short { length result.now ≤ 24 }
-{
-    match pairs.get(usize::from(pair.saturating_sub(1))) {
-        Some(found) => found.names[1].as_str(),
+        Some(found) => found.names[index].as_str(),
         None => "",
     }
 }

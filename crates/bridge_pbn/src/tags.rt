@@ -8,10 +8,10 @@ ghost use Rattle.bridge_config.specs.Configuration.{pair_of};
 ghost use Rattle.bridge_pbn.specs.Lines.{lines_text, tag};
 ghost use Rattle.bridge_pbn.specs.Tags.{event_tags, player_tags, board_tags, outcome_tags, table_tags};
 
-use crate::names::{first_name, scoring_text, second_name};
+use crate::names::{player_name, scoring_text};
 use crate::text::{GAME_BYTES, GameText, TAG_BYTES, push_tag};
 use arrayvec::ArrayString;
-use bridge_auction::{Contract, denomination_text, doubling_text};
+use bridge_auction::{Contract, doubling_text, print_bid};
 use bridge_cards::{
     BoardNumber, Deal, dealer, print_deal, seat_text, vulnerability_of, vulnerability_text,
 };
@@ -50,10 +50,10 @@ pub fn push_player_tags(text: &mut GameText, pairs: &[PairFields], row: Row)
     ensures lines { text.new.bytes ≡ text.old.bytes ++ lines_text (player_tags (map pair_of pairs.now) row) }
     ensures room { array_string_len text.new ≤ array_string_len text.old + 4 * TAG_BYTES }
 {
-    push_tag(text, "West", second_name(pairs, row.ew));
-    push_tag(text, "North", first_name(pairs, row.ns));
-    push_tag(text, "East", first_name(pairs, row.ew));
-    push_tag(text, "South", second_name(pairs, row.ns));
+    push_tag(text, "West", player_name(pairs, row.ew, 1));
+    push_tag(text, "North", player_name(pairs, row.ns, 0));
+    push_tag(text, "East", player_name(pairs, row.ew, 0));
+    push_tag(text, "South", player_name(pairs, row.ns, 1));
 }
 
 /// Adds the dealer, the vulnerability and the hands of the board, and how scores are compared.
@@ -80,8 +80,7 @@ fn contract_text(contract: &Contract) -> ArrayString<8>
     ensures { result.bytes ≡ bid_text contract.now.bid ++ doubling_text contract.now.doubling }
 {
     let mut text = ArrayString::new();
-    text.push(char::from(b'0' + contract.bid.level.number()));
-    text.push_str(denomination_text(contract.bid.denomination));
+    print_bid(contract.bid, &mut text);
     text.push_str(doubling_text(contract.doubling));
     text
 }

@@ -28,16 +28,6 @@ tricks_won-front contract cards rest side (suc tricks) within =
     ap (λ won. more won (leader_of contract (cards ++ rest) (suc tricks))) (tricks_won-front contract cards rest side tricks (omega arith))
     ∙ ap (more (tricks_won contract cards side tricks)) (leader_of-front contract cards rest (suc tricks) within)
 
--- a card that makes no trick whole
-same_tricks : (n : ℕ) → n % 4 ≢ 0 → (n - 1) / 4 ≡ n / 4
-same_tricks n part = omega arith
-
-pub same_leader : (contract : Contract) (cards : List ℕ) → length cards % 4 ≢ 0 → leader_of contract cards ((length cards - 1) / 4) ≡ leader_of contract cards (length cards / 4)
-same_leader contract cards part = ap (leader_of contract cards) (same_tricks (length cards) part)
-
-pub same_won : (contract : Contract) (cards : List ℕ) (side : Side) → length cards % 4 ≢ 0 → tricks_won contract cards side ((length cards - 1) / 4) ≡ tricks_won contract cards side (length cards / 4)
-same_won contract cards side part = ap (tricks_won contract cards side) (same_tricks (length cards) part)
-
 -- a card that makes one whole
 one_trick_more : (n : ℕ) → 0 < n → n % 4 ≡ 0 → n / 4 ≡ suc ((n - 1) / 4)
 one_trick_more n some whole = omega arith
@@ -50,13 +40,6 @@ winner_leads contract cards some whole =
     ap (λ n. take 4 (drop n cards)) start ∙ take_all 4 (drop (length cards - 4) cards) (omega (arith, length-drop (length cards - 4) cards)) in
     ap (leader_of contract cards) (one_trick_more (length cards) some whole)
     ∙ ap (next_leader (trump_of contract) (leader_of contract cards before)) last
-
-pub winner_won : (contract : Contract) (cards : List ℕ) (side : Side) → 0 < length cards → length cards % 4 ≡ 0 → tricks_won contract cards side (length cards / 4) ≡ tricks_won contract cards side ((length cards - 1) / 4) + (if plays_for side (leader_of contract cards (length cards / 4)) then 1 else 0)
-winner_won contract cards side some whole =
-    let before : ℕ = (length cards - 1) / 4 in
-    let more : length cards / 4 ≡ suc before = one_trick_more (length cards) some whole in
-    ap (tricks_won contract cards side) more
-    ∙ ap (λ tricks. tricks_won contract cards side before + (if plays_for side (leader_of contract cards tricks) then 1 else 0)) (sym more)
 
 -- the tricks that were whole before the last card
 tricks_before : (cards : List ℕ) (card : ℕ) → (length (cards ++ card ∷ []) - 1) / 4 ≡ length cards / 4

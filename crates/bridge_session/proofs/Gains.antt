@@ -155,10 +155,3 @@ lines_apart scoring games first n lines is = λ i j d less within same.
     let a = pair_at i (omega arith) in
     let b = pair_at j (omega arith) in
     omega (arith, a, b, same)
-
--- what holds of all lines is shown within the limits
-pub line_within : (scoring : Scoring) (line : Line) → IsGainWithin scoring line.value line.available → line.available ≤ 123552 → IsLine scoring line
-line_within MatchPoints line within few = (omega arith, within)
-line_within Imps line within few =
-    let small = within_small Imps line.value line.available within few in
-    (omega arith, (omega (arith, ints, small.least, small.most), omega (arith, ints, small.least, small.most)))

@@ -134,13 +134,6 @@ pub not_played : (hands : List ℕ) (plain : PlainRecord) (contract : Contract) 
 not_played hands plain contract is refused played =
     refused (subst (λ o. IfSome (option_map (playing_in hands plain) o) IsPlay) is played.play)
 
-pub is_played : (hands : List ℕ) (plain : PlainRecord) (contract : Contract) → contract_in plain ≡ Some contract
-    → IsPlay (playing_in hands plain contract) → IsPlayed hands plain
-is_played hands plain contract is play = record {
-  unplayed = λ none. absurd (not_some contract (sym none ∙ is));
-  play = subst (λ o. IfSome (option_map (playing_in hands plain) o) IsPlay) (sym is) play;
-}
-
 pub is_unplayed : (hands : List ℕ) (plain : PlainRecord) → contract_in plain ≡ None → IsUnplayed plain → IsPlayed hands plain
 is_unplayed hands plain none unplayed = record {
   unplayed = λ _. unplayed;
@@ -270,10 +263,6 @@ is_undealt : (deal : Option (List ℕ)) → deal ≡ None → is_some deal ≡ f
 is_undealt None is = refl
 is_undealt (Some hands) is = absurd cc
 
-no_deal : (deal : Option (List ℕ)) → is_some deal ≡ false → deal ≡ None
-no_deal None is = refl
-no_deal (Some hands) is = absurd cc
-
 -- what is known where the auction and the play were read
 pub record AreRead (deal : Option (List ℕ)) (board : ℕ) (auction : Bidding) (fields : Fields) (play : Option Playing) : Type 0 where
   pub dealer : auction.dealer ≡ dealer_of board
@@ -294,14 +283,6 @@ module _ (deals : List (Option (List ℕ))) (now round : ℕ) (deal : Option (Li
   valid_played deal_is valid = record {
     unplayed = valid.unplayed;
     play = subst (λ d. IfSome (play_of (unwrap_or d []) (plain_from board auction.calls fields)) IsPlay) (sym deal_is) valid.play;
-  }
-
-  pub read_tied : (play : Option Playing) → deal ≡ deal_on deals board → AreRead deal board auction fields play
-      → IsTiedIn deals (kept_of board auction play fields.ruling)
-  read_tied play deal_is read = record {
-    tied = subst (λ d. IsTied (unwrap_or d []) (kept_of board auction play fields.ruling)) deal_is
-        (kept_tied (unwrap_or deal []) board auction fields play read.dealer read.play_is read.played);
-    undealt = λ none. read.undealt (is_undealt deal (deal_is ∙ none));
   }
 
   pub read_valid : (play : Option Playing) → deal ≡ deal_on deals board → AreRead deal board auction fields play
@@ -350,10 +331,6 @@ module _ (deals : List (Option (List ℕ))) (now round : ℕ) (deal : Option (Li
       ap is_agreed_in (kept_is (unwrap_or deal []) board auction fields play read.play_is read.played
       ∙ sym (plain_is plain board auction.calls fields board_is legal read.legal numbers is))
       ∙ ap (λ (f : Fields). f.agreed) is
-
-  pub undealt_is : (plain : PlainRecord) → deal ≡ deal_on deals board → plain.board ≡ board → IsValidRecord deals now round plain → is_some deal ≡ false → plain.calls ≡ []
-  undealt_is plain deal_is board_is valid none =
-      valid.dealt (ap (deal_on deals) board_is ∙ sym deal_is ∙ no_deal deal none)
 
 -- Results
 

@@ -46,7 +46,3 @@ within_push [] byte within other = rw other refl
 within_push (first ∷ line) byte within other =
     let parts = not_line_feed (nat_eq first 10) (list_all is_within_line line) within in
     rw (parts.0, within_push line byte parts.1 other) refl
-
--- a line that begins with more than 128 bytes is long
-pub long_front : (begun line : List ℕ) → 128 < length begun → is_long (begun ++ line) ≡ true
-long_front begun line long = le-leb 129 (length (begun ++ line)) (omega (arith, length-append begun line))

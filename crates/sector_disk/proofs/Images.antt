@@ -82,10 +82,6 @@ all_cut n v sectors is k = subst (λ (s : List Held). restarted (sector_at s k) 
   | inr past ↦ subst (λ (h : Held). restarted h ≡ h) (sym (get_or_past (replicate n (cut_to v)) k blank (omega (arith, length-replicate n (cut_to v))))) refl
 ])
 
--- and reads give the value that they began with
-pub all_zero : (n : ℕ) (v : List ℕ) (sectors : List Held) → sectors ≡ replicate n (cut_to v) → (k : ℕ) → k < n → newest (sector_at sectors k) ≡ v
-all_zero n v sectors is k within = ap (λ (s : List Held). newest (sector_at s k)) is ∙ ap newest (get_or-replicate n k (cut_to v) blank within)
-
 -- sectors that lost power
 module _ (old new : List Held) (picks : ℕ → ℕ) (count : length new ≡ length old) (cut : (k : ℕ) → k < length old → sector_at new k ≡ cut_to (picked (sector_at old k) (picks k))) where
   -- no sector was written since

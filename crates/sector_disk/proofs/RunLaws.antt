@@ -22,12 +22,6 @@ module _ {D : Type 0} (disk : Disk D) (old new : D) (P : Image → Type 0) (run 
   pub now_has : (c : Image) → disk.may_leave new c → P c
   now_has c left = run.each c (disk.counts_now new (disk.moment old) c run.honest run.later left)
 
-  -- and so had what a power cut might have left at the start
-  pub start_has : disk.honest old → (c : Image) → disk.may_leave old c → P c
-  start_has honest c left =
-      let start = disk.moment old in
-      run.each c (run.keeps start c (omega arith) (disk.counts_now old start c honest (omega arith) left))
-
   -- what has P has Q
   pub weakens : (Q : Image → Type 0) → ((c : Image) → P c → Q c) → EveryMoment disk old new Q
   weakens Q so = record {
@@ -87,14 +81,6 @@ module _ {D : Type 0} (disk : Disk D) where
     moments = begins disk old (disk.may_leave old) honest (λ c left. left);
   }
 
-  -- one read more
-  pub one_read : {T E : Type 0} (old mid new : D) (i : ℕ) (bytes : List ℕ) (result : Result T E)
-      → OnlyRead disk old mid → Called disk mid new result → Reads disk mid new i bytes result → OnlyRead disk old new
-  one_read old mid new i bytes result so_far called did = record {
-    reads = λ k. did.untouched.reads k ∙ so_far.reads k;
-    moments = reads_on disk old mid new (disk.may_leave old) result so_far.moments called i bytes did;
-  }
-
   -- nothing else may be left than before
   pub only_read_leaves : (old new : D) → OnlyRead disk old new → (c : Image) → disk.may_leave new c → disk.may_leave old c
   only_read_leaves old new run = now_has disk old new (disk.may_leave old) run.moments
@@ -147,16 +133,6 @@ module _ {D : Type 0} (disk : Disk D) where
   pub quiet : (old : D) → Quiet disk old old
   quiet old = record { remains = remains old; only_read = none_read disk old }
 
-  -- one read more
-  pub quiet_read : {T E : Type 0} (old mid new : D) (i : ℕ) (bytes : List ℕ) (result : Result T E) → Quiet disk old mid
-      → Called disk mid new result → (disk.honest mid → Reads disk mid new i bytes result) → Quiet disk old new
-  quiet_read old mid new i bytes result so_far called did = record {
-    remains = remains_on old mid new result so_far.remains called;
-    only_read = λ honest.
-        one_read disk old mid new i bytes result (so_far.only_read honest) called
-        (did (so_far.remains.stays_honest honest));
-  }
-
   -- one sync more
   pub quiet_sync : {T E : Type 0} (old mid new : D) (result : Result T E) → Quiet disk old mid
       → Called disk mid new result → (disk.honest mid → Syncs disk mid new result) → Quiet disk old new
@@ -173,12 +149,6 @@ module _ {D : Type 0} (disk : Disk D) where
     only_read = λ honest.
         only_read_joins disk old mid new (first.only_read honest) (second.only_read (first.remains.stays_honest honest));
   }
-
--- after a sync that answered Ok, what may be left is what reads give
-pub synced_is : {D : Type 0} (disk : Disk D) (old new : D) → IsSynced disk old new
-    → (c : Image) → disk.may_leave new c → c ≡ disk.reads new
-synced_is disk old new synced c left =
-    image_is c (disk.reads new) (λ k. synced.images c left k ∙ sym (synced.reads k))
 
 -- what a write may leave is what might be left before, or such an image with the sector
 pub write_is : {D T E : Type 0} (disk : Disk D) (old new : D) (i : ℕ) (bytes : List ℕ) (result : Result T E)

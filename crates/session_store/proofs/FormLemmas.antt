@@ -37,10 +37,6 @@ module _ (mark : List ℕ) (epoch number : ℕ) (payload : List ℕ) (four : len
   pub take-sector : take 16 (sector mark epoch number payload) ≡ label mark epoch number
   take-sector = rw behind_label (take_seam 16 (label mark epoch number) (rest_of payload) (label_long mark epoch number four))
 
-  pub take_mark-sector : take 4 (sector mark epoch number payload) ≡ mark
-  unfolding label
-  take_mark-sector = rw (behind_label, append_assoc, append_assoc) (take_seam 4 mark _ four)
-
   pub epoch_field-sector : epoch < 2 ^ 64 → epoch_field (sector mark epoch number payload) ≡ epoch
   unfolding label epoch_field
   epoch_field-sector small =

@@ -78,10 +78,6 @@ module _ {S A R : Type 0} (kept : Keeping S A R) where
   unfoldable pub recovered : Image → Result S StoreFault
   recovered image = after_header image (header_in image)
 
-  -- the image stands for this state
-  abbrev pub StandsFor : S → Image → Type 0
-  StandsFor s image = recovered image ≡ Ok s
-
 -- a record's mark, and an epoch above this one
 abbrev pub IsLater : ℕ → List ℕ → Type 0
 IsLater epoch bytes = (take 4 bytes ≡ record_mark) × (epoch < epoch_field bytes)

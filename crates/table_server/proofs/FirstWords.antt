@@ -9,15 +9,6 @@ use Rattle.table_server.specs.LineWords.{first_of}
 first_more : {A : Type 0} (read : List ℕ → Option A) (word rest : List ℕ) → first_of read (word ∷ spaced_words rest) ≡ option_map (λ value. (value, spaced_words rest)) (read word)
 first_more read word rest = let parts = some_part 32 rest in rw parts.2 refl
 
--- one word alone is not
-pub first_alone : {A : Type 0} (read : List ℕ → Option A) (text : List ℕ) → spaced_words text ≡ text ∷ [] → first_of read (spaced_words text) ≡ None
-first_alone read text one = ap (first_of read) one
-
--- a first word that is not read
-pub first_unread : {A : Type 0} (read : List ℕ → Option A) (text word rest : List ℕ) → spaced_words text ≡ word ∷ spaced_words rest → None ≡ read word → first_of read (spaced_words text) ≡ None
-first_unread read text word rest parts unread =
-    ap (first_of read) parts ∙ first_more read word rest ∙ ap (option_map (λ value. (value, spaced_words rest))) (sym unread)
-
 -- a first word that is read
 pub first_read : {A : Type 0} (read : List ℕ → Option A) (text word rest : List ℕ) (value : A) → spaced_words text ≡ word ∷ spaced_words rest → Some value ≡ read word → first_of read (spaced_words text) ≡ Some (value, spaced_words rest)
 first_read read text word rest value parts found =

@@ -56,24 +56,6 @@ heard_piece dealer given rest rest' before written written' old new left left' h
       within = answers.within;
     }
 
--- nothing was heard yet
-pub heard_none : (dealer : Seat) (given before : Option (List ℕ)) (auction_lines : AuctionLines) → auction_lines.dealer ≡ dealer → auction_lines.calls ≡ [] → auction_lines.line ≡ [] → Heard dealer given given before before auction_lines 65536
-heard_none dealer given before auction_lines dealt no_calls no_line = record {
-  bytes = [];
-  count = refl;
-  consumed = Consumes-nil given;
-  appended = Appends-nil before;
-  replies = λ more. rw (no_calls, no_line) refl;
-  calls = λ more. rw (no_calls, no_line) refl;
-  dealt = dealt;
-  within = rw no_line refl;
-}
-
--- a read fault after what was heard
-pub stops_reading : (dealer : Seat) (given rest rest' before written : Option (List ℕ)) (auction_lines : AuctionLines) (left : ℕ) → Heard dealer given rest before written auction_lines left → 0 < left → Keeps rest rest' → StopsAt dealer (between given rest') (between before written) Read
-stops_reading dealer given rest rest' before written auction_lines left h some kept =
-    (h.bytes, omega (arith, h.count), Consumes-kept given rest rest' h.bytes h.consumed kept, h.appended)
-
 -- a prefix of the replies to the bytes read is a prefix of the whole output, where the bytes given are known
 prefix_of_whole : (dealer : Seat) (given rest before written : Option (List ℕ)) (auction_lines : AuctionLines) (bytes : List ℕ) → length bytes ≤ byte_limit → Consumes given rest bytes → ((more : List ℕ) → replies_to [] (complete_lines (bytes ++ more)) ≡ replies_to [] (complete_lines bytes) ++ replies_from auction_lines more) → TakesPrefix (between before written) (replies_to [] (complete_lines bytes)) → IfSome given (λ input. TakesPrefix (between before written) (auction_output dealer input))
 prefix_of_whole dealer None rest before written auction_lines bytes room consumed replies prefix = tt

@@ -96,10 +96,6 @@ pub hears_line : (bytes begun new line : List ℕ) (byte : ℕ) (asked : List As
 hears_line bytes begun new line byte asked one h step within asks =
     hears_step bytes begun new byte asked (asked ++ one ∷ []) (line ∷ []) h step within (ask_one (kept_lines bytes) asked line one h.asks asks)
 
--- before the first byte
-pub hears_nothing : Hears [] [] []
-hears_nothing = record { asks = tt; joins = λ rest. refl; within = refl }
-
 module _ {D : Type 0} (disk : Disk D) where
   -- a line was answered
   pub heard_line : (start store new : StoreValue D State Action) (bytes : List ℕ) (old service : LineService) (byte : ℕ) (one : Asked) (written : List ℕ) (writer : Stream) (result : Result (Unit {0}) ServeFault)

@@ -159,22 +159,3 @@ module _ {D : Type 0} where
               (accepted_one from asked one ∙ ap (λ (t : Standing). accepted_all from asked ++ accepted t one) (sym h.standing));
           pending = omega (arith, count_waits, few, h.pending);
         }
-
-    -- before the first line
-    pub begins_holding : (store : StoreValue D State Action) → store.failed ≡ false → store.pending ≡ [] → Holding disk store [] store [] 0 []
-    begins_holding store works none = record {
-      answered = [];
-      waiting = [];
-      all = refl;
-      are_replies = refl;
-      are_held = refl;
-      begins = refl;
-      group = refl;
-      count_is = refl;
-      few = omega arith;
-      works = works;
-      worked = works;
-      standing = refl;
-      continues = continues_begins session_keeping disk store;
-      pending = rw none (omega arith);
-    }

@@ -8,7 +8,7 @@ ghost use Rattle.std.specs.List.{list_all};
 use crate::line_feed::LineFeed;
 use crate::reply::{REPLY_BYTES, Reply};
 use arrayvec::ArrayString;
-use bridge_auction::{Auction, Contract, denomination_text, doubling_text, read_call};
+use bridge_auction::{Auction, Contract, doubling_text, print_bid, read_call};
 use bridge_cards::Seat;
 use line_text::{LINE_BYTES, without_return};
 use std::marker::Model;
@@ -111,8 +111,7 @@ fn push_contract(contract: &Contract, out: &mut ArrayString<REPLIES_BYTES>)
     ensures { out.new.bytes ≡ out.old.bytes ++ contract_line (Some contract.now) }
 {
     out.push_str("CONTRACT ");
-    out.push(char::from(b'0' + contract.bid.level.number()));
-    out.push_str(denomination_text(contract.bid.denomination));
+    print_bid(contract.bid, out);
     out.push_str(doubling_text(contract.doubling));
     out.push_str(" ");
     out.push(char::from(contract.declarer.letter()));

@@ -9,7 +9,7 @@ ghost use Rattle.table_server.specs.ReplyTexts.{line_of, each_spaced};
 ghost use Rattle.table_server.specs.ViewText.{seat_word, phase_text, hand_or_dash, trick_words, claim_words, play_line, dealer_line, at_line, view_text};
 
 use crate::reply_text::{ReplyText, TEXT_BYTES, push_number, push_word};
-use bridge_auction::{Call, denomination_text};
+use bridge_auction::{Call, print_bid};
 use bridge_cards::{Card, CardSet, Seat, print_hand, seat_text, vulnerability_text};
 use bridge_session::{Trick, View};
 
@@ -118,8 +118,7 @@ fn push_call(text: &mut ReplyText, call: Call)
         Call::Pass => text.push_str(" PASS"),
         Call::Bid(bid) => {
             text.push_str(" ");
-            text.push(char::from(b'0' + bid.level.number()));
-            text.push_str(denomination_text(bid.denomination));
+            print_bid(bid, text);
         }
         Call::Double => text.push_str(" X"),
         Call::Redouble => text.push_str(" XX"),

@@ -13,14 +13,6 @@ module _ {X : Type 0} where
   pub next_taken : (xs : List X) (i : ℕ) (x : X) → i < length xs → x ≡ get_or xs i x → take (i + 1) xs ≡ take i xs ++ x ∷ []
   next_taken xs i x within is = ap (λ n. take n xs) (add-one i) ∙ take-suc xs i x within ∙ ap (λ y. take i xs ++ y ∷ []) (sym is)
 
-  pub map_next : (f : X → ℕ) (xs : List X) (i : ℕ) (x : X) → i < length xs → x ≡ get_or xs i x → map f (take (i + 1) xs) ≡ map f (take i xs) ++ f x ∷ []
-  map_next f xs i x within is = ap (map f) (next_taken xs i x within is) ∙ map-append f (take i xs) (x ∷ [])
-
-  pub flat_next : {Y : Type 0} (f : X → List Y) (xs : List X) (i : ℕ) (x : X) → i < length xs → x ≡ get_or xs i x → flat_map f (take (i + 1) xs) ≡ flat_map f (take i xs) ++ f x
-  flat_next f xs i x within is =
-      ap (flat_map f) (next_taken xs i x within is) ∙ flat_map-append f (take i xs) (x ∷ [])
-      ∙ ap (λ last. flat_map f (take i xs) ++ last) (append-nil (f x))
-
   -- lists of one length, one after the other
   module _ {Y : Type 0} (f : X → List Y) (n : ℕ) (fixed : (x : X) → length (f x) ≡ n) where
     pub length-flat_fixed : (xs : List X) → length (flat_map f xs) ≡ length xs * n

@@ -33,21 +33,6 @@ module _ (s : State) where
       get_or_append_left (map pair_part s.configuration.pairs) (board_parts s) [] place (omega (arith, within, length-map s.configuration.pairs pair_part))
       ∙ get_or-map pair_part s.configuration.pairs place pair [] within
 
-  pub place_after_pairs : (place : ℕ) → length s.configuration.pairs ≤ place → slice_index_or (pair_parts s) place [] ≡ slice_index_or (board_parts s) (place - length s.configuration.pairs) []
-  place_after_pairs place from =
-      get_or-append_right (map pair_part s.configuration.pairs) (board_parts s) (length s.configuration.pairs) place []
-      (length-map s.configuration.pairs pair_part) from
-
-  -- the part of a board
-  pub place_of_deal : (place : ℕ) (deal : Option (List ℕ)) → place < length s.deals → slice_index_or (board_parts s) place [] ≡ deal_part (slice_index_or s.deals place deal)
-  place_of_deal place deal within =
-      get_or_append_left (map deal_part s.deals) (play_parts s) [] place (omega (arith, within, length-map s.deals deal_part))
-      ∙ get_or-map deal_part s.deals place deal [] within
-
-  pub place_after_deals : (place : ℕ) → length s.deals ≤ place → slice_index_or (board_parts s) place [] ≡ slice_index_or (play_parts s) (place - length s.deals) []
-  place_after_deals place from =
-      get_or-append_right (map deal_part s.deals) (play_parts s) (length s.deals) place [] (length-map s.deals deal_part) from
-
   -- the part of a play
   pub place_of_play : (place : ℕ) (row : List PlainRecord) → 0 < s.configuration.boards → place < length s.records * s.configuration.boards
       → slice_index_or (play_parts s) place [] ≡ record_part (record_or_empty (slice_index_or s.records (place / s.configuration.boards) row) (place % s.configuration.boards))
