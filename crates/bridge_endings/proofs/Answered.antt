@@ -9,9 +9,6 @@ pub record IsAnswered (legal rest : ℕ) (answer : ℕ → Bool) (against : Bool
   pub among : (card : ℕ) → has_card rest card ≡ true → has_card legal card ≡ true
   pub tried : (card : ℕ) → has_card legal card ≡ true → has_card rest card ≡ false → answer card ≡ against
 
-pub answered_init : (legal : ℕ) (answer : ℕ → Bool) (against : Bool) → IsAnswered legal legal answer against
-answered_init legal answer against = record { among = λ card has. has; tried = λ card has not. cc }
-
 module _ (legal rest less card : ℕ) (answer : ℕ → Bool) (against : Bool) (without : (other : ℕ) → has_card less other ≡ (has_card rest other && not (other == card))) (before : IsAnswered legal rest answer against) (now : answer card ≡ against) where
   at : (other : ℕ) (left same : Bool) → has_card rest other ≡ left → (other == card) ≡ same → has_card legal other ≡ true → (left && not same) ≡ false → answer other ≡ against
   at other true true is same may gone = ap answer (eqb-true other card same) ∙ now

@@ -20,19 +20,6 @@ use Rattle.bridge_endings.proofs.EqualWorth.{equal_worth}
 
 -- ---- who was dealt the cards of a trick
 
-pub none_dealt : (hands : List ℕ) (leader : Seat) (trick : List ℕ) → trick ≡ [] → EachDealt hands leader trick
-none_dealt hands leader trick empty k within = absurd (omega (arith, ap (length {A = ℕ}) empty))
-
-pub one_more_dealt : (hands : List ℕ) (leads leader : Seat) (longer trick : List ℕ) (card : ℕ) → leads ≡ leader → longer ≡ trick ++ card ∷ [] → EachDealt hands leader trick → dealt hands (clockwise_from leader (length trick)) card ≡ true → EachDealt hands leads longer
-one_more_dealt hands leads leader longer trick card lead is each has k within =
-    rw (lead, is) (at (cases_lt k (length trick)))
-  where
-    at : (k < length trick) ⊎ (length trick ≤ k) → dealt hands (clockwise_from leader k) (get_or (trick ++ card ∷ []) k 0) ≡ true
-    at (inl before) = rw (get_or_append_left trick (card ∷ []) 0 k before) (each k before)
-    at (inr here) =
-        let last : k ≡ length trick = omega (arith, length-append trick (card ∷ []), ap (length {A = ℕ}) is) in
-        rw (last, get_or-append_seam trick card [] 0) has
-
 -- ---- a card and its equals
 
 pub legal_held : (hand : ℕ → Bool) (trick : List ℕ) (legal : ℕ) → ((card : ℕ) → has_card legal card ≡ may_play hand trick card) → (card : ℕ) → has_card legal card ≡ true → hand card ≡ true

@@ -33,16 +33,6 @@ best_one side f p card inside only =
         let against = other_answer (nat_le need (f card)) (is_sought side) is in
         best_none need f p side card inside may (λ other legal. ap (λ c. nat_le need (f c)) (eqb-true other card (sym (only other) ∙ legal)) ∙ against) ∙ sym against
 
--- the cards of a set, when without one of them it is empty
-pub only_one : (legal rest card other : ℕ) → has_card legal card ≡ true → has_card rest other ≡ (has_card legal other && not (other == card)) → has_card rest other ≡ false → has_card legal other ≡ (other == card)
-only_one legal rest card other has without none = at (has_card legal other) (other == card) refl refl (sym without ∙ none)
-  where
-    at : (in_legal same : Bool) → has_card legal other ≡ in_legal → (other == card) ≡ same → (in_legal && not same) ≡ false → has_card legal other ≡ (other == card)
-    at true true is eq gone = is ∙ sym eq
-    at true false is eq gone = cc
-    at false true is eq gone = let same : other ≡ card = eqb-true other card eq in let there = ap (has_card legal) same in cc
-    at false false is eq gone = is ∙ sym eq
-
 -- the worth once the trick is so far, with the cards left and those still to be played
 abbrev pub worth_so_far : Option Suit → ℕ → List ℕ → ℕ → Seat → List ℕ → ℕ
 worth_so_far trump cards hands left leader trick = worth_after trump (worth_with trump cards) (left_to hands left) leader trick
@@ -70,6 +60,3 @@ whole_trick trump hands left leader winner trick whole is =
     ∙ ap (λ n. trick_for (side_of (next_leader trump leader trick)) + n) (worth_zero trump (left_to hands left) (next_leader trump leader trick) [])
     ∙ omega arith
     ∙ ap (λ (s : Seat). trick_for (side_of s)) (sym is)
-
-pub none_more_needed : (need won less : ℕ) → less ≡ need - won → (less == 0) ≡ nat_le need won
-none_more_needed need won less is = grind (arith, nat_tests)

@@ -7,11 +7,6 @@ use Rattle.bridge_cards.specs.CardSet.{has_card, is_of_suit}
 use Rattle.bridge_endings.specs.Worth.{has_suit, may_play}
 use Rattle.bridge_endings.proofs.Deck.{some_card, no_card}
 
--- the leader may play any card
-pub may_lead : (hand : ℕ → Bool) (cards : List ℕ) (card : ℕ) → slice_get cards 0 ≡ None → may_play hand cards card ≡ hand card
-may_lead hand [] card none = refl
-may_lead hand (led ∷ others) card none = cc
-
 -- the others follow suit where they can
 pub may_follow : (hand : ℕ → Bool) (cards : List ℕ) (led card : ℕ) → slice_get cards 0 ≡ Some led → may_play hand cards card ≡ (hand card && (same_suit card led || not (has_suit hand led)))
 may_follow hand [] led card some = cc

@@ -24,12 +24,6 @@ no_such p inside none x = at (p x) refl
 pub some_such : (p : ℕ → Bool) → list_any p deck ≡ true → (x : ℕ) × (p x ≡ true)
 some_such p some = let any = Any-from_list_any p deck some in (any.1, any.4)
 
-beq_true : (a b : Bool) → a ≡ b → beq a b ≡ true
-beq_true true true same = refl
-beq_true true false same = cc
-beq_true false true same = cc
-beq_true false false same = refl
-
 both : (a b : Bool) → a ≡ true → b ≡ true → (a && b) ≡ true
 both true b p q = q
 both false b p q = cc

@@ -113,14 +113,6 @@ got_first : (xs : List ℕ) (x : ℕ) → slice_get xs 0 ≡ Some x → (0 < len
 got_first [] x is = cc
 got_first (y ∷ ys) x is = (omega arith, cc)
 
-got_none : (xs : List ℕ) → slice_get xs 0 ≡ None → xs ≡ []
-got_none [] is = refl
-got_none (y ∷ ys) is = cc
-
-pub keeps_led : (trump : Option Suit) (trick : List ℕ) (card : ℕ) → slice_get trick 0 ≡ None → IsKeptWinner trump (trick ++ card ∷ []) card 0
-keeps_led trump trick card none =
-    rw (got_none trick none) (record { winning = λ some. winning_led trump card; card_is = λ some. refl })
-
 module _ (trump : Option Suit) (trick : List ℕ) (led card winner place : ℕ) (some : slice_get trick 0 ≡ Some led) (kept : IsKeptWinner trump trick winner place) where
   first_is : get_or trick 0 0 ≡ led
   first_is = (got_first trick led some).1

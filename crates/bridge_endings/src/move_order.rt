@@ -6,8 +6,17 @@ ghost use Rattle.bridge_cards.specs.CardSet.{has_card};
 use crate::trick::Trick;
 use bridge_cards::{Card, CardSet};
 
+/// Which cards are good to lead.
+#[derive(Default, Drop)]
+pub struct Leads {
+    /// Those of suits that no opponent ruffs.
+    pub safe: CardSet,
+    /// Those of them whose suit's highest card left is on the leader's side.
+    pub high: CardSet,
+}
+
 /// One of the cards, the one that the hand in turn tries first; `None` where there is none.
-pub fn next_card(cards: CardSet, trick: &Trick) -> Option<Card>
+pub fn next_card(cards: CardSet, trick: &Trick, leads: &Leads) -> Option<Card>
     ensures card { IfSome result (λ card. IsCard card × IsTrue (has_card cards card)) }
     ensures none { IsNone result ↔ (cards ≡ 0) }
 {
@@ -16,7 +25,7 @@ pub fn next_card(cards: CardSet, trick: &Trick) -> Option<Card>
         return Some(lowest);
     }
     let Some(led) = trick.led() else {
-        return Some(highest_rank(cards, lowest));
+        return Some(next_lead(cards, lowest, leads));
     };
     if !trick.partner_wins()
         && let Some(card) = trick.winners(cards).lowest()
@@ -27,6 +36,23 @@ pub fn next_card(cards: CardSet, trick: &Trick) -> Option<Card>
         Some(lowest)
     } else {
         Some(lowest_rank(cards, lowest))
+    }
+}
+
+/// The highest card of a suit of which the side has the highest, otherwise the lowest that no opponent ruffs, otherwise
+/// the highest; the other card is one of them.
+fn next_lead(cards: CardSet, other: Card, leads: &Leads) -> Card
+    requires { IsCard other × IsTrue (has_card cards other) }
+    ensures { IsCard result × IsTrue (has_card cards result) }
+{
+    let high = cards.intersection(leads.high);
+    if let Some(card) = high.lowest() {
+        return highest_rank(high, card);
+    }
+    let safe = cards.intersection(leads.safe);
+    match safe.lowest() {
+        Some(card) => lowest_rank(safe, card),
+        None => highest_rank(cards, other),
     }
 }
 

@@ -16,7 +16,7 @@ use crate::bounds::{Bounds, narrowed};
 use crate::ending::Ending;
 use crate::equal::equal_cards;
 use crate::found::{Found, PLACES, empty_table, place};
-use crate::move_order::next_card;
+use crate::move_order::{Leads, next_card};
 use crate::trick::Trick;
 use bridge_cards::{Card, CardSet, DECK, Seat, Side, Suit};
 use std::marker::Model;
@@ -214,6 +214,39 @@ impl Search {
         }
     }
 
+    /// Which cards are good to lead; none once one is led.
+    fn leads(&self, left: CardSet, trick: &Trick) -> Leads {
+        let mut leads = Leads::default();
+        if trick.len() > 0 {
+            return leads;
+        }
+        let leader = trick.turn();
+        let side = self
+            .held(left, leader)
+            .union(self.held(left, leader.partner()));
+        let next = self.held(left, leader.left());
+        let last = self.held(left, leader.clockwise(3));
+        for suit in Suit::ALL {
+            if self.ruffs(next, suit) || self.ruffs(last, suit) {
+                continue;
+            }
+            let cards = left.of_suit(suit);
+            leads.safe = leads.safe.union(cards);
+            if cards.highest().is_some_and(|card| side.has(card)) {
+                leads.high = leads.high.union(cards);
+            }
+        }
+        leads
+    }
+
+    /// Whether a hand has trumps and none of the suit.
+    fn ruffs(&self, hand: CardSet, suit: Suit) -> bool {
+        hand.of_suit(suit).is_empty()
+            && self
+                .trump
+                .is_some_and(|trump| !hand.of_suit(trump).is_empty())
+    }
+
     /// Whether North and South win at least `need` of so many tricks left, to the first of which that seat leads.
     #[cycle(search)]
     pub fn reaches_from(&mut self, left: CardSet, leader: Seat, tricks: u8, need: u8) -> bool
@@ -269,8 +302,9 @@ impl Search {
             return need == 0;
         }
         let sought = is_sought(trick.turn());
+        let leads = self.leads(left, trick);
         let mut rest = legal;
-        while let Some(card) = next_card(rest, trick) {
+        while let Some(card) = next_card(rest, trick, &leads) {
             rest = rest.without(card).difference(self.equals(card));
             if self.reaches_with(left, trick, card, tricks, need) == sought {
                 return sought;
