@@ -1,7 +1,7 @@
 -- What the command `format` makes.
-use Rattle.std.specs.Prelude.{◌≡◌, ◌⊎◌, ◌≤◌, ℕ, List, length, codes}
+use Rattle.std.specs.Prelude.{◌≡◌, ◌⊎◌, ◌≤◌, ℕ, List, Option, length, codes, Result, Ok, Err}
 use Rattle.std.specs.declared.fs.File.{File}
-use Rattle.line_text.specs.Streams.{Stream, Takes, TakesPrefix, IsUntouched}
+use Rattle.line_text.specs.Streams.{Stream, stream, Takes, TakesPrefix, IsUntouched}
 use Rattle.sector_disk.specs.declared.file.FileDisk.{FileDisk}
 use Rattle.sector_disk.specs.Disk.{Disk, Image, Rose}
 use Rattle.sector_disk.specs.File.{file_disk}
@@ -14,7 +14,7 @@ use Rattle.bridge_session.specs.State.{State}
 use Rattle.table_server.specs.declared.fault.ServeFault.TheVariants.{Read, Write}
 use Rattle.bridge_club.specs.declared.fault.RunFault.{RunFault}
 use Rattle.bridge_club.specs.declared.fault.RunFault.TheVariants.{Stream as StreamFault, Config, Store}
-use Rattle.bridge_club.specs.Opening.{Begins, IsNoSession, most_read}
+use Rattle.bridge_club.specs.Opening.{Begins, IsNoSession, IsSessionRead, StopsReading, most_read}
 
 abbrev pub formatted_line : List ℕ
 formatted_line = codes "formatted\n"
@@ -40,6 +40,28 @@ module _ {D : Type 0} (disk : Disk D) where
   FailsToFormat made session output (Config fault) = ⊥
   FailsToFormat made session output (Store fault) = (fault ≡ DiskFault)
       × ((left : D) × Rose (disk.faults made) (disk.faults left)) × IsUntouched output
+
+  -- a disk was made in a file, and of it one that holds the session, and `formatted` is written
+  abbrev pub FormatsMade : {E : Type 0} → Result D E → State → Stream → Type 0
+  FormatsMade (Ok made) session output = Formats made session output
+  FormatsMade (Err _) session output = ⊥
+
+  -- a disk was made, and that failed; or none was made, which is a fault of the disk, and nothing is written
+  abbrev pub FailsToFormatMade : {E : Type 0} → Result D E → State → Stream → RunFault → Type 0
+  FailsToFormatMade (Ok made) session output fault = FailsToFormat made session output fault
+  FailsToFormatMade (Err _) session output fault = (fault ≡ Store DiskFault) × IsUntouched output
+
+-- over a file: which bytes it still gives
+module _ {F : Type 0} (remaining : F → Option (List ℕ)) where
+  -- a file was found, and gave the whole text of a configuration, and the session is its opening
+  abbrev pub IsSessionFound : {E : Type 0} → Result F E → State → Type 0
+  IsSessionFound (Ok file) session = (after : F) × IsSessionRead (stream remaining file after) session
+  IsSessionFound (Err _) session = ⊥
+
+  -- a file was found, and a read failed, or what was read begins no session; or none was found, which is a read fault
+  abbrev pub IsNoSessionFound : {E : Type 0} → Result F E → RunFault → Type 0
+  IsNoSessionFound (Ok file) fault = (after : F) × StopsReading (stream remaining file after) fault
+  IsNoSessionFound (Err _) fault = fault ≡ StreamFault Read
 
 -- Some text spells a configuration, and the session is its opening. That it is the text of a file no contract can say.
 abbrev pub IsSessionOfFile : State → Type 0

@@ -1,5 +1,5 @@
 -- What the commands do over the session that a disk in a file holds.
-use Rattle.std.specs.Prelude.{◌≡◌, ◌⊎◌, ℕ, List, Option, None}
+use Rattle.std.specs.Prelude.{◌≡◌, ◌⊎◌, ℕ, List, Option, None, Result, Ok, Err}
 use Rattle.std.specs.declared.fs.File.{File}
 use Rattle.std.specs.declared.net.tcp.TcpStream.{TcpStream}
 use Rattle.line_text.specs.Streams.{Stream, Takes, TakesPrefix, IsUntouched}
@@ -27,6 +27,17 @@ abbrev pub RefusesFile : StoreFault → Type 0
 RefusesFile fault = (fault ≡ DiskFault) ⊎ ((d : FileDisk File) × RefusesDisk file_disk d fault)
 
 module _ (IsText : State → List ℕ → Type 0) where
+  -- a session was opened, and the text of its results is written
+  abbrev pub TellsOpened : {D : Type 0} → Result (StoreValue D State Action) StoreFault → Stream → Type 0
+  TellsOpened (Ok store) output = (text : List ℕ) × IsText store.state text × Takes output text
+  TellsOpened (Err _) output = ⊥
+
+  -- it was opened, and a write failed; or it was not, and the fault is the cause
+  abbrev pub StopsTelling : {D : Type 0} → Result (StoreValue D State Action) StoreFault → Stream → RunFault → Type 0
+  StopsTelling (Ok store) output fault =
+      (fault ≡ StreamFault Write) × ((text : List ℕ) × IsText store.state text × TakesPrefix output text)
+  StopsTelling (Err cause) output fault = (fault ≡ Store cause) × IsUntouched output
+
   -- this is the text of the results of a session that was opened on a disk in a file
   pub record Tells (text : List ℕ) : Type 0 where
     pub store : StoreValue (FileDisk File) State Action
@@ -71,6 +82,16 @@ StopsScripting input output fault = IsNotScripted input output fault ⊎ StopsOn
 abbrev pub unknown : TcpStream → Option (List ℕ)
 unknown connection = None
 
+-- there is a listener at the port, and the lines of so many connections were served
+abbrev pub ServesHeard : {L E : Type 0} → Result L E → ℕ → StoreValue (FileDisk File) State Action → StoreValue (FileDisk File) State Action → Type 0
+ServesHeard (Ok _) count start store = ServesAllConnections file_disk unknown unknown count start store
+ServesHeard (Err _) count start store = ⊥
+
+-- there is one, and the serving stopped; or there is none, and the store is as it was
+abbrev pub StopsHearing : {L E : Type 0} → Result L E → ℕ → StoreValue (FileDisk File) State Action → StoreValue (FileDisk File) State Action → RunFault → Type 0
+StopsHearing (Ok _) count start store fault = StopsConnections file_disk unknown unknown count start store fault
+StopsHearing (Err _) count start store fault = (fault ≡ StreamFault Accept) × (store ≡ start)
+
 -- there is no listener at the port, and the store is as it was; or the serving of connections stopped
 abbrev pub StopsListening : ℕ → StoreValue (FileDisk File) State Action → StoreValue (FileDisk File) State Action → RunFault → Type 0
 StopsListening count start store fault =
@@ -98,3 +119,17 @@ pub record StopsOnConnections (count : ℕ) (fault : RunFault) : Type 0 where
 
 abbrev pub StopsServingConnections : ℕ → RunFault → Type 0
 StopsServingConnections count fault = IsNotServed fault ⊎ StopsOnConnections count fault
+
+-- a session was opened, there was memory for a cache, and the lines of so many connections were served
+abbrev pub ServesConnectionsOpened : {C E : Type 0} → Result (StoreValue (FileDisk File) State Action) StoreFault → Result C E → ℕ → Type 0
+ServesConnectionsOpened (Ok start) (Ok _) count =
+    (store : StoreValue (FileDisk File) State Action) × ServesAllConnections file_disk unknown unknown count start store
+ServesConnectionsOpened (Ok start) (Err _) count = ⊥
+ServesConnectionsOpened (Err _) cache count = ⊥
+
+-- the serving stopped; or there was none, for want of memory, or for the cause for which no session was opened
+abbrev pub StopsConnectionsOpened : {C E : Type 0} → Result (StoreValue (FileDisk File) State Action) StoreFault → Result C E → ℕ → RunFault → Type 0
+StopsConnectionsOpened (Ok start) (Ok _) count fault =
+    (store : StoreValue (FileDisk File) State Action) × StopsListening count start store fault
+StopsConnectionsOpened (Ok start) (Err _) count fault = fault ≡ Store NoMemory
+StopsConnectionsOpened (Err cause) cache count fault = fault ≡ Store cause

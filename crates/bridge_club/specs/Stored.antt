@@ -1,10 +1,10 @@
 -- The session that a disk holds.
-use Rattle.std.specs.Prelude.{◌≡◌, ◌⊎◌, ◌<◌, ◌≤◌, ◌+◌, ℕ, false}
+use Rattle.std.specs.Prelude.{◌≡◌, ◌⊎◌, ◌<◌, ◌≤◌, ◌+◌, ℕ, false, Result, Ok, Err}
 use Rattle.sector_disk.specs.Disk.{Disk}
 use Rattle.session_store.specs.declared.fault.StoreFault.{StoreFault}
-use Rattle.session_store.specs.declared.fault.StoreFault.TheVariants.{TooSmall}
+use Rattle.session_store.specs.declared.fault.StoreFault.TheVariants.{TooSmall, NoMemory, Disk as DiskFault}
 use Rattle.session_store.specs.Base.{HasEpoch}
-use Rattle.session_store.specs.Opening.{IsCause, IsOpened, reading}
+use Rattle.session_store.specs.Opening.{IsCause, IsOpened, HasNext, reading}
 use Rattle.session_store.specs.Value.{StoreValue}
 use Rattle.bridge_session.specs.declared.action.Action.{Action}
 use Rattle.bridge_session.specs.SessionKeeping.{session_keeping}
@@ -21,8 +21,19 @@ module _ {D : Type 0} (disk : Disk D) where
     pub next_epoch : disk.honest d → (epoch : ℕ) × HasEpoch epoch (disk.reads d) × (store.epoch ≡ epoch + 1)
 
   -- Opening a disk gives no session: it has fewer than 2,048 sectors; or a call of it failed, memory was refused, or what
-  -- it reads is refused.
+  -- it reads is refused. Memory is asked for only where a header was found whose epoch is not the last.
   abbrev pub RefusesDisk : D → StoreFault → Type 0
   RefusesDisk d fault = ((disk.count d < 2048) × (fault ≡ TooSmall))
       ⊎ ((2048 ≤ disk.count d) × ((left : D)
-      × IsCause (disk.honest d) (disk.faults d) (disk.faults left) (reading session_keeping (disk.reads d)) fault))
+      × IsCause (disk.honest d) (disk.faults d) (disk.faults left) (reading session_keeping (disk.reads d)) fault)
+      × (fault ≡ NoMemory → disk.honest d → HasNext (disk.reads d)))
+
+  -- a disk was found, and opening it gave this store
+  abbrev pub OpensFound : {E : Type 0} → Result D E → StoreValue D State Action → Type 0
+  OpensFound (Ok d) store = OpensSession d store
+  OpensFound (Err _) store = ⊥
+
+  -- a disk was found, and opening it gives no session; or none was found, which is a fault of the disk
+  abbrev pub RefusesFound : {E : Type 0} → Result D E → StoreFault → Type 0
+  RefusesFound (Ok d) fault = RefusesDisk d fault
+  RefusesFound (Err _) fault = fault ≡ DiskFault

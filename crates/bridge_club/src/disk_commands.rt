@@ -4,20 +4,21 @@ ghost use Rattle.line_text.specs.Streams.{stream};
 ghost use Rattle.sector_disk.specs.File.{file_disk};
 ghost use Rattle.bridge_club.specs.Connections.{ServesAllConnections};
 ghost use Rattle.bridge_club.specs.Results.{IsRankingText, IsPbnText};
-ghost use Rattle.bridge_club.specs.OnFile.{IsOnFile, RefusesFile, HasResults, StopsResults, HasScripted, StopsScripting, unknown, HasServedConnections, StopsListening, StopsServingConnections};
+ghost use Rattle.bridge_club.specs.Scripted.{ServesOpened, StopsOpened};
+ghost use Rattle.bridge_club.specs.OnFile.{IsOnFile, RefusesFile, TellsOpened, StopsTelling, HasResults, StopsResults, HasScripted, StopsScripting, unknown, HasServedConnections, ServesHeard, StopsHearing, StopsListening, ServesConnectionsOpened, StopsConnectionsOpened, StopsServingConnections};
 
 use crate::fault::RunFault;
 use crate::results::{write_games, write_ranking};
 use crate::script::serve_store;
 use crate::serving::serve_connections;
-use crate::stored_session::open_session;
+use crate::stored_session::open_found;
 use bridge_endings::Cache;
 use bridge_session::Session;
-use sector_disk::FileDisk;
+use sector_disk::{FileDisk, SectorDisk};
 use session_store::{Store, StoreFault};
-use std::alloc::Global;
+use std::alloc::{AllocError, Global};
 use std::fs::File;
-use std::io::{Read, Write};
+use std::io::{self, Read, Write};
 use std::net::{Ipv4Addr, Net, SocketAddr, TcpListener, TcpStream};
 use std::rt::Files;
 use table_server::ServeFault;
@@ -35,9 +36,34 @@ fn open_store<S: Files<File = File>>(
     ensures begins { IfOk result (λ store. (store.failed ≡ false) × (store.pending ≡ [])) }
     ensures fault { IfErr result RefusesFile }
 {
-    match FileDisk::open(rt, disk) {
-        Ok(disk) => open_session(alloc, disk),
-        Err(_) => Err(StoreFault::Disk),
+    open_found(alloc, FileDisk::open(rt, disk))
+}
+
+/// Writes the ranking of each field of a session, where it was opened.
+fn rank_opened<D: SectorDisk + Drop, W: Write>(
+    opened: Result<Store<D, Session>, StoreFault>,
+    output: &mut W,
+) -> Result<(), RunFault>
+    ensures done { OnOk result (TellsOpened IsRankingText opened (stream W.contents output.old output.new)) }
+    ensures fault { IfErr result (StopsTelling IsRankingText opened (stream W.contents output.old output.new)) }
+{
+    match opened {
+        Ok(store) => write_ranking(store.state(), output),
+        Err(cause) => Err(RunFault::Store(cause)),
+    }
+}
+
+/// Writes the results of a session, where it was opened.
+fn pbn_opened<D: SectorDisk + Drop, W: Write>(
+    opened: Result<Store<D, Session>, StoreFault>,
+    output: &mut W,
+) -> Result<(), RunFault>
+    ensures done { OnOk result (TellsOpened IsPbnText opened (stream W.contents output.old output.new)) }
+    ensures fault { IfErr result (StopsTelling IsPbnText opened (stream W.contents output.old output.new)) }
+{
+    match opened {
+        Ok(store) => write_games(store.state(), output),
+        Err(cause) => Err(RunFault::Store(cause)),
     }
 }
 
@@ -51,10 +77,7 @@ pub fn run_rank<S: Files<File = File>, W: Write>(
     ensures done { OnOk result (HasResults IsRankingText (stream W.contents output.old output.new)) }
     ensures fault { IfErr result (StopsResults IsRankingText (stream W.contents output.old output.new)) }
 {
-    match open_store(rt, alloc, disk) {
-        Ok(store) => write_ranking(store.state(), output),
-        Err(fault) => Err(RunFault::Store(fault)),
-    }
+    rank_opened(open_store(rt, alloc, disk), output)
 }
 
 /// Writes the results of the session that the disk in a file holds, in Portable Bridge Notation.
@@ -67,9 +90,29 @@ pub fn run_pbn<S: Files<File = File>, W: Write>(
     ensures done { OnOk result (HasResults IsPbnText (stream W.contents output.old output.new)) }
     ensures fault { IfErr result (StopsResults IsPbnText (stream W.contents output.old output.new)) }
 {
-    match open_store(rt, alloc, disk) {
-        Ok(store) => write_games(store.state(), output),
-        Err(fault) => Err(RunFault::Store(fault)),
+    pbn_opened(open_store(rt, alloc, disk), output)
+}
+
+/// Serves the lines of the input over a session, where it was opened and there was memory for a cache.
+fn script_opened<D: SectorDisk + Drop, R: Read, W: Write>(
+    opened: Result<Store<D, Session>, StoreFault>,
+    cache: Result<Cache, AllocError>,
+    input: &mut R,
+    output: &mut W,
+) -> Result<(), RunFault>
+    requires works { IfOk opened (λ store. store.failed ≡ false) }
+    requires none_pending { IfOk opened (λ store. store.pending ≡ []) }
+    ensures done { OnOk result (ServesOpened D.disk opened cache
+        (stream R.remaining input.old input.new) (stream W.contents output.old output.new)) }
+    ensures fault { IfErr result (StopsOpened D.disk opened cache
+        (stream R.remaining input.old input.new) (stream W.contents output.old output.new)) }
+{
+    match opened {
+        Ok(mut store) => match cache {
+            Ok(mut cache) => serve_store(&mut store, &mut cache, input, output),
+            Err(_) => Err(RunFault::Store(StoreFault::NoMemory)),
+        },
+        Err(cause) => Err(RunFault::Store(cause)),
     }
 }
 
@@ -86,12 +129,26 @@ pub fn run_script<S: Files<File = File>, R: Read, W: Write>(
     ensures fault { IfErr result (StopsScripting
         (stream R.remaining input.old input.new) (stream W.contents output.old output.new)) }
 {
-    match open_store(rt, alloc, disk) {
-        Ok(mut store) => match Cache::new(alloc, CACHED_ENDINGS) {
-            Ok(mut cache) => serve_store(&mut store, &mut cache, input, output),
-            Err(_) => Err(RunFault::Store(StoreFault::NoMemory)),
-        },
-        Err(fault) => Err(RunFault::Store(fault)),
+    let opened = open_store(rt, alloc, disk);
+    script_opened(opened, Cache::new(alloc, CACHED_ENDINGS), input, output)
+}
+
+/// Serves the lines of so many connections over a store, where there is a listener.
+fn serve_heard<N: Net<Listener = TcpListener, Stream = TcpStream>>(
+    rt: &N,
+    found: io::Result<TcpListener>,
+    count: u16,
+    store: &mut Store<FileDisk<File>, Session>,
+    cache: &mut Cache,
+) -> Result<(), RunFault>
+    requires works { store.old.failed ≡ false }
+    requires none_pending { store.old.pending ≡ [] }
+    ensures done { OnOk result (ServesHeard found count store.old store.new) }
+    ensures fault { IfErr result (StopsHearing found count store.old store.new) }
+{
+    match found {
+        Ok(listener) => serve_connections(rt, &listener, count, store, cache),
+        Err(_) => Err(RunFault::Stream(ServeFault::Accept)),
     }
 }
 
@@ -108,9 +165,29 @@ fn listen<N: Net<Listener = TcpListener, Stream = TcpStream>>(
     ensures done { OnOk result (ServesAllConnections file_disk unknown unknown count store.old store.new) }
     ensures fault { IfErr result (StopsListening count store.old store.new) }
 {
-    match TcpListener::bind(rt, SocketAddr::from((Ipv4Addr::LOCALHOST, port))) {
-        Ok(listener) => serve_connections(rt, &listener, count, store, cache),
-        Err(_) => Err(RunFault::Stream(ServeFault::Accept)),
+    let found = TcpListener::bind(rt, SocketAddr::from((Ipv4Addr::LOCALHOST, port)));
+    serve_heard(rt, found, count, store, cache)
+}
+
+/// Serves so many connections over a session, where it was opened and there was memory for a cache.
+fn serve_opened<N: Net<Listener = TcpListener, Stream = TcpStream>>(
+    rt: &N,
+    port: u16,
+    count: u16,
+    opened: Result<Store<FileDisk<File>, Session>, StoreFault>,
+    cache: Result<Cache, AllocError>,
+) -> Result<(), RunFault>
+    requires works { IfOk opened (λ store. store.failed ≡ false) }
+    requires none_pending { IfOk opened (λ store. store.pending ≡ []) }
+    ensures done { OnOk result (ServesConnectionsOpened opened cache count) }
+    ensures fault { IfErr result (StopsConnectionsOpened opened cache count) }
+{
+    match opened {
+        Ok(mut store) => match cache {
+            Ok(mut cache) => listen(rt, port, count, &mut store, &mut cache),
+            Err(_) => Err(RunFault::Store(StoreFault::NoMemory)),
+        },
+        Err(cause) => Err(RunFault::Store(cause)),
     }
 }
 
@@ -125,11 +202,7 @@ pub fn run_serve<S: Files<File = File> + Net<Listener = TcpListener, Stream = Tc
     ensures done { OnOk result (HasServedConnections count) }
     ensures fault { IfErr result (StopsServingConnections count) }
 {
-    match open_store(rt, alloc, disk) {
-        Ok(mut store) => match Cache::new(alloc, CACHED_ENDINGS) {
-            Ok(mut cache) => listen(rt, port, count, &mut store, &mut cache),
-            Err(_) => Err(RunFault::Store(StoreFault::NoMemory)),
-        },
-        Err(fault) => Err(RunFault::Store(fault)),
-    }
+    let opened = open_store(rt, alloc, disk);
+    let cache = Cache::new(alloc, CACHED_ENDINGS);
+    serve_opened(rt, port, count, opened, cache)
 }

@@ -2,17 +2,17 @@
 ghost use Rattle.std.specs.Prelude.{◌≤◌, OnOk, IfOk, IfErr};
 ghost use Rattle.line_text.specs.Streams.{stream};
 ghost use Rattle.sector_disk.specs.File.{file_disk};
-ghost use Rattle.bridge_club.specs.Formatted.{Formats, FailsToFormat, IsSessionOfFile, IsNoSessionOfFile, HasFormatted, StopsFormatting};
+ghost use Rattle.bridge_club.specs.Formatted.{Formats, FailsToFormat, FormatsMade, FailsToFormatMade, IsSessionFound, IsNoSessionFound, IsSessionOfFile, IsNoSessionOfFile, HasFormatted, StopsFormatting};
 
 use crate::config_file::read_session;
 use crate::fault::RunFault;
 use crate::output::write_output;
 use bridge_session::Session;
-use sector_disk::FileDisk;
+use sector_disk::{DiskFault, FileDisk};
 use session_store::{StoreFault, format};
 use std::alloc::Global;
 use std::fs::File;
-use std::io::Write;
+use std::io::{self, Read, Write};
 use std::rt::Files;
 use table_server::ServeFault;
 
@@ -32,6 +32,33 @@ fn format_disk<W: Write>(
     }
 }
 
+/// The same where a disk was made; where none was, that is a fault of the disk.
+fn format_made<W: Write>(
+    made: Result<FileDisk<File>, DiskFault>,
+    session: &Session,
+    output: &mut W,
+) -> Result<(), RunFault>
+    requires { IfOk made (λ disk. 2048 ≤ file_disk.count disk) }
+    ensures done { OnOk result (FormatsMade file_disk made session.now (stream W.contents output.old output.new)) }
+    ensures fault { IfErr result (FailsToFormatMade file_disk made session.now (stream W.contents output.old output.new)) }
+{
+    match made {
+        Ok(disk) => format_disk(disk, session, output),
+        Err(_) => Err(RunFault::Store(StoreFault::Disk)),
+    }
+}
+
+/// The session that begins by the configuration in a file, where one was found; otherwise the fault is that of a read.
+fn session_found<R: Read + Drop>(alloc: Global, found: io::Result<R>) -> Result<Session, RunFault>
+    ensures session { IfOk result (IsSessionFound R.remaining found) }
+    ensures fault { IfErr result (IsNoSessionFound R.remaining found) }
+{
+    match found {
+        Ok(mut file) => read_session(alloc, &mut file),
+        Err(_) => Err(RunFault::Stream(ServeFault::Read)),
+    }
+}
+
 /// The session that begins by the configuration in a file. One that cannot be opened counts as one that cannot be read.
 fn session_of_file<S: Files<File = File>>(
     rt: &S,
@@ -41,10 +68,7 @@ fn session_of_file<S: Files<File = File>>(
     ensures session { IfOk result IsSessionOfFile }
     ensures fault { IfErr result IsNoSessionOfFile }
 {
-    match File::open(rt, config) {
-        Ok(mut file) => read_session(alloc, &mut file),
-        Err(_) => Err(RunFault::Stream(ServeFault::Read)),
-    }
+    session_found(alloc, File::open(rt, config))
 }
 
 /// Makes the file DISK anew, as a disk that holds the session that begins by the configuration in the file CONFIG, and
@@ -61,10 +85,7 @@ pub fn run_format<S: Files<File = File>, W: Write>(
     ensures fault { IfErr result (StopsFormatting (stream W.contents output.old output.new)) }
 {
     match session_of_file(rt, alloc, config) {
-        Ok(session) => match FileDisk::create(rt, disk) {
-            Ok(disk) => format_disk(disk, &session, output),
-            Err(_) => Err(RunFault::Store(StoreFault::Disk)),
-        },
+        Ok(session) => format_made(FileDisk::create(rt, disk), &session, output),
         Err(fault) => Err(fault),
     }
 }

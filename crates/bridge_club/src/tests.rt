@@ -122,6 +122,28 @@ fn boards_are_read(rt: HostRuntime) -> Result<(), Fail> {
 }
 
 #[test]
+fn ports_and_counts_are_read(rt: HostRuntime) -> Result<(), Fail> {
+    for (port, count) in [(1, 1), (4000, 12), (65_535, 1000)] {
+        let (port_text, count_text) = (
+            format!(in rt.alloc(); "{port}")?,
+            format!(in rt.alloc(); "{count}")?,
+        );
+        let words = [
+            "serve",
+            "club.disk",
+            port_text.as_str(),
+            count_text.as_str(),
+        ];
+        let disk = "club.disk";
+        match read_words(rt.alloc(), words.as_slice()) {
+            Ok(command) => expect_eq(&rt, command, Command::Serve { disk, port, count }, port),
+            Err(_) => return Err(Fail::from("a command")),
+        }
+    }
+    Ok(())
+}
+
+#[test]
 fn other_words_are_usage(rt: HostRuntime) {
     let rows: [(&[&str], &str); 17] = [
         (

@@ -2,6 +2,7 @@
 ghost use Rattle.std.specs.Prelude.{◌≡◌, [], false, IfOk, IfErr};
 ghost use Rattle.table_server.specs.Accepting.{HasServedOne, StopsAccepting};
 ghost use Rattle.table_server.specs.Faulted.{FailsWithDisk};
+ghost use Rattle.table_server.specs.declared.fault.ServeFault.TheVariants.{Accept as AcceptFault};
 
 use crate::fault::ServeFault;
 use crate::served::Served;
@@ -11,6 +12,19 @@ use bridge_session::Session;
 use sector_disk::SectorDisk;
 use session_store::Store;
 use std::net::{Net, OpenListener, OpenStream};
+
+/// The two sides of a connection of the listener, the one to read at and the one to write at.
+fn sides<N: Net>(listener: &N::Listener) -> Result<(N::Stream, N::Stream), ServeFault>
+    ensures { IfErr result (λ fault. fault ≡ AcceptFault) }
+{
+    let Ok((reader, _)) = listener.accept() else {
+        return Err(ServeFault::Accept);
+    };
+    let Ok(writer) = reader.try_clone() else {
+        return Err(ServeFault::Accept);
+    };
+    Ok((reader, writer))
+}
 
 /// Accepts one connection of the listener and serves its lines over a store, as `serve` does: the lines come in at the
 /// connection, and the replies go out at it. It waits for a connection, and for its peer, as long as they take. The
@@ -32,11 +46,8 @@ pub fn accept_and_serve<N: Net, D: SectorDisk + Drop>(
     ensures ready { store.new.failed ≡ false → store.new.pending ≡ [] }
     ensures faults { FailsWithDisk D.disk store.old store.new }
 {
-    let Ok((mut reader, _)) = listener.accept() else {
-        return Err(ServeFault::Accept);
-    };
-    let Ok(mut writer) = reader.try_clone() else {
-        return Err(ServeFault::Accept);
-    };
-    serve(store, cache, &mut reader, &mut writer)
+    match sides::<N>(listener) {
+        Ok((mut reader, mut writer)) => serve(store, cache, &mut reader, &mut writer),
+        Err(fault) => Err(fault),
+    }
 }

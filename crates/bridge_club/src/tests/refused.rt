@@ -35,6 +35,8 @@ fn a_bad_configuration_leaves_the_disk(rt: HostRuntime) -> Result<(), Fail> {
         expect_run(&rt, rt.alloc(), words, "", (3, "", line));
         expect_eq(&rt, fs::exists(&rt, disk)?, false, movement);
     }
+    fs::write(&rt, config, b"")?;
+    expect_run(&rt, rt.alloc(), words, "", (3, "", "config line 1: Form\n"));
     fs::write(&rt, disk, b"kept")?;
     let text = format!(in rt.alloc(); "{HEADING}{MOVEMENT}{PEOPLE}PAIR 5 Ida 51 Jan 52\n")?;
     fs::write(&rt, config, text)?;
@@ -149,6 +151,15 @@ fn a_damaged_record_is_named(rt: HostRuntime) -> Result<(), Fail> {
     let due = (0, "OK\n", "");
     expect_run(&rt, alloc, &["script", disk], "VOID 100 1 1 1\n", due);
     let mut bytes = fs::read(&rt, disk)?;
+    // The lowest byte of the epoch in each header: a disk that is made is in epoch 1, and the script began one more.
+    for (sector, epoch) in [(0, 1), (512, 2)] {
+        expect_eq(
+            &rt,
+            bytes.get(sector * 512 + 4).copied(),
+            Some(epoch),
+            sector,
+        );
+    }
     for byte in bytes.iter_mut().skip(1024 * 512 + 18).take(1) {
         *byte = 0xff;
     }

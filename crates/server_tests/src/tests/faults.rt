@@ -1,15 +1,16 @@
 //! Streams and disks that fail while lines are served.
 use super::disk::{
     CLUB, ClubStore, DEAL, DEAL_AND_CALL, OPENING_CALLS, after_power_cut, answers, opened,
-    serve_all,
+    serve_all, served,
 };
 use super::expect_eq;
-use super::streams::{Failing, FullOnce, Pieces};
+use super::streams::{Failing, FullOnce, Pen, Pieces};
+use bridge_cards::BoardNumber;
 use std::alloc::Global;
 use std::cell::Cell;
 use std::process::Abort;
 use std::test::Fail;
-use table_server::{ServeFault, Served};
+use table_server::{ServeFault, Served, run_auction};
 
 /// The deal and the call are there after a power cut.
 fn expect_confirmed(rt: &impl Abort, alloc: Global, store: ClubStore) -> Result<(), Fail> {
@@ -37,6 +38,25 @@ fn a_write_that_fails(rt: HostRuntime) -> Result<(), Fail> {
     expect_eq(&rt, result, Err(ServeFault::Write), "served");
     expect_eq(&rt, writer.bytes.as_slice(), b"OK\n".as_slice(), "written");
     expect_confirmed(&rt, rt.alloc(), store)
+}
+
+// A write that takes a part of what it is given is no fault: the rest is written next.
+#[test]
+fn writes_that_take_two_bytes(rt: HostRuntime) -> Result<(), Fail> {
+    let mut store = opened(rt.alloc(), CLUB, u64::MAX)?;
+    let mut pen = Pen {
+        bytes: Vec::new(rt.alloc()),
+    };
+    let mut reader: &[u8] = b"SYNC\nPBN 100\nSEE 999\n";
+    let result = serve_all(&mut store, &mut reader, &mut pen);
+    expect_eq(&rt, result, Ok(served(3, 0)), "served");
+    let board = BoardNumber::new(1).ok_or("a board")?;
+    let mut reader: &[u8] = b"1C\n";
+    let result = run_auction(board, &mut reader, &mut pen);
+    expect_eq(&rt, result, Ok(()), "the auction");
+    let due = b"OK\nOK\n% PBN 2.1\n.\nERR 1 NoKey\nOK\nUNFINISHED\n".as_slice();
+    expect_eq(&rt, pen.bytes.as_slice(), due, "written");
+    Ok(())
 }
 
 // The replies to the lines before the fault are written, and what they accepted is confirmed.
@@ -138,6 +158,15 @@ fn replies_are_shown_before_more_is_read(rt: HostRuntime) -> Result<(), Fail> {
     let due = [0, 0, 0, 12, 12];
     expect_eq(&rt, seen.as_slice(), due.as_slice(), "before each read");
     expect_eq(&rt, shown, 15, "at the end");
+    // `OK`, `% PBN 2.1` and `.`, each with a line feed, are 15 bytes.
+    let (seen, shown) = shown_before_reads(&rt, &["PBN 100\n", "SYNC\n"])?;
+    expect_eq(
+        &rt,
+        seen.as_slice(),
+        [0, 15, 18].as_slice(),
+        "before each read",
+    );
+    expect_eq(&rt, shown, 18, "at the end");
     Ok(())
 }
 

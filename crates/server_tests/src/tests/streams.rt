@@ -1,4 +1,4 @@
-//! Streams that fail once and would then go on, and one that gives a byte at a time.
+//! Streams that fail once and would then go on, and ones that give a byte or take two at a time.
 use std::cell::Cell;
 use std::io::{Error, ErrorKind, Read, Result, Write};
 
@@ -51,6 +51,24 @@ impl Read for ByteByByte<'_> {
             self.next = 0;
         }
         Ok(1)
+    }
+}
+
+/// Takes two bytes at a time.
+#[derive(Drop)]
+pub struct Pen {
+    pub bytes: Vec<u8>,
+}
+
+impl Write for Pen {
+    fn write(&mut self, buf: &[u8]) -> Result<usize> {
+        let taken = buf.len().min(2);
+        self.bytes.extend_from_slice(&buf[..taken])?;
+        Ok(taken)
+    }
+
+    fn flush(&mut self) -> Result<()> {
+        Ok(())
     }
 }
 

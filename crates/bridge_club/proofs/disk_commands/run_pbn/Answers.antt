@@ -1,12 +1,14 @@
-use Rattle.std.proofs.Common.{refl}
 use Rattle.line_text.specs.Streams.{stream}
-use Rattle.bridge_pbn.specs.Games.{session_text}
 use Rattle.bridge_club.specs.Results.{IsPbnText}
-use Rattle.bridge_club.proofs.Stopped.{stops_results}
+use Rattle.bridge_club.proofs.Stopped.{has_results, stops_results}
 use Rattle.bridge_club.proofs.disk_commands.run_pbn.Goals as goal
 
-pub returns-in-Ok-clause-fault : goal.returns-in-Ok-clause-fault
-returns-in-Ok-clause-fault g c =
-    stops_results IsPbnText c.in-Ok.store c.state.result.now (stream g.W.Write.contents c.args.output.now c.write_games.new.output)
-    c.write_games.result c.in-Ok.ensures.opened c.state.ensures.state
-    (session_text c.state.result.now, refl, c.write_games.ensures.written) c.write_games.ensures.fault
+pub returns-clause-done : goal.returns-clause-done
+returns-clause-done g c =
+    has_results IsPbnText c.open_store.result (stream g.W.Write.contents c.args.output.now c.pbn_opened.new.output) c.pbn_opened.result
+    c.open_store.ensures.opened c.pbn_opened.ensures.done
+
+pub returns-clause-fault : goal.returns-clause-fault
+returns-clause-fault g c =
+    stops_results IsPbnText c.open_store.result (stream g.W.Write.contents c.args.output.now c.pbn_opened.new.output) c.pbn_opened.result
+    c.open_store.ensures.opened c.open_store.ensures.fault c.pbn_opened.ensures.fault

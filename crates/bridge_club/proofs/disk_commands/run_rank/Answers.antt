@@ -1,9 +1,14 @@
 use Rattle.line_text.specs.Streams.{stream}
 use Rattle.bridge_club.specs.Results.{IsRankingText}
-use Rattle.bridge_club.proofs.Stopped.{stops_results}
+use Rattle.bridge_club.proofs.Stopped.{has_results, stops_results}
 use Rattle.bridge_club.proofs.disk_commands.run_rank.Goals as goal
 
-pub returns-in-Ok-clause-fault : goal.returns-in-Ok-clause-fault
-returns-in-Ok-clause-fault g c =
-    stops_results IsRankingText c.in-Ok.store c.state.result.now (stream g.W.Write.contents c.args.output.now c.write_ranking.new.output)
-    c.write_ranking.result c.in-Ok.ensures.opened c.state.ensures.state c.write_ranking.ensures.written c.write_ranking.ensures.fault
+pub returns-clause-done : goal.returns-clause-done
+returns-clause-done g c =
+    has_results IsRankingText c.open_store.result (stream g.W.Write.contents c.args.output.now c.rank_opened.new.output) c.rank_opened.result
+    c.open_store.ensures.opened c.rank_opened.ensures.done
+
+pub returns-clause-fault : goal.returns-clause-fault
+returns-clause-fault g c =
+    stops_results IsRankingText c.open_store.result (stream g.W.Write.contents c.args.output.now c.rank_opened.new.output) c.rank_opened.result
+    c.open_store.ensures.opened c.open_store.ensures.fault c.rank_opened.ensures.fault

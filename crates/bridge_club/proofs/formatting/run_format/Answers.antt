@@ -1,9 +1,18 @@
-use Rattle.std.proofs.Common.{inl, inr, refl}
+use Rattle.std.proofs.Common.{inl}
 use Rattle.std.proofs.KnownBytes.{Keeps-refl}
+use Rattle.line_text.specs.Streams.{stream}
+use Rattle.bridge_club.proofs.Opened.{has_formatted, stops_formatting}
 use Rattle.bridge_club.proofs.formatting.run_format.Goals as goal
 
-pub returns-in-Ok-clause-fault : goal.returns-in-Ok-clause-fault
-returns-in-Ok-clause-fault g c = inr (inl (refl, Keeps-refl (g.W.Write.contents c.args.output.now)))
+pub returns-in-Ok-clause-done : goal.returns-in-Ok-clause-done
+returns-in-Ok-clause-done g c =
+    has_formatted c.create.result c.in-Ok.session (stream g.W.Write.contents c.args.output.now c.format_made.new.output) c.format_made.result
+    c.in-Ok.ensures.session c.create.ensures.count c.format_made.ensures.done
 
-pub returns-clause-fault : goal.returns-clause-fault
-returns-clause-fault g c = inl (c.in-Err.ensures.fault, Keeps-refl (g.W.Write.contents c.args.output.now))
+pub returns-in-Ok-clause-fault : goal.returns-in-Ok-clause-fault
+returns-in-Ok-clause-fault g c =
+    stops_formatting c.create.result c.in-Ok.session (stream g.W.Write.contents c.args.output.now c.format_made.new.output) c.format_made.result
+    c.in-Ok.ensures.session c.create.ensures.count c.format_made.ensures.fault
+
+pub returns-in-Err-clause-fault : goal.returns-in-Err-clause-fault
+returns-in-Err-clause-fault g c = inl (c.in-Err.ensures.fault, Keeps-refl (g.W.Write.contents c.args.output.now))
