@@ -151,11 +151,11 @@ fn a_damaged_record_is_named(rt: HostRuntime) -> Result<(), Fail> {
     let due = (0, "OK\n", "");
     expect_run(&rt, alloc, &["script", disk], "VOID 100 1 1 1\n", due);
     let mut bytes = fs::read(&rt, disk)?;
-    // The lowest byte of the epoch in each header: a disk that is made is in epoch 1, and the script began one more.
+    // The last byte of the epoch in each header: a disk that is made is in epoch 1, and the script began one more.
     for (sector, epoch) in [(0, 1), (512, 2)] {
         expect_eq(
             &rt,
-            bytes.get(sector * 512 + 4).copied(),
+            bytes.get(sector * 512 + 11).copied(),
             Some(epoch),
             sector,
         );
