@@ -219,6 +219,9 @@ fn other_words_are_usage(rt: HostRuntime) {
         expect_eq(&rt, status, 2, words);
         let shown = errors.iter().take(begins.len());
         expect_eq(&rt, shown.eq(begins.as_bytes()), true, words);
+        // It is written once.
+        let (front, back) = errors.split_at(errors.len() / 2);
+        expect_eq(&rt, front == back, false, words);
     }
 }
 
