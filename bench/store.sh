@@ -20,16 +20,22 @@ work=$(mktemp -d "$here/store_bench.XXXXXX")
 trap 'rm -rf "$work"' EXIT
 
 # The program is built in a repository of its own, so that the gate does not prove it. Its counter is that of the tests.
+from_tests() { # FILE, TO
+    sed 's/store_tests\.proofs\.tests/store_bench.proofs/; s/store_tests/store_bench/' "$top/crates/store_tests/$1" \
+        > "$crates/store_bench/$2"
+}
+
 build() {
     crates=$work/repo/crates
-    mkdir -p "$crates/store_bench/src" "$crates/store_bench/proofs/counter/read_counter"
+    mkdir -p "$crates/store_bench/src" "$crates/store_bench/specs" "$crates/store_bench/proofs/counter/read_counter"
     cp -r "$top/crates/sector_disk" "$top/crates/session_store" "$crates"
     cp "$here/store/program.txt" "$crates/store_bench/src/main.rt"
-    sed 's/use crate::{Kept/use session_store::{Kept/' "$crates/session_store/src/tests/counter.rt" \
-        > "$crates/store_bench/src/counter.rt"
     answers=counter/read_counter/Answers.antt
-    sed 's/session_store\.proofs\.tests/store_bench.proofs/' "$crates/session_store/proofs/tests/$answers" \
-        > "$crates/store_bench/proofs/$answers"
+    from_tests specs/Lib.antt specs/Lib.antt
+    from_tests specs/Counter.antt specs/Counter.antt
+    from_tests specs/CounterLaws.antt specs/CounterLaws.antt
+    from_tests src/tests/counter.rt src/counter.rt
+    from_tests "proofs/tests/$answers" "proofs/$answers"
     printf 'sector_disk: thiserror\nsession_store: sector_disk arrayvec thiserror\n' > "$work/repo/crates.txt"
     echo 'store_bench: anyhow arrayvec thiserror sector_disk session_store' >> "$work/repo/crates.txt"
     echo 'Handles allowed: none.' > "$work/repo/HANDLES"

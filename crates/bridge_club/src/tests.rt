@@ -108,37 +108,27 @@ impl Write for Broken {
     }
 }
 
-#[test]
-fn boards_are_read(rt: HostRuntime) -> Result<(), Fail> {
-    for (text, number) in [("1", 1), ("36", 36), ("+7", 7), ("007", 7)] {
-        let words = ["auction", text];
-        let board = BoardNumber::new(number).ok_or("a board")?;
-        match read_words(rt.alloc(), words.as_slice()) {
-            Ok(command) => expect_eq(&rt, command, Command::Auction(board), text),
-            Err(_) => return Err(Fail::from("a command")),
-        }
-    }
-    Ok(())
+/// Reads words that are a command.
+fn expect_read(rt: &impl Abort, alloc: Global, words: &[&'static str], due: Command<'static>) {
+    let read = read_words(alloc, words);
+    expect_eq(rt, read.ok(), Some(due), words);
 }
 
+// Numbers are what clap's reader takes, a sign and zeros before them too; the largest port and count are taken.
 #[test]
-fn ports_and_counts_are_read(rt: HostRuntime) -> Result<(), Fail> {
-    for (port, count) in [(1, 1), (4000, 12), (65_535, 1000)] {
-        let (port_text, count_text) = (
-            format!(in rt.alloc(); "{port}")?,
-            format!(in rt.alloc(); "{count}")?,
-        );
-        let words = [
-            "serve",
-            "club.disk",
-            port_text.as_str(),
-            count_text.as_str(),
-        ];
-        let disk = "club.disk";
-        match read_words(rt.alloc(), words.as_slice()) {
-            Ok(command) => expect_eq(&rt, command, Command::Serve { disk, port, count }, port),
-            Err(_) => return Err(Fail::from("a command")),
-        }
+fn numbers_are_read(rt: HostRuntime) -> Result<(), Fail> {
+    let board = Command::Auction(BoardNumber::new(7).ok_or("a board")?);
+    for text in ["7", "+7", "007"] {
+        expect_read(&rt, rt.alloc(), &["auction", text], board);
+    }
+    let disk = "club.disk";
+    for (port_text, count_text, port, count) in [
+        ("65535", "1000", 65_535, 1000),
+        ("+4000", "012", 4000, 12),
+    ] {
+        let words = ["serve", disk, port_text, count_text];
+        let due = Command::Serve { disk, port, count };
+        expect_read(&rt, rt.alloc(), words.as_slice(), due);
     }
     Ok(())
 }
@@ -219,7 +209,13 @@ fn other_words_are_usage(rt: HostRuntime) {
         expect_eq(&rt, status, 2, words);
         let shown = errors.iter().take(begins.len());
         expect_eq(&rt, shown.eq(begins.as_bytes()), true, words);
-        // It is written once.
+        // It is written to its end, and once.
+        let end = if begins.starts_with("error") {
+            b"For more information, try '--help'.\n".as_slice()
+        } else {
+            b"Print help\n"
+        };
+        expect_eq(&rt, errors.ends_with(end), true, words);
         let (front, back) = errors.split_at(errors.len() / 2);
         expect_eq(&rt, front == back, false, words);
     }

@@ -10,6 +10,7 @@ mod refusals;
 mod rows;
 mod shares;
 mod shown;
+mod spent;
 mod streams;
 
 use std::fmt::Debug;

@@ -1,5 +1,5 @@
 //! Connections to a listener of the same process.
-use super::script::failing_disk;
+use super::script::{failing_disk, solved_board};
 use super::{MOVEMENT, expect_eq, expect_formatted, expect_run};
 use crate::fault::RunFault;
 use crate::serving::serve_connections;
@@ -85,6 +85,24 @@ fn a_store_that_fails_ends_the_run(rt: HostRuntime) -> Result<(), Fail> {
     let waiting = io::read_to_string(rt.alloc(), next)?;
     expect_eq(&rt, waiting.as_str(), "SEE 11\n", "not served");
     drop(second);
+    Ok(())
+}
+
+// What is left is solved with the cache.
+#[test]
+fn a_connection_uses_the_cache(rt: HostRuntime) -> Result<(), Fail> {
+    let alloc = rt.alloc();
+    let listener = listening(&rt)?;
+    let client = sent(&rt, &listener, solved_board(alloc)?.as_str())?;
+    let mut cache = Cache::new(alloc, 1)?;
+    let Ok(mut store) = open_session(alloc, failing_disk(alloc, u64::MAX)?) else {
+        return Err(Fail::from("a session"));
+    };
+    let result = serve_connections(&rt, &listener, 1, &mut store, &mut cache);
+    expect_eq(&rt, result, Ok(()), "served");
+    let written = io::read_to_string(alloc, client)?;
+    expect_eq(&rt, written.ends_with("OK\nOK 6 0\n"), true, "solved");
+    expect_eq(&rt, cache.tried() > 0, true, "with the cache");
     Ok(())
 }
 

@@ -75,6 +75,12 @@ fn an_evening_is_kept_between_runs(rt: HostRuntime) -> Result<(), Fail> {
     );
     let due = (0, "OK\nERR 3 Closed\n", "");
     expect_run(&rt, alloc, &["script", disk], "NEXT 100 1\nSEE 11\n", due);
+    // `format` began the first epoch and each of the six commands one more: the last byte of the epoch in each header.
+    let bytes = fs::read(&rt, disk)?;
+    for (sector, epoch) in [(0, 7), (512, 6)] {
+        let found = bytes.get(sector * 512 + 11).copied();
+        expect_eq(&rt, found, Some(epoch), sector);
+    }
     fs::remove_file(&rt, disk)?;
     fs::remove_file(&rt, config)?;
     Ok(())

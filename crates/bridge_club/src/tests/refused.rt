@@ -71,23 +71,6 @@ fn a_bad_configuration_leaves_the_disk(rt: HostRuntime) -> Result<(), Fail> {
     Ok(())
 }
 
-#[test]
-fn a_late_fault_is_named_by_its_line(rt: HostRuntime) -> Result<(), Fail> {
-    let (disk, config) = ("bridge_club_late.disk", "bridge_club_late.txt");
-    let mut text = Vec::new(rt.alloc());
-    text.extend_from_slice(HEADING.as_bytes())?;
-    text.extend_from_slice(b"MOVEMENT 12 12 12 24 12\n")?;
-    for _ in 0..93 {
-        text.extend_from_slice(b"ROW 1 1 1 3 1\n")?;
-    }
-    text.extend_from_slice(b"ROW\n")?;
-    fs::write(&rt, config, text)?;
-    let due = (3, "", "config line 100: Form\n");
-    expect_run(&rt, rt.alloc(), &["format", disk, config], "", due);
-    fs::remove_file(&rt, config)?;
-    Ok(())
-}
-
 /// Runs each of the commands over this disk, and expects the status and the line.
 fn expect_refused<T: Abort + Files<File = File> + Net<Listener = TcpListener, Stream = TcpStream>>(
     rt: &T,
@@ -151,15 +134,6 @@ fn a_damaged_record_is_named(rt: HostRuntime) -> Result<(), Fail> {
     let due = (0, "OK\n", "");
     expect_run(&rt, alloc, &["script", disk], "VOID 100 1 1 1\n", due);
     let mut bytes = fs::read(&rt, disk)?;
-    // The last byte of the epoch in each header: a disk that is made is in epoch 1, and the script began one more.
-    for (sector, epoch) in [(0, 1), (512, 2)] {
-        expect_eq(
-            &rt,
-            bytes.get(sector * 512 + 11).copied(),
-            Some(epoch),
-            sector,
-        );
-    }
     for byte in bytes.iter_mut().skip(1024 * 512 + 18).take(1) {
         *byte = 0xff;
     }

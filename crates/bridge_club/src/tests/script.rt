@@ -11,6 +11,44 @@ use std::alloc::Global;
 use std::io::Write;
 use std::test::Fail;
 
+/// A board of one suit to each hand, seven spades by North, seven tricks of the highest cards, and what is left solved.
+pub fn solved_board(alloc: Global) -> Result<String, Fail> {
+    let mut lines = String::new(alloc);
+    lines.push_str(
+        "DEAL 100 1 N:AKQJT98765432... .AKQJT98765432.. ..AKQJT98765432. ...AKQJT98765432\n",
+    )?;
+    lines.push_str("CALL 11 1 0 7S\nCALL 31 1 1 PASS\nCALL 12 1 2 PASS\nCALL 32 1 3 PASS\n")?;
+    lines.push_str("CARD 31 1 0 HA\nCARD 11 1 1 DA\nCARD 32 1 2 CA\nCARD 11 1 3 SA\n")?;
+    let mut at = 4u8;
+    for rank in ['K', 'Q', 'J', 'T', '9', '8'] {
+        for (key, suit) in [(11u8, 'S'), (31, 'H'), (11, 'D'), (32, 'C')] {
+            let line = format!(in alloc; "CARD {key} 1 {at} {suit}{rank}\n")?;
+            lines.push_str(line.as_str())?;
+            at = at.saturating_add(1);
+        }
+    }
+    lines.push_str("SOLVE 100 1 1 1 28\n")?;
+    Ok(lines)
+}
+
+// What is left is solved with the cache.
+#[test]
+fn a_script_uses_the_cache(rt: HostRuntime) -> Result<(), Fail> {
+    let alloc = rt.alloc();
+    let lines = solved_board(alloc)?;
+    let mut cache = Cache::new(alloc, 1)?;
+    let mut input = lines.as_bytes();
+    let mut output = Vec::new(alloc);
+    let Ok(mut store) = open_session(alloc, failing_disk(alloc, u64::MAX)?) else {
+        return Err(Fail::from("a session"));
+    };
+    let result = serve_store(&mut store, &mut cache, &mut input, &mut output);
+    expect_eq(&rt, result, Ok(()), "served");
+    expect_eq(&rt, output.ends_with(b"OK\nOK 6 0\n"), true, "solved");
+    expect_eq(&rt, cache.tried() > 0, true, "with the cache");
+    Ok(())
+}
+
 /// How a run ended.
 type Run = Result<(), RunFault>;
 

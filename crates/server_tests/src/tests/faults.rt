@@ -21,7 +21,7 @@ fn expect_confirmed(rt: &impl Abort, alloc: Global, store: ClubStore) -> Result<
     Ok(())
 }
 
-// The writer takes the first reply alone; both actions are confirmed all the same.
+// The writer takes the first reply alone; both actions are confirmed all the same, and no more is read.
 #[test]
 fn a_write_that_fails(rt: HostRuntime) -> Result<(), Fail> {
     let mut store = opened(rt.alloc(), CLUB, u64::MAX)?;
@@ -33,10 +33,16 @@ fn a_write_that_fails(rt: HostRuntime) -> Result<(), Fail> {
         failed: false,
         shown: &shown,
     };
-    let mut reader = DEAL_AND_CALL.as_bytes();
+    let mut reader = Pieces {
+        pieces: &[DEAL_AND_CALL, "SYNC\n", "SYNC\n"],
+        next: 0,
+        shown: &shown,
+        seen: Vec::new(rt.alloc()),
+    };
     let result = serve_all(&mut store, &mut reader, &mut writer);
     expect_eq(&rt, result, Err(ServeFault::Write), "served");
     expect_eq(&rt, writer.bytes.as_slice(), b"OK\n".as_slice(), "written");
+    expect_eq(&rt, reader.seen.len(), 2, "reads");
     expect_confirmed(&rt, rt.alloc(), store)
 }
 

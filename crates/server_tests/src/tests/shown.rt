@@ -83,6 +83,12 @@ fn a_write_fault_ends_the_run(rt: HostRuntime) -> Result<(), Fail> {
             expect_eq(&rt, seen.result, Err(ServeFault::Write), room);
             expect_eq(&rt, seen.bytes.as_slice(), &whole[..room], (failing, room));
         }
+        // Nothing is read after the fault.
+        for room in 0..6 {
+            let seen = run(rt.alloc(), &["1C\n1D\n", "1H\n"], room, failing)?;
+            expect_eq(&rt, seen.result, Err(ServeFault::Write), room);
+            expect_eq(&rt, seen.reads.len(), 1, (failing, room));
+        }
     }
     Ok(())
 }

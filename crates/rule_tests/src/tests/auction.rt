@@ -1,0 +1,3 @@
+//! The auction against worked auctions, and against a plain twin on every short list of calls.
+mod rows;
+mod twin;

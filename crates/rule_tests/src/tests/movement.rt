@@ -1,0 +1,191 @@
+//! Rows that are a movement and rows that are not, and the Mitchell movement beside a plain twin.
+ghost use Rattle.bridge_movement.specs.Shape.{IsShape};
+
+mod twin;
+
+use crate::tests::expect_eq;
+use bridge_cards::Side;
+use bridge_movement::{Movement, MovementRefused, Place, Row, Shape};
+use twin::mitchell_rows;
+
+/// A fair movement of two tables: round, table, North and South, East and West, and set of each row.
+const GOOD: [[u8; 5]; 4] = [
+    [1, 1, 1, 3, 1],
+    [1, 2, 2, 4, 2],
+    [2, 1, 1, 4, 3],
+    [2, 2, 2, 3, 4],
+];
+
+const TWO_TABLES: Shape = Shape {
+    tables: 2,
+    rounds: 2,
+    sets: 4,
+    pairs: 4,
+    split: 2,
+};
+
+/// What takes the place of rows of the good movement, counted from 0, and why the rows are then refused.
+const REFUSED: [(&[(usize, [u8; 5])], MovementRefused); 11] = [
+    (&[(1, [2, 1, 2, 4, 2])], MovementRefused::MissingRow(2)),
+    (&[(3, [2, 2, 2, 255, 4])], MovementRefused::BadPair(4)),
+    (&[(1, [1, 2, 2, 2, 2])], MovementRefused::SamePair(2)),
+    // a set above 4, where a pair sits out
+    (&[(3, [2, 2, 0, 3, 5])], MovementRefused::BadSet(4)),
+    // a pair at two tables of a round, where it sits out
+    (&[(3, [2, 2, 4, 0, 4])], MovementRefused::PairTwice(4)),
+    // a set again, on one side and across
+    (&[(2, [2, 1, 1, 4, 1])], MovementRefused::SetAgain(3)),
+    (&[(3, [2, 2, 3, 2, 1])], MovementRefused::SetAgain(4)),
+    // two faults: the order of all rows comes first, then the earlier row, then the order of the faults
+    (
+        &[(0, [1, 1, 5, 3, 1]), (3, [2, 1, 2, 3, 4])],
+        MovementRefused::MissingRow(4),
+    ),
+    (
+        &[(0, [1, 1, 1, 3, 5]), (1, [1, 2, 5, 4, 2])],
+        MovementRefused::BadSet(1),
+    ),
+    (&[(0, [1, 1, 5, 5, 5])], MovementRefused::BadPair(1)),
+    (&[(1, [1, 2, 1, 3, 1])], MovementRefused::PairTwice(2)),
+];
+
+/// A Howell movement of three tables, made by hand from the usual rule of its guide cards: pair 6 sits at table 1, and
+/// each other pair takes the seat that the pair one number lower had in the round before, where 5 is the one before 1.
+/// The first round has 6 against 1, 2 against 5 and 3 against 4, so each two pairs meet once. A set goes to three games
+/// that each pair sits in once: in the first round the three tables share set 1, and the other sets go to one game in
+/// each of three rounds.
+const HOWELL: [[u8; 5]; 15] = [
+    [1, 1, 6, 1, 1],
+    [1, 2, 2, 5, 1],
+    [1, 3, 3, 4, 1],
+    [2, 1, 6, 2, 4],
+    [2, 2, 3, 1, 3],
+    [2, 3, 4, 5, 2],
+    [3, 1, 6, 3, 2],
+    [3, 2, 4, 2, 3],
+    [3, 3, 5, 1, 5],
+    [4, 1, 6, 4, 5],
+    [4, 2, 5, 3, 4],
+    [4, 3, 1, 2, 2],
+    [5, 1, 6, 5, 3],
+    [5, 2, 1, 4, 4],
+    [5, 3, 2, 3, 5],
+];
+
+/// The row of those numbers.
+fn row(numbers: [u8; 5]) -> Row {
+    let [round, table, ns, ew, set] = numbers;
+    Row {
+        round,
+        table,
+        ns,
+        ew,
+        set,
+    }
+}
+
+/// The good movement with some rows changed.
+fn changed(changes: &[(usize, [u8; 5])]) -> [Row; 4] {
+    let mut rows = GOOD.map(row);
+    for (place, numbers) in changes {
+        if let Some(changed) = rows.get_mut(*place) {
+            *changed = row(*numbers);
+        }
+    }
+    rows
+}
+
+/// Why these rows are refused, if they are.
+fn refusal(shape: Shape, rows: &[Row]) -> Option<MovementRefused>
+    requires { IsShape shape }
+{
+    Movement::from_rows(shape, rows).err()
+}
+
+#[test]
+fn mitchell_of_four_tables(rt: HostRuntime) {
+    let movement = Movement::mitchell(4);
+    expect_eq(&rt, movement.shape().rounds, 3, "rounds");
+    for (round, table, set) in [(1, 1, 1), (2, 2, 3), (3, 4, 2)] {
+        let place = Place {
+            table,
+            side: Side::EastWest,
+            set,
+        };
+        expect_eq(&rt, movement.place(round, 5), Some(place), round);
+    }
+    expect_eq(&rt, movement.place(1, 9), None, "there is no pair 9");
+}
+
+#[test]
+fn mitchell_moves_pairs_and_sets(rt: HostRuntime) {
+    for tables in 2..13 {
+        let movement = Movement::mitchell(tables);
+        let shape = movement.shape();
+        let rows = mitchell_rows(tables);
+        let count = usize::from(shape.rounds) * usize::from(tables);
+        expect_eq(&rt, rows.len(), count, tables);
+        for due in &rows {
+            if (1..=shape.rounds).contains(&due.round) && (1..=shape.tables).contains(&due.table) {
+                expect_eq(&rt, movement.row(due.round, due.table), *due, tables);
+            }
+        }
+        expect_eq(&rt, refusal(shape, &rows), None, tables);
+    }
+}
+
+#[test]
+fn rows_at_fault_are_refused(rt: HostRuntime) {
+    for (changes, refused) in REFUSED {
+        let rows = changed(changes);
+        expect_eq(&rt, refusal(TWO_TABLES, &rows), Some(refused), rows);
+    }
+}
+
+#[test]
+fn rows_lacking_or_left_over_are_refused(rt: HostRuntime) {
+    let rows = GOOD.map(row);
+    for count in 0..4 {
+        let refused = MovementRefused::MissingRow(count as u16 + 1);
+        let found = refusal(TWO_TABLES, &rows[..count]);
+        expect_eq(&rt, found, Some(refused), count);
+        expect_eq(&rt, usize::from(refused.place()), count + 1, count);
+    }
+    expect_eq(&rt, refusal(TWO_TABLES, &rows), None, "all rows");
+    let more = [rows[0], rows[1], rows[2], rows[3], rows[3]];
+    let refused = MovementRefused::MissingRow(5);
+    expect_eq(&rt, refusal(TWO_TABLES, &more), Some(refused), "one more");
+}
+
+#[test]
+fn howell_of_three_tables(rt: HostRuntime) -> Result<(), MovementRefused> {
+    let shape = Shape {
+        tables: 3,
+        rounds: 5,
+        sets: 5,
+        pairs: 6,
+        split: 6,
+    };
+    let howell = Movement::from_rows(shape, &HOWELL.map(row))?;
+    for numbers in HOWELL {
+        let Row {
+            round,
+            table,
+            ns,
+            ew,
+            set,
+        } = row(numbers);
+        for (pair, side) in [(ns, Side::NorthSouth), (ew, Side::EastWest)] {
+            let place = Place { table, side, set };
+            expect_eq(&rt, howell.place(round, pair), Some(place), numbers);
+        }
+        // where pair 6 has not come, its opponents sit out
+        expect_eq(
+            &rt,
+            row([round, table, ns % 6, ew, set]).is_live(),
+            ns != 6,
+            numbers,
+        );
+    }
+    Ok(())
+}

@@ -1,0 +1,4 @@
+//! The play on worked boards, and over whole random plays.
+mod deals;
+mod random_plays;
+mod rows;

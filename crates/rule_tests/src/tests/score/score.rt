@@ -1,0 +1,57 @@
+use super::twin;
+use crate::tests::expect_eq;
+use bridge_auction::{Bid, Contract, Denomination, Doubling, Level};
+use bridge_cards::Seat;
+use bridge_score::score;
+use std::test::Fail;
+
+/// The contract of that level by North.
+fn contract(level: u8, denomination: Denomination, doubling: Doubling) -> Result<Contract, Fail> {
+    let level = Level::new(level).ok_or("a level")?;
+    Ok(Contract {
+        bid: Bid {
+            level,
+            denomination,
+        },
+        doubling,
+        declarer: Seat::North,
+    })
+}
+
+#[test]
+fn scores_of_the_printed_table(rt: HostRuntime) -> Result<(), Fail> {
+    use Denomination::{Clubs, Hearts, NoTrump, Spades};
+    use Doubling::{Doubled, Redoubled, Undoubled};
+    for (level, denomination, doubling, vulnerable, tricks, points) in [
+        (7, NoTrump, Redoubled, true, 13, 2980),
+        (7, NoTrump, Redoubled, true, 0, -7600),
+        (2, Spades, Doubled, false, 8, 470),
+        (4, Hearts, Doubled, false, 6, -800),
+        (1, NoTrump, Undoubled, false, 8, 120),
+        (6, Clubs, Undoubled, true, 12, 1370),
+        (3, NoTrump, Undoubled, true, 9, 600),
+        (1, Spades, Undoubled, false, 11, 200),
+    ] {
+        let contract = contract(level, denomination, doubling)?;
+        let found = score(&contract, vulnerable, tricks);
+        expect_eq(&rt, found, points, (contract, tricks));
+    }
+    Ok(())
+}
+
+#[test]
+fn every_score_is_the_plain_one(rt: HostRuntime) -> Result<(), Fail> {
+    for bid in 0..35u8 {
+        let denomination = Denomination::ALL[usize::from(bid % 5)];
+        for doubling in [Doubling::Undoubled, Doubling::Doubled, Doubling::Redoubled] {
+            let contract = contract(bid / 5 + 1, denomination, doubling)?;
+            for result in 0..28 {
+                let (vulnerable, tricks) = (result < 14, result % 14);
+                let found = score(&contract, vulnerable, tricks);
+                let due = twin::score(&contract, vulnerable, tricks);
+                expect_eq(&rt, found, due, (contract, result));
+            }
+        }
+    }
+    Ok(())
+}

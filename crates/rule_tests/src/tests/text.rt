@@ -1,0 +1,94 @@
+//! Each generic function at a type of its own, and writers that fail.
+use arrayvec::{ArrayString, ArrayVec};
+use line_text::{first_line, five_after, inline, push_refusal, value_of, word_after, write_text};
+use std::io::{Error, ErrorKind, Result, Write};
+
+/// Takes two bytes at a time, as many as it has room for, and then none, or fails.
+#[derive(Drop)]
+struct Pen {
+    taken: ArrayVec<u8, 64>,
+    room: usize,
+    fails: bool,
+    flush_fails: bool,
+    flushes: u32,
+}
+
+impl Write for Pen {
+    fn write(&mut self, buf: &[u8]) -> Result<usize> {
+        if self.room == 0 && self.fails {
+            return Err(Error::from(ErrorKind::BrokenPipe));
+        }
+        let count = self.room.min(2).min(buf.len());
+        for byte in &buf[..count] {
+            let _ = self.taken.try_push(*byte);
+        }
+        self.room = self.room.saturating_sub(count);
+        Ok(count)
+    }
+
+    fn flush(&mut self) -> Result<()> {
+        self.flushes = self.flushes.wrapping_add(1);
+        if self.flush_fails {
+            return Err(Error::from(ErrorKind::BrokenPipe));
+        }
+        Ok(())
+    }
+}
+
+fn pen_with(room: usize, fails: bool, flush_fails: bool) -> Pen {
+    Pen {
+        taken: ArrayVec::new(),
+        room,
+        fails,
+        flush_fails,
+        flushes: 0,
+    }
+}
+
+#[test]
+fn texts_are_written_whole_or_to_the_first_error(rt: HostRuntime) {
+    let rows = [
+        (64, false, false, "ERR 30 BadLine\n", None, 1),
+        (5, false, false, "ERR 3", Some(ErrorKind::WriteZero), 0),
+        (5, true, false, "ERR 3", Some(ErrorKind::BrokenPipe), 0),
+        (
+            64,
+            true,
+            true,
+            "ERR 30 BadLine\n",
+            Some(ErrorKind::BrokenPipe),
+            1,
+        ),
+    ];
+    for (room, fails, flush_fails, taken, error, flushes) in rows {
+        let mut writer = pen_with(room, fails, flush_fails);
+        let mut text = ArrayString::<29>::new();
+        push_refusal(&mut text, 30, "BadLine");
+        let result = write_text(&mut writer, text.as_str().as_bytes());
+        assert!(rt; writer.taken.as_slice() == taken.as_bytes());
+        assert!(rt; result.err().map(|error| error.kind()) == error);
+        assert!(rt; writer.flushes == flushes);
+    }
+}
+
+#[test]
+fn words_and_lines_of_a_text(rt: HostRuntime) {
+    let Some((line, rest)) = first_line(b"DIRECTOR 100\r\nROW 1 2 3 4 5\n") else {
+        return assert!(rt; false);
+    };
+    let director = word_after(b"DIRECTOR", line).and_then(value_of_numeral);
+    assert!(rt; director == Some(100));
+    let fifth = first_line(rest)
+        .and_then(|(row, _)| five_after(b"ROW", row))
+        .and_then(|words| value_of_numeral(words.fifth));
+    assert!(rt; fifth == Some(5));
+    assert!(rt; inline::<24>(b"Club-Night").as_str() == "Club-Night");
+}
+
+fn value_of_numeral(word: &[u8]) -> Option<u32> {
+    if line_text::is_numeral(word) {
+        value_of(word)
+    } else {
+        None
+    }
+}

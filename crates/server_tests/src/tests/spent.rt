@@ -1,0 +1,62 @@
+//! A store in the last epoch, and a board that is shuffled.
+use super::disk::{CLUB, ClubStore, answers, opened, reopened, served};
+use super::expect_eq;
+use bridge_cards::{BoardNumber, deal_board};
+use sector_disk::{MemoryDisk, SectorDisk};
+use std::alloc::Global;
+use std::test::Fail;
+
+/// Writes this epoch into a header or a part.
+fn put_epoch(disk: &mut MemoryDisk, at: u32, epoch: u64) -> Result<(), Fail> {
+    let mut bytes = [0; 512];
+    if at < disk.count() {
+        disk.read(at, &mut bytes)?;
+        for (byte, value) in bytes.iter_mut().skip(4).zip(epoch.to_be_bytes()) {
+            *byte = value;
+        }
+        disk.write(at, &bytes)?;
+    }
+    Ok(())
+}
+
+/// A store of a new session in the last epoch: the snapshot of epoch 2 is made one of the last epoch but one, of the same
+/// parity, and is then the later one.
+fn in_the_last_epoch(alloc: Global) -> Result<ClubStore, Fail> {
+    let mut disk = opened(alloc, CLUB, u64::MAX)?.into_disk().into_inner();
+    for at in 512..522 {
+        put_epoch(&mut disk, at, u64::MAX - 1)?;
+    }
+    reopened(alloc, disk, u64::MAX)
+}
+
+// 1,024 changes fill the journal of the last epoch. Then each change is answered so, whatever else would refuse it.
+#[test]
+fn once_the_epochs_are_spent(rt: HostRuntime) -> Result<(), Fail> {
+    let mut store = in_the_last_epoch(rt.alloc())?;
+    for _ in 0..16 {
+        let text = "VOID 100 1 1 1\n".repeat(rt.alloc(), 64)?;
+        let (_, result) = answers(rt.alloc(), &mut store, text.as_bytes());
+        expect_eq(&rt, result, Ok(served(64, 64)), "64 changes");
+    }
+    let text = "VOID 100 1 2 1\nCALL 999 1 0 PASS\nSEE 999\nNEXT\n";
+    let (written, result) = answers(rt.alloc(), &mut store, text.as_bytes());
+    let due = "ERR 41 EpochsSpent\nERR 41 EpochsSpent\nERR 1 NoKey\nERR 30 BadLine\n";
+    expect_eq(&rt, written.as_slice(), due.as_bytes(), "spent");
+    expect_eq(&rt, result, Ok(served(4, 0)), "none accepted");
+    Ok(())
+}
+
+#[test]
+fn a_board_is_dealt_from_its_seed(rt: HostRuntime) -> Result<(), Fail> {
+    let mut store = opened(rt.alloc(), CLUB, u64::MAX)?;
+    let line = "SHUFFLE 100 1 00000000000000000000000000000000000000000000000000000000000000ff\n";
+    let (written, _) = answers(rt.alloc(), &mut store, line.as_bytes());
+    expect_eq(&rt, written.as_slice(), b"OK\n".as_slice(), "shuffled");
+    let board = BoardNumber::new(1).ok_or("a board")?;
+    let mut seed = [0; 32];
+    seed[31] = 0xff;
+    let due = deal_board(&seed, board);
+    let dealt = store.state().deal(board).is_some_and(|deal| *deal == due);
+    expect_eq(&rt, dealt, true, "the deal of seed and board");
+    Ok(())
+}

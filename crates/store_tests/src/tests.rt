@@ -1,0 +1,133 @@
+//! A counter kept on a disk in memory: power cuts, faults, and disks that a test wrote.
+mod counter;
+mod disks;
+mod faults;
+mod rows;
+
+use arrayvec::ArrayVec;
+use counter::Counter;
+use sector_disk::{DiskFault, Fail, Fuse, MemoryDisk, SectorDisk};
+use session_store::{Store, StoreFault, format};
+use std::alloc::{AllocError, Global};
+use std::array;
+use std::fmt::Debug;
+use std::process::Abort;
+
+/// Fails with the row where a value is not the one that is due.
+pub fn expect_eq<T: PartialEq + Debug + Drop>(
+    rt: &impl Abort,
+    found: T,
+    due: T,
+    row: impl Debug + Drop,
+) {
+    assert_eq!(rt; found, due, "{row:?}");
+}
+
+/// The bytes of a sector: the mark, the epoch, the number, the payload's length, each with its highest byte first, the payload,
+/// and zeros.
+pub fn sector_of(mark: &[u8; 4], epoch: u64, number: u32, payload: &[u8]) -> [u8; 512] {
+    let length = u16::try_from(payload.len()).unwrap_or(u16::MAX);
+    let mut written: ArrayVec<u8, 512> = ArrayVec::new();
+    let _ = written.try_extend_from_slice(mark);
+    let _ = written.try_extend_from_slice(&epoch.to_be_bytes());
+    let _ = written.try_extend_from_slice(&number.to_be_bytes());
+    let _ = written.try_extend_from_slice(&length.to_be_bytes());
+    let _ = written.try_extend_from_slice(payload);
+    array::from_fn(|place| written.get(place).copied().unwrap_or(0))
+}
+
+/// A sector that a test writes.
+#[derive(Clone, Copy)]
+pub struct Sector {
+    at: u32,
+    mark: &'static [u8; 4],
+    epoch: u64,
+    number: u32,
+    payload: &'static [u8],
+}
+
+/// The sector at this place, with this mark, epoch, number and payload.
+pub fn written(
+    at: u32,
+    mark: &'static [u8; 4],
+    epoch: u64,
+    number: u32,
+    payload: &'static [u8],
+) -> Sector {
+    Sector {
+        at,
+        mark,
+        epoch,
+        number,
+        payload,
+    }
+}
+
+/// Writes it.
+pub fn put(disk: &mut MemoryDisk, s: Sector) -> Result<(), DiskFault> {
+    if s.at < disk.count() {
+        disk.write(s.at, &sector_of(s.mark, s.epoch, s.number, s.payload))?;
+    }
+    Ok(())
+}
+
+/// Writes a snapshot of 9 parts with this total.
+pub fn put_snapshot(
+    disk: &mut MemoryDisk,
+    place: u32,
+    epoch: u64,
+    total: u16,
+) -> Result<(), DiskFault> {
+    put(disk, written(place, b"BD1H", epoch, 9, &[]))?;
+    for i in 0..9 {
+        let at = place.saturating_add(1 + i);
+        if at < disk.count() {
+            disk.write(at, &sector_of(b"BD1P", epoch, i, &total.to_be_bytes()))?;
+        }
+    }
+    Ok(())
+}
+
+/// Writes that many records of epoch 1, each of which adds 1.
+pub fn put_records(disk: &mut MemoryDisk, count: u32) -> Result<(), DiskFault> {
+    for k in 0..count {
+        put(
+            disk,
+            written(1024u32.saturating_add(k), b"BD1R", 1, k, &[1, 1]),
+        )?;
+    }
+    Ok(())
+}
+
+/// A disk of 2,048 sectors, formatted with a counter of 9 parts.
+pub fn formatted(rt: &impl Abort, alloc: Global) -> Result<MemoryDisk, AllocError> {
+    let disk = MemoryDisk::new(alloc, 2048)?;
+    Ok(format(disk, &Counter::new(9)).ok().expect(rt, "formatted"))
+}
+
+/// The total and the epoch of the store that is opened behind this fuse, and the disk.
+pub fn opened_behind(
+    alloc: Global,
+    fuse: Fuse<MemoryDisk>,
+) -> (MemoryDisk, Result<(u16, u64), StoreFault>) {
+    match Store::<Fuse<MemoryDisk>, Counter>::open(alloc, fuse) {
+        Err((fuse, fault)) => (fuse.into_inner(), Err(fault)),
+        Ok(store) => {
+            let found = (store.state().total(), store.epoch());
+            (store.into_disk().into_inner(), Ok(found))
+        }
+    }
+}
+
+/// The same where no call fails, or every call from this one on.
+pub fn opened(alloc: Global, disk: MemoryDisk) -> (MemoryDisk, Result<(u16, u64), StoreFault>) {
+    opened_behind(alloc, Fuse::new(disk, u64::MAX, Fail::Once, false))
+}
+
+pub fn opened_until(
+    alloc: Global,
+    disk: MemoryDisk,
+    calls: u64,
+) -> (MemoryDisk, Result<(u16, u64), StoreFault>) {
+    opened_behind(alloc, Fuse::new(disk, calls, Fail::Always, false))
+}

@@ -1,0 +1,284 @@
+//! A fault and a power cut at every call of the disk.
+use super::counter::Counter;
+use super::{expect_eq, formatted, opened, put_snapshot};
+use arrayvec::ArrayVec;
+use sector_disk::{Fail, Fuse, MemoryDisk, SectorDisk};
+use session_store::{CheckpointFault, ConfirmFault, Store, StoreFault, SubmitFault, format};
+use std::alloc::Global;
+use std::process::Abort;
+use std::test::Fail as Failure;
+
+/// What is asked of a store.
+#[derive(Clone, Copy, Debug)]
+enum Step {
+    Submit(u8),
+    Confirm,
+    Checkpoint,
+}
+
+/// What the answers of a store say: the totals after none, one .. of the actions accepted, how many of these are
+/// confirmed, and whether a call of the disk failed.
+#[derive(Drop)]
+struct Twin {
+    totals: ArrayVec<u16, 16>,
+    confirmed: usize,
+    failed: bool,
+}
+
+impl Twin {
+    fn total(&self) -> u16 {
+        self.totals.last().copied().unwrap_or(0)
+    }
+
+    fn accept(&mut self, n: u8) {
+        let total = self.total().saturating_add(u16::from(n));
+        let _ = self.totals.try_push(total);
+    }
+
+    fn confirm(&mut self) {
+        self.confirmed = self.totals.len().saturating_sub(1);
+    }
+
+    fn fault(&mut self, rt: &impl Abort) {
+        expect_eq(rt, self.failed, false, "one fault");
+        self.failed = true;
+    }
+}
+
+fn submit<D: SectorDisk + Drop>(
+    rt: &impl Abort,
+    store: &mut Store<D, Counter>,
+    twin: &mut Twin,
+    n: u8,
+) {
+    match store.submit(&n) {
+        Ok(()) => twin.accept(n),
+        Err(SubmitFault::Disk) => {
+            twin.accept(n);
+            twin.fault(rt);
+        }
+        Err(SubmitFault::Failed) => expect_eq(rt, twin.failed, true, n),
+        Err(SubmitFault::Batch) => expect_eq(rt, "Batch", "", n),
+        Err(SubmitFault::EpochsSpent) => expect_eq(rt, "EpochsSpent", "", n),
+        Err(SubmitFault::Refused(total)) => expect_eq(rt, total, 0, n),
+    }
+}
+
+fn take_step<D: SectorDisk + Drop>(
+    rt: &impl Abort,
+    store: &mut Store<D, Counter>,
+    twin: &mut Twin,
+    step: Step,
+) {
+    match step {
+        Step::Submit(n) => submit(rt, store, twin, n),
+        Step::Confirm => match store.confirm() {
+            Ok(()) => twin.confirm(),
+            Err(ConfirmFault::Disk) => twin.fault(rt),
+            Err(ConfirmFault::Failed) => expect_eq(rt, twin.failed, true, step),
+        },
+        Step::Checkpoint => match store.checkpoint() {
+            Ok(()) => twin.confirm(),
+            Err(CheckpointFault::Disk) => twin.fault(rt),
+            Err(CheckpointFault::Failed) => expect_eq(rt, twin.failed, true, step),
+            Err(CheckpointFault::EpochsSpent) => expect_eq(rt, "EpochsSpent", "", step),
+        },
+    }
+    expect_eq(rt, store.state().total(), twin.total(), step);
+}
+
+const STEPS: [Step; 8] = [
+    Step::Submit(4),
+    Step::Submit(8),
+    Step::Confirm,
+    Step::Submit(16),
+    Step::Checkpoint,
+    Step::Submit(32),
+    Step::Confirm,
+    Step::Submit(64),
+];
+
+/// Opens a disk, which may fail from these causes, and takes the steps.
+fn run(
+    rt: &impl Abort,
+    alloc: Global,
+    disk: Fuse<MemoryDisk>,
+    twin: &mut Twin,
+    causes: &[StoreFault],
+) -> MemoryDisk {
+    match Store::<Fuse<MemoryDisk>, Counter>::open(alloc, disk) {
+        Err((disk, fault)) => {
+            expect_eq(rt, causes.contains(&fault), true, fault);
+            twin.fault(rt);
+            disk.into_inner()
+        }
+        Ok(mut store) => {
+            twin.confirm();
+            for step in STEPS {
+                take_step(rt, &mut store, twin, step);
+            }
+            store.into_disk().into_inner()
+        }
+    }
+}
+
+/// The disk of `run`, and what it is due to hold.
+fn prepared(rt: &impl Abort, alloc: Global) -> Result<(MemoryDisk, Twin), Failure> {
+    let mut disk = MemoryDisk::new(alloc, 2048)?;
+    put_snapshot(&mut disk, 0, 1, 0)?;
+    let mut store = Store::<MemoryDisk, Counter>::open(alloc, disk)
+        .ok()
+        .expect(rt, "opened");
+    let mut twin = Twin {
+        totals: ArrayVec::new(),
+        confirmed: 0,
+        failed: false,
+    };
+    twin.accept(0);
+    for step in [Step::Submit(1), Step::Confirm, Step::Submit(2)] {
+        take_step(rt, &mut store, &mut twin, step);
+    }
+    Ok((store.into_disk(), twin))
+}
+
+/// The lists of values that a power cut picks.
+fn picks() -> [[u32; 2048]; 4] {
+    let mut lists = [[0; 2048], [1; 2048], [0; 2048], [0; 2048]];
+    for i in 0..2048 {
+        lists[2][i] = (i % 2) as u32;
+        lists[3][i] = (i * i % 5) as u32;
+    }
+    lists
+}
+
+/// The store that was opened has the confirmed actions, and of the others some of the first.
+fn expect_prefix(rt: &impl Abort, found: Result<(u16, u64), StoreFault>, twin: &Twin) {
+    let total = found.map(|it| it.0);
+    let place = twin.totals.iter().position(|due| Ok(*due) == total);
+    assert!(rt; place.is_some_and(|at| twin.confirmed <= at), "{found:?}");
+}
+
+// Whatever call fails, and whatever a power cut then leaves.
+fn fail_every_call(
+    rt: &impl Abort,
+    alloc: Global,
+    fail: Fail,
+    effect: bool,
+) -> Result<(), Failure> {
+    for passes in 0..47 {
+        for picks in &picks() {
+            let row = (fail, effect, passes);
+            let (disk, mut twin) = prepared(rt, alloc)?;
+            let fuse = Fuse::new(disk, passes, fail, effect);
+            let mut disk = run(rt, alloc, fuse, &mut twin, &[StoreFault::Disk]);
+            expect_eq(rt, twin.failed, passes < 46, row);
+            disk.crash(picks);
+            expect_prefix(rt, opened(alloc, disk).1, &twin);
+        }
+    }
+    Ok(())
+}
+
+#[test]
+fn one_fault_at_every_call(rt: HostRuntime) -> Result<(), Failure> {
+    for effect in [false, true] {
+        fail_every_call(&rt, rt.alloc(), Fail::Once, effect)?;
+    }
+    Ok(())
+}
+
+#[test]
+fn faults_from_every_call_on(rt: HostRuntime) -> Result<(), Failure> {
+    for effect in [false, true] {
+        fail_every_call(&rt, rt.alloc(), Fail::Always, effect)?;
+    }
+    Ok(())
+}
+
+const FUSES: [(Fail, bool); 4] = [
+    (Fail::Once, false),
+    (Fail::Once, true),
+    (Fail::Always, false),
+    (Fail::Always, true),
+];
+
+/// After a `format` that failed, another gives the disk of the new state. Each of the 2,048 writes that clear the disk meets
+/// one of the 16 kinds of fault and power cut in turn, each later call all of them.
+fn fail_formatting(rt: &impl Abort, alloc: Global, from: usize, to: usize) -> Result<(), Failure> {
+    let lists = picks();
+    let mut disk = formatted(rt, alloc)?;
+    for turn in from..to {
+        let passes = if turn < 2048 {
+            turn
+        } else {
+            2048 + (turn - 2048) / 16
+        };
+        let (fail, effect) = FUSES[turn / 4 % 4];
+        let fuse = Fuse::new(disk, passes as u64, fail, effect);
+        let (fuse, fault) = match format(fuse, &Counter::new(9)) {
+            Ok(fuse) => (fuse, None),
+            Err((fuse, fault)) => (fuse, Some(fault)),
+        };
+        let failed = passes < 2061;
+        let due = if failed { Some(StoreFault::Disk) } else { None };
+        expect_eq(rt, fault, due, turn);
+        disk = fuse.into_inner();
+        disk.crash(&lists[turn % 4]);
+        if failed {
+            disk = format(disk, &Counter::new(9)).ok().expect(rt, "formatted");
+        }
+        let (left, found) = opened(alloc, disk);
+        expect_eq(rt, found, Ok((0, 2)), turn);
+        disk = left;
+    }
+    Ok(())
+}
+
+#[test]
+fn a_fault_at_each_of_the_first_calls_of_formatting(rt: HostRuntime) -> Result<(), Failure> {
+    fail_formatting(&rt, rt.alloc(), 0, 600)
+}
+
+#[test]
+fn a_fault_at_each_of_the_next_calls_of_formatting(rt: HostRuntime) -> Result<(), Failure> {
+    fail_formatting(&rt, rt.alloc(), 600, 1200)
+}
+
+#[test]
+fn a_fault_at_each_of_the_later_calls_of_formatting(rt: HostRuntime) -> Result<(), Failure> {
+    fail_formatting(&rt, rt.alloc(), 1200, 1800)
+}
+
+#[test]
+fn a_fault_at_each_of_the_last_calls_of_formatting(rt: HostRuntime) -> Result<(), Failure> {
+    fail_formatting(&rt, rt.alloc(), 1800, 2048 + 14 * 16)
+}
+
+// `rt try --test --fail-alloc N` refuses the Nth allocation, and every other run none.
+#[test]
+fn a_store_whose_memory_may_be_refused(rt: HostRuntime) {
+    let Ok(mut disk) = MemoryDisk::new(rt.alloc(), 2048) else {
+        return;
+    };
+    let mut twin = Twin {
+        totals: ArrayVec::new(),
+        confirmed: 0,
+        failed: false,
+    };
+    twin.accept(0);
+    if put_snapshot(&mut disk, 0, 1, 0).is_err() {
+        return;
+    }
+    let fuse = Fuse::new(disk, u64::MAX, Fail::Once, false);
+    let causes = [StoreFault::Disk, StoreFault::NoMemory];
+    let mut disk = run(&rt, rt.alloc(), fuse, &mut twin, &causes);
+    disk.crash(&[1; 2048]);
+    let (disk, found) = opened(rt.alloc(), disk);
+    match found {
+        Err(fault) => {
+            expect_eq(&rt, causes.contains(&fault), true, fault);
+            expect_prefix(&rt, opened(rt.alloc(), disk).1, &twin);
+        }
+        Ok(_) => expect_prefix(&rt, found, &twin),
+    }
+}
