@@ -4,14 +4,14 @@ use Rattle.bridge_cards.specs.declared.seat.Seat.{Seat}
 use Rattle.bridge_auction.specs.declared.call.Call.{Call}
 
 -- who calls first, and the calls so far
-pub record Bidding : Type 0 where
+pub record AuctionValue : Type 0 where
   pub dealer : Seat
   pub calls : List Call
 
 -- the auction of those calls
-abbrev pub bidding : Seat → List Call → Bidding
+abbrev pub bidding : Seat → List Call → AuctionValue
 bidding dealer calls = record { dealer = dealer; calls = calls }
 
 -- the same auction with one call more
-abbrev pub with_call : Bidding → Call → Bidding
+abbrev pub with_call : AuctionValue → Call → AuctionValue
 with_call auction call = record auction { calls = auction.calls ++ call ∷ [] }

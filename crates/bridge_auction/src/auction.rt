@@ -22,10 +22,10 @@ pub struct Auction {
 
 impl Model for Auction {
     ghost use Rattle.std.specs.Prelude.{ℕ};
-    ghost use Rattle.bridge_auction.specs.Auction.{Bidding};
+    ghost use Rattle.bridge_auction.specs.Auction.{AuctionValue};
     ghost use Rattle.bridge_auction.specs.Legal.{IsLegal};
 
-    ghost Value = { Bidding };
+    ghost Value = { AuctionValue };
 
     ghost view = { λ a. record { dealer = a.dealer; calls = a.calls.items } };
 
@@ -60,7 +60,7 @@ impl Auction {
         Some(auction)
     }
 
-    /// Adds a call to the auction where the list with it is legal, and else says why not.
+    /// Adds a call to the auction where the list with it is legal, and otherwise says why not.
     pub fn try_call(&mut self, call: Call) -> Result<(), CallRefused>
         ensures answer { result ≡ answer_to self.old.calls call }
         ensures legal { IsOk result ↔ IsLegal (self.old.calls ++ call ∷ []) }

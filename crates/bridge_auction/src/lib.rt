@@ -16,8 +16,6 @@ pub mod longest;
 pub mod refused;
 mod rules;
 pub mod spelling;
-#[cfg(test)]
-mod tests;
 
 pub use auction::Auction;
 pub use bid::{Bid, Denomination};

@@ -12,3 +12,5 @@ pub mod PrintLemmas
 mod PrintedDeal
 mod DealtHands
 mod DealTests
+mod TrickWinner
+pub mod SuitHeld

@@ -32,7 +32,7 @@ pub record Joined (separator : ℕ) (P Q : List ℕ → Type 0) (text : List ℕ
 abbrev pub IsRankLetter : ℕ → Type 0
 IsRankLetter letter = (rank : ℕ) × IsRank rank × (rank_letter rank ≡ letter)
 
--- each rank's letter stands once where the hand has its card of the suit, and else not at all; and
+-- each rank's letter stands once where the hand has its card of the suit, and otherwise not at all; and
 -- nothing else stands there
 pub record SpellsSuit (hand : ℕ) (suit : Suit) (letters : List ℕ) : Type 0 where
   pub ranks_only : All IsRankLetter letters

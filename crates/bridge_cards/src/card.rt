@@ -8,9 +8,6 @@ use crate::suit::Suit;
 use std::fmt;
 use std::marker::Model;
 
-#[cfg(test)]
-mod tests;
-
 /// How many cards the deck has (Law 1).
 pub const DECK: usize = 52;
 

@@ -7,9 +7,6 @@ use crate::suit::Suit;
 use arrayvec::ArrayVec;
 use std::marker::Model;
 
-#[cfg(test)]
-mod tests;
-
 /// A set of cards of the deck; by default it has none.
 #[derive(Clone, Copy, Debug, Default, PartialEq, Eq)]
 pub struct CardSet {

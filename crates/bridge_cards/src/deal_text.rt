@@ -14,9 +14,6 @@ use crate::suit::Suit;
 use arrayvec::ArrayString;
 use line_text::split_once;
 
-#[cfg(test)]
-mod tests;
-
 /// The hands that the text states, North's first and then clockwise: as
 /// `E:AK.QJ.. .T9.8.7 2.3.. ..4.5`, a seat's letter, a colon, and the four hands clockwise from that
 /// seat with single spaces between. A hand is its spades, hearts, diamonds and clubs with dots

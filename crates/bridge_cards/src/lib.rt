@@ -19,8 +19,6 @@ pub mod rank;
 pub mod seat;
 pub mod shuffle;
 pub mod suit;
-#[cfg(test)]
-mod tests;
 pub mod trick;
 pub mod vulnerability;
 

@@ -13,9 +13,6 @@ use rand_chacha::ChaCha20Rng;
 use rand_core::SeedableRng;
 use std::array;
 
-#[cfg(test)]
-mod tests;
-
 /// The deal of that board under the seed (Law 6). The deck in order is shuffled by `rand` over
 /// ChaCha20, with the seed as its key and the board's number as its stream; North gets the first 13
 /// cards, and then each seat clockwise the next 13.

@@ -1,7 +1,7 @@
 //! Which card wins a trick (Law 44).
-ghost use Rattle.std.specs.Prelude.{◌≡◌, ◌<◌, length, position};
+ghost use Rattle.std.specs.Prelude.{◌≡◌, ◌<◌, true, length, position, slice_index};
 ghost use Rattle.bridge_cards.specs.Card.{IsCard, same_suit};
-ghost use Rattle.bridge_cards.specs.Trick.{is_trump, beats, is_or_beats, wins, winning_place};
+ghost use Rattle.bridge_cards.specs.Trick.{is_trump, beats, is_or_beats, wins, winning_index};
 
 use crate::card::Card;
 use crate::suit::Suit;
@@ -51,7 +51,7 @@ fn wins(trump: Option<Suit>, trick: &[Card], card: Card) -> bool
         .all(|other| is_or_beats(trump, led, card, *other))
 }
 
-/// The place in the trick of the card that beats the others.
+/// The index in the trick of the card that beats the others.
 fn winner(trump: Option<Suit>, trick: &[Card]) -> Option<usize>
     requires { 0 < length trick.now }
     ensures { result ≡ position (wins trump trick.now) trick.now }
@@ -59,11 +59,12 @@ fn winner(trump: Option<Suit>, trick: &[Card]) -> Option<usize>
     trick.iter().position(|card| wins(trump, trick, *card))
 }
 
-/// The place in the trick of its winner, counted from the card led: of different cards one always beats the others, and
-/// so it is 0 only where the card led wins or some card is there twice (Law 44).
-pub fn winning_place(trump: Option<Suit>, trick: &[Card]) -> usize
+/// The index in the trick of its winner, 0 for the card led: the card there beats each other card of the trick (Law 44).
+pub fn winning_index(trump: Option<Suit>, trick: &[Card]) -> usize
     requires { 0 < length trick.now }
-    ensures { result ≡ winning_place trump trick.now }
+    ensures index { result ≡ winning_index trump trick.now }
+    ensures within { result < length trick.now }
+    ensures wins { wins trump trick.now (slice_index trick.now result) ≡ true }
 {
     winner(trump, trick).unwrap_or(0)
 }

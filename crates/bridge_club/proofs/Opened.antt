@@ -12,7 +12,7 @@ use Rattle.session_store.specs.Opening.{IsCause, HasNext, reading}
 use Rattle.session_store.specs.Value.{StoreValue}
 use Rattle.bridge_session.specs.declared.action.Action.{Action}
 use Rattle.bridge_session.specs.SessionKeeping.{session_keeping}
-use Rattle.bridge_session.specs.State.{State}
+use Rattle.bridge_session.specs.State.{SessionValue}
 use Rattle.bridge_club.specs.declared.fault.RunFault.{RunFault}
 use Rattle.bridge_club.specs.Formatted.{FormatsMade, FailsToFormatMade, IsNoSessionFound, IsSessionOfFile, IsNoSessionOfFile, HasFormatted, StopsFormatting}
 use Rattle.bridge_club.specs.Opening.{StopsReading}
@@ -39,7 +39,7 @@ refuses_disk disk d left fault small cause memory = at (cases_lt (disk.count d) 
     at (inr many) = inr (many, (left, cause many), λ is honest. memory honest is)
 
 -- why a file gives no session
-pub no_session : {F E : Type 0} (remaining : F → Option (List ℕ)) (found : Result F E) (result : Result State RunFault)
+pub no_session : {F E : Type 0} (remaining : F → Option (List ℕ)) (found : Result F E) (result : Result SessionValue RunFault)
     → IfErr result (IsNoSessionFound remaining found) → IfErr result IsNoSessionOfFile
 no_session remaining found (Ok _) stops = tt
 no_session remaining (Ok file) (Err fault) stops = of stops.1
@@ -50,7 +50,7 @@ no_session remaining (Ok file) (Err fault) stops = of stops.1
 no_session remaining (Err _) (Err fault) stops = inl stops
 
 -- a disk was made in a file, and holds the session
-pub has_formatted : {E : Type 0} (made : Result (FileDisk File) E) (session : State) (output : Stream) (result : Result (Unit {0}) RunFault)
+pub has_formatted : {E : Type 0} (made : Result (FileDisk File) E) (session : SessionValue) (output : Stream) (result : Result (Unit {0}) RunFault)
     → IsSessionOfFile session → IfOk made (λ d. file_disk.count d ≡ 2048)
     → OnOk result (FormatsMade file_disk made session output) → OnOk result (HasFormatted output)
 has_formatted made session output (Err fault) is count formats = tt
@@ -59,7 +59,7 @@ has_formatted (Ok made) session output (Ok _) is count formats =
 has_formatted (Err _) session output (Ok _) is count formats = absurd formats
 
 -- why none holds it
-pub stops_formatting : {E : Type 0} (made : Result (FileDisk File) E) (session : State) (output : Stream) (result : Result (Unit {0}) RunFault)
+pub stops_formatting : {E : Type 0} (made : Result (FileDisk File) E) (session : SessionValue) (output : Stream) (result : Result (Unit {0}) RunFault)
     → IsSessionOfFile session → IfOk made (λ d. file_disk.count d ≡ 2048)
     → IfErr result (FailsToFormatMade file_disk made session output) → IfErr result (StopsFormatting output)
 stops_formatting made session output (Ok _) is count fails = tt
@@ -67,7 +67,7 @@ stops_formatting (Ok made) session output (Err fault) is count fails =
     inr (inr (record { session = session; session_of = is; made = made; count = count; fails = fails }))
 stops_formatting (Err _) session output (Err fault) is count fails = inr (inl fails)
 
-module _ {D : Type 0} (disk : Disk D) {C E : Type 0} (opened : Result (StoreValue D State Action) StoreFault) (cache : Result C E) (start store : StoreValue D State Action) (held : C) (input output : Stream) where
+module _ {D : Type 0} (disk : Disk D) {C E : Type 0} (opened : Result (StoreValue D SessionValue Action) StoreFault) (cache : Result C E) (start store : StoreValue D SessionValue Action) (held : C) (input output : Stream) where
   -- lines were served over a session that was opened
   pub serves_opened : (result : Result (Unit {0}) RunFault) → opened ≡ Ok start → cache ≡ Ok held
       → OnOk result (ServesAll disk start store input output) → OnOk result (ServesOpened disk opened cache input output)
@@ -82,7 +82,7 @@ module _ {D : Type 0} (disk : Disk D) {C E : Type 0} (opened : Result (StoreValu
 
 module _ {C E : Type 0} where
   -- why not all lines were served over the session in a file
-  pub stops_scripting : (opened : Result (StoreValue (FileDisk File) State Action) StoreFault) (cache : Result C E) (input output : Stream) (result : Result (Unit {0}) RunFault)
+  pub stops_scripting : (opened : Result (StoreValue (FileDisk File) SessionValue Action) StoreFault) (cache : Result C E) (input output : Stream) (result : Result (Unit {0}) RunFault)
       → IfOk opened IsOnFile → IfErr opened RefusesFile → IfErr result (StopsOpened file_disk opened cache input output)
       → IfErr result (StopsScripting input output)
   stops_scripting opened cache input output (Ok _) on refused stops = tt
@@ -94,7 +94,7 @@ module _ {C E : Type 0} where
       inl (record { cause = cause; named = stops.0; refused = inl refused; unread = stops.1; unwritten = stops.2 })
 
   -- why not all connections were served over it
-  pub stops_serving : (opened : Result (StoreValue (FileDisk File) State Action) StoreFault) (cache : Result C E) (count : ℕ) (result : Result (Unit {0}) RunFault)
+  pub stops_serving : (opened : Result (StoreValue (FileDisk File) SessionValue Action) StoreFault) (cache : Result C E) (count : ℕ) (result : Result (Unit {0}) RunFault)
       → IfOk opened IsOnFile → IfErr opened RefusesFile → IfErr result (StopsConnectionsOpened opened cache count)
       → IfErr result (StopsServingConnections count)
   stops_serving opened cache count (Ok _) on refused stops = tt

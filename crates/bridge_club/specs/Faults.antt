@@ -33,7 +33,7 @@ fault_line (Stream fault) = stream_line fault
 fault_line (Config fault) = config_line fault
 fault_line (Store fault) = store_line fault
 
--- 4 where the disk holds no session, and else 3
+-- 4 where the disk holds no session, and 3 otherwise
 abbrev pub store_status : StoreFault → ℕ
 store_status TooSmall = 4
 store_status Disk = 3

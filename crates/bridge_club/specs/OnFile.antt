@@ -9,7 +9,7 @@ use Rattle.session_store.specs.declared.fault.StoreFault.{StoreFault}
 use Rattle.session_store.specs.declared.fault.StoreFault.TheVariants.{Disk as DiskFault, NoMemory}
 use Rattle.session_store.specs.Value.{StoreValue}
 use Rattle.bridge_session.specs.declared.action.Action.{Action}
-use Rattle.bridge_session.specs.State.{State}
+use Rattle.bridge_session.specs.State.{SessionValue}
 use Rattle.table_server.specs.declared.fault.ServeFault.TheVariants.{Write, Accept}
 use Rattle.bridge_club.specs.declared.fault.RunFault.{RunFault}
 use Rattle.bridge_club.specs.declared.fault.RunFault.TheVariants.{Stream as StreamFault, Store}
@@ -18,7 +18,7 @@ use Rattle.bridge_club.specs.Scripted.{ServesAll, StopsScript}
 use Rattle.bridge_club.specs.Stored.{OpensSession, RefusesDisk}
 
 -- the store was opened on a disk in a file
-abbrev pub IsOnFile : StoreValue (FileDisk File) State Action → Type 0
+abbrev pub IsOnFile : StoreValue (FileDisk File) SessionValue Action → Type 0
 IsOnFile store = (d : FileDisk File) × OpensSession file_disk d store
 
 -- the fault is that of a file that cannot be opened as a disk, of which no contract can say more; or the disk in it gives
@@ -26,21 +26,21 @@ IsOnFile store = (d : FileDisk File) × OpensSession file_disk d store
 abbrev pub RefusesFile : StoreFault → Type 0
 RefusesFile fault = (fault ≡ DiskFault) ⊎ ((d : FileDisk File) × RefusesDisk file_disk d fault)
 
-module _ (IsText : State → List ℕ → Type 0) where
+module _ (IsText : SessionValue → List ℕ → Type 0) where
   -- a session was opened, and the text of its results is written
-  abbrev pub TellsOpened : {D : Type 0} → Result (StoreValue D State Action) StoreFault → Stream → Type 0
+  abbrev pub TellsOpened : {D : Type 0} → Result (StoreValue D SessionValue Action) StoreFault → Stream → Type 0
   TellsOpened (Ok store) output = (text : List ℕ) × IsText store.state text × Takes output text
   TellsOpened (Err _) output = ⊥
 
   -- it was opened, and a write failed; or it was not, and the fault is the cause
-  abbrev pub StopsTelling : {D : Type 0} → Result (StoreValue D State Action) StoreFault → Stream → RunFault → Type 0
+  abbrev pub StopsTelling : {D : Type 0} → Result (StoreValue D SessionValue Action) StoreFault → Stream → RunFault → Type 0
   StopsTelling (Ok store) output fault =
       (fault ≡ StreamFault Write) × ((text : List ℕ) × IsText store.state text × TakesPrefix output text)
   StopsTelling (Err cause) output fault = (fault ≡ Store cause) × IsUntouched output
 
   -- this is the text of the results of a session that was opened on a disk in a file
   pub record Tells (text : List ℕ) : Type 0 where
-    pub store : StoreValue (FileDisk File) State Action
+    pub store : StoreValue (FileDisk File) SessionValue Action
     pub opened : IsOnFile store
     pub says : IsText store.state text
 
@@ -55,9 +55,9 @@ module _ (IsText : State → List ℕ → Type 0) where
 
 -- all lines of the input were served over a session that was opened on a disk in a file
 pub record HasScripted (input output : Stream) : Type 0 where
-  pub start : StoreValue (FileDisk File) State Action
+  pub start : StoreValue (FileDisk File) SessionValue Action
   pub opened : IsOnFile start
-  pub store : StoreValue (FileDisk File) State Action
+  pub store : StoreValue (FileDisk File) SessionValue Action
   pub serves : ServesAll file_disk start store input output
 
 -- no line was served: there is no session, or memory was refused
@@ -70,9 +70,9 @@ pub record IsNotScripted (input output : Stream) (fault : RunFault) : Type 0 whe
 
 -- the store failed, or a stream
 pub record StopsOnFile (input output : Stream) (fault : RunFault) : Type 0 where
-  pub start : StoreValue (FileDisk File) State Action
+  pub start : StoreValue (FileDisk File) SessionValue Action
   pub opened : IsOnFile start
-  pub store : StoreValue (FileDisk File) State Action
+  pub store : StoreValue (FileDisk File) SessionValue Action
   pub stops : StopsScript file_disk start store input output fault
 
 abbrev pub StopsScripting : Stream → Stream → RunFault → Type 0
@@ -83,25 +83,25 @@ abbrev pub unknown : TcpStream → Option (List ℕ)
 unknown connection = None
 
 -- there is a listener at the port, and the lines of so many connections were served
-abbrev pub ServesHeard : {L E : Type 0} → Result L E → ℕ → StoreValue (FileDisk File) State Action → StoreValue (FileDisk File) State Action → Type 0
+abbrev pub ServesHeard : {L E : Type 0} → Result L E → ℕ → StoreValue (FileDisk File) SessionValue Action → StoreValue (FileDisk File) SessionValue Action → Type 0
 ServesHeard (Ok _) count start store = ServesAllConnections file_disk unknown unknown count start store
 ServesHeard (Err _) count start store = ⊥
 
 -- there is one, and the serving stopped; or there is none, and the store is as it was
-abbrev pub StopsHearing : {L E : Type 0} → Result L E → ℕ → StoreValue (FileDisk File) State Action → StoreValue (FileDisk File) State Action → RunFault → Type 0
+abbrev pub StopsHearing : {L E : Type 0} → Result L E → ℕ → StoreValue (FileDisk File) SessionValue Action → StoreValue (FileDisk File) SessionValue Action → RunFault → Type 0
 StopsHearing (Ok _) count start store fault = StopsConnections file_disk unknown unknown count start store fault
 StopsHearing (Err _) count start store fault = (fault ≡ StreamFault Accept) × (store ≡ start)
 
 -- there is no listener at the port, and the store is as it was; or the serving of connections stopped
-abbrev pub StopsListening : ℕ → StoreValue (FileDisk File) State Action → StoreValue (FileDisk File) State Action → RunFault → Type 0
+abbrev pub StopsListening : ℕ → StoreValue (FileDisk File) SessionValue Action → StoreValue (FileDisk File) SessionValue Action → RunFault → Type 0
 StopsListening count start store fault =
     ((fault ≡ StreamFault Accept) × (store ≡ start)) ⊎ StopsConnections file_disk unknown unknown count start store fault
 
 -- the lines of so many connections were served over a session that was opened on a disk in a file
 pub record HasServedConnections (count : ℕ) : Type 0 where
-  pub start : StoreValue (FileDisk File) State Action
+  pub start : StoreValue (FileDisk File) SessionValue Action
   pub opened : IsOnFile start
-  pub store : StoreValue (FileDisk File) State Action
+  pub store : StoreValue (FileDisk File) SessionValue Action
   pub serves : ServesAllConnections file_disk unknown unknown count start store
 
 -- there is no session, or memory was refused
@@ -112,24 +112,24 @@ pub record IsNotServed (fault : RunFault) : Type 0 where
 
 -- the serving of connections stopped over a session that was opened
 pub record StopsOnConnections (count : ℕ) (fault : RunFault) : Type 0 where
-  pub start : StoreValue (FileDisk File) State Action
+  pub start : StoreValue (FileDisk File) SessionValue Action
   pub opened : IsOnFile start
-  pub store : StoreValue (FileDisk File) State Action
+  pub store : StoreValue (FileDisk File) SessionValue Action
   pub stops : StopsListening count start store fault
 
 abbrev pub StopsServingConnections : ℕ → RunFault → Type 0
 StopsServingConnections count fault = IsNotServed fault ⊎ StopsOnConnections count fault
 
 -- a session was opened, there was memory for a cache, and the lines of so many connections were served
-abbrev pub ServesConnectionsOpened : {C E : Type 0} → Result (StoreValue (FileDisk File) State Action) StoreFault → Result C E → ℕ → Type 0
+abbrev pub ServesConnectionsOpened : {C E : Type 0} → Result (StoreValue (FileDisk File) SessionValue Action) StoreFault → Result C E → ℕ → Type 0
 ServesConnectionsOpened (Ok start) (Ok _) count =
-    (store : StoreValue (FileDisk File) State Action) × ServesAllConnections file_disk unknown unknown count start store
+    (store : StoreValue (FileDisk File) SessionValue Action) × ServesAllConnections file_disk unknown unknown count start store
 ServesConnectionsOpened (Ok start) (Err _) count = ⊥
 ServesConnectionsOpened (Err _) cache count = ⊥
 
--- the serving stopped; or there was none, for want of memory, or for the cause for which no session was opened
-abbrev pub StopsConnectionsOpened : {C E : Type 0} → Result (StoreValue (FileDisk File) State Action) StoreFault → Result C E → ℕ → RunFault → Type 0
+-- the serving stopped; or there was none, since memory was refused or for the cause for which no session was opened
+abbrev pub StopsConnectionsOpened : {C E : Type 0} → Result (StoreValue (FileDisk File) SessionValue Action) StoreFault → Result C E → ℕ → RunFault → Type 0
 StopsConnectionsOpened (Ok start) (Ok _) count fault =
-    (store : StoreValue (FileDisk File) State Action) × StopsListening count start store fault
+    (store : StoreValue (FileDisk File) SessionValue Action) × StopsListening count start store fault
 StopsConnectionsOpened (Ok start) (Err _) count fault = fault ≡ Store NoMemory
 StopsConnectionsOpened (Err cause) cache count fault = fault ≡ Store cause

@@ -2,10 +2,10 @@
 use Rattle.std.specs.Prelude.{◌≡◌, ◌⊎◌, ◌≤◌, ◌<◌, ◌++◌, ℕ, Bool, true, false, List, length, Err}
 use Rattle.std.specs.Io.KnownBytes.{IsAtEnd}
 use Rattle.line_text.specs.Streams.{Stream, Gives}
-use Rattle.bridge_config.specs.Configuration.{Configuration}
+use Rattle.bridge_config.specs.ConfigValue.{ConfigValue}
 use Rattle.bridge_config.specs.Reading.{Reads}
 use Rattle.bridge_config.specs.Spelling.{Spells}
-use Rattle.bridge_session.specs.State.{State, opening}
+use Rattle.bridge_session.specs.State.{SessionValue, opening}
 use Rattle.session_store.specs.declared.fault.StoreFault.TheVariants.{NoMemory}
 use Rattle.table_server.specs.declared.fault.ServeFault.TheVariants.{Read}
 use Rattle.bridge_club.specs.declared.fault.RunFault.{RunFault}
@@ -30,19 +30,19 @@ pub record IsTextRead (reader : Stream) (text : List ℕ) : Type 0 where
   pub whole : length text < most_read → IsAtEnd reader.new
 
 -- the text spells a configuration, and the session is its opening
-pub record Begins (text : List ℕ) (session : State) : Type 0 where
-  pub configuration : Configuration
+pub record Begins (text : List ℕ) (session : SessionValue) : Type 0 where
+  pub configuration : ConfigValue
   pub spelled : Spells text configuration
   pub begun : session ≡ opening configuration
 
--- why there is no session: the text's first fault, or, where it spells a configuration, want of memory
+-- why there is no session: the text's first fault, or, where it spells a configuration, memory refused
 abbrev pub IsNoSession : List ℕ → RunFault → Type 0
 IsNoSession text (StreamFault fault) = ⊥
 IsNoSession text (Config fault) = Reads text (Err fault)
-IsNoSession text (Store fault) = (fault ≡ NoMemory) × ((configuration : Configuration) × Spells text configuration)
+IsNoSession text (Store fault) = (fault ≡ NoMemory) × ((configuration : ConfigValue) × Spells text configuration)
 
 -- the reader gave the whole text of a configuration, and the session is its opening
-pub record IsSessionRead (reader : Stream) (session : State) : Type 0 where
+pub record IsSessionRead (reader : Stream) (session : SessionValue) : Type 0 where
   pub text : List ℕ
   pub given : Gives reader text
   pub whole : IsAtEnd reader.new

@@ -8,12 +8,12 @@ use Rattle.session_store.specs.Opening.{IsCause, IsOpened, HasNext, reading}
 use Rattle.session_store.specs.Value.{StoreValue}
 use Rattle.bridge_session.specs.declared.action.Action.{Action}
 use Rattle.bridge_session.specs.SessionKeeping.{session_keeping}
-use Rattle.bridge_session.specs.State.{State}
+use Rattle.bridge_session.specs.State.{SessionValue}
 
 module _ {D : Type 0} (disk : Disk D) where
   -- Opening a disk gave this store, which works: no call of the disk failed. Its epoch is the one after the disk's, and has
   -- no record so far.
-  pub record OpensSession (d : D) (store : StoreValue D State Action) : Type 0 where
+  pub record OpensSession (d : D) (store : StoreValue D SessionValue Action) : Type 0 where
     pub opened : IsOpened session_keeping disk d store
     pub works : store.failed ≡ false
     pub no_records : store.records ≡ 0
@@ -29,7 +29,7 @@ module _ {D : Type 0} (disk : Disk D) where
       × (fault ≡ NoMemory → disk.honest d → HasNext (disk.reads d)))
 
   -- a disk was found, and opening it gave this store
-  abbrev pub OpensFound : {E : Type 0} → Result D E → StoreValue D State Action → Type 0
+  abbrev pub OpensFound : {E : Type 0} → Result D E → StoreValue D SessionValue Action → Type 0
   OpensFound (Ok d) store = OpensSession d store
   OpensFound (Err _) store = ⊥
 

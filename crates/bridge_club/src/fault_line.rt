@@ -21,7 +21,7 @@ const LINE_BYTES: usize = 40;
 /// The line of a fault.
 pub type FaultLine = ArrayString<LINE_BYTES>;
 
-/// The exit status at a fault: 4 where the disk is too small, not formatted or damaged, and else 3.
+/// The exit status at a fault: 4 where the disk is too small, not formatted or damaged, and 3 otherwise.
 pub fn fault_status(fault: RunFault) -> u8
     ensures { result ≡ fault_status fault }
 {

@@ -45,7 +45,7 @@ fn asked<'a>(matches: &ArgMatches<'a>) -> Option<Command<'a>>
         ("serve", found) => serve_of(found),
         ("rank", found) => rank_of(found),
         ("pbn", found) => pbn_of(found),
-        // clap's checks leave no other name. The contract allows want of memory alone here.
+        // clap's checks leave no other name. The contract allows the answer of memory refused alone here.
         _ => None,
     }
 }

@@ -10,7 +10,7 @@ use Rattle.bridge_movement.specs.declared.shape.Shape.{Shape}
 use Rattle.bridge_movement.specs.Shape.{IsShape}
 use Rattle.bridge_config.specs.declared.refused.ConfigFault.{ConfigFault}
 use Rattle.bridge_config.specs.declared.refused.ConfigRefused.TheVariants.{KeyTwice}
-use Rattle.bridge_config.specs.Configuration.{Pair}
+use Rattle.bridge_config.specs.ConfigValue.{Pair}
 use Rattle.bridge_config.specs.Limits.{is_name, are_distinct, stands_in, IsPair}
 use Rattle.line_text.specs.Words.{spaced, Five, words_of, five_after}
 use Rattle.bridge_config.specs.Spelling.{shape_text, row_text, pair_text, player_words}

@@ -8,7 +8,7 @@ use Rattle.bridge_config.specs.Limits.{is_name, is_date_form, is_date_within}
 use Rattle.line_text.specs.Words.{spaced}
 use Rattle.bridge_config.specs.Spelling.{scoring_word, heading_lines}
 use Rattle.bridge_config.specs.LineReading.{name_line, date_line, scoring_line, number_line}
-use Rattle.bridge_config.specs.Configuration.{Heading}
+use Rattle.bridge_config.specs.ConfigValue.{Heading}
 use Rattle.bridge_config.specs.Reading.{heading_in}
 use Rattle.bridge_config.proofs.LineLaws.{name_takes, name_again, date_takes, date_again, scoring_takes, scoring_again, number_takes, number_again}
 use Rattle.bridge_config.proofs.Steps.{ok_is, line_then, line_takes, IsShort, TakesLines, takes_none, takes_line, name_short, date_short, scoring_short, number_short}

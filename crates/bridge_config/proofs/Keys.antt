@@ -8,7 +8,7 @@ use Rattle.bridge_config.specs.declared.fields.Key.{Key}
 use Rattle.std.proofs.lemmas.List.{append-nil, map_push, get_or_default}
 use Rattle.std.proofs.lemmas.Grind.{flat_map-append}
 use Rattle.bridge_config.specs.declared.fields.PairFields.{PairFields}
-use Rattle.bridge_config.specs.Configuration.{Pair, keys_in, key_number, pair_of}
+use Rattle.bridge_config.specs.ConfigValue.{Pair, keys_in, key_number, pair_of}
 use Rattle.bridge_config.specs.Limits.{stands_in, are_distinct, IsKeyNumber, AreKeys}
 
 -- a test of the images of a list is a test of the list

@@ -6,7 +6,7 @@ use Rattle.std.proofs.lemmas.List.Elements.{All-head, All-tail}
 use Rattle.bridge_movement.specs.declared.row.Row.{Row}
 use Rattle.bridge_movement.specs.declared.shape.Shape.{Shape}
 use Rattle.bridge_movement.specs.Fair.{IsMovement}
-use Rattle.bridge_movement.specs.Schedule.{Schedule}
+use Rattle.bridge_movement.specs.MovementValue.{MovementValue}
 use Rattle.bridge_movement.specs.Shape.{IsShape, row_count}
 use Rattle.bridge_config.specs.declared.refused.ConfigFault.{ConfigFault}
 use Rattle.bridge_config.specs.Spelling.{mitchell_line, shape_text, row_text, IsMitchell, SpellsMovement}
@@ -20,7 +20,7 @@ use Rattle.bridge_config.proofs.Rows.{rows_takes, rows_again}
 use Rattle.bridge_config.proofs.Movements.{movement_in_bytes, one_mitchell, mitchell_shape_within}
 
 -- lines in front were read as a movement within the limits, and others are left
-pub record TakesMovement (texts : List (List ℕ)) (movement : Schedule) (rest : List (List ℕ)) : Type 0 where
+pub record TakesMovement (texts : List (List ℕ)) (movement : MovementValue) (rest : List (List ℕ)) : Type 0 where
   pub movement_texts : List (List ℕ)
   pub spelled : SpellsMovement movement movement_texts
   pub lines : TakesLines texts movement_texts rest
@@ -86,17 +86,17 @@ movement_takes (line ∷ rest) moved reads =
     plan_takes line rest (word_after (codes "MITCHELL") (words_of line)) moved refl reads
 
 -- the movement was read, and those lines are left
-abbrev pub Moves : Schedule → List (List ℕ) → Result Moved ConfigFault → Type 0
+abbrev pub Moves : MovementValue → List (List ℕ) → Result Moved ConfigFault → Type 0
 Moves movement rest moved =
     (number : ℕ) × (moved ≡ Ok (record { movement = movement; number = number; rest = rest }))
 
 -- equal movements with equal lines left are read alike
-same_moved : (movement movement' : Schedule) (number : ℕ) (rest rest' : List (List ℕ)) → movement ≡ movement' → rest ≡ rest' →
+same_moved : (movement movement' : MovementValue) (number : ℕ) (rest rest' : List (List ℕ)) → movement ≡ movement' → rest ≡ rest' →
     ◌≡◌ {A = Moved} (record { movement = movement; number = number; rest = rest }) (record { movement = movement'; number = number; rest = rest' })
 same_moved movement movement' number rest rest' p q = cc
 
 -- a Mitchell movement of that many tables is read as the one that is spelled
-mitchell_read : (tables : ℕ) (movement : Schedule) (rest : List (List ℕ)) (moved : Result Moved ConfigFault) →
+mitchell_read : (tables : ℕ) (movement : MovementValue) (rest : List (List ℕ)) (moved : Result Moved ConfigFault) →
     IsMitchell tables movement → ReadsMitchell rest (Ok tables) moved → Moves movement rest moved
 mitchell_read tables movement rest (Err fault) mitchell reads = absurd reads
 mitchell_read tables movement rest (Ok moved) mitchell (same, number, left, is_movement) = (
@@ -106,7 +106,7 @@ mitchell_read tables movement rest (Ok moved) mitchell (same, number, left, is_m
 )
 
 -- a number of tables after `MITCHELL` is read as the Mitchell movement
-mitchell_again : (line : List ℕ) (tables : ℕ) (movement : Schedule) (rest : List (List ℕ)) (word : Option (List ℕ)) (moved : Result Moved ConfigFault) →
+mitchell_again : (line : List ℕ) (tables : ℕ) (movement : MovementValue) (rest : List (List ℕ)) (word : Option (List ℕ)) (moved : Result Moved ConfigFault) →
     IsMitchell tables movement → number_in 6 2 12 word ≡ Ok tables → ReadsPlan line rest word moved → Moves movement rest moved
 mitchell_again line tables movement rest None moved mitchell is reads = not_ok (Moves movement rest moved) (form_at 6) tables is
 mitchell_again line tables movement rest (Some word) moved mitchell is reads =
@@ -128,7 +128,7 @@ more_words keyword other (a ∷ b ∷ []) shape e =
 more_words keyword other (a ∷ b ∷ c ∷ words) shape e = either_none (bytes_eq a other)
 
 -- rows that are a movement are judged to be one
-rows_read : (movement : Schedule) (rest : List (List ℕ)) (moved : Result Moved ConfigFault) →
+rows_read : (movement : MovementValue) (rest : List (List ℕ)) (moved : Result Moved ConfigFault) →
     IsMovement movement.shape movement.rows → JudgesRows movement.shape (Ok (movement.rows, rest)) moved →
     Moves movement rest moved
 rows_read movement rest (Err fault) rows (refused, no_movement, refusal, is) = absurd (no_movement rows)
@@ -136,7 +136,7 @@ rows_read movement rest (Ok moved) rows (judged, is) =
     (7 + row_count movement.shape, ap (λ (m : Moved). Ok m) is)
 
 -- the lines of a shape and of its rows, which are a movement, are read as it
-shape_again_rows : (movement : Schedule) (rest : List (List ℕ)) (moved : Result Moved ConfigFault) →
+shape_again_rows : (movement : MovementValue) (rest : List (List ℕ)) (moved : Result Moved ConfigFault) →
     All IsShort (shape_text movement.shape ∷ map row_text movement.rows) → IsShape movement.shape →
     IsMovement movement.shape movement.rows →
     ReadsMovement (Ok (shape_text movement.shape, map row_text movement.rows ++ rest)) moved → Moves movement rest moved
@@ -159,7 +159,7 @@ shape_again_rows movement rest moved short limits rows reads =
     (subst (λ (read : Result (List Row × List (List ℕ)) ConfigFault). JudgesRows movement.shape read moved) counted judged)
 
 -- lines that spell a movement are read as it
-pub movement_again : (movement : Schedule) (texts rest : List (List ℕ)) (moved : Result Moved ConfigFault) →
+pub movement_again : (movement : MovementValue) (texts rest : List (List ℕ)) (moved : Result Moved ConfigFault) →
     SpellsMovement movement texts → All IsShort texts → IsShape movement.shape → IsMovement movement.shape movement.rows →
     ReadsMovement (due_line 6 (texts ++ rest)) moved → Moves movement rest moved
 movement_again movement texts rest moved (inl (tables, mitchell, is)) short limits rows reads =

@@ -7,7 +7,7 @@ use Rattle.bridge_movement.proofs.MitchellShape.{mitchell_within}
 use Rattle.bridge_movement.specs.declared.row.Row.{Row}
 use Rattle.bridge_movement.specs.declared.shape.Shape.{Shape}
 use Rattle.bridge_movement.specs.Fair.{IsMovement}
-use Rattle.bridge_movement.specs.Schedule.{Schedule}
+use Rattle.bridge_movement.specs.MovementValue.{MovementValue}
 use Rattle.bridge_movement.specs.Shape.{IsShape, row_count}
 use Rattle.bridge_config.specs.Spelling.{IsMitchell}
 use Rattle.bridge_config.proofs.FiveWordLaws.{IsByteRow}
@@ -30,11 +30,11 @@ movement_in_bytes shape rows limits movement k d within =
 
 -- equal shapes with equal rows are equal movements
 same_schedule : (shape shape' : Shape) (rows rows' : List Row) → shape ≡ shape' → rows ≡ rows' →
-    ◌≡◌ {A = Schedule} (record { shape = shape; rows = rows }) (record { shape = shape'; rows = rows' })
+    ◌≡◌ {A = MovementValue} (record { shape = shape; rows = rows }) (record { shape = shape'; rows = rows' })
 same_schedule shape shape' rows rows' p q = cc
 
 -- there is one Mitchell movement of a number of tables
-pub one_mitchell : (tables : ℕ) (a b : Schedule) → IsMitchell tables a → IsMitchell tables b → a ≡ b
+pub one_mitchell : (tables : ℕ) (a b : MovementValue) → IsMitchell tables a → IsMitchell tables b → a ≡ b
 one_mitchell tables a b p q =
     let shape : a.shape ≡ b.shape = p.shape ∙ sym q.shape in
     let count : length a.rows ≡ length b.rows = p.count ∙ ap row_count shape ∙ sym q.count in
@@ -43,6 +43,6 @@ one_mitchell tables a b p q =
     same_schedule a.shape b.shape a.rows b.rows shape rows
 
 -- a Mitchell movement is within the limits
-pub mitchell_shape_within : (tables : ℕ) (movement : Schedule) → IsMitchell tables movement → IsShape movement.shape
+pub mitchell_shape_within : (tables : ℕ) (movement : MovementValue) → IsMitchell tables movement → IsShape movement.shape
 mitchell_shape_within tables movement p =
     subst IsShape (sym p.shape) (mitchell_within tables p.tables_within.0 p.tables_within.1)

@@ -3,7 +3,7 @@ use Rattle.std.proofs.Common.{◌≡◌, ℕ, zero, suc, ◌+◌, ◌^◌, ◌�
 use Rattle.std.specs.Prelude.{All}
 use Rattle.std.proofs.lemmas.List.{append-nil}
 use Rattle.std.proofs.lemmas.List.Elements.{All-nil, All-cons, All-head, All-tail, All-append}
-use Rattle.bridge_config.specs.Configuration.{Pair, keys_in}
+use Rattle.bridge_config.specs.ConfigValue.{Pair, keys_in}
 use Rattle.bridge_config.specs.Limits.{are_distinct, IsPair}
 use Rattle.bridge_config.specs.Spelling.{pair_text, pair_lines}
 use Rattle.bridge_config.specs.LineReading.{◌>>=◌, pair_line}

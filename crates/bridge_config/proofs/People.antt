@@ -6,7 +6,7 @@ use Rattle.std.proofs.lemmas.Bool.{eqb-true}
 use Rattle.std.proofs.lemmas.List.{append-nil, nil_from_length}
 use Rattle.std.proofs.lemmas.List.Elements.{All-cons, All-head, All-tail}
 use Rattle.bridge_config.specs.declared.refused.ConfigFault.{ConfigFault}
-use Rattle.bridge_config.specs.Configuration.{Pair, keys_in, People}
+use Rattle.bridge_config.specs.ConfigValue.{Pair, keys_in, People}
 use Rattle.bridge_config.specs.Limits.{are_distinct, IsPair}
 use Rattle.line_text.specs.Words.{spaced}
 use Rattle.bridge_config.specs.Spelling.{pair_lines, people_lines}

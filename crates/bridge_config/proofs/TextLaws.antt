@@ -7,7 +7,7 @@ use Rattle.std.proofs.lemmas.List.{append-nil}
 use Rattle.std.proofs.lemmas.List.Elements.{All-append}
 use Rattle.bridge_config.specs.declared.refused.ConfigFault.{ConfigFault}
 use Rattle.bridge_config.specs.declared.refused.ConfigRefused.TheVariants.{TooLong}
-use Rattle.bridge_config.specs.Configuration.{Configuration, heading_of, people_of, Heading, People}
+use Rattle.bridge_config.specs.ConfigValue.{ConfigValue, heading_of, people_of, Heading, People}
 use Rattle.bridge_config.specs.Limits.{is_between, IsConfiguration}
 use Rattle.bridge_config.specs.Spelling.{heading_lines, people_lines, Spells}
 use Rattle.bridge_config.specs.LineReading.{◌>>=◌}
@@ -70,7 +70,7 @@ people_read_spelled text heading moved people within heading_is movement_is peop
     }
 
 -- the same, where the heading was read and the lines after it gave a configuration
-heading_read_spelled : (text : List ℕ) (configuration : Configuration) (heading : Result (Heading × List (List ℕ)) ConfigFault) →
+heading_read_spelled : (text : List ℕ) (configuration : ConfigValue) (heading : Result (Heading × List (List ℕ)) ConfigFault) →
     length text ≤ 16384 → heading_in (lines text) ≡ heading → ReadsAfterHeading heading (Ok configuration) →
     Spells text configuration
 heading_read_spelled text configuration (Err fault) within heading_is reads = absurd cc
@@ -80,13 +80,13 @@ heading_read_spelled text configuration (Ok heading) within heading_is (moved, m
     let b = bind_ok (people_in m.movement.shape.pairs m.number m.rest) (λ people. Ok (stated_by heading.0 m.movement people)) configuration a.2 in
     let movement_is' : ReadsMovement (due_line 6 heading.1) (Ok m) =
     subst (λ (r : Result Moved ConfigFault). ReadsMovement (due_line 6 heading.1) r) a.1 movement_is in
-    subst (λ (c : Configuration). Spells text c) (ok_is (stated_by heading.0 m.movement b.0) configuration b.2)
+    subst (λ (c : ConfigValue). Spells text c) (ok_is (stated_by heading.0 m.movement b.0) configuration b.2)
     (people_read_spelled text heading m b.0 within heading_is movement_is' b.1)
 
 -- a configuration that was read of a text is spelled by it
-pub read_is_spelled : (text : List ℕ) (configuration : Configuration) → Reads text (Ok configuration) → Spells text configuration
+pub read_is_spelled : (text : List ℕ) (configuration : ConfigValue) → Reads text (Ok configuration) → Spells text configuration
 read_is_spelled text configuration read =
-    let long : Type 0 = ◌≡◌ {A = Result Configuration ConfigFault} (Ok configuration) (Err (record { line = 0; cause = TooLong })) in
+    let long : Type 0 = ◌≡◌ {A = Result ConfigValue ConfigFault} (Ok configuration) (Err (record { line = 0; cause = TooLong })) in
     let after : Type 0 = ReadsAfterHeading (heading_in (lines text)) (Ok configuration) in
     elim (cases_lt 16384 (length text)) [
       | inl above ↦ absurd (let e : long = MatchBool-at_true long after (lt-ltb 16384 (length text) above) read in cc)
@@ -95,7 +95,7 @@ read_is_spelled text configuration read =
     ]
 
 -- a configuration that a text spells is read of it
-pub spelled_is_read : (text : List ℕ) (configuration : Configuration) (read : Result Configuration ConfigFault) → Spells text configuration → Reads text read → read ≡ Ok configuration
+pub spelled_is_read : (text : List ℕ) (configuration : ConfigValue) (read : Result ConfigValue ConfigFault) → Spells text configuration → Reads text read → read ≡ Ok configuration
 spelled_is_read text configuration read spelled reads =
     let limits : IsConfiguration configuration = spelled.limits in
     let heading : Heading = heading_of configuration in
@@ -107,7 +107,7 @@ spelled_is_read text configuration read spelled reads =
     let short = All-append_parts IsShort first (second ++ third)
     (subst (λ (ts : List (List ℕ)). All IsShort ts) whole spelled.lines_within) in
     let short' = All-append_parts IsShort second third short.1 in
-    let long : Type 0 = ◌≡◌ {A = Result Configuration ConfigFault} read (Err (record { line = 0; cause = TooLong })) in
+    let long : Type 0 = ◌≡◌ {A = Result ConfigValue ConfigFault} read (Err (record { line = 0; cause = TooLong })) in
     let after : Type 0 = ReadsAfterHeading (heading_in (lines text)) read in
     let reads_after : after = MatchBool-at_false long after (le-ltb 16384 (length text) spelled.length_within) reads in
     let is_heading : IsHeading heading = record {

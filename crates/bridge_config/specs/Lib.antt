@@ -1,5 +1,5 @@
 pub mod Refused
-pub mod Configuration
+pub mod ConfigValue
 pub mod Limits
 pub mod Spelling
 pub mod LineReading

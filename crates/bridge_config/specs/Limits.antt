@@ -4,7 +4,7 @@ use Rattle.std.specs.List.{list_all, list_any}
 use Rattle.std.specs.Char.{is_ascii_alphanumeric, is_ascii_digit}
 use Rattle.bridge_movement.specs.Shape.{IsShape}
 use Rattle.bridge_movement.specs.Fair.{IsMovement}
-use Rattle.bridge_config.specs.Configuration.{Configuration, Pair, keys_of}
+use Rattle.bridge_config.specs.ConfigValue.{ConfigValue, Pair, keys_of}
 
 -- ASCII letters, digits, dots, hyphens and underscores
 abbrev pub is_name_byte : ℕ → Bool
@@ -58,7 +58,7 @@ pub record AreKeys (keys : List ℕ) : Type 0 where
   pub distinct : are_distinct keys ≡ true
 
 -- each field is within its limits, and there are as many pairs as the movement has
-pub record IsConfiguration (configuration : Configuration) : Type 0 where
+pub record IsConfiguration (configuration : ConfigValue) : Type 0 where
   pub event : is_name configuration.event ≡ true
   pub site : is_name configuration.site ≡ true
   pub date_form : is_date_form configuration.date ≡ true

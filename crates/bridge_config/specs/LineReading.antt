@@ -10,7 +10,7 @@ use Rattle.bridge_movement.specs.declared.row.Row.{Row}
 use Rattle.bridge_movement.specs.declared.shape.Shape.{Shape}
 use Rattle.bridge_config.specs.declared.refused.ConfigFault.{ConfigFault}
 use Rattle.bridge_config.specs.declared.refused.ConfigRefused.TheVariants.{Form, Range, KeyTwice}
-use Rattle.bridge_config.specs.Configuration.{Pair}
+use Rattle.bridge_config.specs.ConfigValue.{Pair}
 use Rattle.bridge_config.specs.Limits.{is_name, is_date_form, is_date_within, is_between, stands_in}
 
 infixl 10 ◌>>=◌

@@ -5,7 +5,7 @@ use Rattle.bridge_config.specs.declared.refused.ConfigFault.{ConfigFault}
 use Rattle.bridge_config.specs.declared.reading.Heading.{Heading as HeadingType}
 use Rattle.bridge_config.specs.declared.reading.Moved.{Moved as MovedType}
 use Rattle.bridge_config.specs.declared.reading.People.{People as PeopleType}
-use Rattle.bridge_config.specs.Configuration.{pair_of, key_number, Heading, People}
+use Rattle.bridge_config.specs.ConfigValue.{pair_of, key_number, Heading, People}
 use Rattle.bridge_config.specs.Reading.{Moved}
 
 abbrev pub view_of_heading : HeadingType → Heading

@@ -5,13 +5,13 @@ use Rattle.std.specs.Str.Lines.{lines}
 use Rattle.bridge_movement.specs.declared.row.Row.{Row}
 use Rattle.bridge_movement.specs.declared.shape.Shape.{Shape}
 use Rattle.bridge_movement.specs.declared.refused.MovementRefused.{MovementRefused}
-use Rattle.bridge_movement.specs.Schedule.{Schedule}
+use Rattle.bridge_movement.specs.MovementValue.{MovementValue}
 use Rattle.bridge_movement.specs.Shape.{row_count}
 use Rattle.bridge_movement.specs.Fair.{IsMovement}
 use Rattle.bridge_movement.specs.Refused.{IsRefusal, refused_place}
 use Rattle.bridge_config.specs.declared.refused.ConfigFault.{ConfigFault}
 use Rattle.bridge_config.specs.declared.refused.ConfigRefused.TheVariants.{TooLong, Movement}
-use Rattle.bridge_config.specs.Configuration.{Configuration, Pair, Heading, People}
+use Rattle.bridge_config.specs.ConfigValue.{ConfigValue, Pair, Heading, People}
 use Rattle.bridge_config.specs.Spelling.{IsMitchell}
 use Rattle.bridge_config.specs.LineReading.{◌>>=◌, form_at, name_line, date_line, scoring_line, number_in, number_line, shape_line, row_line, pair_line}
 use Rattle.line_text.specs.Words.{words_of, word_after}
@@ -64,7 +64,7 @@ people_in count number texts = do
 
 -- a movement, the number of the line after its last, and the lines from there
 pub record Moved : Type 0 where
-  pub movement : Schedule
+  pub movement : MovementValue
   pub number : ℕ
   pub rest : List (List ℕ)
 
@@ -100,7 +100,7 @@ abbrev pub ReadsMovement : Result (List ℕ × List (List ℕ)) ConfigFault → 
 ReadsMovement (Err fault) moved = moved ≡ Err fault
 ReadsMovement (Ok six) moved = ReadsPlan six.0 six.1 (word_after (codes "MITCHELL") (words_of six.0)) moved
 
-abbrev pub stated_by : Heading → Schedule → People → Configuration
+abbrev pub stated_by : Heading → MovementValue → People → ConfigValue
 stated_by heading movement people = record {
   event = heading.event;
   site = heading.site;
@@ -113,20 +113,20 @@ stated_by heading movement people = record {
 }
 
 -- the configuration of a movement and of the lines after it
-abbrev pub after_movement : Heading → Moved → Result Configuration ConfigFault
+abbrev pub after_movement : Heading → Moved → Result ConfigValue ConfigFault
 after_movement heading moved =
     people_in moved.movement.shape.pairs moved.number moved.rest
     >>= λ people. Ok (stated_by heading moved.movement people)
 
 -- what the lines after the heading make of a configuration
-abbrev pub ReadsAfterHeading : Result (Heading × List (List ℕ)) ConfigFault → Result Configuration ConfigFault → Type 0
+abbrev pub ReadsAfterHeading : Result (Heading × List (List ℕ)) ConfigFault → Result ConfigValue ConfigFault → Type 0
 ReadsAfterHeading (Err fault) read = read ≡ Err fault
 ReadsAfterHeading (Ok heading) read =
     (moved : Result Moved ConfigFault) × ReadsMovement (due_line 6 heading.1) moved
     × (read ≡ (moved >>= after_movement heading.0))
 
 -- The configuration of a text, or its first fault: its length, and then line by line.
-abbrev pub Reads : List ℕ → Result Configuration ConfigFault → Type 0
+abbrev pub Reads : List ℕ → Result ConfigValue ConfigFault → Type 0
 Reads text read =
     MatchBool (nat_lt 16384 (length text)) (read ≡ Err (record { line = 0; cause = TooLong }))
     (ReadsAfterHeading (heading_in (lines text)) read)

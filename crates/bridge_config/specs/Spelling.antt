@@ -7,10 +7,10 @@ use Rattle.bridge_score.specs.declared.ranking.Scoring.{Scoring}
 use Rattle.bridge_score.specs.declared.ranking.Scoring.TheVariants.{MatchPoints, Imps}
 use Rattle.bridge_movement.specs.declared.row.Row.{Row}
 use Rattle.bridge_movement.specs.declared.shape.Shape.{Shape}
-use Rattle.bridge_movement.specs.Schedule.{Schedule}
+use Rattle.bridge_movement.specs.MovementValue.{MovementValue}
 use Rattle.bridge_movement.specs.Shape.{IsBetween, row_count}
 use Rattle.bridge_movement.specs.Mitchell.{mitchell_shape, FollowsMitchell}
-use Rattle.bridge_config.specs.Configuration.{Configuration, Pair, Heading, heading_of, People, people_of}
+use Rattle.bridge_config.specs.ConfigValue.{ConfigValue, Pair, Heading, heading_of, People, people_of}
 use Rattle.bridge_config.specs.Limits.{IsConfiguration}
 
 abbrev pub scoring_word : Scoring → List ℕ
@@ -40,14 +40,14 @@ row_text row =
     spaced (codes "ROW" ∷ decimal row.round ∷ decimal row.table ∷ decimal row.ns ∷ decimal row.ew ∷ decimal row.set ∷ [])
 
 -- the Mitchell movement of that many tables
-pub record IsMitchell (tables : ℕ) (movement : Schedule) : Type 0 where
+pub record IsMitchell (tables : ℕ) (movement : MovementValue) : Type 0 where
   pub tables_within : IsBetween 2 12 tables
   pub shape : movement.shape ≡ mitchell_shape tables
   pub count : length movement.rows ≡ row_count movement.shape
   pub rows : FollowsMitchell tables movement.rows
 
 -- the lines are the one of a Mitchell movement, or the shape and a line for each row
-abbrev pub SpellsMovement : Schedule → List (List ℕ) → Type 0
+abbrev pub SpellsMovement : MovementValue → List (List ℕ) → Type 0
 SpellsMovement movement texts =
     ((tables : ℕ) × IsMitchell tables movement × (texts ≡ mitchell_line tables ∷ []))
     ⊎ (texts ≡ shape_text movement.shape ∷ map row_text movement.rows)
@@ -71,7 +71,7 @@ people_lines people = spaced (codes "DIRECTOR" ∷ decimal people.director ∷ [
 
 -- The lines of the text are those of the configuration, which is within the limits. No line has more than 128 bytes, and
 -- the text has at most 16,384.
-pub record Spells (text : List ℕ) (configuration : Configuration) : Type 0 where
+pub record Spells (text : List ℕ) (configuration : ConfigValue) : Type 0 where
   pub length_within : length text ≤ 16384
   pub lines_within : All (λ line. length line ≤ 128) (lines text)
   pub movement_texts : List (List ℕ)

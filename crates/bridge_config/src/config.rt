@@ -1,6 +1,6 @@
 ghost use Rattle.std.specs.Prelude.{◌≡◌, ◌↔◌, ◌≤◌, ◌+◌, ◌++◌, IsSome, IfSome, IsTrue, length, map, All, true};
 ghost use Rattle.std.specs.List.{list_all};
-ghost use Rattle.bridge_config.specs.Configuration.{configuration_of, pair_of, keys_of, key_number};
+ghost use Rattle.bridge_config.specs.ConfigValue.{configuration_of, pair_of, keys_of, key_number};
 ghost use Rattle.bridge_config.specs.Limits.{IsConfiguration, IsPair, is_name};
 
 use crate::fields::{ConfigFields, Key, PairFields};
@@ -15,10 +15,10 @@ pub struct Config {
 }
 
 impl Model for Config {
-    ghost use Rattle.bridge_config.specs.Configuration.{Configuration, configuration_of};
+    ghost use Rattle.bridge_config.specs.ConfigValue.{ConfigValue, configuration_of};
     ghost use Rattle.bridge_config.specs.Limits.{IsConfiguration};
 
-    ghost Value = { Configuration };
+    ghost Value = { ConfigValue };
 
     ghost view = { λ config. configuration_of config.fields };
 

@@ -12,8 +12,6 @@ mod limits;
 mod line;
 mod reading;
 pub mod refused;
-#[cfg(test)]
-mod tests;
 
 pub use config::Config;
 pub use fields::{ConfigFields, Key, NAME_BYTES, PairFields};

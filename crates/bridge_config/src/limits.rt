@@ -2,7 +2,7 @@
 ghost use Rattle.std.specs.Prelude.{◌≡◌, ◌↔◌, IsTrue, map, length, Some, None, if◌then◌else◌};
 ghost use Rattle.std.specs.Option.{option_map};
 ghost use Rattle.std.specs.List.{list_all};
-ghost use Rattle.bridge_config.specs.Configuration.{key_number};
+ghost use Rattle.bridge_config.specs.ConfigValue.{key_number};
 ghost use Rattle.bridge_config.specs.Limits.{is_name_byte, is_name, is_date_form, is_date_within, two_digits, stands_in, AreKeys};
 
 use crate::fields::{Key, NAME_BYTES};

@@ -2,7 +2,7 @@
 ghost use Rattle.std.specs.Prelude.{◌≡◌, ◌+◌, ◌≤◌, ◌<◌, ◌∷◌, ◌++◌, [], ℕ, IfOk, map, length, Ok};
 ghost use Rattle.std.specs.Str.Lines.{lines};
 ghost use Rattle.bridge_movement.specs.Shape.{IsShape, row_count};
-ghost use Rattle.bridge_config.specs.Configuration.{Configuration, pair_of, key_number};
+ghost use Rattle.bridge_config.specs.ConfigValue.{ConfigValue, pair_of, key_number};
 ghost use Rattle.bridge_config.specs.Spelling.{Spells};
 ghost use Rattle.bridge_config.specs.Limits.{IsConfiguration};
 ghost use Rattle.bridge_config.specs.LineReading.{Gives};
@@ -53,7 +53,7 @@ pub fn read_config(text: &[u8]) -> Result<Config, ConfigFault>
     // What is read is spelled so.
     ensures found { IfOk result (Spells text.now) }
     // What is spelled so is read.
-    ensures only { (configuration : Configuration) → Spells text.now configuration
+    ensures only { (configuration : ConfigValue) → Spells text.now configuration
         → Gives (λ config. config) result (Ok configuration) }
     // Which fault it is.
     ensures exact { Reads text.now result }

@@ -1,21 +1,10 @@
 -- Tests of the cards of the deck.
 use Rattle.std.proofs.Common.{◌≡◌, ℕ, ◌<◌, Bool, true, false, not, ◌&&◌, ◌||◌, cond, List, [], ◌∷◌, filter, map, refl, ap, ◌∙◌, arith, zero-add}
 use Rattle.std.specs.List.{list_any, list_all, range_with_len}
-use Rattle.std.proofs.lemmas.List.Folds.{list_any_at, list_all_at, list_any_none}
+use Rattle.std.proofs.lemmas.List.Folds.{list_all_at}
 use Rattle.std.proofs.lemmas.List.Sums.{list_all-from_AllPass}
 use Rattle.std.proofs.lemmas.List.FromFn.{length-range_with_len, get_or-range_with_len}
 use Rattle.bridge_cards.specs.CardSet.{deck}
-
--- one card passes
-pub some_card : (p : ℕ → Bool) (card : ℕ) → card < 52 → p card ≡ true → list_any p deck ≡ true
-unfolding deck
-some_card p card inside passes =
-    list_any_at p (range_with_len 0 52) card 0 (omega (arith, length-range_with_len 0 52)) (rw (get_or-range_with_len 0 52 card 0 inside, zero-add card) passes)
-
--- none does
-pub no_card : (p : ℕ → Bool) → ((card : ℕ) → p card ≡ false) → list_any p deck ≡ false
-unfolding deck
-no_card p none = list_any_none p (range_with_len 0 52) (λ k d within. none _)
 
 -- all do
 pub all_cards : (p : ℕ → Bool) → ((card : ℕ) → p card ≡ true) → list_all p deck ≡ true

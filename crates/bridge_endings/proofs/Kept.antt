@@ -12,10 +12,10 @@ use Rattle.bridge_cards.specs.declared.suit.Suit.TheVariants.{Clubs, Diamonds, H
 use Rattle.bridge_cards.specs.Suit.{suit_at}
 use Rattle.bridge_cards.specs.Seat.{seat_number, seat_at}
 use Rattle.bridge_endings.specs.declared.bounds.Bounds.{Bounds}
-use Rattle.bridge_endings.specs.Position.{Position}
+use Rattle.bridge_endings.specs.EndingValue.{EndingValue}
 use Rattle.bridge_endings.specs.Ending.{IsEnding}
 use Rattle.bridge_endings.specs.Worth.{worth_of}
-use Rattle.bridge_endings.specs.Cached.{trump_number, key_of, EachIsTrue, AreKept}
+use Rattle.bridge_endings.specs.CacheValue.{trump_number, key_of, EachIsTrue, AreKept}
 use Rattle.bridge_endings.specs.Between.{IsBetween}
 use Rattle.bridge_endings.proofs.Seats.{seat_at-number}
 
@@ -45,7 +45,7 @@ same_parts (x ∷ xs) (y ∷ ys) a b c d long same =
     let parts = same_parts xs ys a b c d (omega arith) rest in
     (ap (λ z. z ∷ xs) first ∙ ap (λ zs. y ∷ zs) parts.0, parts.1, parts.2)
 
-pub same_worth : (one other : Position) → IsEnding one.hands → IsEnding other.hands → key_of one ≡ key_of other → worth_of one ≡ worth_of other
+pub same_worth : (one other : EndingValue) → IsEnding one.hands → IsEnding other.hands → key_of one ≡ key_of other → worth_of one ≡ worth_of other
 same_worth one other is is_other same =
     let parts = same_parts one.hands other.hands (trump_number one.trump) (seat_number one.leader) (trump_number other.trump) (seat_number other.leader) (is.four ∙ sym is_other.four) same in
     let trump : one.trump ≡ other.trump = sym (trump_at-number one.trump) ∙ ap trump_at parts.1 ∙ trump_at-number other.trump in
@@ -56,7 +56,7 @@ same_worth one other is is_other same =
 
 -- ---- what is found
 
-pub found_true : (entries : List (List ℕ × Bounds)) (ending : Position) (found : Option Bounds) → EachIsTrue entries → IsEnding ending.hands → lookup (pointwise nat_eq (key_of ending)) entries ≡ found → IfSome found (IsBetween (worth_of ending))
+pub found_true : (entries : List (List ℕ × Bounds)) (ending : EndingValue) (found : Option Bounds) → EachIsTrue entries → IsEnding ending.hands → lookup (pointwise nat_eq (key_of ending)) entries ≡ found → IfSome found (IsBetween (worth_of ending))
 found_true entries ending None each is look = tt
 found_true entries ending (Some bounds) each is look =
     let at = Contains-lookup (pointwise nat_eq (key_of ending)) entries bounds look in
@@ -92,7 +92,7 @@ few_with cache key bounds some few = of_found (lookup_entry (pointwise nat_eq ke
     of_found None is = omega (arith, some, length-take (cache.cap - 1) cache.entries)
     of_found (Some e) is = omega (arith, few, removed (pointwise nat_eq key) cache.entries e is)
 
-module _ (old new : LruCache (List ℕ) Bounds) (key : List ℕ) (bounds : Bounds) (ending : Position) (key_is : key ≡ key_of ending) where
+module _ (old new : LruCache (List ℕ) Bounds) (key : List ℕ) (bounds : Bounds) (ending : EndingValue) (key_is : key ≡ key_of ending) where
   abbrev Puts : Type 0
   Puts = new ≡ lru_cache (put_entries (pointwise nat_eq) old key bounds) old.cap
 

@@ -7,7 +7,8 @@ use Rattle.bridge_cards.specs.declared.seat.Side.TheVariants.{NorthSouth, EastWe
 use Rattle.bridge_cards.specs.CardSet.{deck}
 use Rattle.bridge_endings.specs.Worth.{best_from, best}
 use Rattle.bridge_endings.specs.Left.{is_sought}
-use Rattle.bridge_endings.proofs.Deck.{some_card, no_card, all_cards, not_all_cards, filter_none, any_kept, all_kept}
+use Rattle.bridge_cards.proofs.SuitHeld.{some_card, no_card}
+use Rattle.bridge_endings.proofs.Deck.{all_cards, not_all_cards, filter_none, any_kept, all_kept}
 
 -- a question of the better of two
 reaches-max : (need one other : ℕ) → nat_le need (max one other) ≡ (nat_le need one || nat_le need other)

@@ -8,7 +8,7 @@ use Rattle.bridge_cards.specs.declared.seat.Side.{Side}
 use Rattle.bridge_cards.specs.CardSet.{deck}
 use Rattle.bridge_endings.specs.Worth.{best}
 use Rattle.bridge_endings.specs.Left.{is_sought}
-use Rattle.bridge_endings.proofs.Deck.{some_card}
+use Rattle.bridge_cards.proofs.SuitHeld.{some_card}
 use Rattle.bridge_endings.proofs.Minimax.{best_found, best_none, best_empty}
 use Rattle.bridge_endings.proofs.Answered.{same_answer, other_answer}
 

@@ -10,10 +10,10 @@ use Rattle.bridge_cards.specs.declared.seat.Side.TheVariants.{NorthSouth, EastWe
 use Rattle.bridge_cards.specs.Seat.{clockwise_from, side_of}
 use Rattle.bridge_cards.specs.Card.{same_suit}
 use Rattle.bridge_cards.specs.CardSet.{has_card}
-use Rattle.bridge_cards.specs.Trick.{is_trump, beats, is_or_beats}
+use Rattle.bridge_cards.specs.Trick.{has_suit, is_trump, beats, is_or_beats}
 use Rattle.bridge_endings.specs.Ending.{IsEnding}
-use Rattle.bridge_endings.specs.TrickCards.{IsWinning}
-use Rattle.bridge_endings.specs.Worth.{dealt, has_suit, after_playing, trick_for, worth_after, worth_with}
+use Rattle.bridge_endings.specs.TrickValue.{IsWinning}
+use Rattle.bridge_endings.specs.Worth.{dealt, after_playing, trick_for, worth_after, worth_with}
 use Rattle.bridge_endings.specs.Left.{left_to, is_sought}
 use Rattle.bridge_endings.specs.Sure.{IsSure, settled_by_one}
 use Rattle.bridge_endings.proofs.Owners.{one_owner}
@@ -199,7 +199,7 @@ module _ (hands : List ℕ) (ending : IsEnding hands) (trump : Option Suit) (lef
       sym (
       ap (λ cards. nat_le need (worth_with trump cards held leader [])) fuel
       ∙ ap (nat_le need) (sym (worth_after-part trump (worth_with trump (suc (rest + 3))) held leader [] (omega arith)))
-      ∙ by_one trump (rest + 3) need held leader [] (omega arith) answer lead (dealt_out.inside leader lead has) has_first
+      ∙ by_one trump (rest + 3) need held leader [] (omega arith) answer lead (dealt_out.inside leader lead has) (ap (λ b. b && true) has_first)
       (ap (λ (s : Seat). is_sought (side_of s)) (sym (first_place leader))) told)
 
   -- the question that one trick settles

@@ -7,7 +7,7 @@ use Rattle.bridge_cards.specs.declared.suit.Suit.{Suit}
 use Rattle.bridge_cards.specs.declared.seat.Seat.{Seat}
 use Rattle.bridge_cards.specs.Seat.{clockwise_from, same_seat}
 use Rattle.bridge_cards.specs.Card.{suit_number_of}
-use Rattle.bridge_cards.specs.Trick.{beats, is_or_beats, wins, winning_place, next_leader}
+use Rattle.bridge_cards.specs.Trick.{beats, is_or_beats, wins, winning_index, next_leader}
 use Rattle.bridge_endings.specs.Equal.{IsApart}
 use Rattle.bridge_endings.proofs.Seats.{one_place}
 use Rattle.bridge_endings.proofs.Swap.{swap, is_or_beats_swapped}
@@ -58,10 +58,10 @@ module _ (c d : ℕ) (suit : suit_number_of c ≡ suit_number_of d) (trump : Opt
   place_swapped : position_or_len (wins trump (map (swap c d) trick)) (map (swap c d) trick) ≡ position_or_len (wins trump trick) trick
   place_swapped = first_mapped (wins trump trick) (wins trump (map (swap c d) trick)) (swap c d) trick wins_swapped
 
-  pub winning_place_swapped : winning_place trump (map (swap c d) trick) ≡ winning_place trump trick
-  winning_place_swapped =
+  pub winning_index_swapped : winning_index trump (map (swap c d) trick) ≡ winning_index trump trick
+  winning_index_swapped =
       ap (λ n. unwrap_or (cond (nat_lt n (length (map (swap c d) trick))) (Some n) None) 0) place_swapped
       ∙ ap (λ n. unwrap_or (cond (nat_lt (position_or_len (wins trump trick) trick) n) (Some (position_or_len (wins trump trick) trick)) None) 0) (length-map trick (swap c d))
 
   pub next_leader_swapped : next_leader trump leader (map (swap c d) trick) ≡ next_leader trump leader trick
-  next_leader_swapped = ap (clockwise_from leader) winning_place_swapped
+  next_leader_swapped = ap (clockwise_from leader) winning_index_swapped

@@ -8,8 +8,8 @@ use Rattle.bridge_cards.specs.declared.suit.Suit.{Suit}
 use Rattle.bridge_cards.specs.declared.seat.Seat.{Seat}
 use Rattle.bridge_cards.specs.Seat.{clockwise_from, side_of, same_seat}
 use Rattle.bridge_cards.specs.Card.{same_suit, suit_number_of}
-use Rattle.bridge_cards.specs.Trick.{next_leader}
-use Rattle.bridge_endings.specs.Worth.{has_suit, may_play, legal_cards, after_playing, best, trick_for, worth_after, worth_with}
+use Rattle.bridge_cards.specs.Trick.{has_suit, follows_suit, next_leader}
+use Rattle.bridge_endings.specs.Worth.{may_play, legal_cards, after_playing, best, trick_for, worth_after, worth_with}
 use Rattle.bridge_endings.specs.Equal.{IsApart}
 use Rattle.bridge_endings.proofs.WorthSteps.{worth_of_card, worth_zero, worth_with-suc}
 use Rattle.bridge_endings.proofs.SearchSteps.{worth_after-part, worth_after-whole}
@@ -19,8 +19,7 @@ use Rattle.bridge_endings.proofs.SwappedTrick.{IsApartTrick, next_leader_swapped
 
 -- a hand may play what it holds
 pub may_play-held : (hand : ℕ → Bool) (trick : List ℕ) (card : ℕ) → may_play hand trick card ≡ true → hand card ≡ true
-may_play-held hand [] card may = may
-may_play-held hand (led ∷ others) card may = (and_parts (hand card) (same_suit card led || not (has_suit hand led)) may).0
+may_play-held hand trick card may = (and_parts (hand card) (follows_suit hand trick card) may).0
 
 module _ (c d : ℕ) (suit : suit_number_of c ≡ suit_number_of d) (seat : Seat) where
   abbrev t : ℕ → ℕ
@@ -69,7 +68,7 @@ module _ (c d : ℕ) (suit : suit_number_of c ≡ suit_number_of d) (seat : Seat
       ∙ ap (λ b. hand x && b) (ap (λ n. n == suit_number_of (t led)) (swap_suit c d suit x) ∙ ap (λ n. suit_number_of x == n) (swap_suit c d suit led)))
 
   may_play_swapped : (hand : ℕ → Bool) (trick : List ℕ) → ((card : ℕ) → hand card ≡ true → card < 52) → ((card : ℕ) → hand (t card) ≡ true → card < 52) → (card : ℕ) → may_play (λ x. hand (t x)) (map t trick) (t card) ≡ may_play hand trick card
-  may_play_swapped hand [] inside carried card = ap hand (swap_back c d card)
+  may_play_swapped hand [] inside carried card = ap (λ x. hand x && true) (swap_back c d card)
   may_play_swapped hand (led ∷ others) inside carried card =
       ap (λ x. hand x && (same_suit (t card) (t led) || not (has_suit (λ y. hand (t y)) (t led)))) (swap_back c d card)
       ∙ ap (λ b. hand card && (b || not (has_suit (λ y. hand (t y)) (t led)))) (ap (λ n. n == suit_number_of (t led)) (swap_suit c d suit card) ∙ ap (λ n. suit_number_of card == n) (swap_suit c d suit led))

@@ -3,7 +3,7 @@ use Rattle.std.proofs.Common.{ℕ, ◌*◌, List, [], Option, arith}
 use Rattle.bridge_cards.specs.declared.suit.Suit.{Suit}
 use Rattle.bridge_endings.specs.declared.found.Found.{Found}
 use Rattle.bridge_endings.specs.Left.{left_to}
-use Rattle.bridge_endings.specs.Searched.{IsFound, IsNothing}
+use Rattle.bridge_endings.specs.SearchValue.{IsFound, IsNothing}
 use Rattle.bridge_endings.proofs.WorthSteps.{worth_with_le}
 
 -- of no tricks none is won

@@ -9,9 +9,9 @@ use Rattle.bridge_cards.specs.declared.seat.Side.{Side}
 use Rattle.bridge_cards.specs.Seat.{clockwise_from, same_seat, side_of}
 use Rattle.bridge_cards.specs.Card.{same_suit}
 use Rattle.bridge_cards.specs.CardSet.{deck}
-use Rattle.bridge_cards.specs.Trick.{beats, next_leader}
-use Rattle.bridge_endings.specs.TrickCards.{IsWinning}
-use Rattle.bridge_endings.specs.Worth.{has_suit, may_play, legal_cards, after_playing, best, trick_for, worth_after, worth_with}
+use Rattle.bridge_cards.specs.Trick.{has_suit, beats, next_leader}
+use Rattle.bridge_endings.specs.TrickValue.{IsWinning}
+use Rattle.bridge_endings.specs.Worth.{may_play, legal_cards, after_playing, best, trick_for, worth_after, worth_with}
 use Rattle.bridge_endings.specs.Left.{is_sought}
 use Rattle.bridge_endings.proofs.Minimax.{best_found, best_none}
 use Rattle.bridge_endings.proofs.Answered.{same_answer, other_answer}
@@ -48,7 +48,7 @@ not_in_suit true false false is none = refl
 not_in_suit false same some is none = cc
 
 pub some_legal : (hand : ℕ → Bool) (trick : List ℕ) (card : ℕ) → hand card ≡ true → (legal : ℕ) × (may_play hand trick legal ≡ true)
-some_legal hand [] card has = (card, has)
+some_legal hand [] card has = (card, ap (λ b. b && true) has)
 some_legal hand (led ∷ others) card has = at (has_suit hand led) refl
   where
     at : (is : Bool) → has_suit hand led ≡ is → (legal : ℕ) × (may_play hand (led ∷ others) legal ≡ true)

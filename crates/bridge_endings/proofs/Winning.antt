@@ -9,8 +9,8 @@ use Rattle.std.proofs.lemmas.List.{get_or_append_left, get_or_default}
 use Rattle.std.proofs.lemmas.List.Folds.{list_all-append}
 use Rattle.std.proofs.lemmas.List.Sums.{AllPass-from_list_all, list_all-from_AllPass, position_or_len_is}
 use Rattle.bridge_cards.specs.declared.suit.Suit.{Suit}
-use Rattle.bridge_cards.specs.Trick.{beats, is_or_beats, wins, winning_place}
-use Rattle.bridge_endings.specs.TrickCards.{IsWinning, IsKeptWinner}
+use Rattle.bridge_cards.specs.Trick.{beats, is_or_beats, wins, winning_index}
+use Rattle.bridge_endings.specs.TrickValue.{IsWinning, IsKeptWinner}
 
 or_true : (a b : Bool) → b ≡ true → (a || b) ≡ true
 or_true true b is = refl
@@ -38,7 +38,7 @@ module _ (trump : Option Suit) (led : ℕ) where
   total w x led_too not_beaten = grind (arith, nat_tests)
 
 -- it is the winner's place
-pub winning_is : (trump : Option Suit) (trick : List ℕ) (place : ℕ) → IsWinning trump trick place → winning_place trump trick ≡ place
+pub winning_is : (trump : Option Suit) (trick : List ℕ) (place : ℕ) → IsWinning trump trick place → winning_index trump trick ≡ place
 winning_is trump trick place is =
     let at : position_or_len (wins trump trick) trick ≡ place = position_or_len_is (wins trump trick) trick place 0 (omega (arith, is.within)) is.first (λ within. is.wins_there) in
     ap (λ n. unwrap_or (cond (nat_lt n (length trick)) (Some n) None) 0) at

@@ -1,10 +1,10 @@
-pub mod Position
+pub mod EndingValue
 pub mod Ending
 pub mod Worth
-pub mod TrickCards
+pub mod TrickValue
 pub mod Left
 pub mod Sure
 pub mod Equal
 pub mod Between
-pub mod Searched
-pub mod Cached
+pub mod SearchValue
+pub mod CacheValue

@@ -1,29 +1,22 @@
 -- The worth of an ending: how many tricks North and South win where each of the four sees all the cards, and both sides
 -- play for as many tricks as they can.
-use Rattle.std.specs.Prelude.{ℕ, zero, suc, ◌+◌, ◌*◌, ◌==◌, Bool, not, ◌&&◌, ◌||◌, max, min, if◌then◌else◌, List, [], ◌∷◌, ◌++◌, length, map, filter, Option}
-use Rattle.std.specs.List.{list_any}
+use Rattle.std.specs.Prelude.{ℕ, zero, suc, ◌+◌, ◌*◌, ◌==◌, Bool, not, ◌&&◌, max, min, if◌then◌else◌, List, [], ◌∷◌, ◌++◌, length, map, filter, Option}
 use Rattle.bridge_cards.specs.declared.suit.Suit.{Suit}
 use Rattle.bridge_cards.specs.declared.seat.Seat.{Seat}
 use Rattle.bridge_cards.specs.declared.seat.Side.{Side}
 use Rattle.bridge_cards.specs.declared.seat.Side.TheVariants.{NorthSouth, EastWest}
 use Rattle.bridge_cards.specs.Seat.{clockwise_from, side_of}
-use Rattle.bridge_cards.specs.Card.{same_suit}
 use Rattle.bridge_cards.specs.CardSet.{has_card, deck}
 use Rattle.bridge_cards.specs.Deal.{hand_at}
-use Rattle.bridge_cards.specs.Trick.{next_leader}
-use Rattle.bridge_endings.specs.Position.{Position}
+use Rattle.bridge_cards.specs.Trick.{follows_suit, next_leader}
+use Rattle.bridge_endings.specs.EndingValue.{EndingValue}
 use Rattle.bridge_endings.specs.Ending.{tricks_in}
 
 -- ---- the cards that may be played (Law 44)
 
--- whether the hand has a card of the suit of that one
-abbrev pub has_suit : (ℕ → Bool) → ℕ → Bool
-has_suit hand led = list_any (λ card. hand card && same_suit card led) deck
-
 -- whether the hand may play the card: it has it, and leads, or follows suit, or has none of the suit led
 abbrev pub may_play : (ℕ → Bool) → List ℕ → ℕ → Bool
-may_play hand [] card = hand card
-may_play hand (led ∷ others) card = hand card && (same_suit card led || not (has_suit hand led))
+may_play hand trick card = hand card && follows_suit hand trick card
 
 abbrev pub legal_cards : (ℕ → Bool) → List ℕ → List ℕ
 legal_cards hand trick = filter (may_play hand trick) deck
@@ -77,5 +70,5 @@ abbrev pub dealt : List ℕ → Seat → ℕ → Bool
 dealt hands seat card = has_card (hand_at hands seat) card
 
 -- the worth of an ending
-abbrev pub worth_of : Position → ℕ
+abbrev pub worth_of : EndingValue → ℕ
 worth_of ending = worth_with ending.trump (4 * tricks_in ending.hands) (dealt ending.hands) ending.leader []

@@ -1,7 +1,7 @@
 ghost use Rattle.std.specs.Prelude.{◌≡◌, ℕ, ◌≤◌, ◌⊎◌, [], length, IfOk, IfSome, IsSome};
 ghost use Rattle.bridge_endings.specs.Ending.{IsEnding};
 ghost use Rattle.bridge_endings.specs.Worth.{worth_of};
-ghost use Rattle.bridge_endings.specs.Cached.{bounds_of, entries_with, Keeps, key_of};
+ghost use Rattle.bridge_endings.specs.CacheValue.{bounds_of, entries_with, EachIsTrue, Keeps, key_of};
 ghost use Rattle.bridge_endings.specs.Between.{IsBetween};
 
 use crate::bounds::Bounds;
@@ -23,9 +23,9 @@ pub struct Cache {
 }
 
 impl Model for Cache {
-    ghost use Rattle.bridge_endings.specs.Cached.{Cached, AreKept};
+    ghost use Rattle.bridge_endings.specs.CacheValue.{CacheValue, AreKept};
 
-    ghost Value = { Cached };
+    ghost Value = { CacheValue };
 
     ghost view = { λ c. record { entries = c.known.entries; capacity = c.known.cap; tried = c.tried } };
 
@@ -90,6 +90,7 @@ impl Cache {
         ensures again { IsSome (bounds_of self.old ending.now) → self.new.entries ≡ entries_with self.old ending.now worth }
         ensures capacity { self.new.capacity ≡ self.old.capacity }
         ensures room { length self.new.entries ≤ self.new.capacity }
+        ensures true_bounds { EachIsTrue self.new.entries }
         ensures tried { self.new.tried ≡ tried }
     {
         self.tried = tried;

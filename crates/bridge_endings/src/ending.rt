@@ -16,9 +16,9 @@ pub struct Ending {
 }
 
 impl Model for Ending {
-    ghost use Rattle.bridge_endings.specs.Position.{Position};
+    ghost use Rattle.bridge_endings.specs.EndingValue.{EndingValue};
 
-    ghost Value = { Position };
+    ghost Value = { EndingValue };
 
     ghost use Rattle.bridge_endings.specs.Ending.{IsEnding};
 

@@ -1,6 +1,6 @@
 //! What a search has found, and the table that keeps it.
 ghost use Rattle.std.specs.Prelude.{◌<◌, All};
-ghost use Rattle.bridge_endings.specs.Searched.{IsNothing};
+ghost use Rattle.bridge_endings.specs.SearchValue.{IsNothing};
 
 use crate::bounds::Bounds;
 use bridge_cards::{CardSet, Seat};

@@ -16,8 +16,6 @@ mod found;
 mod move_order;
 mod search;
 pub mod solver;
-#[cfg(test)]
-mod tests;
 mod trick;
 
 pub use cache::Cache;

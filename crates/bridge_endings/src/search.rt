@@ -10,7 +10,7 @@ ghost use Rattle.bridge_endings.specs.Left.{left_to, is_sought, IsSettled, EachD
 ghost use Rattle.bridge_endings.specs.Equal.{IsEqualTo};
 ghost use Rattle.bridge_endings.specs.Sure.{EachHasSome, IsSure, IsHighest, settled_by_one};
 ghost use Rattle.bridge_endings.specs.Between.{IsBetween};
-ghost use Rattle.bridge_endings.specs.Searched.{IsFound};
+ghost use Rattle.bridge_endings.specs.SearchValue.{IsFound};
 
 use crate::bounds::{Bounds, narrowed};
 use crate::ending::Ending;
@@ -34,9 +34,9 @@ pub struct Search {
 }
 
 impl Model for Search {
-    ghost use Rattle.bridge_endings.specs.Searched.{Searched, IsKept};
+    ghost use Rattle.bridge_endings.specs.SearchValue.{SearchValue, IsKept};
 
-    ghost Value = { Searched };
+    ghost Value = { SearchValue };
 
     ghost view = { λ s. record { hands = s.hands; trump = s.trump; tried = s.tried } };
 

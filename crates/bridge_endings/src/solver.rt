@@ -1,7 +1,7 @@
 ghost use Rattle.std.specs.Prelude.{◌≡◌, ℕ, ◌≤◌, ◌⊎◌, length, IsSome};
 ghost use Rattle.bridge_endings.specs.Worth.{dealt, worth_of};
 ghost use Rattle.bridge_endings.specs.Left.{left_to};
-ghost use Rattle.bridge_endings.specs.Cached.{bounds_of, entries_with, Keeps, OfCache};
+ghost use Rattle.bridge_endings.specs.CacheValue.{bounds_of, entries_with, EachIsTrue, Keeps, OfCache};
 
 use crate::cache::Cache;
 use crate::ending::Ending;
@@ -27,6 +27,9 @@ pub fn solve(ending: &Ending, cache: Option<&mut Cache>) -> u8
         IsSome (bounds_of old ending.now) → new.entries ≡ entries_with old ending.now result) }
     ensures capacity { OfCache cache.entry cache.exit (λ old new. new.capacity ≡ old.capacity) }
     ensures room { OfCache cache.entry cache.exit (λ old new. length new.entries ≤ new.capacity) }
+
+    // What it keeps of an ending are bounds of that ending's worth.
+    ensures true_bounds { OfCache cache.entry cache.exit (λ old new. EachIsTrue new.entries) }
 {
     match cache {
         Some(cache) => solve_with(ending, cache),
@@ -45,6 +48,7 @@ fn solve_with(ending: &Ending, cache: &mut Cache) -> u8
     ensures again { IsSome (bounds_of cache.old ending.now) → cache.new.entries ≡ entries_with cache.old ending.now result }
     ensures capacity { cache.new.capacity ≡ cache.old.capacity }
     ensures room { length cache.new.entries ≤ cache.new.capacity }
+    ensures true_bounds { EachIsTrue cache.new.entries }
 {
     let tried = cache.tried();
     if let Some(worth) = cache.worth(ending) {

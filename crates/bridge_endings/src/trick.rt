@@ -3,7 +3,7 @@ ghost use Rattle.std.specs.Prelude.{◌≡◌, ℕ, ◌+◌, ◌<◌, ◌≤◌,
 ghost use Rattle.bridge_cards.specs.Seat.{clockwise_from};
 ghost use Rattle.bridge_cards.specs.Trick.{next_leader};
 ghost use Rattle.bridge_cards.specs.CardSet.{has_card};
-ghost use Rattle.bridge_endings.specs.TrickCards.{IsKeptWinner};
+ghost use Rattle.bridge_endings.specs.TrickValue.{IsKeptWinner};
 
 use bridge_cards::trick::beats;
 use bridge_cards::{Card, CardSet, Seat, Suit};
@@ -29,9 +29,9 @@ struct Winning {
 
 impl Model for Trick {
     ghost use Rattle.std.specs.Prelude.{◌≡◌, ◌≤◌, length, take};
-    ghost use Rattle.bridge_endings.specs.TrickCards.{TrickCards, IsKeptWinner};
+    ghost use Rattle.bridge_endings.specs.TrickValue.{TrickValue, IsKeptWinner};
 
-    ghost Value = { TrickCards };
+    ghost Value = { TrickValue };
 
     ghost view = { λ t. record { trump = t.trump; leader = t.leader; cards = take t.played t.cards } };
 

@@ -2,6 +2,6 @@ pub mod Shape
 pub mod Row
 pub mod Fair
 pub mod Refused
-pub mod Schedule
+pub mod MovementValue
 pub mod Seating
 pub mod Mitchell

@@ -14,8 +14,6 @@ pub mod place;
 pub mod refused;
 pub mod row;
 pub mod shape;
-#[cfg(test)]
-mod tests;
 
 pub use movement::Movement;
 pub use place::Place;

@@ -24,11 +24,11 @@ pub struct Movement {
 }
 
 impl Model for Movement {
-    ghost use Rattle.bridge_movement.specs.Schedule.{Schedule};
+    ghost use Rattle.bridge_movement.specs.MovementValue.{MovementValue};
     ghost use Rattle.bridge_movement.specs.Shape.{IsShape};
     ghost use Rattle.bridge_movement.specs.Fair.{IsMovement};
 
-    ghost Value = { Schedule };
+    ghost Value = { MovementValue };
 
     ghost view = { λ m. record { shape = m.shape; rows = m.rows.items } };
 

@@ -3,22 +3,22 @@ use Rattle.std.specs.Prelude.{ℕ, ◌-◌, ◌*◌, Bool, true, false, if◌the
 use Rattle.std.specs.List.{filter_map, range_with_len}
 use Rattle.bridge_cards.specs.Board.{dealer_of}
 use Rattle.bridge_auction.specs.declared.call.Call.{Call}
-use Rattle.bridge_play.specs.Play.{Playing}
+use Rattle.bridge_play.specs.Play.{PlayValue}
 use Rattle.bridge_movement.specs.declared.row.Row.{Row}
-use Rattle.bridge_config.specs.Configuration.{Configuration}
+use Rattle.bridge_config.specs.ConfigValue.{ConfigValue}
 use Rattle.bridge_session.specs.declared.action.PlayId.{PlayId}
 use Rattle.bridge_session.specs.declared.outcome.Outcome.{Outcome}
 use Rattle.bridge_session.specs.declared.outcome.Outcome.TheVariants.{Unfinished, PassedOut, Played, Voided}
 use Rattle.bridge_session.specs.Record.{PlainRecord, play_of}
 use Rattle.bridge_session.specs.Outcome.{outcome_of}
-use Rattle.bridge_session.specs.State.{State, deal_on, is_of_set}
+use Rattle.bridge_session.specs.State.{SessionValue, deal_on, is_of_set}
 use Rattle.bridge_session.specs.Step.{record_of}
 use Rattle.bridge_pbn.specs.Lines.{lines_text, parted}
 use Rattle.bridge_pbn.specs.Tags.{event_tags, player_tags, board_tags, outcome_tags, table_tags}
 use Rattle.bridge_pbn.specs.Sections.{auction_lines, play_lines}
 
 -- the lines of a game: a board with these hands, by the pairs of a row, what came of it, its calls and its cards
-abbrev pub game_by : Configuration → Row → ℕ → List ℕ → Outcome → List Call → Option Playing → List (List ℕ)
+abbrev pub game_by : ConfigValue → Row → ℕ → List ℕ → Outcome → List Call → Option PlayValue → List (List ℕ)
 game_by configuration row board hands outcome calls play =
     event_tags configuration board
     ++ (player_tags configuration.pairs row
@@ -27,7 +27,7 @@ game_by configuration row board hands outcome calls play =
     ++ (table_tags row ++ (auction_lines (dealer_of board) calls ++ play_lines play)))))
 
 -- the lines of the game of a record
-abbrev pub game_lines : Configuration → Row → ℕ → List ℕ → PlainRecord → List (List ℕ)
+abbrev pub game_lines : ConfigValue → Row → ℕ → List ℕ → PlainRecord → List (List ℕ)
 game_lines configuration row board hands plain =
     game_by configuration row board hands (outcome_of plain) plain.calls (play_of hands plain)
 
@@ -39,35 +39,35 @@ is_listed (Played contract tricks) = true
 is_listed Voided = false
 
 -- the play of a board by the pairs of a row, if the board is of the row's set
-abbrev pub play_at : Configuration → ℕ → Row → Option PlayId
+abbrev pub play_at : ConfigValue → ℕ → Row → Option PlayId
 play_at configuration board row =
     if is_of_set configuration row.set board
     then Some (record { round = row.round; table = row.table; index = board - (row.set - 1) * configuration.boards })
     else None
 
 -- the lines of a record's play, if it is listed
-abbrev pub listed : Configuration → Row → ℕ → List ℕ → PlainRecord → Option (List (List ℕ))
+abbrev pub listed : ConfigValue → Row → ℕ → List ℕ → PlainRecord → Option (List (List ℕ))
 listed configuration row board hands plain =
     if is_listed (outcome_of plain) then Some (game_lines configuration row board hands plain) else None
 
 -- the lines of the game of a board by the pairs of a row, if there is one; a board of a finished play is dealt
-abbrev pub game_at : State → ℕ → Row → Option (List (List ℕ))
+abbrev pub game_at : SessionValue → ℕ → Row → Option (List (List ℕ))
 game_at s board row =
     option_and_then (λ hands. option_and_then (listed s.configuration row board hands)
     (option_and_then (record_of s) (play_at s.configuration board row))) (deal_on s.deals board)
 
 -- the games of a board: the rows of the movement stand by round, then by table
-abbrev pub games_on : State → ℕ → List (List (List ℕ))
+abbrev pub games_on : SessionValue → ℕ → List (List (List ℕ))
 games_on s board = filter_map (game_at s board) s.configuration.movement.rows
 
 -- the games of those boards
-abbrev pub games_of : State → List ℕ → List (List (List ℕ))
+abbrev pub games_of : SessionValue → List ℕ → List (List (List ℕ))
 games_of s boards = flat_map (games_on s) boards
 
 -- the games of the session, of boards 1 to 36
-unfoldable pub all_games : State → List (List (List ℕ))
+unfoldable pub all_games : SessionValue → List (List (List ℕ))
 all_games s = games_of s (range_with_len 1 36)
 
 -- The text: its first line, and the games by board, round and table, with an empty line between each two.
-abbrev pub session_text : State → List ℕ
+abbrev pub session_text : SessionValue → List ℕ
 session_text s = lines_text (codes "% PBN 2.1" ∷ parted [] (all_games s))

@@ -9,7 +9,7 @@ use Rattle.bridge_auction.specs.declared.call.Call.{Call}
 use Rattle.bridge_auction.specs.declared.call.Call.TheVariants.{Pass, Bid, Double, Redouble}
 use Rattle.bridge_auction.specs.declared.contract.Contract.{Contract}
 use Rattle.bridge_auction.specs.Spelling.{bid_text}
-use Rattle.bridge_play.specs.Play.{Playing}
+use Rattle.bridge_play.specs.Play.{PlayValue}
 use Rattle.bridge_play.specs.Trick.{leader_of}
 use Rattle.bridge_pbn.specs.Lines.{tag, spaced}
 
@@ -55,5 +55,5 @@ trick_lines contract cards =
     ∷ (map (trick_line contract cards) (range_with_len 0 (length cards / 4)) ++ star_lines (length cards / 4))
 
 -- none where the board was passed out
-abbrev pub play_lines : Option Playing → List (List ℕ)
-play_lines play = option_map_or (λ (p : Playing). trick_lines p.contract p.cards) play []
+abbrev pub play_lines : Option PlayValue → List (List ℕ)
+play_lines play = option_map_or (λ (p : PlayValue). trick_lines p.contract p.cards) play []

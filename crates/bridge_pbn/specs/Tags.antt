@@ -9,7 +9,7 @@ use Rattle.bridge_auction.specs.Spelling.{bid_text, doubling_text}
 use Rattle.bridge_movement.specs.declared.row.Row.{Row}
 use Rattle.bridge_score.specs.declared.ranking.Scoring.{Scoring}
 use Rattle.bridge_score.specs.declared.ranking.Scoring.TheVariants.{MatchPoints, Imps}
-use Rattle.bridge_config.specs.Configuration.{Configuration, Pair}
+use Rattle.bridge_config.specs.ConfigValue.{ConfigValue, Pair}
 use Rattle.bridge_session.specs.declared.outcome.Outcome.{Outcome}
 use Rattle.bridge_session.specs.declared.outcome.Outcome.TheVariants.{Unfinished, PassedOut, Played, Voided}
 use Rattle.bridge_pbn.specs.Lines.{tag}
@@ -23,7 +23,7 @@ scoring_text MatchPoints = codes "MP"
 scoring_text Imps = codes "IMP"
 
 -- where and when the session was held, and the board
-abbrev pub event_tags : Configuration → ℕ → List (List ℕ)
+abbrev pub event_tags : ConfigValue → ℕ → List (List ℕ)
 event_tags configuration board =
     tag (codes "Event") configuration.event
     ∷ tag (codes "Site") configuration.site

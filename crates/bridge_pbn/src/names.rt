@@ -1,6 +1,6 @@
 //! The short texts of which the values of tag pairs are made.
 ghost use Rattle.std.specs.Prelude.{◌≡◌, ◌<◌, ◌≤◌, length, map};
-ghost use Rattle.bridge_config.specs.Configuration.{pair_of};
+ghost use Rattle.bridge_config.specs.ConfigValue.{pair_of};
 ghost use Rattle.bridge_pbn.specs.Tags.{scoring_text, player_name};
 
 use bridge_config::PairFields;

@@ -11,7 +11,7 @@ use Rattle.bridge_play.specs.declared.claim.Claim.{Claim}
 use Rattle.bridge_cards.specs.Seat.{plays_for}
 use Rattle.bridge_play.specs.Trick.{leader_of, tricks_won}
 use Rattle.bridge_play.specs.Claims.{all_agreed}
-use Rattle.bridge_play.specs.Play.{Playing, IsPlay, IsClaimIn, is_agreed, claimed_tricks, tricks_of, settled_tricks}
+use Rattle.bridge_play.specs.Play.{PlayValue, IsPlay, IsClaimIn, is_agreed, claimed_tricks, tricks_of, settled_tricks}
 
 -- a seat plays for one side
 one_side : (seat : Seat) → (if plays_for NorthSouth seat then 1 else 0) + (if plays_for EastWest seat then 1 else 0) ≡ 1
@@ -38,7 +38,7 @@ claimed_if : (agreed : Bool) (seat : Seat) (own left : ℕ) → own ≤ left →
 claimed_if true seat own left fits = omega (arith, one_each seat own (left - own))
 claimed_if false seat own left fits = refl
 
-claimed_tricks-both : (play : Playing) (claim : Option Claim) → IfSome claim (IsClaimIn play) → claimed_tricks play.contract play.cards NorthSouth claim + claimed_tricks play.contract play.cards EastWest claim ≡ (if option_map_or (all_agreed play.contract) claim false then 13 - length play.cards / 4 else 0)
+claimed_tricks-both : (play : PlayValue) (claim : Option Claim) → IfSome claim (IsClaimIn play) → claimed_tricks play.contract play.cards NorthSouth claim + claimed_tricks play.contract play.cards EastWest claim ≡ (if option_map_or (all_agreed play.contract) claim false then 13 - length play.cards / 4 else 0)
 claimed_tricks-both play None is = refl
 claimed_tricks-both play (Some claim) is =
     claimed_if (all_agreed play.contract claim) claim.claimer claim.tricks (13 - length play.cards / 4) (omega (arith, is.within))
@@ -48,7 +48,7 @@ settled_if : (agreed : Bool) (n : ℕ) → n ≤ 52 → n / 4 + (if agreed then 
 settled_if true n few = grind (arith, nat_tests)
 settled_if false n few = grind (arith, nat_tests)
 
-pub tricks_of-both : (play : Playing) → length play.cards ≤ 52 → IsPlay play → tricks_of play NorthSouth + tricks_of play EastWest ≡ settled_tricks play
+pub tricks_of-both : (play : PlayValue) → length play.cards ≤ 52 → IsPlay play → tricks_of play NorthSouth + tricks_of play EastWest ≡ settled_tricks play
 tricks_of-both play few is =
     let won = tricks_won-both play.contract play.cards (length play.cards / 4) in
     let claimed = claimed_tricks-both play play.claim is.claimed in

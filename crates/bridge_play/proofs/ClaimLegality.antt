@@ -13,7 +13,7 @@ use Rattle.bridge_play.specs.declared.refused.ConsentRefused.{ConsentRefused}
 use Rattle.bridge_play.specs.declared.refused.ConsentRefused.TheVariants.{NoClaim, NotAsked, Stale}
 use Rattle.bridge_play.specs.Dummy.{dummy_of}
 use Rattle.bridge_play.specs.Claims.{is_asked, has_agreed, needs_no_answer, all_agreed}
-use Rattle.bridge_play.specs.Play.{Playing, is_over, claim_answer, consent_answer, consent_if, MayBeClaimed, MayAnswer}
+use Rattle.bridge_play.specs.Play.{PlayValue, is_over, claim_answer, consent_answer, consent_if, MayBeClaimed, MayAnswer}
 use Rattle.bridge_play.proofs.Seats.{same_seat-eq, same_seat-self}
 
 -- no refusal of a claim applies
@@ -56,7 +56,7 @@ not_same a b true is other = absurd (other (same_seat-eq a b is))
 not_same a b false is other = refl
 
 -- a claim that is answered by Ok may be made
-pub claim_may : (play : Playing) (seat : Seat) (tricks : ℕ) → IsOk (claim_answer play seat tricks) → MayBeClaimed play seat tricks
+pub claim_may : (play : PlayValue) (seat : Seat) (tricks : ℕ) → IsOk (claim_answer play seat tricks) → MayBeClaimed play seat tricks
 claim_may play seat tricks ok =
     let n : ℕ = length play.cards in
     let passes = ok_claims (is_over play) (is_some play.claim) (same_seat seat (dummy_of play.contract)) (n % 4 == 0)
@@ -71,7 +71,7 @@ claim_may play seat tricks ok =
     }
 
 -- a claim that may be made is answered by Ok
-may_claim : (play : Playing) (seat : Seat) (tricks : ℕ) → MayBeClaimed play seat tricks → claim_answer play seat tricks ≡ Ok (tt {0})
+may_claim : (play : PlayValue) (seat : Seat) (tricks : ℕ) → MayBeClaimed play seat tricks → claim_answer play seat tricks ≡ Ok (tt {0})
 may_claim play seat tricks may =
     let n : ℕ = length play.cards in
     claims_ok (is_over play) (is_some play.claim) (same_seat seat (dummy_of play.contract)) (n % 4 == 0)
@@ -85,7 +85,7 @@ may_claim play seat tricks may =
       left = lt-leb 99 play.claims may.few;
     })
 
-pub claim_accepts : (play : Playing) (seat : Seat) (tricks : ℕ) (answer : Result (Unit {0}) ClaimRefused) → answer ≡ claim_answer play seat tricks → (IsOk answer ↔ MayBeClaimed play seat tricks)
+pub claim_accepts : (play : PlayValue) (seat : Seat) (tricks : ℕ) (answer : Result (Unit {0}) ClaimRefused) → answer ≡ claim_answer play seat tricks → (IsOk answer ↔ MayBeClaimed play seat tricks)
 claim_accepts play seat tricks (Ok u) is = (λ ok. claim_may play seat tricks (rw (← is) refl), λ may. refl)
 claim_accepts play seat tricks (Err refused) is = (
   λ ok. cc,
@@ -129,25 +129,25 @@ not_stale stale number claims is current = eqb-true number claims (known (number
     known false not_false = cc
 
 -- a player whose answer is taken may answer the claim
-answers_may : (play : Playing) (seat : Seat) (number : ℕ) (claim : Option Claim) → play.claim ≡ claim → number ≡ play.claims → IsOk (consent_if play.contract claim seat) → MayAnswer play seat number
+answers_may : (play : PlayValue) (seat : Seat) (number : ℕ) (claim : Option Claim) → play.claim ≡ claim → number ≡ play.claims → IsOk (consent_if play.contract claim seat) → MayAnswer play seat number
 answers_may play seat number None is current ok = cc
 answers_may play seat number (Some claim) is current ok =
     let asks = ok_asks (all_agreed play.contract claim) (is_asked play.contract claim.claimer seat) (has_agreed claim seat) ok in
     record { current = current; claim = claim; stands = is; asked = asks.0; unanswered = asks.1 }
 
-answer_may : (play : Playing) (seat : Seat) (number : ℕ) → IsOk (consent_answer play seat number) → MayAnswer play seat number
+answer_may : (play : PlayValue) (seat : Seat) (number : ℕ) → IsOk (consent_answer play seat number) → MayAnswer play seat number
 answer_may play seat number ok =
     let stale : Bool = not (number == play.claims) in
     let current = ok_current stale (consent_if play.contract play.claim seat) ok in
     answers_may play seat number play.claim refl (not_stale stale number play.claims refl current.0) current.1
 
 -- the answer of a player who may give one is taken
-may_answer : (play : Playing) (seat : Seat) (number : ℕ) → MayAnswer play seat number → consent_answer play seat number ≡ Ok (tt {0})
+may_answer : (play : PlayValue) (seat : Seat) (number : ℕ) → MayAnswer play seat number → consent_answer play seat number ≡ Ok (tt {0})
 may_answer play seat number may =
     let waits : needs_no_answer play.contract may.claim seat ≡ false = rw (may.asked, may.unanswered) refl in
     rw (eq-eqb number play.claims may.current, may.stands, some_waits play.contract may.claim seat waits, waits) refl
 
-pub consent_accepts : (play : Playing) (seat : Seat) (number : ℕ) (answer : Result (Unit {0}) ConsentRefused) → answer ≡ consent_answer play seat number → (IsOk answer ↔ MayAnswer play seat number)
+pub consent_accepts : (play : PlayValue) (seat : Seat) (number : ℕ) (answer : Result (Unit {0}) ConsentRefused) → answer ≡ consent_answer play seat number → (IsOk answer ↔ MayAnswer play seat number)
 consent_accepts play seat number (Ok u) is = (λ ok. answer_may play seat number (rw (← is) refl), λ may. refl)
 consent_accepts play seat number (Err refused) is = (
   λ ok. cc,

@@ -11,7 +11,7 @@ use Rattle.bridge_cards.specs.Seat.{seat_number, same_seat}
 use Rattle.bridge_auction.specs.declared.contract.Contract.{Contract}
 use Rattle.bridge_play.specs.declared.claim.Claim.{Claim}
 use Rattle.bridge_play.specs.Claims.{is_asked, has_agreed, all_agreed, consent_to, with_agreed}
-use Rattle.bridge_play.specs.Play.{Playing, IsPlay, IsClaimIn, with_card, with_claim, with_agreement, without_claim, is_agreed, card_answer, claim_answer, consent_answer, consent_if}
+use Rattle.bridge_play.specs.Play.{PlayValue, IsPlay, IsClaimIn, with_card, with_claim, with_agreement, without_claim, is_agreed, card_answer, claim_answer, consent_answer, consent_if}
 use Rattle.bridge_play.proofs.Seats.{same_seat-eq}
 use Rattle.bridge_play.proofs.Legality.{card_legal, card_unclaimed}
 use Rattle.bridge_play.proofs.ClaimLegality.{claim_may, ok_asks, ok_current}
@@ -22,7 +22,7 @@ none_claimed None P none = tt
 none_claimed (Some claim) P none = cc
 
 -- a card that is taken
-pub card_keeps : (play : Playing) (seat : Seat) (card : ℕ) → IsPlay play → IsOk (card_answer play seat card) → IsPlay (with_card play card)
+pub card_keeps : (play : PlayValue) (seat : Seat) (card : ℕ) → IsPlay play → IsOk (card_answer play seat card) → IsPlay (with_card play card)
 card_keeps play seat card is ok = record {
   legal = card_legal play seat card is.legal ok;
   few = is.few;
@@ -41,7 +41,7 @@ some_left : (n : ℕ) (agreed : Bool) (tricks : ℕ) → (n == 52 || agreed) ≡
 some_left n agreed tricks over whole within = grind (arith, nat_tests)
 
 -- a claim that is taken
-pub claim_keeps : (play : Playing) (seat : Seat) (tricks : ℕ) → IsPlay play → IsOk (claim_answer play seat tricks) → IsPlay (with_claim play seat tricks)
+pub claim_keeps : (play : PlayValue) (seat : Seat) (tricks : ℕ) → IsPlay play → IsOk (claim_answer play seat tricks) → IsPlay (with_claim play seat tricks)
 claim_keeps play seat tricks is ok =
     let n : ℕ = length play.cards in
     let may = claim_may play seat tricks ok in
@@ -69,7 +69,7 @@ asked_by contract claim seat other false is asked before agreed =
     before (sym unchanged ∙ agreed)
 
 -- a claim to which one player more agrees
-claim_agreed : (play : Playing) (claim : Claim) (seat : Seat) → IsClaimIn play claim → IsOk (consent_to play.contract claim seat) → IsClaimIn (with_agreement play seat) (with_agreed seat claim)
+claim_agreed : (play : PlayValue) (claim : Claim) (seat : Seat) → IsClaimIn play claim → IsOk (consent_to play.contract claim seat) → IsClaimIn (with_agreement play seat) (with_agreed seat claim)
 claim_agreed play claim seat is ok =
     let asked = (ok_asks (all_agreed play.contract claim) (is_asked play.contract claim.claimer seat) (has_agreed claim seat) ok).0 in
     record {
@@ -82,13 +82,13 @@ claim_agreed play claim seat is ok =
     }
 
 -- the same of the claim that a play has, if there is one
-claimed_agreed : (play : Playing) (seat : Seat) (claim : Option Claim) → IfSome claim (IsClaimIn play) → IsOk (consent_if play.contract claim seat)
+claimed_agreed : (play : PlayValue) (seat : Seat) (claim : Option Claim) → IfSome claim (IsClaimIn play) → IsOk (consent_if play.contract claim seat)
     → IfSome (option_map (with_agreed seat) claim) (IsClaimIn (with_agreement play seat))
 claimed_agreed play seat None is ok = cc
 claimed_agreed play seat (Some claim) is ok = claim_agreed play claim seat is ok
 
 -- an agreement that is taken
-pub agreement_keeps : (play : Playing) (seat : Seat) (number : ℕ) → IsPlay play → IsOk (consent_answer play seat number) → IsPlay (with_agreement play seat)
+pub agreement_keeps : (play : PlayValue) (seat : Seat) (number : ℕ) → IsPlay play → IsOk (consent_answer play seat number) → IsPlay (with_agreement play seat)
 agreement_keeps play seat number is ok = record {
   legal = is.legal;
   few = is.few;
@@ -97,5 +97,5 @@ agreement_keeps play seat number is ok = record {
 }
 
 -- a claim that is dropped
-pub refusal_keeps : (play : Playing) → IsPlay play → IsPlay (without_claim play)
+pub refusal_keeps : (play : PlayValue) → IsPlay play → IsPlay (without_claim play)
 refusal_keeps play is = record { legal = is.legal; few = is.few; claimed = tt }

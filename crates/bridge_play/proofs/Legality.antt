@@ -9,7 +9,7 @@ use Rattle.bridge_play.specs.Trick.{turn_of}
 use Rattle.bridge_cards.specs.Seat.{same_seat}
 use Rattle.bridge_play.specs.Dummy.{actor_of}
 use Rattle.bridge_play.specs.Legal.{holds, follows, MayPlay, IsLegal}
-use Rattle.bridge_play.specs.Play.{Playing, is_over, card_answer, MayBePlayed}
+use Rattle.bridge_play.specs.Play.{PlayValue, is_over, card_answer, MayBePlayed}
 use Rattle.bridge_play.proofs.Seats.{same_seat-eq, same_seat-self}
 
 -- no refusal of a card applies
@@ -46,30 +46,30 @@ passes_ok over claimed acts held following passes =
     rw (passes.going_on, passes.unclaimed, passes.acting, passes.held, passes.following) refl
 
 -- the tests of a card
-abbrev CardPasses : Playing → Seat → ℕ → Type 0
+abbrev CardPasses : PlayValue → Seat → ℕ → Type 0
 CardPasses play seat card =
     let hand = turn_of play.contract play.cards in
     Passes (is_over play) (is_some play.claim) (same_seat seat (actor_of play.contract hand))
     (holds play.hands play.cards hand card) (follows play.hands play.cards hand card)
 
-card_passes : (play : Playing) (seat : Seat) (card : ℕ) → IsOk (card_answer play seat card) → CardPasses play seat card
+card_passes : (play : PlayValue) (seat : Seat) (card : ℕ) → IsOk (card_answer play seat card) → CardPasses play seat card
 card_passes play seat card ok =
     let hand : Seat = turn_of play.contract play.cards in
     ok_passes (is_over play) (is_some play.claim) (same_seat seat (actor_of play.contract hand))
     (holds play.hands play.cards hand card) (follows play.hands play.cards hand card) ok
 
 -- no claim stands where a card is taken
-pub card_unclaimed : (play : Playing) (seat : Seat) (card : ℕ) → IsOk (card_answer play seat card) → is_some play.claim ≡ false
+pub card_unclaimed : (play : PlayValue) (seat : Seat) (card : ℕ) → IsOk (card_answer play seat card) → is_some play.claim ≡ false
 card_unclaimed play seat card ok = (card_passes play seat card ok).unclaimed
 
 -- the list with the card is legal
-pub card_legal : (play : Playing) (seat : Seat) (card : ℕ) → IsLegal play.hands play.contract play.cards → IsOk (card_answer play seat card) → IsLegal play.hands play.contract (play.cards ++ card ∷ [])
+pub card_legal : (play : PlayValue) (seat : Seat) (card : ℕ) → IsLegal play.hands play.contract play.cards → IsOk (card_answer play seat card) → IsLegal play.hands play.contract (play.cards ++ card ∷ [])
 card_legal play seat card legal ok =
     let passes = card_passes play seat card ok in
     each_may_follow-push (MayPlay play.hands play.contract) play.cards card legal (record { held = passes.held; following = passes.following })
 
 -- a card that is answered by Ok may be played
-ok_may : (play : Playing) (seat : Seat) (card : ℕ) → IsLegal play.hands play.contract play.cards → IsOk (card_answer play seat card) → MayBePlayed play seat card
+ok_may : (play : PlayValue) (seat : Seat) (card : ℕ) → IsLegal play.hands play.contract play.cards → IsOk (card_answer play seat card) → MayBePlayed play seat card
 ok_may play seat card legal ok =
     let passes = card_passes play seat card ok in
     record {
@@ -80,7 +80,7 @@ ok_may play seat card legal ok =
     }
 
 -- a card that may be played is answered by Ok
-may_ok : (play : Playing) (seat : Seat) (card : ℕ) → MayBePlayed play seat card → card_answer play seat card ≡ Ok (tt {0})
+may_ok : (play : PlayValue) (seat : Seat) (card : ℕ) → MayBePlayed play seat card → card_answer play seat card ≡ Ok (tt {0})
 may_ok play seat card may =
     let hand : Seat = turn_of play.contract play.cards in
     let actor : Seat = actor_of play.contract hand in
@@ -95,7 +95,7 @@ may_ok play seat card may =
       following = last.following;
     })
 
-pub answer_accepts : (play : Playing) (seat : Seat) (card : ℕ) (answer : Result (Unit {0}) CardRefused) → IsLegal play.hands play.contract play.cards → answer ≡ card_answer play seat card → (IsOk answer ↔ MayBePlayed play seat card)
+pub answer_accepts : (play : PlayValue) (seat : Seat) (card : ℕ) (answer : Result (Unit {0}) CardRefused) → IsLegal play.hands play.contract play.cards → answer ≡ card_answer play seat card → (IsOk answer ↔ MayBePlayed play seat card)
 answer_accepts play seat card (Ok u) legal is = (λ ok. ok_may play seat card legal (rw (← is) refl), λ may. refl)
 answer_accepts play seat card (Err refused) legal is = (
   λ ok. cc,

@@ -9,7 +9,7 @@ use Rattle.bridge_auction.specs.declared.contract.Contract.{Contract}
 use Rattle.bridge_play.specs.declared.claim.Claim.{Claim}
 use Rattle.bridge_play.specs.Claims.{is_asked, has_agreed, agrees_if_asked, only_asked_agree}
 use Rattle.bridge_play.specs.Dummy.{dummy_of}
-use Rattle.bridge_play.specs.Play.{Playing, IsClaimIn, is_claim_in}
+use Rattle.bridge_play.specs.Play.{PlayValue, IsClaimIn, is_claim_in}
 use Rattle.bridge_play.proofs.Seats.{same_seat-eq, same_seat-self}
 
 -- two tests that hold hold both
@@ -63,7 +63,7 @@ not_same : (a b : Seat) (same : Bool) → same_seat a b ≡ same → a ≢ b →
 not_same a b true is other = absurd (other (same_seat-eq a b is))
 not_same a b false is other = refl
 
-pub regular_claim : (play : Playing) (claim : Claim) → is_claim_in play claim ≡ true → IsClaimIn play claim
+pub regular_claim : (play : PlayValue) (claim : Claim) → is_claim_in play claim ≡ true → IsClaimIn play claim
 regular_claim play claim test =
     let n : ℕ = length play.cards in
     let counted = and_parts (nat_le 1 play.claims) _ test in
@@ -80,7 +80,7 @@ regular_claim play claim test =
       asked = test_asked play.contract claim within.1;
     }
 
-pub claim_regular : (play : Playing) (claim : Claim) → IsClaimIn play claim → is_claim_in play claim ≡ true
+pub claim_regular : (play : PlayValue) (claim : Claim) → IsClaimIn play claim → is_claim_in play claim ≡ true
 claim_regular play claim is =
     let n : ℕ = length play.cards in
     both (nat_le 1 play.claims) _ (le-leb 1 play.claims is.counted)

@@ -31,7 +31,7 @@ not_partner East = λ same. cc
 not_partner South = λ same. cc
 not_partner West = λ same. cc
 
--- declarer acts where the hand is dummy's, and else the hand, which is another
+-- declarer acts where the hand is dummy's, and otherwise the hand, which is another
 not_dummy_by : (contract : Contract) (hand : Seat) (is_dummy : Bool) → same_seat hand (dummy_of contract) ≡ is_dummy → (if is_dummy then contract.declarer else hand) ≢ dummy_of contract
 not_dummy_by contract hand true is = not_partner contract.declarer
 not_dummy_by contract hand false is =

@@ -15,13 +15,13 @@ use Rattle.bridge_play.specs.Trick.{leader_of, tricks_won}
 use Rattle.bridge_play.specs.Legal.{holds}
 
 -- the dealt hands, the contract, and the cards so far
-pub record PlayedCards : Type 0 where
+pub record CardPlayValue : Type 0 where
   pub hands : List ℕ
   pub contract : Contract
   pub cards : List ℕ
 
 -- those cards of the deal, played to the contract
-abbrev pub played : List ℕ → Contract → List ℕ → PlayedCards
+abbrev pub played : List ℕ → Contract → List ℕ → CardPlayValue
 played hands contract cards = record { hands = hands; contract = contract; cards = cards }
 
 -- the number of a doubling: how often the stakes were raised
@@ -38,13 +38,13 @@ same_contract =
     (eq_of_both (on (λ c. doubling_number c.doubling) nat_eq) (on (λ c. seat_number c.declarer) nat_eq))
 
 -- whether two plays have the same deal, contract and cards
-abbrev pub same_cards : PlayedCards → PlayedCards → Bool
+abbrev pub same_cards : CardPlayValue → CardPlayValue → Bool
 same_cards =
     eq_of_both (on (λ p. p.hands) (pointwise nat_eq))
     (eq_of_both (on (λ p. p.contract) same_contract) (on (λ p. p.cards) (pointwise nat_eq)))
 
 -- the same with one card more
-abbrev pub with_next : PlayedCards → ℕ → PlayedCards
+abbrev pub with_next : CardPlayValue → ℕ → CardPlayValue
 with_next played card = record played { cards = played.cards ++ card ∷ [] }
 
 -- What is kept beside the cards is what they make of it: the cards left in each hand, the leader of the trick that is

@@ -1,13 +1,13 @@
 -- Which lists of cards are legal (Laws 44 and 45).
-use Rattle.std.specs.Prelude.{◌≡◌, ℕ, ◌*◌, ◌/◌, ◌%◌, Bool, true, not, ◌&&◌, ◌||◌, ◌==◌, List, length, slice_index}
+use Rattle.std.specs.Prelude.{◌≡◌, ℕ, ◌/◌, Bool, true, not, ◌&&◌, ◌==◌, List, length}
 use Rattle.std.specs.List.{list_any}
 use Rattle.bridge_cards.specs.declared.seat.Seat.{Seat}
 use Rattle.bridge_cards.specs.EachMayFollow.{EachMayFollow}
-use Rattle.bridge_cards.specs.Card.{same_suit}
-use Rattle.bridge_cards.specs.CardSet.{has_card, cards_of}
+use Rattle.bridge_cards.specs.CardSet.{has_card}
 use Rattle.bridge_cards.specs.Deal.{hand_at}
+use Rattle.bridge_cards.specs.Trick.{follows_suit}
 use Rattle.bridge_auction.specs.declared.contract.Contract.{Contract}
-use Rattle.bridge_play.specs.Trick.{turn_of}
+use Rattle.bridge_play.specs.Trick.{trick_at, turn_of}
 
 -- whether the card stands in the list
 abbrev pub was_played : List ℕ → ℕ → Bool
@@ -17,18 +17,13 @@ was_played cards card = list_any (λ other. card == other) cards
 abbrev pub holds : List ℕ → List ℕ → Seat → ℕ → Bool
 holds hands cards seat card = has_card (hand_at hands seat) card && not (was_played cards card)
 
--- the card led to the trick that is not whole
-abbrev pub led_to : List ℕ → ℕ
-led_to cards = slice_index cards (4 * (length cards / 4))
-
--- whether the seat still holds a card of the suit of that one
-abbrev pub holds_suit : List ℕ → List ℕ → Seat → ℕ → Bool
-holds_suit hands cards seat led = list_any (λ card. same_suit card led && not (was_played cards card)) (cards_of (hand_at hands seat))
+-- the cards of the trick that is not whole
+abbrev pub current_trick : List ℕ → List ℕ
+current_trick cards = trick_at cards (length cards / 4)
 
 -- whether the card leads to a trick, or is of the suit led, or the hand has none of that suit
 abbrev pub follows : List ℕ → List ℕ → Seat → ℕ → Bool
-follows hands cards seat card =
-    length cards % 4 == 0 || (same_suit card (led_to cards) || not (holds_suit hands cards seat (led_to cards)))
+follows hands cards seat card = follows_suit (holds hands cards seat) (current_trick cards) card
 
 -- whether the hand to play may play the card after those
 abbrev pub may_play : List ℕ → Contract → List ℕ → ℕ → Bool

@@ -15,12 +15,12 @@ use Rattle.bridge_play.specs.declared.refused.ConsentRefused.TheVariants as cons
 use Rattle.bridge_cards.specs.Seat.{plays_for}
 use Rattle.bridge_play.specs.Trick.{turn_of, tricks_won}
 use Rattle.bridge_play.specs.Legal.{holds, follows, IsLegal}
-use Rattle.bridge_play.specs.CardPlay.{PlayedCards, played}
+use Rattle.bridge_play.specs.CardPlay.{CardPlayValue, played}
 use Rattle.bridge_play.specs.Dummy.{dummy_of, actor_of}
 use Rattle.bridge_play.specs.Claims.{is_asked, has_agreed, all_agreed, consent_to, only_asked_agree, with_agreed}
 
 -- the dealt hands, the contract, the cards so far, how many claims were made, and the claim that stands or was agreed
-pub record Playing : Type 0 where
+pub record PlayValue : Type 0 where
   pub hands : List ℕ
   pub contract : Contract
   pub cards : List ℕ
@@ -28,7 +28,7 @@ pub record Playing : Type 0 where
   pub claim : Option Claim
 
 -- the cards of a play, and its claims
-abbrev pub with_claims : PlayedCards → ℕ → Option Claim → Playing
+abbrev pub with_claims : CardPlayValue → ℕ → Option Claim → PlayValue
 with_claims played claims claim = record {
   hands = played.hands;
   contract = played.contract;
@@ -38,23 +38,23 @@ with_claims played claims claim = record {
 }
 
 -- the play of that deal in the contract, with those cards, so many claims, and the claim that stands or was agreed
-abbrev pub playing : List ℕ → Contract → List ℕ → ℕ → Option Claim → Playing
+abbrev pub playing : List ℕ → Contract → List ℕ → ℕ → Option Claim → PlayValue
 playing hands contract cards claims claim = with_claims (played hands contract cards) claims claim
 
 -- the same play with one card more
-abbrev pub with_card : Playing → ℕ → Playing
+abbrev pub with_card : PlayValue → ℕ → PlayValue
 with_card play card = record play { cards = play.cards ++ card ∷ [] }
 
 -- all who were asked have agreed to the claim
-abbrev pub is_agreed : Playing → Bool
+abbrev pub is_agreed : PlayValue → Bool
 is_agreed play = option_map_or (all_agreed play.contract) play.claim false
 
 -- the play is over: all 52 cards were played, or a claim is agreed
-abbrev pub is_over : Playing → Bool
+abbrev pub is_over : PlayValue → Bool
 is_over play = length play.cards == 52 || is_agreed play
 
 -- the answer to a card by a player, the refusals in order
-abbrev pub card_answer : Playing → Seat → ℕ → Result (Unit {0}) CardRefused
+abbrev pub card_answer : PlayValue → Seat → ℕ → Result (Unit {0}) CardRefused
 card_answer play seat card =
     let hand = turn_of play.contract play.cards in
     if is_over play then Err Over
@@ -66,14 +66,14 @@ card_answer play seat card =
 
 -- The card may be played by that player: the play is not over, no claim stands, the player is the one who acts for the
 -- hand in turn, and the list of cards with that card is legal (Laws 44 and 45).
-pub record MayBePlayed (play : Playing) (seat : Seat) (card : ℕ) : Type 0 where
+pub record MayBePlayed (play : PlayValue) (seat : Seat) (card : ℕ) : Type 0 where
   pub going_on : is_over play ≡ false
   pub unclaimed : IsNone play.claim
   pub acting : seat ≡ actor_of play.contract (turn_of play.contract play.cards)
   pub legal : IsLegal play.hands play.contract (play.cards ++ card ∷ [])
 
 -- the answer to a claim of so many tricks by a player, the refusals in order
-abbrev pub claim_answer : Playing → Seat → ℕ → Result (Unit {0}) ClaimRefused
+abbrev pub claim_answer : PlayValue → Seat → ℕ → Result (Unit {0}) ClaimRefused
 claim_answer play seat tricks =
     if is_over play then Err claim_refused.Over
     else if is_some play.claim then Err claim_refused.ClaimStands
@@ -85,7 +85,7 @@ claim_answer play seat tricks =
 
 -- The player may claim that many of the tricks left: the play is not over, no claim stands, dummy claims nothing, it is
 -- between tricks, as many tricks are left, and fewer than 99 claims were made (Law 68).
-pub record MayBeClaimed (play : Playing) (seat : Seat) (tricks : ℕ) : Type 0 where
+pub record MayBeClaimed (play : PlayValue) (seat : Seat) (tricks : ℕ) : Type 0 where
   pub going_on : is_over play ≡ false
   pub unclaimed : IsNone play.claim
   pub not_dummy : seat ≢ dummy_of play.contract
@@ -94,7 +94,7 @@ pub record MayBeClaimed (play : Playing) (seat : Seat) (tricks : ℕ) : Type 0 w
   pub few : play.claims < 99
 
 -- the same play with one claim more, which stands, and to which nobody has agreed
-abbrev pub with_claim : Playing → Seat → ℕ → Playing
+abbrev pub with_claim : PlayValue → Seat → ℕ → PlayValue
 with_claim play seat tricks = record play {
   claims = play.claims + 1;
   claim = Some (record { claimer = seat; tricks = tricks; agreed = false ∷ false ∷ false ∷ false ∷ [] });
@@ -106,13 +106,13 @@ consent_if contract None seat = Err consent_refused.NoClaim
 consent_if contract (Some claim) seat = consent_to contract claim seat
 
 -- the answer to a player who agrees to the claim of that number, or refuses it
-abbrev pub consent_answer : Playing → Seat → ℕ → Result (Unit {0}) ConsentRefused
+abbrev pub consent_answer : PlayValue → Seat → ℕ → Result (Unit {0}) ConsentRefused
 consent_answer play seat number =
     if not (number == play.claims) then Err consent_refused.Stale else consent_if play.contract play.claim seat
 
 -- The player may answer the claim of that number: it is the last that was made, it was not refused, and the player is
 -- asked and has not agreed to it (Law 68).
-pub record MayAnswer (play : Playing) (seat : Seat) (number : ℕ) : Type 0 where
+pub record MayAnswer (play : PlayValue) (seat : Seat) (number : ℕ) : Type 0 where
   pub current : number ≡ play.claims
   pub claim : Claim
   pub stands : play.claim ≡ Some claim
@@ -120,16 +120,16 @@ pub record MayAnswer (play : Playing) (seat : Seat) (number : ℕ) : Type 0 wher
   pub unanswered : has_agreed claim seat ≡ false
 
 -- the same play, where the seat has agreed to the claim
-abbrev pub with_agreement : Playing → Seat → Playing
+abbrev pub with_agreement : PlayValue → Seat → PlayValue
 with_agreement play seat = record play { claim = option_map (with_agreed seat) play.claim }
 
 -- the same play, where no claim stands
-abbrev pub without_claim : Playing → Playing
+abbrev pub without_claim : PlayValue → PlayValue
 without_claim play = record play { claim = None }
 
 -- A claim that stands or was agreed: it was made between tricks, not by dummy, for no more tricks than are left, and
 -- nobody has agreed to it who is not asked (Law 68).
-pub record IsClaimIn (play : Playing) (claim : Claim) : Type 0 where
+pub record IsClaimIn (play : PlayValue) (claim : Claim) : Type 0 where
   pub counted : 1 ≤ play.claims
   pub between : length play.cards % 4 ≡ 0
   pub some_left : length play.cards < 52
@@ -138,14 +138,14 @@ pub record IsClaimIn (play : Playing) (claim : Claim) : Type 0 where
   pub asked : (seat : Seat) → has_agreed claim seat ≡ true → is_asked play.contract claim.claimer seat ≡ true
 
 -- whether the claim is one that stands or was agreed
-abbrev pub is_claim_in : Playing → Claim → Bool
+abbrev pub is_claim_in : PlayValue → Claim → Bool
 is_claim_in play claim =
     nat_le 1 play.claims && (length play.cards % 4 == 0 && (nat_lt (length play.cards) 52
     && (not (same_seat claim.claimer (dummy_of play.contract)) && (nat_le (length play.cards / 4 + claim.tricks) 13
     && only_asked_agree play.contract claim))))
 
 -- what each play is: a legal list of cards, at most 99 claims, and a claim that was made by the rules, if there is one
-pub record IsPlay (play : Playing) : Type 0 where
+pub record IsPlay (play : PlayValue) : Type 0 where
   pub legal : IsLegal play.hands play.contract play.cards
   pub few : play.claims ≤ 99
   pub claimed : IfSome play.claim (IsClaimIn play)
@@ -157,10 +157,10 @@ claimed_tricks contract cards side (Some claim) =
     if all_agreed contract claim then (if plays_for side claim.claimer then claim.tricks else 13 - length cards / 4 - claim.tricks) else 0
 
 -- the tricks of a side: the whole tricks that its seats won, and those of an agreed claim (Law 68)
-abbrev pub tricks_of : Playing → Side → ℕ
+abbrev pub tricks_of : PlayValue → Side → ℕ
 tricks_of play side =
     tricks_won play.contract play.cards side (length play.cards / 4) + claimed_tricks play.contract play.cards side play.claim
 
 -- how many tricks have a winner: all 13 once the play is over, and before that the whole tricks
-abbrev pub settled_tricks : Playing → ℕ
+abbrev pub settled_tricks : PlayValue → ℕ
 settled_tricks play = if is_over play then 13 else length play.cards / 4

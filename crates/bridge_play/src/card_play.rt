@@ -2,8 +2,9 @@ ghost use Rattle.std.specs.Prelude.{◌≡◌, ℕ, ◌*◌, ◌/◌, ◌<◌, �
 ghost use Rattle.bridge_cards.specs.Card.{IsCard};
 ghost use Rattle.bridge_cards.specs.CardSet.{has_card};
 ghost use Rattle.bridge_cards.specs.Deal.{hand_at, IsDeal};
+ghost use Rattle.bridge_cards.specs.Trick.{has_suit};
 ghost use Rattle.bridge_play.specs.Trick.{turn_of, tricks_won};
-ghost use Rattle.bridge_play.specs.Legal.{holds, holds_suit, follows, may_play, IsLegal};
+ghost use Rattle.bridge_play.specs.Legal.{holds, follows, may_play, IsLegal};
 ghost use Rattle.bridge_play.specs.CardPlay.{played, with_next};
 
 use crate::trick::{next_leader, next_won};
@@ -28,9 +29,9 @@ pub struct CardPlay {
 }
 
 impl Model for CardPlay {
-    ghost use Rattle.bridge_play.specs.CardPlay.{PlayedCards, IsKept};
+    ghost use Rattle.bridge_play.specs.CardPlay.{CardPlayValue, IsKept};
 
-    ghost Value = { PlayedCards };
+    ghost Value = { CardPlayValue };
 
     ghost view = { λ p. record { hands = p.deal; contract = p.contract; cards = p.cards.items } };
 
@@ -126,9 +127,9 @@ impl CardPlay {
     }
 
     /// Whether the seat still holds a card of the suit of that one.
-    fn holds_suit(&self, seat: Seat, led: Card) -> bool
+    fn has_suit(&self, seat: Seat, led: Card) -> bool
         requires { IsCard led }
-        ensures { result ≡ holds_suit self.now.hands self.now.cards seat led }
+        ensures { result ≡ has_suit (holds self.now.hands self.now.cards seat) led }
     {
         !self.remaining(seat).of_suit(led.suit()).is_empty()
     }
@@ -142,7 +143,7 @@ impl CardPlay {
             return true;
         }
         let led = cards[4 * (cards.len() / 4)];
-        same_suit(card, led) || !self.holds_suit(seat, led)
+        same_suit(card, led) || !self.has_suit(seat, led)
     }
 
     /// Whether the hand to play may play the card.

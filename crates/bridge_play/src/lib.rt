@@ -12,8 +12,6 @@ pub mod claim;
 mod dummy;
 pub mod play;
 pub mod refused;
-#[cfg(test)]
-mod tests;
 mod trick;
 
 pub use claim::Claim;

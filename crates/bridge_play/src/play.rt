@@ -45,9 +45,9 @@ pub struct Play {
 }
 
 impl Model for Play {
-    ghost use Rattle.bridge_play.specs.Play.{Playing, with_claims, IsPlay};
+    ghost use Rattle.bridge_play.specs.Play.{PlayValue, with_claims, IsPlay};
 
-    ghost Value = { Playing };
+    ghost Value = { PlayValue };
 
     ghost view = { λ p. with_claims p.card_play p.claims p.claim };
 
@@ -195,7 +195,7 @@ impl Play {
     }
 
     /// Plays a card of the hand in turn, where the player is the one who plays it and the list of cards with it is
-    /// legal, and else says why not. The seat is the player's: declarer's for a card of dummy's hand.
+    /// legal, and otherwise says why not. The seat is the player's: declarer's for a card of dummy's hand.
     pub fn try_card(&mut self, seat: Seat, card: Card) -> Result<(), CardRefused>
         ensures answer { result ≡ card_answer self.old seat card }
         ensures accepted { IsOk result ↔ MayBePlayed self.old seat card }
@@ -250,7 +250,7 @@ impl Play {
         }
     }
 
-    /// Claims that many of the tricks left for the player's side, where a claim may be made, and else says why not.
+    /// Claims that many of the tricks left for the player's side, where a claim may be made, and otherwise says why not.
     /// It stands until it is refused or agreed (Law 68).
     pub fn try_claim(&mut self, seat: Seat, tricks: u8) -> Result<(), ClaimRefused>
         ensures answer { result ≡ claim_answer self.old seat tricks }

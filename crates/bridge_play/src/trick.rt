@@ -3,7 +3,7 @@ ghost use Rattle.std.specs.Prelude.{◌≡◌, ◌-◌, ◌/◌, ◌<◌, ◌≤
 ghost use Rattle.bridge_play.specs.Trick.{leader_of, tricks_won};
 
 use bridge_auction::Contract;
-use bridge_cards::trick::winning_place;
+use bridge_cards::trick::winning_index;
 use bridge_cards::{Card, Seat, Side};
 
 /// Who leads to a trick, the tricks counted from 0: declarer's left-hand opponent to the first, and the winner of each
@@ -16,12 +16,12 @@ pub(crate) fn leader(contract: &Contract, cards: &[Card], trick: usize) -> Seat
     for earlier in 0..trick {
         let (_, rest) = cards.split_at(4 * earlier);
         let (played, _) = rest.split_at(4);
-        leader = leader.clockwise(winning_place(contract.bid.denomination.suit(), played));
+        leader = leader.clockwise(winning_index(contract.bid.denomination.suit(), played));
     }
     leader
 }
 
-/// Who leads to the trick after those cards: after a whole trick its winner, and else the seat that led to the trick of
+/// Who leads to the trick after those cards: after a whole trick its winner, and otherwise the seat that led to the trick of
 /// the last card (Law 44).
 pub fn next_leader(contract: &Contract, cards: &[Card], leader: Seat) -> Seat
     requires some { 0 < length cards.now }
@@ -32,7 +32,7 @@ pub fn next_leader(contract: &Contract, cards: &[Card], leader: Seat) -> Seat
         return leader;
     }
     let (_, trick) = cards.split_at(cards.len() - 4);
-    leader.clockwise(winning_place(contract.bid.denomination.suit(), trick))
+    leader.clockwise(winning_index(contract.bid.denomination.suit(), trick))
 }
 
 /// How many of the whole tricks North and South won, of which they won so many before the last card; after a whole trick

@@ -14,8 +14,6 @@ pub mod laws;
 pub mod percent;
 pub mod ranking;
 pub mod scoring_table;
-#[cfg(test)]
-mod tests;
 
 pub use comparison::{cross_imps, matchpoints};
 pub use imp_scale::imps;

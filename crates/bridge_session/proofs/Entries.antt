@@ -5,7 +5,7 @@ use Rattle.std.specs.Option.{option_map}
 use Rattle.std.proofs.lemmas.Option.{slice_get_cases}
 use Rattle.bridge_auction.specs.declared.call.Call.{Call}
 use Rattle.bridge_auction.specs.declared.contract.Contract.{Contract}
-use Rattle.bridge_config.specs.Configuration.{Configuration}
+use Rattle.bridge_config.specs.ConfigValue.{ConfigValue}
 use Rattle.bridge_session.specs.declared.action.PlayId.{PlayId}
 use Rattle.bridge_session.specs.declared.record.Record.{Record}
 use Rattle.bridge_session.specs.declared.ruling.Ruling.{Ruling}
@@ -39,7 +39,7 @@ outcome_seen deals kept tied =
     ∙ by_hands kept.auction.calls (hands_on deals kept.board) (plain_of kept) kept.ruling (contract_in (plain_of kept))
 
 -- the record of a play is the one at its place in its table
-pub record_found : (configuration : Configuration) (round : ℕ) (deals : List (Option (List ℕ))) (tables : List (List Record)) (play : PlayId) (place index : ℕ) (table : List Record) → is_row_within configuration.movement.shape play.round play.table ≡ true → row_place configuration.movement.shape play.round play.table ≡ place → index ≡ play.index - 1 → slice_get tables place ≡ Some table → record_of (state_of configuration round deals tables) play ≡ slice_get (map plain_of table) index
+pub record_found : (configuration : ConfigValue) (round : ℕ) (deals : List (Option (List ℕ))) (tables : List (List Record)) (play : PlayId) (place index : ℕ) (table : List Record) → is_row_within configuration.movement.shape play.round play.table ≡ true → row_place configuration.movement.shape play.round play.table ≡ place → index ≡ play.index - 1 → slice_get tables place ≡ Some table → record_of (state_of configuration round deals tables) play ≡ slice_get (map plain_of table) index
 record_found configuration round deals tables play place index table within there is row =
     let records = map (map plain_of) tables in
     let at : ℕ → ℕ → Option PlainRecord = λ place index. slice_get (row_at records place) index in

@@ -1,7 +1,7 @@
 -- What the parts of a configuration state.
 use Rattle.std.proofs.Common.{Option, None, Some, IfSome, ◌≡◌, ◌+◌, ◌*◌, ◌<◌, ◌≤◌, ℕ, suc, true, List, [], ◌∷◌, ◌++◌, All, get_or, length, map, take, drop, refl, sym, ap, subst, ◌∙◌, arith, append_assoc}
 use Rattle.std.specs.Prelude.{Any, slice_index}
-use Rattle.bridge_config.specs.Configuration.{Configuration, Pair}
+use Rattle.bridge_config.specs.ConfigValue.{ConfigValue, Pair}
 use Rattle.bridge_config.specs.Limits.{is_name, is_date_form, IsPair, IsConfiguration}
 use Rattle.bridge_score.specs.declared.ranking.Scoring.{Scoring}
 use Rattle.bridge_score.specs.declared.ranking.Scoring.TheVariants.{MatchPoints, Imps}
@@ -13,7 +13,7 @@ use Rattle.std.proofs.lemmas.List.Elements.{All-map}
 use Rattle.bridge_movement.specs.declared.row.Row.{Row}
 use Rattle.bridge_movement.specs.declared.shape.Shape.{Shape}
 use Rattle.bridge_movement.specs.Shape.{row_count}
-use Rattle.bridge_movement.specs.Schedule.{Schedule}
+use Rattle.bridge_movement.specs.MovementValue.{MovementValue}
 use Rattle.bridge_session.specs.Parts.{text_bytes, four_bytes, scoring_number, configuration_part, movement_part, pair_part}
 use Rattle.bridge_session.specs.PartsRead.{text_in, after_text, second_player, numbers_in, shape_in, rows_in, pair_in, configuration_in}
 use Rattle.bridge_session.specs.declared.head.Heading.{Heading}
@@ -26,12 +26,12 @@ scoring_small : (scoring : Scoring) → scoring_number scoring < 2
 scoring_small MatchPoints = omega arith
 scoring_small Imps = omega arith
 
-pub heading_stated : (c : Configuration) (round : ℕ) → IsConfiguration c → IsHeadingPart (configuration_part c round)
+pub heading_stated : (c : ConfigValue) (round : ℕ) → IsConfiguration c → IsHeadingPart (configuration_part c round)
 heading_stated c round is =
     let back = configuration_back c round is [] in
-    let event = ap (λ (d : Configuration). is_name d.event) back in
-    let site = ap (λ (d : Configuration). is_name d.site) back in
-    let date = ap (λ (d : Configuration). is_date_form d.date) back in
+    let event = ap (λ (d : ConfigValue). is_name d.event) back in
+    let site = ap (λ (d : ConfigValue). is_name d.site) back in
+    let date = ap (λ (d : ConfigValue). is_date_form d.date) back in
     let behind = ap (λ (xs : List ℕ). length xs) (behind_site c round is []) in
     let number : slice_index (numbers_in (configuration_part c round)) 0 ≡ scoring_number c.scoring = ap (λ ns. slice_index ns 0) (numbers_back c round is []) in
     let small = scoring_small c.scoring in
@@ -44,7 +44,7 @@ heading_stated c round is =
     }
 
 -- the fields that were read are those that the parts name
-pub config_named : (first second : List ℕ) (rest : List (List ℕ)) (heading : Heading) (movement : Schedule) (pairs : List Pair) → IsHeadingOf first heading →
+pub config_named : (first second : List ℕ) (rest : List (List ℕ)) (heading : Heading) (movement : MovementValue) (pairs : List Pair) → IsHeadingOf first heading →
     movement ≡ record { shape = heading.shape; rows = rows_in heading.shape second } → pairs ≡ map pair_in (take heading.shape.pairs rest) →
     record {
       event = heading.event.bytes;
@@ -57,7 +57,7 @@ pub config_named : (first second : List ℕ) (rest : List (List ℕ)) (heading :
       pairs = pairs;
     } ≡ configuration_in first second rest
 config_named first second rest heading movement pairs of movement_is pairs_are =
-    let of_shape : Shape → Schedule = λ shape. record { shape = shape; rows = rows_in shape second } in
+    let of_shape : Shape → MovementValue = λ shape. record { shape = shape; rows = rows_in shape second } in
     let moved : movement ≡ of_shape (shape_in (numbers_in first)) = movement_is ∙ ap of_shape of.shape in
     let paired : pairs ≡ map pair_in (take (shape_in (numbers_in first)).pairs rest) = pairs_are ∙ ap (λ (shape : Shape). map pair_in (take shape.pairs rest)) of.shape in
     λ i. record {
@@ -114,7 +114,7 @@ no_pair parts some all =
     some.4 (subst IsPairPart there (all some.0 (items_of part) (omega (arith, length-map parts items_of, some.2))))
 
 -- the parts of a configuration are in form
-pub head_stated : (c : Configuration) (round : ℕ) (boards : List (List ℕ)) → IsConfiguration c →
+pub head_stated : (c : ConfigValue) (round : ℕ) (boards : List (List ℕ)) → IsConfiguration c →
     AreHeadParts (configuration_part c round) (movement_part c.movement.rows) (map pair_part c.pairs ++ boards)
 head_stated c round boards is =
     let numbers = numbers_back c round is boards in
@@ -161,7 +161,7 @@ not_parts first second rest are_not configuration round boards is of one two thr
     (head_stated configuration round boards is))))
 
 -- nor do parts that do not begin with those of what they name
-pub not_head : (first second : List ℕ) (rest : List (List ℕ)) (c : Configuration) (now : ℕ) → c ≡ configuration_in first second rest → now ≡ slice_index (numbers_in first) 11 →
+pub not_head : (first second : List ℕ) (rest : List (List ℕ)) (c : ConfigValue) (now : ℕ) → c ≡ configuration_in first second rest → now ≡ slice_index (numbers_in first) 11 →
     ¬ IsHead c now first second rest → NoHead first second rest
 not_head first second rest c now named at is_not configuration round boards is of one two three =
     let found : configuration ≡ c =
@@ -179,10 +179,10 @@ not_head first second rest c now named at is_not configuration round boards is o
       heading = record { first = one; second = two };
       pairs = sym front ∙ ap (take (length configuration.pairs)) three;
     } in
-    is_not (subst (λ n. IsHead c n first second rest) then (subst (λ (k : Configuration). IsHead k round first second rest) found head))
+    is_not (subst (λ n. IsHead c n first second rest) then (subst (λ (k : ConfigValue). IsHead k round first second rest) found head))
 
 -- the first parts of a head
-pub first_parts : (first second : List ℕ) (rest : List (List ℕ)) (c : Configuration) (now : ℕ) → IsHead c now first second rest →
+pub first_parts : (first second : List ℕ) (rest : List (List ℕ)) (c : ConfigValue) (now : ℕ) → IsHead c now first second rest →
     head_parts c now ≡ take (2 + length c.pairs) (first ∷ second ∷ rest)
 first_parts first second rest c now is =
     let two : suc (suc (length c.pairs)) ≡ 2 + length c.pairs = omega arith in

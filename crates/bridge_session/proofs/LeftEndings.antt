@@ -7,11 +7,11 @@ use Rattle.bridge_cards.specs.declared.seat.Seat.TheVariants.{North, East, South
 use Rattle.bridge_cards.specs.CardSet.{has_card, cards_of, card_count}
 use Rattle.bridge_cards.specs.Deal.{hand_at, NoneTwice, SomeTwice}
 use Rattle.bridge_play.specs.Legal.{holds}
-use Rattle.bridge_play.specs.Play.{Playing}
+use Rattle.bridge_play.specs.Play.{PlayValue}
 use Rattle.bridge_play.specs.Trick.{trump_of, leader_of}
 use Rattle.bridge_endings.specs.declared.ending.EndingRefused.{EndingRefused}
 use Rattle.bridge_endings.specs.declared.ending.EndingRefused.TheVariants.{Unequal, TooLong, Overlap}
-use Rattle.bridge_endings.specs.Position.{Position}
+use Rattle.bridge_endings.specs.EndingValue.{EndingValue}
 use Rattle.bridge_endings.specs.Ending.{tricks_in, SomeUnequal}
 use Rattle.bridge_session.specs.See.{cards_left}
 use Rattle.bridge_session.specs.Ending.{plain_ending, ending_after}
@@ -26,7 +26,7 @@ not_twice : (hands : List ℕ) → NoneTwice hands → SomeTwice hands → ⊥
 not_twice hands once twice = omega (arith, once twice.0, twice.1)
 
 -- four equal hands, none longer than six cards and no card in two of them, are not refused
-pub is_an_ending : (hands : List ℕ) (tricks : ℕ) (r : Result Position EndingRefused) → length hands ≡ 4 → 7 ≤ tricks → All (λ hand. card_count hand + tricks ≡ 13) hands → NoneTwice hands → ((r ≡ Err Unequal) → SomeUnequal hands) → ((r ≡ Err TooLong) → 6 < tricks_in hands) → ((r ≡ Err Overlap) → SomeTwice hands) → IsOk r
+pub is_an_ending : (hands : List ℕ) (tricks : ℕ) (r : Result EndingValue EndingRefused) → length hands ≡ 4 → 7 ≤ tricks → All (λ hand. card_count hand + tricks ≡ 13) hands → NoneTwice hands → ((r ≡ Err Unequal) → SomeUnequal hands) → ((r ≡ Err TooLong) → 6 < tricks_in hands) → ((r ≡ Err Overlap) → SomeTwice hands) → IsOk r
 is_an_ending hands tricks (Ok ending) four seven all once unequal long overlap = refl
 is_an_ending hands tricks (Err Unequal) four seven all once unequal long overlap = absurd (none_unequal hands tricks all (unequal refl))
 is_an_ending hands tricks (Err TooLong) four seven all once unequal long overlap = absurd (omega (arith, all 0 0 (omega arith), long refl))
@@ -43,7 +43,7 @@ hands_seen (n ∷ e ∷ s ∷ w ∷ []) hands cards four same =
 hands_seen (n ∷ e ∷ s ∷ w ∷ x ∷ rest) hands cards four same = absurd (omega arith)
 
 -- what is seen of an ending with those sets
-pub ending_seen : (play : Playing) (tricks : ℕ) (left : List ℕ) (trump : Option Suit) (leader : Seat) (ending : Position) → length left ≡ 4 → ((seat : Seat) (card : ℕ) → has_card (hand_at left seat) card ≡ holds play.hands (take (4 * tricks) play.cards) seat card) → trump ≡ trump_of play.contract → leader ≡ leader_of play.contract play.cards tricks → ending ≡ record { hands = left; trump = trump; leader = leader } → plain_ending ending ≡ ending_after play (4 * tricks)
+pub ending_seen : (play : PlayValue) (tricks : ℕ) (left : List ℕ) (trump : Option Suit) (leader : Seat) (ending : EndingValue) → length left ≡ 4 → ((seat : Seat) (card : ℕ) → has_card (hand_at left seat) card ≡ holds play.hands (take (4 * tricks) play.cards) seat card) → trump ≡ trump_of play.contract → leader ≡ leader_of play.contract play.cards tricks → ending ≡ record { hands = left; trump = trump; leader = leader } → plain_ending ending ≡ ending_after play (4 * tricks)
 ending_seen play tricks left trump leader ending four same suit leads is =
     let place : tricks ≡ 4 * tricks / 4 = omega arith in
     rw (is, hands_seen left play.hands (take (4 * tricks) play.cards) four same, suit, leads ∙ ap (leader_of play.contract play.cards) place) refl

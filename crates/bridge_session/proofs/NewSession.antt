@@ -8,11 +8,11 @@ use Rattle.std.proofs.lemmas.List.FromFn.{length-range_with_len}
 use Rattle.bridge_movement.specs.declared.row.Row.{Row}
 use Rattle.bridge_movement.specs.Row.{is_live}
 use Rattle.bridge_movement.specs.Shape.{row_count}
-use Rattle.bridge_config.specs.Configuration.{Configuration}
+use Rattle.bridge_config.specs.ConfigValue.{ConfigValue}
 use Rattle.bridge_config.specs.Limits.{IsConfiguration}
 use Rattle.bridge_session.specs.declared.record.Record.{Record}
 use Rattle.bridge_session.specs.Record.{PlainRecord, empty_record}
-use Rattle.bridge_session.specs.State.{State, opening, opening_row, row_boards}
+use Rattle.bridge_session.specs.State.{SessionValue, opening, opening_row, row_boards}
 use Rattle.bridge_session.specs.StateRange.{IsSession}
 use Rattle.bridge_session.specs.Kept.{plain_of, board_kept, state_of, StateASession, new_record, new_table, IsTiedIn, IsKept}
 use Rattle.bridge_session.proofs.SessionStays.{opening_session}
@@ -57,20 +57,20 @@ rows_boards boards (row ∷ rows) =
     ∙ ap (λ rest. row_boards boards row ∷ rest) (rows_boards boards rows)
 
 -- the parts of a new session
-pub record IsNew (configuration : Configuration) (dealt : List (Option (List ℕ))) (lists : List (List Record)) : Type 0 where
+pub record IsNew (configuration : ConfigValue) (dealt : List (Option (List ℕ))) (lists : List (List Record)) : Type 0 where
   pub few : configuration.boards ≤ 3
   pub rows : length configuration.movement.rows ≡ row_count configuration.movement.shape
   pub deals : dealt ≡ replicate (configuration.movement.shape.sets * configuration.boards) None
   pub tables : lists ≡ map (new_table configuration.boards) configuration.movement.rows
 
-pub new_is_opening : (configuration : Configuration) (deals : List (Option (List ℕ))) (tables : List (List Record)) → IsNew configuration deals tables → state_of configuration 1 deals tables ≡ opening configuration
+pub new_is_opening : (configuration : ConfigValue) (deals : List (Option (List ℕ))) (tables : List (List Record)) → IsNew configuration deals tables → state_of configuration 1 deals tables ≡ opening configuration
 new_is_opening configuration deals tables parts =
-    let made : List (Option (List ℕ)) → List (List PlainRecord) → State = λ d r. record { configuration = configuration; round = 1; deals = d; records = r } in
+    let made : List (Option (List ℕ)) → List (List PlainRecord) → SessionValue = λ d r. record { configuration = configuration; round = 1; deals = d; records = r } in
     ap (λ d. made d (map (map plain_of) tables)) parts.deals
     ∙ ap (made (replicate (configuration.movement.shape.sets * configuration.boards) None))
     (ap (map (map plain_of)) parts.tables ∙ rows_seen configuration.boards configuration.movement.rows)
 
-pub new_is_kept : (configuration : Configuration) (deals : List (Option (List ℕ))) (tables : List (List Record)) → IsConfiguration configuration → IsNew configuration deals tables → IsKept configuration 1 deals tables
+pub new_is_kept : (configuration : ConfigValue) (deals : List (Option (List ℕ))) (tables : List (List Record)) → IsConfiguration configuration → IsNew configuration deals tables → IsKept configuration 1 deals tables
 unfolding StateASession
 new_is_kept configuration deals tables limits parts = record {
   session = subst IsSession (sym (new_is_opening configuration deals tables parts)) (opening_session configuration limits);

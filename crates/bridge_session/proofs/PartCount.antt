@@ -4,7 +4,7 @@ use Rattle.std.specs.Prelude.{Option, nat_le}
 use Rattle.std.proofs.Math.Nat.{mul-le-mul}
 use Rattle.std.proofs.lemmas.Bool.{leb-true, and_parts}
 use Rattle.std.proofs.lemmas.List.{length-map}
-use Rattle.bridge_config.specs.Configuration.{Configuration}
+use Rattle.bridge_config.specs.ConfigValue.{ConfigValue}
 use Rattle.bridge_config.specs.Limits.{IsConfiguration}
 use Rattle.bridge_session.specs.declared.record.Record.{Record}
 use Rattle.bridge_session.specs.Kept.{state_of, plain_of, IsKept}
@@ -12,13 +12,13 @@ use Rattle.bridge_session.specs.Parts.{parts_of}
 use Rattle.bridge_session.proofs.PartPlaces.{count_parts}
 
 -- the numbers of pairs, boards and plays are within bounds
-pub record AreFew (configuration : Configuration) (deals : List (Option (List ℕ))) (tables : List (List Record)) : Type 0 where
+pub record AreFew (configuration : ConfigValue) (deals : List (Option (List ℕ))) (tables : List (List Record)) : Type 0 where
   pub pairs : length configuration.pairs ≤ 24
   pub deals_few : length deals ≤ 36
   pub tables_few : length tables ≤ 144
   pub plays : length tables * configuration.boards ≤ 432
 
-pub few_of_each : (configuration : Configuration) (round : ℕ) (deals : List (Option (List ℕ))) (tables : List (List Record)) → IsConfiguration configuration → IsKept configuration round deals tables → AreFew configuration deals tables
+pub few_of_each : (configuration : ConfigValue) (round : ℕ) (deals : List (Option (List ℕ))) (tables : List (List Record)) → IsConfiguration configuration → IsKept configuration round deals tables → AreFew configuration deals tables
 few_of_each configuration round deals tables limits kept =
     let shape = configuration.movement.shape in
     let boards = leb-true configuration.boards 3 (and_parts (nat_le 1 configuration.boards) (nat_le configuration.boards 3) limits.boards).1 in
@@ -30,7 +30,7 @@ few_of_each configuration round deals tables limits kept =
       plays = omega (arith, mul-le-mul rows boards);
     }
 
-pub count_kept : (configuration : Configuration) (round : ℕ) (deals : List (Option (List ℕ))) (tables : List (List Record)) →
+pub count_kept : (configuration : ConfigValue) (round : ℕ) (deals : List (Option (List ℕ))) (tables : List (List Record)) →
     length (parts_of (state_of configuration round deals tables)) ≡ 2 + length configuration.pairs + length deals + length tables * configuration.boards
 count_kept configuration round deals tables =
     count_parts (state_of configuration round deals tables)

@@ -1,6 +1,6 @@
 -- After any accepted actions the record of a play is the plain record of its own.
 use Rattle.std.proofs.Common.{◌≡◌, ℕ, List, [], ◌∷◌, Option, Some, None, Ok, refl, ap, ◌∙◌}
-use Rattle.bridge_config.specs.Configuration.{Configuration}
+use Rattle.bridge_config.specs.ConfigValue.{ConfigValue}
 use Rattle.bridge_config.specs.Limits.{IsConfiguration}
 use Rattle.bridge_session.specs.declared.action.Action.{Action}
 use Rattle.bridge_session.specs.declared.action.Action.TheVariants.{Deal, Call, Card, Claim, Agree, Refuse, NextRound, Tricks, Void, Restore}
@@ -12,7 +12,7 @@ use Rattle.bridge_session.specs.declared.seating.Seating.{Seating}
 use Rattle.std.specs.Prelude.{Result, Err}
 use Rattle.std.specs.List.{cons_option}
 use Rattle.bridge_session.specs.Record.{PlainRecord, empty_record}
-use Rattle.bridge_session.specs.State.{State, opening, seating_of}
+use Rattle.bridge_session.specs.State.{SessionValue, opening, seating_of}
 use Rattle.bridge_session.specs.Step.{acted_at, record_of, changed}
 use Rattle.bridge_session.specs.Valid.{IsPlayId, IsValid}
 use Rattle.bridge_session.specs.Own.{Done, after, AreAccepted, done_in, round_after, own, plain_record}
@@ -22,15 +22,15 @@ use Rattle.bridge_session.proofs.PlainParts.{all_done, all_is, board_step}
 use Rattle.bridge_session.proofs.PlainStep.{perhaps_done, record_step}
 
 -- the configuration stays, and the round is that after the action
-acted_configuration : (s : State) (done : Deed) (sits : Result Seating Refused) → (acted_at s done sits).configuration ≡ s.configuration
+acted_configuration : (s : SessionValue) (done : Deed) (sits : Result Seating Refused) → (acted_at s done sits).configuration ≡ s.configuration
 acted_configuration s done (Err refused) = refl
 acted_configuration s done (Ok seating) = refl
 
-acted_round : (s : State) (done : Deed) (sits : Result Seating Refused) → (acted_at s done sits).round ≡ s.round
+acted_round : (s : SessionValue) (done : Deed) (sits : Result Seating Refused) → (acted_at s done sits).round ≡ s.round
 acted_round s done (Err refused) = refl
 acted_round s done (Ok seating) = refl
 
-configuration_stays : (action : Action) (s : State) → (changed s action).configuration ≡ s.configuration
+configuration_stays : (action : Action) (s : SessionValue) → (changed s action).configuration ≡ s.configuration
 configuration_stays (Deal key board hands) s = refl
 configuration_stays (Call key board at call) s = acted_configuration s (deed.Call call) (seating_of s.configuration s.round key.0)
 configuration_stays (Card key board at card) s = acted_configuration s (deed.Card card) (seating_of s.configuration s.round key.0)
@@ -42,7 +42,7 @@ configuration_stays (Tricks key play tricks) s = refl
 configuration_stays (Void key play) s = refl
 configuration_stays (Restore key play) s = refl
 
-round_is : (action : Action) (s : State) → (changed s action).round ≡ round_after s.round action
+round_is : (action : Action) (s : SessionValue) → (changed s action).round ≡ round_after s.round action
 round_is (Deal key board hands) s = refl
 round_is (Call key board at call) s = acted_round s (deed.Call call) (seating_of s.configuration s.round key.0)
 round_is (Card key board at card) s = acted_round s (deed.Card card) (seating_of s.configuration s.round key.0)
@@ -62,7 +62,7 @@ one_more : (done : Option Done) (later : List Done) (x : PlainRecord) → all_do
 one_more None later x = refl
 one_more (Some done) later x = refl
 
-forward : (actions : List Action) (s : State) (play : PlayId) (board : ℕ) (x : PlainRecord) → IsValid s → IsPlayId play → AreAccepted s actions → record_of s play ≡ Some x → x.board ≡ board → record_of (after s actions) play ≡ Some (all_done (own s.configuration play board s.round actions) x)
+forward : (actions : List Action) (s : SessionValue) (play : PlayId) (board : ℕ) (x : PlainRecord) → IsValid s → IsPlayId play → AreAccepted s actions → record_of s play ≡ Some x → x.board ≡ board → record_of (after s actions) play ≡ Some (all_done (own s.configuration play board s.round actions) x)
 forward [] s play board x valid id accepted is same = is
 forward (action ∷ actions) s play board x valid id accepted is same =
     let done = done_in s.configuration play board s.round action in
@@ -70,11 +70,11 @@ forward (action ∷ actions) s play board x valid id accepted is same =
     let rest = forward actions (changed s action) play board (perhaps_done done x) (step_valid action s accepted.0 valid accepted.1) id accepted.2 next (same_board done x ∙ same) in
     let y = perhaps_done done x in
     rest
-    ∙ ap (λ (k : Configuration). Some (all_done (own k play board (changed s action).round actions) y)) (configuration_stays action s)
+    ∙ ap (λ (k : ConfigValue). Some (all_done (own k play board (changed s action).round actions) y)) (configuration_stays action s)
     ∙ ap (λ r. Some (all_done (own s.configuration play board r actions) y)) (round_is action s)
     ∙ ap Some (one_more done (own s.configuration play board (round_after s.round action) actions) x)
 
-pub records_plain : (configuration : Configuration) (actions : List Action) (play : PlayId) (board : ℕ) → IsConfiguration configuration → IsPlayId play → AreAccepted (opening configuration) actions → record_of (opening configuration) play ≡ Some (empty_record board) → record_of (after (opening configuration) actions) play ≡ Some (plain_record board (own configuration play board 1 actions))
+pub records_plain : (configuration : ConfigValue) (actions : List Action) (play : PlayId) (board : ℕ) → IsConfiguration configuration → IsPlayId play → AreAccepted (opening configuration) actions → record_of (opening configuration) play ≡ Some (empty_record board) → record_of (after (opening configuration) actions) play ≡ Some (plain_record board (own configuration play board 1 actions))
 records_plain configuration actions play board limits id accepted is =
     forward actions (opening configuration) play board (empty_record board) (opening_valid configuration limits) id accepted is refl
     ∙ ap Some (all_is board (own configuration play board 1 actions))

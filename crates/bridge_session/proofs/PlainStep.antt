@@ -23,7 +23,7 @@ use Rattle.bridge_session.specs.declared.refused.Refused.TheVariants.{NotCurrent
 use Rattle.bridge_session.specs.declared.seating.Seating.{Seating}
 use Rattle.bridge_session.specs.Deed.{with_deed}
 use Rattle.bridge_session.specs.Record.{PlainRecord}
-use Rattle.bridge_session.specs.State.{State, deal_on, row_at, row_place, row_boards, changed_at, current_place, director_answer, seating_of, is_of_set}
+use Rattle.bridge_session.specs.State.{SessionValue, deal_on, row_at, row_place, row_boards, changed_at, current_place, director_answer, seating_of, is_of_set}
 use Rattle.bridge_session.specs.Step.{seen_by, answer_among, player_answer, acted_at, acted, is_row_within, record_of, rule_answer, with_ruling, ruled, step_answer, changed}
 use Rattle.bridge_session.specs.Valid.{board_of, IsPlayId, IsAction, IsValid}
 use Rattle.bridge_session.specs.Own.{Done, ByPlayer, ByDirector, done_by, same_play, ruled_in, done_in}
@@ -80,7 +80,7 @@ place_apart g records changed_place place apart =
     ]
 
 -- the record of the play, of which the place is within
-record_at : (s : State) (records : List (List PlainRecord)) (play : PlayId) (y : PlainRecord) → is_row_within s.configuration.movement.shape play.round play.table ≡ true → slice_get (row_at records (row_place s.configuration.movement.shape play.round play.table)) (play.index - 1) ≡ Some y → record_of (record s { records = records }) play ≡ Some y
+record_at : (s : SessionValue) (records : List (List PlainRecord)) (play : PlayId) (y : PlainRecord) → is_row_within s.configuration.movement.shape play.round play.table ≡ true → slice_get (row_at records (row_place s.configuration.movement.shape play.round play.table)) (play.index - 1) ≡ Some y → record_of (record s { records = records }) play ≡ Some y
 record_at s records play y within is =
     ap (λ b. cond b (slice_get (row_at records (row_place s.configuration.movement.shape play.round play.table)) (play.index - 1)) None) within ∙ is
 
@@ -112,7 +112,7 @@ fields_same : (a b : PlayId) → a.round ≡ b.round → a.table ≡ b.table →
 fields_same a b round table index =
     all_true (a.round == b.round) (a.table == b.table) (a.index == b.index) (eq-eqb a.round b.round round) (eq-eqb a.table b.table table) (eq-eqb a.index b.index index)
 
-ruled_by : (s : State) (play named : PlayId) (made : Correction) (x : PlainRecord) (same : Bool) → IsPlayId play → IsPlayId named → same_play named play ≡ same → is_row_within s.configuration.movement.shape named.round named.table ≡ true → is_row_within s.configuration.movement.shape play.round play.table ≡ true → slice_get (row_at s.records (row_place s.configuration.movement.shape play.round play.table)) (play.index - 1) ≡ Some x → record_of (ruled s named made) play ≡ Some (perhaps_done (cond same (Some (ByDirector made)) None) x)
+ruled_by : (s : SessionValue) (play named : PlayId) (made : Correction) (x : PlainRecord) (same : Bool) → IsPlayId play → IsPlayId named → same_play named play ≡ same → is_row_within s.configuration.movement.shape named.round named.table ≡ true → is_row_within s.configuration.movement.shape play.round play.table ≡ true → slice_get (row_at s.records (row_place s.configuration.movement.shape play.round play.table)) (play.index - 1) ≡ Some x → record_of (ruled s named made) play ≡ Some (perhaps_done (cond same (Some (ByDirector made)) None) x)
 ruled_by s play named made x true ranges ranges_named test within_named within is =
     let shape = s.configuration.movement.shape in
     let same = same_fields named play test in
@@ -140,7 +140,7 @@ ruled_by s play named made x false ranges ranges_named test within_named within 
           false≢true (sym test ∙ fields_same named play both.0 both.1 here))
     ])
 
-pub rule_step : (s : State) (play named : PlayId) (made : Correction) (x : PlainRecord) → IsPlayId play → IsPlayId named → rule_answer s.round named.round made (record_of s named) ≡ Ok tt → record_of s play ≡ Some x → record_of (ruled s named made) play ≡ Some (perhaps_done (ruled_in play named made) x)
+pub rule_step : (s : SessionValue) (play named : PlayId) (made : Correction) (x : PlainRecord) → IsPlayId play → IsPlayId named → rule_answer s.round named.round made (record_of s named) ≡ Ok tt → record_of s play ≡ Some x → record_of (ruled s named made) play ≡ Some (perhaps_done (ruled_in play named made) x)
 rule_step s play named made x ranges ranges_named ok is =
     let shape = s.configuration.movement.shape in
     let on = ruled_on s.round named.round made (record_of s named) ok in
@@ -166,7 +166,7 @@ board_number true first n index board is =
 board_number false first n index board is = let within = slice_get_within {A = ℕ} [] index board is in absurd (omega arith)
 
 -- in a row one board is in one place
-one_index : (s : State) (place i j : ℕ) (x y : PlainRecord) → IsValid s → slice_get (row_at s.records place) i ≡ Some x → slice_get (row_at s.records place) j ≡ Some y → x.board ≡ y.board → i ≡ j
+one_index : (s : SessionValue) (place i j : ℕ) (x y : PlainRecord) → IsValid s → slice_get (row_at s.records place) i ≡ Some x → slice_get (row_at s.records place) j ≡ Some y → x.board ≡ y.board → i ≡ j
 one_index s place i j x y valid at_i at_j same =
     let n : ℕ = s.configuration.boards in
     let a = board_there n s.configuration.movement.rows s.records place i x valid.of_boards at_i in
@@ -177,7 +177,7 @@ one_index s place i j x y valid at_i at_j same =
     let at_y = board_number (is_live b.0) first n j y.board b.2 in
     omega (arith, at_x, at_y, same)
 
-acted_by : (s : State) (play : PlayId) (seat : Seat) (place : ℕ) (done : Deed) (board named : ℕ) (x current : PlainRecord) (a b : Bool) → IsValid s → (place == row_place s.configuration.movement.shape play.round play.table) ≡ a → (named == board) ≡ b → x.board ≡ board → slice_get (row_at s.records place) (current_place (row_at s.records place)) ≡ Some current → current.board ≡ named → slice_get (row_at s.records (row_place s.configuration.movement.shape play.round play.table)) (play.index - 1) ≡ Some x → slice_get (row_at (changed_at (changes (with_deed seat done) current_place) s.records place) (row_place s.configuration.movement.shape play.round play.table)) (play.index - 1) ≡ Some (perhaps_done (cond (a && b) (Some (ByPlayer seat done)) None) x)
+acted_by : (s : SessionValue) (play : PlayId) (seat : Seat) (place : ℕ) (done : Deed) (board named : ℕ) (x current : PlainRecord) (a b : Bool) → IsValid s → (place == row_place s.configuration.movement.shape play.round play.table) ≡ a → (named == board) ≡ b → x.board ≡ board → slice_get (row_at s.records place) (current_place (row_at s.records place)) ≡ Some current → current.board ≡ named → slice_get (row_at s.records (row_place s.configuration.movement.shape play.round play.table)) (play.index - 1) ≡ Some x → slice_get (row_at (changed_at (changes (with_deed seat done) current_place) s.records place) (row_place s.configuration.movement.shape play.round play.table)) (play.index - 1) ≡ Some (perhaps_done (cond (a && b) (Some (ByPlayer seat done)) None) x)
 acted_by s play seat place done board named x current true true valid at_place of_board own now on is =
     let mine = row_place s.configuration.movement.shape play.round play.table in
     let same : place ≡ mine = eqb-true place mine at_place in
@@ -201,7 +201,7 @@ acted_by s play seat place done board named x current false b valid at_place of_
     let mine = row_place s.configuration.movement.shape play.round play.table in
     ap (λ rs. slice_get rs (play.index - 1)) (place_apart (changes (with_deed seat done) current_place) s.records place mine (λ same. eqb-false place mine at_place (sym same))) ∙ is
 
-player_by : (s : State) (play : PlayId) (board named at : ℕ) (done : Deed) (x : PlainRecord) (sits : Result Seating Refused) → IsValid s → answer_at s named at done sits ≡ Ok tt → record_of s play ≡ Some x → x.board ≡ board → record_of (acted_at s done sits) play ≡ Some (perhaps_done (done_by s.configuration play board named done sits) x)
+player_by : (s : SessionValue) (play : PlayId) (board named at : ℕ) (done : Deed) (x : PlainRecord) (sits : Result Seating Refused) → IsValid s → answer_at s named at done sits ≡ Ok tt → record_of s play ≡ Some x → x.board ≡ board → record_of (acted_at s done sits) play ≡ Some (perhaps_done (done_by s.configuration play board named done sits) x)
 player_by s play board named at done x (Err refused) valid ok is own = absurd cc
 player_by s play board named at done x (Ok seating) valid ok is own =
     let shape = s.configuration.movement.shape in
@@ -215,11 +215,11 @@ player_by s play board named at done x (Ok seating) valid ok is own =
     record_at s (changed_at (changes (with_deed seating.seat done) current_place) s.records seating.place) play (perhaps_done (cond (a && b) (Some (ByPlayer seating.seat done)) None) x) found.0
     (acted_by s play seating.seat seating.place done board named x on.plain a b valid refl refl own on.is on.same found.1)
 
-pub player_step : (s : State) (play : PlayId) (key board named at : ℕ) (done : Deed) (x : PlainRecord) → IsValid s → player_answer (seen_by s key named) key named at done ≡ Ok tt → record_of s play ≡ Some x → x.board ≡ board → record_of (acted s key done) play ≡ Some (perhaps_done (done_by s.configuration play board named done (seating_of s.configuration s.round key)) x)
+pub player_step : (s : SessionValue) (play : PlayId) (key board named at : ℕ) (done : Deed) (x : PlainRecord) → IsValid s → player_answer (seen_by s key named) key named at done ≡ Ok tt → record_of s play ≡ Some x → x.board ≡ board → record_of (acted s key done) play ≡ Some (perhaps_done (done_by s.configuration play board named done (seating_of s.configuration s.round key)) x)
 player_step s play key board named at done x valid ok is own = player_by s play board named at done x (seating_of s.configuration s.round key) valid ok is own
 
 -- Each action
-pub record_step : (action : Action) (s : State) (play : PlayId) (board : ℕ) (x : PlainRecord) → IsAction action → IsPlayId play → IsValid s → step_answer s action ≡ Ok tt → record_of s play ≡ Some x → x.board ≡ board → record_of (changed s action) play ≡ Some (perhaps_done (done_in s.configuration play board s.round action) x)
+pub record_step : (action : Action) (s : SessionValue) (play : PlayId) (board : ℕ) (x : PlainRecord) → IsAction action → IsPlayId play → IsValid s → step_answer s action ≡ Ok tt → record_of s play ≡ Some x → x.board ≡ board → record_of (changed s action) play ≡ Some (perhaps_done (done_in s.configuration play board s.round action) x)
 record_step (Deal key of_board hands) s play board x ranges id valid ok is own = is
 record_step (Call key named at call) s play board x ranges id valid ok is own = player_step s play key.0 board named at (deed.Call call) x valid ok is own
 record_step (Card key named at card) s play board x ranges id valid ok is own = player_step s play key.0 board named at (deed.Card card) x valid ok is own

@@ -7,13 +7,13 @@ use Rattle.std.proofs.lemmas.List.{length-map}
 use Rattle.std.proofs.lemmas.Option.{slice_get-map, get_or_from_slice_get}
 use Rattle.bridge_session.specs.declared.record.Record.{Record}
 use Rattle.bridge_session.specs.Record.{PlainRecord, empty_record}
-use Rattle.bridge_session.specs.State.{State}
+use Rattle.bridge_session.specs.State.{SessionValue}
 use Rattle.bridge_session.specs.Kept.{plain_of}
 use Rattle.bridge_session.specs.Parts.{record_part, record_or_empty, play_parts}
 use Rattle.bridge_session.proofs.Acted.{row_is}
 use Rattle.bridge_session.proofs.PartPlaces.{count_plays, place_of_play}
 
-module _ (s : State) (tables : List (List Record)) (boards place : ℕ) (records_are : map (map plain_of) tables ≡ s.records)
+module _ (s : SessionValue) (tables : List (List Record)) (boards place : ℕ) (records_are : map (map plain_of) tables ≡ s.records)
     (boards_are : boards ≡ s.configuration.boards) (some : 0 < boards) (within : place < length (play_parts s)) where
   count_records : length s.records ≡ length tables
   count_records = ap (λ (records : List (List PlainRecord)). length records) (sym records_are) ∙ length-map tables (map plain_of)

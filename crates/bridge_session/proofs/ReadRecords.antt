@@ -15,14 +15,14 @@ use Rattle.bridge_cards.specs.Seat.{seat_number}
 use Rattle.bridge_cards.proofs.CardSetLaws.{has_card-beyond}
 use Rattle.bridge_auction.specs.declared.call.Call.{Call}
 use Rattle.bridge_auction.specs.declared.contract.Contract.{Contract}
-use Rattle.bridge_auction.specs.Auction.{Bidding}
+use Rattle.bridge_auction.specs.Auction.{AuctionValue}
 use Rattle.bridge_auction.specs.Call.{IsCall, call_number, call_at}
 use Rattle.bridge_auction.specs.Legal.{IsLegal, is_ended}
 use Rattle.bridge_auction.proofs.CallNumbers.{call_at-call_number, call_at-is}
 use Rattle.bridge_auction.proofs.LegalLength.{legal_length}
 use Rattle.bridge_play.specs.declared.claim.Claim.{Claim}
 use Rattle.bridge_play.specs.Legal as cards
-use Rattle.bridge_play.specs.Play.{Playing, IsPlay, is_over}
+use Rattle.bridge_play.specs.Play.{PlayValue, IsPlay, is_over}
 use Rattle.bridge_play.specs.Trick.{turn_of}
 use Rattle.bridge_session.specs.declared.record.Record.{Record}
 use Rattle.bridge_session.specs.declared.refused.Refused.TheVariants.{NotFinished}
@@ -141,7 +141,7 @@ is_unplayed hands plain none unplayed = record {
 }
 
 -- what the code keeps of a play, as contracts see it
-kept_from : (hands : List ℕ) (board : ℕ) (auction : Bidding) (fields : Fields) (contract : Option Contract)
+kept_from : (hands : List ℕ) (board : ℕ) (auction : AuctionValue) (fields : Fields) (contract : Option Contract)
     → (contract ≡ None → IsUnplayed (plain_from board auction.calls fields))
     → plain_of (record { board = board; auction = auction; play = option_map (playing_in hands (plain_from board auction.calls fields)) contract; ruling = fields.ruling })
     ≡ plain_from board auction.calls fields
@@ -152,10 +152,10 @@ kept_from hands board auction fields None unplayed =
     ∙ ap (λ c. record { board = board; calls = auction.calls; cards = fields.cards; claims = fields.claims; claim = c; ruling = fields.ruling }) (sym before.claim)
 kept_from hands board auction fields (Some contract) unplayed = refl
 
-abbrev kept_of : ℕ → Bidding → Option Playing → Option Ruling → Record
+abbrev kept_of : ℕ → AuctionValue → Option PlayValue → Option Ruling → Record
 kept_of board auction play ruling = record { board = board; auction = auction; play = play; ruling = ruling }
 
-pub kept_is : (hands : List ℕ) (board : ℕ) (auction : Bidding) (fields : Fields) (play : Option Playing)
+pub kept_is : (hands : List ℕ) (board : ℕ) (auction : AuctionValue) (fields : Fields) (play : Option PlayValue)
     → play ≡ play_of hands (plain_from board auction.calls fields) → IsPlayed hands (plain_from board auction.calls fields)
     → plain_of (kept_of board auction play fields.ruling) ≡ plain_from board auction.calls fields
 kept_is hands board auction fields play is played =
@@ -163,7 +163,7 @@ kept_is hands board auction fields play is played =
     ap (λ p. plain_of (kept_of board auction p fields.ruling)) is
     ∙ kept_from hands board auction fields (contract_in plain) played.unplayed
 
-pub kept_tied : (hands : List ℕ) (board : ℕ) (auction : Bidding) (fields : Fields) (play : Option Playing) → auction.dealer ≡ dealer_of board
+pub kept_tied : (hands : List ℕ) (board : ℕ) (auction : AuctionValue) (fields : Fields) (play : Option PlayValue) → auction.dealer ≡ dealer_of board
     → play ≡ play_of hands (plain_from board auction.calls fields) → IsPlayed hands (plain_from board auction.calls fields)
     → IsTied hands (kept_of board auction play fields.ruling)
 kept_tied hands board auction fields play dealer is played = record {
@@ -183,14 +183,14 @@ stands_over : (hands : List ℕ) (plain : PlainRecord) (contract : Option Contra
 stands_over hands plain None ok = absurd cc
 stands_over hands plain (Some contract) ok = over_done [] (Some (playing_in [] plain contract)) ok
 
-ruling_stands : (hands : List ℕ) (plain : PlainRecord) (play : Option Playing) (made : Option Ruling) → play ≡ play_of hands plain
+ruling_stands : (hands : List ℕ) (plain : PlainRecord) (play : Option PlayValue) (made : Option Ruling) → play ≡ play_of hands plain
     → may_stand play made ≡ true → IfSome made (MayStand (play_of [] plain))
 ruling_stands hands plain play None is stands = tt
 ruling_stands hands plain play (Some (ruling.Tricks tricks)) is stands =
     over_stands hands plain (contract_in plain) (ap (λ p. option_map_or is_over p false) (sym is) ∙ stands)
 ruling_stands hands plain play (Some ruling.Void) is stands = tt
 
-stands_ruling : (hands : List ℕ) (plain : PlainRecord) (play : Option Playing) (made : Option Ruling) → play ≡ play_of hands plain
+stands_ruling : (hands : List ℕ) (plain : PlainRecord) (play : Option PlayValue) (made : Option Ruling) → play ≡ play_of hands plain
     → IfSome made (MayStand (play_of [] plain)) → may_stand play made ≡ true
 stands_ruling hands plain play None is ruled = refl
 stands_ruling hands plain play (Some (ruling.Tricks tricks)) is ruled =
@@ -264,14 +264,14 @@ is_undealt None is = refl
 is_undealt (Some hands) is = absurd cc
 
 -- what is known where the auction and the play were read
-pub record AreRead (deal : Option (List ℕ)) (board : ℕ) (auction : Bidding) (fields : Fields) (play : Option Playing) : Type 0 where
+pub record AreRead (deal : Option (List ℕ)) (board : ℕ) (auction : AuctionValue) (fields : Fields) (play : Option PlayValue) : Type 0 where
   pub dealer : auction.dealer ≡ dealer_of board
   pub legal : IsLegal auction.calls
   pub undealt : is_some deal ≡ false → auction.calls ≡ []
   pub play_is : play ≡ play_of (unwrap_or deal []) (plain_from board auction.calls fields)
   pub played : IsPlayed (unwrap_or deal []) (plain_from board auction.calls fields)
 
-module _ (deals : List (Option (List ℕ))) (now round : ℕ) (deal : Option (List ℕ)) (board : ℕ) (auction : Bidding) (fields : Fields) where
+module _ (deals : List (Option (List ℕ))) (now round : ℕ) (deal : Option (List ℕ)) (board : ℕ) (auction : AuctionValue) (fields : Fields) where
   -- a valid record of the fields is what they say
   pub valid_is : (plain : PlainRecord) → IsLegal auction.calls → map call_number auction.calls ≡ fields.calls → plain.board ≡ board
       → IsValidRecord deals now round plain → fields_of plain ≡ fields → IsValidRecord deals now round (plain_from board auction.calls fields)
@@ -285,7 +285,7 @@ module _ (deals : List (Option (List ℕ))) (now round : ℕ) (deal : Option (Li
     play = subst (λ d. IfSome (play_of (unwrap_or d []) (plain_from board auction.calls fields)) IsPlay) (sym deal_is) valid.play;
   }
 
-  pub read_valid : (play : Option Playing) → deal ≡ deal_on deals board → AreRead deal board auction fields play
+  pub read_valid : (play : Option PlayValue) → deal ≡ deal_on deals board → AreRead deal board auction fields play
       → is_in_place now round (kept_of board auction play fields.ruling) ≡ true
       → IsValidRecord deals now round (plain_of (kept_of board auction play fields.ruling))
   read_valid play deal_is read is =
@@ -308,13 +308,13 @@ module _ (deals : List (Option (List ℕ))) (now round : ℕ) (deal : Option (Li
       })
 
   -- what is kept is within the ranges of the fields
-  pub read_in_range : (play : Option Playing) → AreRead deal board auction fields play → IfSome fields.claim IsOfFourSeats → IfSome fields.ruling IsRulingInRange
+  pub read_in_range : (play : Option PlayValue) → AreRead deal board auction fields play → IfSome fields.claim IsOfFourSeats → IfSome fields.ruling IsRulingInRange
       → IsRecordInRange (plain_of (kept_of board auction play fields.ruling))
   read_in_range play read claim made =
       subst IsRecordInRange (sym (kept_is (unwrap_or deal []) board auction fields play read.play_is read.played)) (record { claim = claim; ruling = made })
 
   -- where the record of the fields is valid it is taken
-  pub valid_taken : (play : Option Playing) → AreRead deal board auction fields play → IsValidRecord deals now round (plain_from board auction.calls fields)
+  pub valid_taken : (play : Option PlayValue) → AreRead deal board auction fields play → IsValidRecord deals now round (plain_from board auction.calls fields)
       → is_in_place now round (kept_of board auction play fields.ruling) ≡ true
   valid_taken play read valid =
       let hands : List ℕ = unwrap_or deal [] in
@@ -324,7 +324,7 @@ module _ (deals : List (Option (List ℕ))) (now round : ℕ) (deal : Option (Li
       placed_in hands now round kept (kept_tied hands board auction fields play read.dealer read.play_is read.played)
       (subst (IsInPlace now round) (sym same) (record { ruled = valid.ruled; later = valid.later; earlier = valid.earlier }))
 
-  pub valid_agreed : (play : Option Playing) (plain : PlainRecord) → AreRead deal board auction fields play → map call_number auction.calls ≡ fields.calls
+  pub valid_agreed : (play : Option PlayValue) (plain : PlainRecord) → AreRead deal board auction fields play → map call_number auction.calls ≡ fields.calls
       → plain.board ≡ board → IsLegal plain.calls → fields_of plain ≡ fields
       → is_agreed_in (plain_of (kept_of board auction play fields.ruling)) ≡ fields.agreed
   valid_agreed play plain read numbers board_is legal is =

@@ -12,11 +12,11 @@ use Rattle.std.proofs.lemmas.List.FromFn.{length-range_with_len}
 use Rattle.std.proofs.lemmas.Simd.{map-map}
 use Rattle.bridge_movement.specs.declared.row.Row.{Row}
 use Rattle.bridge_movement.specs.Row.{is_live}
-use Rattle.bridge_config.specs.Configuration.{Configuration}
+use Rattle.bridge_config.specs.ConfigValue.{ConfigValue}
 use Rattle.bridge_config.specs.Limits.{IsConfiguration}
 use Rattle.bridge_session.specs.declared.record.Record.{Record}
 use Rattle.bridge_session.specs.Record.{PlainRecord}
-use Rattle.bridge_session.specs.State.{State, row_boards}
+use Rattle.bridge_session.specs.State.{SessionValue, row_boards}
 use Rattle.bridge_session.specs.Kept.{plain_of, board_kept, IsTiedIn, state_of, StateASession, IsKept}
 use Rattle.bridge_session.specs.Head.{head_parts, IsRound}
 use Rattle.bridge_session.specs.Parts.{deal_part, row_parts, play_parts, board_parts}
@@ -48,25 +48,25 @@ same_maps f g (x ∷ xs) (y ∷ ys) long each =
 
 -- The configuration and the round
 
-abbrev configuration_at : List (List ℕ) → Configuration
+abbrev configuration_at : List (List ℕ) → ConfigValue
 configuration_at parts = configuration_in (slice_index_or parts 0 []) (slice_index_or parts 1 []) (drop 2 parts)
 
 abbrev round_at : List (List ℕ) → ℕ
 round_at parts = slice_index (numbers_in (slice_index_or parts 0 [])) 11
 
-pub record SameHead (c d : Configuration) (n m : ℕ) (rest later : List (List ℕ)) : Type 0 where
+pub record SameHead (c d : ConfigValue) (n m : ℕ) (rest later : List (List ℕ)) : Type 0 where
   pub configuration : c ≡ d
   pub round : n ≡ m
   pub behind : rest ≡ later
 
 -- the parts before those of the boards state one configuration and one round
-pub same_head : (c d : Configuration) (n m : ℕ) (rest later : List (List ℕ)) → IsConfiguration c → IsConfiguration d
+pub same_head : (c d : ConfigValue) (n m : ℕ) (rest later : List (List ℕ)) → IsConfiguration c → IsConfiguration d
     → head_parts c n ++ rest ≡ head_parts d m ++ later → SameHead c d n m rest later
 same_head c d n m rest later one two is =
     let configuration : c ≡ d = sym (configuration_back c n one rest) ∙ ap configuration_at is ∙ configuration_back d m two later in
     let round : n ≡ m
     = sym (ap (λ ns. slice_index ns 11) (numbers_back c n one rest)) ∙ ap round_at is ∙ ap (λ ns. slice_index ns 11) (numbers_back d m two later) in
-    let head : head_parts c n ≡ head_parts d m = ap (λ (x : Configuration). head_parts x n) configuration ∙ ap (head_parts d) round in
+    let head : head_parts c n ≡ head_parts d m = ap (λ (x : ConfigValue). head_parts x n) configuration ∙ ap (head_parts d) round in
     record {
       configuration = configuration;
       round = round;
@@ -75,14 +75,14 @@ same_head c d n m rest later one two is =
 
 -- What is known of a session's boards and plays
 
-pub session_deals : (s : State) → IsSession s → AreDeals s.deals
+pub session_deals : (s : SessionValue) → IsSession s → AreDeals s.deals
 session_deals s is = record { dealt = is.valid.deals; hands = is.ranges.deals }
 
-pub session_count : (s : State) → IsSession s → length s.records ≡ length s.configuration.movement.rows
+pub session_count : (s : SessionValue) → IsSession s → length s.records ≡ length s.configuration.movement.rows
 session_count s is =
     sym (length-map s.records (map board_of)) ∙ ap length is.valid.of_boards ∙ length-map s.configuration.movement.rows (row_boards s.configuration.boards)
 
-pub session_rows : (s : State) → IsSession s → AreRows s.deals s.round s.configuration.boards s.configuration.movement.rows s.records
+pub session_rows : (s : SessionValue) → IsSession s → AreRows s.deals s.round s.configuration.boards s.configuration.movement.rows s.records
 session_rows s is = record {
   count = session_count s is;
   each = λ place row own found there.
@@ -119,7 +119,7 @@ row_boards_few boards row =
     omega (arith, few, length-range_with_len ((row.set - 1) * boards + 1) boards)
 
 -- what was read of the boards and the plays
-pub record AreMade (configuration : Configuration) (round : ℕ) (deals : List (Option (List ℕ))) (tables : List (Vec Record)) : Type 0 where
+pub record AreMade (configuration : ConfigValue) (round : ℕ) (deals : List (Option (List ℕ))) (tables : List (Vec Record)) : Type 0 where
   pub limits : IsConfiguration configuration
   pub in_round : IsRound configuration round
   pub boards : length deals ≡ configuration.movement.shape.sets * configuration.boards
@@ -137,8 +137,8 @@ kept_boards (table ∷ tables) =
     ap (λ bs. bs ∷ map (map board_kept) (lists_in tables)) (sym (map-map board_of plain_of table.items))
     ∙ ap (λ bss. map board_of (plains_of table) ∷ bss) (kept_boards tables)
 
-module _ (configuration : Configuration) (round : ℕ) (deals : List (Option (List ℕ))) (tables : List (Vec Record)) (made : AreMade configuration round deals tables) where
-  abbrev pub made_state : State
+module _ (configuration : ConfigValue) (round : ℕ) (deals : List (Option (List ℕ))) (tables : List (Vec Record)) (made : AreMade configuration round deals tables) where
+  abbrev pub made_state : SessionValue
   made_state = record { configuration = configuration; round = round; deals = deals; records = map plains_of tables }
 
   of_boards : map (map board_of) (map plains_of tables) ≡ map (row_boards configuration.boards) configuration.movement.rows
@@ -204,11 +204,11 @@ module _ (configuration : Configuration) (round : ℕ) (deals : List (Option (Li
 
 -- The parts of a session with that configuration
 
-module _ (s : State) (is : IsSession s) (configuration : Configuration) (same : s.configuration ≡ configuration) (parts : List (List ℕ)) (of : board_parts s ≡ parts) where
+module _ (s : SessionValue) (is : IsSession s) (configuration : ConfigValue) (same : s.configuration ≡ configuration) (parts : List (List ℕ)) (of : board_parts s ≡ parts) where
   deals_long : length (map deal_part s.deals) ≡ configuration.movement.shape.sets * configuration.boards
   deals_long =
       length-map s.deals deal_part ∙ is.valid.boards
-      ∙ ap (λ (c : Configuration). c.movement.shape.sets * c.boards) same
+      ∙ ap (λ (c : ConfigValue). c.movement.shape.sets * c.boards) same
 
   pub board_half : map deal_part s.deals ≡ take (configuration.movement.shape.sets * configuration.boards) parts
   board_half =
@@ -217,7 +217,7 @@ module _ (s : State) (is : IsSession s) (configuration : Configuration) (same : 
 
   pub play_half : flat_map (row_parts configuration.boards) s.records ≡ drop (configuration.movement.shape.sets * configuration.boards) parts
   play_half =
-      ap (λ (c : Configuration). flat_map (row_parts c.boards) s.records) (sym same)
+      ap (λ (c : ConfigValue). flat_map (row_parts c.boards) s.records) (sym same)
       ∙ sym (drop_front (configuration.movement.shape.sets * configuration.boards) (map deal_part s.deals) (play_parts s) deals_long)
       ∙ ap (drop (configuration.movement.shape.sets * configuration.boards)) of
 
@@ -226,9 +226,9 @@ module _ (s : State) (is : IsSession s) (configuration : Configuration) (same : 
       ap length (sym of) ∙ count_boards s
       ∙ ap (λ n. n + length s.records * s.configuration.boards) is.valid.boards
       ∙ ap (λ n. s.configuration.movement.shape.sets * s.configuration.boards + n * s.configuration.boards) (session_count s is)
-      ∙ ap (λ (c : Configuration). c.movement.shape.sets * c.boards + length c.movement.rows * c.boards) same
+      ∙ ap (λ (c : ConfigValue). c.movement.shape.sets * c.boards + length c.movement.rows * c.boards) same
 
   pub rows_of : (round : ℕ) → s.round ≡ round → AreRows s.deals round configuration.boards configuration.movement.rows s.records
   rows_of round at =
       subst (λ n. AreRows s.deals n configuration.boards configuration.movement.rows s.records) at
-      (subst (λ (c : Configuration). AreRows s.deals s.round c.boards c.movement.rows s.records) same (session_rows s is))
+      (subst (λ (c : ConfigValue). AreRows s.deals s.round c.boards c.movement.rows s.records) same (session_rows s is))

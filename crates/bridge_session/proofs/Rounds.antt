@@ -6,10 +6,10 @@ use Rattle.std.proofs.lemmas.Bool.{eq-eqb}
 use Rattle.std.proofs.lemmas.List.{take-map, drop-map}
 use Rattle.bridge_session.specs.declared.record.Record.{Record}
 use Rattle.bridge_session.specs.Record.{is_open}
-use Rattle.bridge_config.specs.Configuration.{Configuration}
+use Rattle.bridge_config.specs.ConfigValue.{ConfigValue}
 use Rattle.bridge_session.specs.declared.refused.Refused.{Refused}
 use Rattle.bridge_session.specs.declared.refused.Refused.TheVariants.{Closed, Stale, RoundOpen}
-use Rattle.bridge_session.specs.State.{State, is_closed, hands_on}
+use Rattle.bridge_session.specs.State.{SessionValue, is_closed, hands_on}
 use Rattle.bridge_session.specs.Step.{records_of_round, next_answer}
 use Rattle.bridge_session.specs.StateRange.{IsSession}
 use Rattle.bridge_session.specs.Kept.{plain_of, state_of, is_kept_open, StateASession, IsTiedIn, IsKept}
@@ -51,7 +51,7 @@ open_of_round deals vectors count start tied =
     ∙ sym (among (list_any is_open) count start (map (map plain_of) (lists_in vectors)))
 
 -- the answer to the end of a round none of whose plays is open
-pub next_accepted : (s : State) → is_closed s.configuration s.round ≡ false → list_any (list_any is_open) (records_of_round s) ≡ false → next_answer s s.round ≡ Ok tt
+pub next_accepted : (s : SessionValue) → is_closed s.configuration s.round ≡ false → list_any (list_any is_open) (records_of_round s) ≡ false → next_answer s s.round ≡ Ok tt
 next_accepted s begun none =
     let third : Bool → Result (Unit {0}) Refused = λ b. cond b (Err RoundOpen) (Ok tt) in
     let second : Bool → Result (Unit {0}) Refused = λ b. cond (not b) (Err Stale) (third (list_any (list_any is_open) (records_of_round s))) in
@@ -59,7 +59,7 @@ next_accepted s begun none =
     ap first begun ∙ ap second (eq-eqb s.round s.round refl) ∙ ap third none
 
 -- the parts in the next round
-pub kept_next : (configuration : Configuration) (round : ℕ) (deals : List (Option (List ℕ))) (tables : List (List Record)) → IsKept configuration round deals tables → IsSession (state_of configuration (round + 1) deals tables) → IsKept configuration (round + 1) deals tables
+pub kept_next : (configuration : ConfigValue) (round : ℕ) (deals : List (Option (List ℕ))) (tables : List (List Record)) → IsKept configuration round deals tables → IsSession (state_of configuration (round + 1) deals tables) → IsKept configuration (round + 1) deals tables
 unfolding StateASession
 kept_next configuration round deals tables kept session = record {
   session = session;

@@ -6,15 +6,15 @@ use Rattle.std.specs.Option.{option_map, option_map_or}
 use Rattle.bridge_cards.specs.declared.seat.Seat.{Seat}
 use Rattle.bridge_cards.specs.declared.seat.Side.TheVariants.{NorthSouth, EastWest}
 use Rattle.bridge_auction.specs.declared.call.Call.{Call}
-use Rattle.bridge_config.specs.Configuration.{Configuration}
+use Rattle.bridge_config.specs.ConfigValue.{ConfigValue}
 use Rattle.bridge_play.specs.declared.claim.Claim.{Claim}
 use Rattle.bridge_play.specs.Dummy.{dummy_of}
-use Rattle.bridge_play.specs.Play.{Playing}
+use Rattle.bridge_play.specs.Play.{PlayValue}
 use Rattle.bridge_session.specs.declared.refused.Refused.{Refused}
 use Rattle.bridge_session.specs.declared.seating.Seating.{Seating}
 use Rattle.bridge_session.specs.declared.view.View.{View}
 use Rattle.bridge_session.specs.Record.{PlainRecord, play_of}
-use Rattle.bridge_session.specs.State.{State, deal_on, row_at, current_place, seating_of}
+use Rattle.bridge_session.specs.State.{SessionValue, deal_on, row_at, current_place, seating_of}
 use Rattle.bridge_session.specs.See.{PlainTrick, Shown, ShownPlay, cards_left, shown_dummy, shown_play, shown_of, shown_dealt, shown_current, shown_among, shown_seated, shown_to}
 use Rattle.bridge_session.specs.Views.{IsViewTo}
 use Rattle.bridge_session.specs.Sight.{cards_in, PlaysLookAlike, CardsLookAlike, RecordsLookAlike, DealtLookAlike, CurrentLookAlike, TablesLookAlike, LookAlikeTo}
@@ -27,12 +27,12 @@ dummy_by false n x y is same = ap Some (same (eqb-false n 0 is))
 dummy_if : (n : ℕ) (x y : List ℕ) → (n ≢ 0 → x ≡ y) → ◌≡◌ {A = Option (List ℕ)} (cond (n == 0) None (Some x)) (cond (n == 0) None (Some y))
 dummy_if n x y same = dummy_by (n == 0) n x y refl same
 
-dummy_same : (p q : Playing) → PlaysLookAlike p q → shown_dummy p ≡ shown_dummy q
+dummy_same : (p q : PlayValue) → PlaysLookAlike p q → shown_dummy p ≡ shown_dummy q
 dummy_same p q alike =
     dummy_if (length p.cards) (cards_left p.hands p.cards (dummy_of p.contract)) (cards_left q.hands q.cards (dummy_of q.contract)) alike.dummy
     ∙ ap (λ n. cond (n == 0) None (Some (cards_left q.hands q.cards (dummy_of q.contract)))) alike.cards_made
 
-play_same : (p q : Playing) → PlaysLookAlike p q → shown_play p ≡ shown_play q
+play_same : (p q : PlayValue) → PlaysLookAlike p q → shown_play p ≡ shown_play q
 play_same p q alike =
     let dummy = dummy_same p q alike in
     let ns = alike.tricks NorthSouth in
@@ -44,19 +44,19 @@ play_same p q alike =
     cc
 
 -- what is shown, by its parts
-abbrev shown_by : ℕ → ℕ → List Call → List ℕ → Option Playing → Shown
+abbrev shown_by : ℕ → ℕ → List Call → List ℕ → Option PlayValue → Shown
 shown_by index board calls hand play = record {
   index = index;
   board = board;
   calls = calls;
   cards_made = length (cards_in play);
-  claims_made = option_map_or (λ (p : Playing). p.claims) play 0;
-  claim = option_map_or (λ (p : Playing). p.claim) play None;
+  claims_made = option_map_or (λ (p : PlayValue). p.claims) play 0;
+  claim = option_map_or (λ (p : PlayValue). p.claim) play None;
   hand = hand;
   play = option_map shown_play play;
 }
 
-by_same : (index board : ℕ) (calls : List Call) (hand : List ℕ) (p q : Option Playing) → CardsLookAlike p q → shown_by index board calls hand p ≡ shown_by index board calls hand q
+by_same : (index board : ℕ) (calls : List Call) (hand : List ℕ) (p q : Option PlayValue) → CardsLookAlike p q → shown_by index board calls hand p ≡ shown_by index board calls hand q
 by_same index board calls hand None None alike = refl
 by_same index board calls hand None (Some q) alike = absurd alike
 by_same index board calls hand (Some p) None alike = absurd alike
@@ -103,21 +103,21 @@ among_same deals others seat records plays alike =
     current_same deals others seat (current_place records) (slice_get records (current_place records)) (slice_get plays (current_place plays)) alike.current
     ∙ ap (λ place. shown_current others seat place (slice_get plays (current_place plays))) alike.place
 
-seated_same : (key : ℕ) (s t : State) (sits : Result Seating Refused) → LookAlikeTo key s t → seating_of s.configuration s.round key ≡ sits → shown_seated s sits ≡ shown_seated t sits
+seated_same : (key : ℕ) (s t : SessionValue) (sits : Result Seating Refused) → LookAlikeTo key s t → seating_of s.configuration s.round key ≡ sits → shown_seated s sits ≡ shown_seated t sits
 seated_same key s t (Err refused) alike is = refl
 seated_same key s t (Ok seating) alike is =
     among_same s.deals t.deals seating.seat (row_at s.records seating.place) (row_at t.records seating.place) (alike.table seating is)
 
 -- the player sits in the same place
-sits_same : (key : ℕ) (s t : State) → LookAlikeTo key s t → seating_of s.configuration s.round key ≡ seating_of t.configuration t.round key
+sits_same : (key : ℕ) (s t : SessionValue) → LookAlikeTo key s t → seating_of s.configuration s.round key ≡ seating_of t.configuration t.round key
 sits_same key s t alike =
-    ap (λ (k : Configuration). seating_of k s.round key) alike.configuration ∙ ap (λ r. seating_of t.configuration r key) alike.round
+    ap (λ (k : ConfigValue). seating_of k s.round key) alike.configuration ∙ ap (λ r. seating_of t.configuration r key) alike.round
 
-pub shown_same : (key : ℕ) (s t : State) → LookAlikeTo key s t → shown_to s key ≡ shown_to t key
+pub shown_same : (key : ℕ) (s t : SessionValue) → LookAlikeTo key s t → shown_to s key ≡ shown_to t key
 shown_same key s t alike =
     seated_same key s t (seating_of s.configuration s.round key) alike refl ∙ ap (shown_seated t) (sits_same key s t alike)
 
-pub view_same : (key : ℕ) (s t : State) (view : View) → LookAlikeTo key s t → IsViewTo s key view → IsViewTo t key view
+pub view_same : (key : ℕ) (s t : SessionValue) (view : View) → LookAlikeTo key s t → IsViewTo s key view → IsViewTo t key view
 view_same key s t view alike seen = record {
   seating = seen.seating;
   sits = sym (sits_same key s t alike) ∙ seen.sits;

@@ -3,7 +3,7 @@ use Rattle.std.specs.Prelude.{◌≡◌, ℕ, true, Option, None, Some, Ok}
 use Rattle.bridge_session.specs.declared.action.Action.{Action}
 use Rattle.bridge_session.specs.declared.action.Action.TheVariants.{Deal, Call, Card, Claim, Agree, Refuse, NextRound, Tricks, Void, Restore}
 use Rattle.bridge_session.specs.declared.seating.Seating.{Seating}
-use Rattle.bridge_session.specs.State.{State, deal_on, row_at, seating_of, is_of_set}
+use Rattle.bridge_session.specs.State.{SessionValue, deal_on, row_at, seating_of, is_of_set}
 
 -- the key by which a player acts
 abbrev pub player_key : Action → Option ℕ
@@ -20,7 +20,7 @@ player_key (Restore key play) = None
 
 -- Two sessions have one configuration and one round, and where the player of the key sits in it, the deals of the boards
 -- of that table's set and the records of that table in that round are the same.
-pub record AgreeAtTable (key : ℕ) (s t : State) : Type 0 where
+pub record AgreeAtTable (key : ℕ) (s t : SessionValue) : Type 0 where
   pub configuration : s.configuration ≡ t.configuration
   pub round : s.round ≡ t.round
   pub deals : (seating : Seating) (board : ℕ) → seating_of s.configuration s.round key ≡ Ok seating → is_of_set s.configuration seating.set board ≡ true → deal_on s.deals board ≡ deal_on t.deals board

@@ -6,7 +6,7 @@ use Rattle.bridge_cards.specs.Seat.{clockwise_from, same_seat}
 use Rattle.bridge_auction.specs.declared.refused.CallRefused.{CallRefused}
 use Rattle.bridge_auction.specs.declared.refused.CallRefused.TheVariants as call_refused
 use Rattle.bridge_auction.specs.declared.call.Call.{Call}
-use Rattle.bridge_auction.specs.Auction.{Bidding}
+use Rattle.bridge_auction.specs.Auction.{AuctionValue}
 use Rattle.bridge_auction.specs.Legal.{is_ended, answer_to}
 use Rattle.bridge_play.specs.declared.refused.CardRefused.{CardRefused}
 use Rattle.bridge_play.specs.declared.refused.CardRefused.TheVariants as card_refused
@@ -15,7 +15,7 @@ use Rattle.bridge_play.specs.declared.refused.ClaimRefused.TheVariants as claim_
 use Rattle.bridge_play.specs.declared.refused.ConsentRefused.{ConsentRefused}
 use Rattle.bridge_play.specs.declared.refused.ConsentRefused.TheVariants as consent_refused
 use Rattle.bridge_play.specs.Claims.{with_agreed}
-use Rattle.bridge_play.specs.Play.{Playing, card_answer, claim_answer, consent_answer}
+use Rattle.bridge_play.specs.Play.{PlayValue, card_answer, claim_answer, consent_answer}
 use Rattle.bridge_session.specs.declared.deed.Deed.{Deed}
 use Rattle.bridge_session.specs.declared.deed.Deed.TheVariants as deed
 use Rattle.bridge_session.specs.declared.refused.Refused.{Refused}
@@ -55,7 +55,7 @@ renamed name (Ok done) = Ok tt
 renamed name (Err refused) = Err (name refused)
 
 -- the answer to a call by a player, the refusals in order
-abbrev pub call_answer : Bidding → Seat → ℕ → Call → Result (Unit {0}) Refused
+abbrev pub call_answer : AuctionValue → Seat → ℕ → Call → Result (Unit {0}) Refused
 call_answer auction seat at call =
     if is_ended auction.calls then Err WrongPhase
     else if not (at == length auction.calls) then Err Stale
@@ -67,7 +67,7 @@ abbrev pub counted : ℕ → ℕ → Result (Unit {0}) Refused → Result (Unit 
 counted done at answer = if not (at == done) then Err Stale else answer
 
 -- the answer to what a player does once there is a contract
-abbrev pub answer_in_play : Playing → Seat → ℕ → Deed → Result (Unit {0}) Refused
+abbrev pub answer_in_play : PlayValue → Seat → ℕ → Deed → Result (Unit {0}) Refused
 answer_in_play play seat at (deed.Call call) = Err WrongPhase
 answer_in_play play seat at (deed.Card card) = counted (length play.cards) at (renamed from_card (card_answer play seat card))
 answer_in_play play seat at (deed.Claim tricks) = counted play.claims at (renamed from_claim (claim_answer play seat tricks))
@@ -75,12 +75,12 @@ answer_in_play play seat at deed.Agree = counted play.claims at (renamed from_co
 answer_in_play play seat at deed.Refuse = counted play.claims at (renamed from_consent (consent_answer play seat play.claims))
 
 -- before that all but calls are refused
-abbrev pub answer_if_play : Option Playing → Seat → ℕ → Deed → Result (Unit {0}) Refused
+abbrev pub answer_if_play : Option PlayValue → Seat → ℕ → Deed → Result (Unit {0}) Refused
 answer_if_play None seat at done = Err WrongPhase
 answer_if_play (Some play) seat at done = answer_in_play play seat at done
 
 -- the answer to what a player does
-abbrev pub deed_answer : Bidding → Option Playing → Seat → ℕ → Deed → Result (Unit {0}) Refused
+abbrev pub deed_answer : AuctionValue → Option PlayValue → Seat → ℕ → Deed → Result (Unit {0}) Refused
 deed_answer auction play seat at (deed.Call call) = call_answer auction seat at call
 deed_answer auction play seat at (deed.Card card) = answer_if_play play seat at (deed.Card card)
 deed_answer auction play seat at (deed.Claim tricks) = answer_if_play play seat at (deed.Claim tricks)

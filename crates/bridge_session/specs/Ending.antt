@@ -4,14 +4,14 @@ use Rattle.bridge_cards.specs.declared.suit.Suit.{Suit}
 use Rattle.bridge_cards.specs.declared.seat.Seat.{Seat}
 use Rattle.bridge_cards.specs.declared.seat.Seat.TheVariants.{North, East, South, West}
 use Rattle.bridge_cards.specs.CardSet.{cards_of}
-use Rattle.bridge_play.specs.Play.{Playing}
+use Rattle.bridge_play.specs.Play.{PlayValue}
 use Rattle.bridge_play.specs.Trick.{trump_of, leader_of}
-use Rattle.bridge_endings.specs.Position.{Position}
+use Rattle.bridge_endings.specs.EndingValue.{EndingValue}
 use Rattle.bridge_session.specs.declared.action.PlayId.{PlayId}
 use Rattle.bridge_session.specs.declared.refused.Refused.{Refused}
 use Rattle.bridge_session.specs.declared.refused.Refused.TheVariants.{NoSuchPlay, NotYet, NoContract, NotAnEnding}
 use Rattle.bridge_session.specs.Record.{PlainRecord, play_of}
-use Rattle.bridge_session.specs.State.{State, director_answer, hands_on}
+use Rattle.bridge_session.specs.State.{SessionValue, director_answer, hands_on}
 use Rattle.bridge_session.specs.Step.{record_of}
 use Rattle.bridge_session.specs.See.{cards_left}
 
@@ -22,11 +22,11 @@ pub record PlainEnding : Type 0 where
   pub leader : Seat
 
 -- what is seen of an ending
-abbrev pub plain_ending : Position → PlainEnding
+abbrev pub plain_ending : EndingValue → PlainEnding
 plain_ending ending = record { hands = map cards_of ending.hands; trump = ending.trump; leader = ending.leader }
 
 -- what is left of a play after its first cards, which are whole tricks
-abbrev pub ending_after : Playing → ℕ → PlainEnding
+abbrev pub ending_after : PlayValue → ℕ → PlainEnding
 ending_after play cards = record {
   hands = map (cards_left play.hands (take cards play.cards)) (North ∷ East ∷ South ∷ West ∷ []);
   trump = trump_of play.contract;
@@ -34,16 +34,16 @@ ending_after play cards = record {
 }
 
 -- so many cards leave an ending: they are whole tricks, of which at most six are left, and so many were played
-abbrev pub leave_an_ending : Playing → ℕ → Bool
+abbrev pub leave_an_ending : PlayValue → ℕ → Bool
 leave_an_ending play cards = cards % 4 == 0 && (nat_le 28 cards && nat_le cards (length play.cards))
 
 -- the ending of a play after so many cards
-abbrev pub ending_in : ℕ → Option Playing → Result PlainEnding Refused
+abbrev pub ending_in : ℕ → Option PlayValue → Result PlainEnding Refused
 ending_in cards None = Err NoContract
 ending_in cards (Some play) = if leave_an_ending play cards then Ok (ending_after play cards) else Err NotAnEnding
 
 -- that of the play of a record, if there is such a play
-abbrev pub ending_of_record : State → PlayId → ℕ → Option PlainRecord → Result PlainEnding Refused
+abbrev pub ending_of_record : SessionValue → PlayId → ℕ → Option PlainRecord → Result PlainEnding Refused
 ending_of_record s play cards None = Err NoSuchPlay
 ending_of_record s play cards (Some plain) =
     if nat_lt s.round play.round then Err NotYet else ending_in cards (play_of (hands_on s.deals plain.board) plain)
@@ -53,6 +53,6 @@ if_director (Err refused) answer = Err refused
 if_director (Ok allowed) answer = answer
 
 -- the ending of a play after so many cards, to the director
-abbrev pub ending_answer : State → ℕ → PlayId → ℕ → Result PlainEnding Refused
+abbrev pub ending_answer : SessionValue → ℕ → PlayId → ℕ → Result PlainEnding Refused
 ending_answer s key play cards =
     if_director (director_answer s.configuration key) (ending_of_record s play cards (record_of s play))

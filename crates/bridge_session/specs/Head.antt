@@ -3,29 +3,29 @@ use Rattle.std.specs.Prelude.{◌≡◌, ◌≢◌, ◌++◌, ◌<◌, ◌≤◌
 use Rattle.bridge_movement.specs.declared.shape.Shape.{Shape}
 use Rattle.bridge_movement.specs.Shape.{row_count}
 use Rattle.bridge_movement.specs.Fair.{IsMovement}
-use Rattle.bridge_config.specs.Configuration.{Configuration}
+use Rattle.bridge_config.specs.ConfigValue.{ConfigValue}
 use Rattle.bridge_config.specs.Limits.{is_name, is_date_form, IsConfiguration}
 use Rattle.bridge_session.specs.declared.head.Heading.{Heading}
 use Rattle.bridge_session.specs.Parts.{configuration_part, movement_part, pair_part}
 use Rattle.bridge_session.specs.PartsRead.{text_in, after_text, scoring_at, numbers_in, shape_in, rows_in, key_in, second_player, configuration_in}
 
 -- the parts before those of the boards: of the configuration and the round, the movement, and the pairs
-abbrev pub head_parts : Configuration → ℕ → List (List ℕ)
+abbrev pub head_parts : ConfigValue → ℕ → List (List ℕ)
 head_parts configuration round =
     configuration_part configuration round ∷ movement_part configuration.movement.rows ∷ map pair_part configuration.pairs
 
 -- the round is one of the configuration, or the one after the last
-abbrev pub IsRound : Configuration → ℕ → Type 0
+abbrev pub IsRound : ConfigValue → ℕ → Type 0
 IsRound configuration round = (1 ≤ round) × (round ≤ configuration.movement.shape.rounds + 1)
 
 -- as many parts as a session of the configuration has for its boards, and for its plays
-abbrev pub board_part_count : Configuration → ℕ
+abbrev pub board_part_count : ConfigValue → ℕ
 board_part_count configuration =
     configuration.movement.shape.sets * configuration.boards + length configuration.movement.rows * configuration.boards
 
 -- The parts begin with those of a configuration and a round of it, and are as many as its sessions have.
 pub record HasHead (parts : List (List ℕ)) : Type 0 where
-  pub configuration : Configuration
+  pub configuration : ConfigValue
   pub round : ℕ
   pub limits : IsConfiguration configuration
   pub within : IsRound configuration round
@@ -72,12 +72,12 @@ pub record AreHeadParts (first second : List ℕ) (rest : List (List ℕ)) : Typ
   pub configured : IsConfiguration (configuration_in first second rest)
 
 -- the first part and the second are those of the configuration and the round
-pub record HasHeading (configuration : Configuration) (round : ℕ) (one other : List ℕ) : Type 0 where
+pub record HasHeading (configuration : ConfigValue) (round : ℕ) (one other : List ℕ) : Type 0 where
   pub first : configuration_part configuration round ≡ one
   pub second : movement_part configuration.movement.rows ≡ other
 
 -- the parts begin with those of the configuration and the round, which is one of it
-pub record IsHead (configuration : Configuration) (now : ℕ) (first second : List ℕ) (rest : List (List ℕ)) : Type 0 where
+pub record IsHead (configuration : ConfigValue) (now : ℕ) (first second : List ℕ) (rest : List (List ℕ)) : Type 0 where
   pub round : IsRound configuration now
   pub heading : HasHeading configuration now first second
   pub pairs : map pair_part configuration.pairs ≡ take (length configuration.pairs) rest
@@ -85,6 +85,6 @@ pub record IsHead (configuration : Configuration) (now : ℕ) (first second : Li
 -- the parts begin with those of no configuration and round of it
 abbrev pub NoHead : List ℕ → List ℕ → List (List ℕ) → Type 0
 NoHead first second rest =
-    (configuration : Configuration) (round : ℕ) (boards : List (List ℕ)) → IsConfiguration configuration → IsRound configuration round →
+    (configuration : ConfigValue) (round : ℕ) (boards : List (List ℕ)) → IsConfiguration configuration → IsRound configuration round →
     configuration_part configuration round ≡ first → movement_part configuration.movement.rows ≡ second →
     map pair_part configuration.pairs ++ boards ≢ rest

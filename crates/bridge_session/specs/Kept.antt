@@ -7,7 +7,7 @@ use Rattle.bridge_cards.specs.Board.{IsBoard, dealer_of}
 use Rattle.bridge_auction.specs.declared.contract.Contract.{Contract}
 use Rattle.bridge_auction.specs.Auction.{with_call}
 use Rattle.bridge_auction.specs.Contract.{contract_of}
-use Rattle.bridge_play.specs.Play.{Playing, with_card, with_claim, with_agreement, without_claim}
+use Rattle.bridge_play.specs.Play.{PlayValue, with_card, with_claim, with_agreement, without_claim}
 use Rattle.bridge_session.specs.declared.record.Record.{Record}
 use Rattle.bridge_session.specs.declared.deed.Deed.{Deed}
 use Rattle.bridge_session.specs.declared.deed.Deed.TheVariants as deed
@@ -17,8 +17,8 @@ use Rattle.bridge_session.specs.declared.refused.Refused.TheVariants.{NoSuchPlay
 use Rattle.bridge_session.specs.Correction.{ruling_by, ruling_answer}
 use Rattle.bridge_movement.specs.declared.row.Row.{Row}
 use Rattle.bridge_movement.specs.Shape.{row_count}
-use Rattle.bridge_config.specs.Configuration.{Configuration}
-use Rattle.bridge_session.specs.State.{State, deal_on, hands_on, row_boards}
+use Rattle.bridge_config.specs.ConfigValue.{ConfigValue}
+use Rattle.bridge_session.specs.State.{SessionValue, deal_on, hands_on, row_boards}
 use Rattle.bridge_session.specs.StateRange.{IsSession}
 use Rattle.bridge_session.specs.declared.game.Game.{Game}
 use Rattle.bridge_session.specs.Record.{PlainRecord, play_of, is_done, is_void}
@@ -27,7 +27,7 @@ use Rattle.bridge_session.specs.Ranking.{game_by}
 use Rattle.bridge_score.specs.ScoringTable.{IsScore}
 
 -- the play that is begun with those hands in that contract
-abbrev pub begun_with : List ℕ → Contract → Playing
+abbrev pub begun_with : List ℕ → Contract → PlayValue
 begun_with hands contract = record { hands = hands; contract = contract; cards = []; claims = 0; claim = None }
 
 -- what contracts see of a record
@@ -35,9 +35,9 @@ abbrev pub plain_of : Record → PlainRecord
 plain_of kept = record {
   board = kept.board;
   calls = kept.auction.calls;
-  cards = option_map_or (λ (play : Playing). play.cards) kept.play [];
-  claims = option_map_or (λ (play : Playing). play.claims) kept.play 0;
-  claim = option_map_or (λ (play : Playing). play.claim) kept.play None;
+  cards = option_map_or (λ (play : PlayValue). play.cards) kept.play [];
+  claims = option_map_or (λ (play : PlayValue). play.claims) kept.play 0;
+  claim = option_map_or (λ (play : PlayValue). play.claim) kept.play None;
   ruling = kept.ruling;
 }
 
@@ -56,9 +56,9 @@ after_deed hands seat (deed.Call call) kept = record kept {
   auction = with_call kept.auction call;
   play = option_map (begun_with hands) (contract_of kept.auction.dealer (kept.auction.calls ++ call ∷ []));
 }
-after_deed hands seat (deed.Card card) kept = record kept { play = option_map (λ (play : Playing). with_card play card) kept.play }
-after_deed hands seat (deed.Claim tricks) kept = record kept { play = option_map (λ (play : Playing). with_claim play seat tricks) kept.play }
-after_deed hands seat deed.Agree kept = record kept { play = option_map (λ (play : Playing). with_agreement play seat) kept.play }
+after_deed hands seat (deed.Card card) kept = record kept { play = option_map (λ (play : PlayValue). with_card play card) kept.play }
+after_deed hands seat (deed.Claim tricks) kept = record kept { play = option_map (λ (play : PlayValue). with_claim play seat tricks) kept.play }
+after_deed hands seat deed.Agree kept = record kept { play = option_map (λ (play : PlayValue). with_agreement play seat) kept.play }
 after_deed hands seat deed.Refuse kept = record kept { play = option_map without_claim kept.play }
 
 -- the answer to a ruling on the play
@@ -74,7 +74,7 @@ abbrev pub board_kept : Record → ℕ
 board_kept kept = kept.board
 
 -- what contracts see of a session
-abbrev pub state_of : Configuration → ℕ → List (Option (List ℕ)) → List (List Record) → State
+abbrev pub state_of : ConfigValue → ℕ → List (Option (List ℕ)) → List (List Record) → SessionValue
 state_of configuration round deals tables = record {
   configuration = configuration;
   round = round;
@@ -83,12 +83,12 @@ state_of configuration round deals tables = record {
 }
 
 -- what the fields of a session state is a session
-unfoldable pub StateASession : Configuration → ℕ → List (Option (List ℕ)) → List (List Record) → Type 0
+unfoldable pub StateASession : ConfigValue → ℕ → List (Option (List ℕ)) → List (List Record) → Type 0
 StateASession configuration round deals tables = IsSession (state_of configuration round deals tables)
 
 -- The fields of a session: they state one, there are as many as the configuration says, and the records are tied to
 -- the deals and of the boards of their rows.
-pub record IsKept (configuration : Configuration) (round : ℕ) (deals : List (Option (List ℕ))) (tables : List (List Record)) : Type 0 where
+pub record IsKept (configuration : ConfigValue) (round : ℕ) (deals : List (Option (List ℕ))) (tables : List (List Record)) : Type 0 where
   pub session : StateASession configuration round deals tables
   pub begun : 1 ≤ round
   pub boards : length deals ≡ configuration.movement.shape.sets * configuration.boards

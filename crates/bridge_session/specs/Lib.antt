@@ -1,3 +1,4 @@
+-- The definitions. `Laws` and `Decided` and its kin hold proofs that an `impl` states: no reader need trust them.
 pub mod Numbers
 pub mod Record
 pub mod Outcome

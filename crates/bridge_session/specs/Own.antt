@@ -6,7 +6,7 @@ use Rattle.bridge_cards.specs.declared.seat.Seat.{Seat}
 use Rattle.bridge_cards.specs.declared.seat.Seat.TheVariants.{North, East, South, West}
 use Rattle.bridge_cards.specs.Seat.{same_seat}
 use Rattle.bridge_auction.specs.declared.call.Call.{Call as CallType}
-use Rattle.bridge_config.specs.Configuration.{Configuration}
+use Rattle.bridge_config.specs.ConfigValue.{ConfigValue}
 use Rattle.bridge_play.specs.declared.claim.Claim.{Claim as ClaimType}
 use Rattle.bridge_session.specs.declared.action.Action.{Action}
 use Rattle.bridge_session.specs.declared.action.Action.TheVariants.{Deal, Call, Card, Claim, Agree, Refuse, NextRound, Tricks, Void, Restore}
@@ -19,19 +19,19 @@ use Rattle.bridge_session.specs.declared.refused.Refused.{Refused}
 use Rattle.bridge_session.specs.declared.seating.Seating.{Seating}
 use Rattle.bridge_session.specs.Correction.{ruling_by}
 use Rattle.bridge_session.specs.Record.{PlainRecord}
-use Rattle.bridge_session.specs.State.{State, row_place, seating_of}
+use Rattle.bridge_session.specs.State.{SessionValue, row_place, seating_of}
 use Rattle.bridge_session.specs.Step.{step_answer, changed}
 use Rattle.bridge_session.specs.Valid.{IsAction}
 
 -- A list of accepted actions
 
 -- the session after the actions
-abbrev pub after : State → List Action → State
+abbrev pub after : SessionValue → List Action → SessionValue
 after s [] = s
 after s (action ∷ actions) = after (changed s action) actions
 
 -- each action is accepted in its turn
-abbrev pub AreAccepted : State → List Action → Type 0
+abbrev pub AreAccepted : SessionValue → List Action → Type 0
 AreAccepted s [] = Unit {0}
 AreAccepted s (action ∷ actions) = IsAction action × (step_answer s action ≡ Ok tt) × AreAccepted (changed s action) actions
 
@@ -43,7 +43,7 @@ pub data Done : Type 0 where
   ByDirector : (made : Correction) → Done
 
 -- by a player who sits at the table of the play in its round, and names its board
-abbrev pub done_by : Configuration → PlayId → ℕ → ℕ → Deed → Result Seating Refused → Option Done
+abbrev pub done_by : ConfigValue → PlayId → ℕ → ℕ → Deed → Result Seating Refused → Option Done
 done_by configuration play board named done (Err refused) = None
 done_by configuration play board named done (Ok seating) =
     if (seating.place == row_place configuration.movement.shape play.round play.table) && (named == board) then Some (ByPlayer seating.seat done) else None
@@ -55,7 +55,7 @@ abbrev pub ruled_in : PlayId → PlayId → Correction → Option Done
 ruled_in play named made = if same_play named play then Some (ByDirector made) else None
 
 -- what an action in that round does in the play of the board, if it concerns it
-abbrev pub done_in : Configuration → PlayId → ℕ → ℕ → Action → Option Done
+abbrev pub done_in : ConfigValue → PlayId → ℕ → ℕ → Action → Option Done
 done_in configuration play board round (Deal key of_board hands) = None
 done_in configuration play board round (Call key named at call) = done_by configuration play board named (deed.Call call) (seating_of configuration round key.0)
 done_in configuration play board round (Card key named at card) = done_by configuration play board named (deed.Card card) (seating_of configuration round key.0)
@@ -81,7 +81,7 @@ round_after round (Void key play) = round
 round_after round (Restore key play) = round
 
 -- what the play's own actions do in it, the first of them in that round
-abbrev pub own : Configuration → PlayId → ℕ → ℕ → List Action → List Done
+abbrev pub own : ConfigValue → PlayId → ℕ → ℕ → List Action → List Done
 own configuration play board round [] = []
 own configuration play board round (action ∷ actions) =
     cons_option (done_in configuration play board round action) (own configuration play board (round_after round action) actions)

@@ -12,11 +12,11 @@ use Rattle.bridge_play.specs.declared.claim.Claim.{Claim}
 use Rattle.bridge_play.specs.Claims.{has_agreed, all_agreed}
 use Rattle.bridge_score.specs.declared.ranking.Scoring.{Scoring}
 use Rattle.bridge_score.specs.declared.ranking.Scoring.TheVariants.{MatchPoints, Imps}
-use Rattle.bridge_config.specs.Configuration.{Configuration, Pair}
+use Rattle.bridge_config.specs.ConfigValue.{ConfigValue, Pair}
 use Rattle.bridge_session.specs.declared.ruling.Ruling.{Ruling}
 use Rattle.bridge_session.specs.declared.ruling.Ruling.TheVariants as ruling
 use Rattle.bridge_session.specs.Record.{PlainRecord, empty_record, contract_in}
-use Rattle.bridge_session.specs.State.{State}
+use Rattle.bridge_session.specs.State.{SessionValue}
 
 -- numbers of two, four and eight bytes
 abbrev pub two_bytes : ℕ → List ℕ
@@ -41,7 +41,7 @@ abbrev pub size_bytes : ℕ → Shape → List ℕ
 size_bytes boards shape = boards ∷ shape.tables ∷ shape.rounds ∷ shape.sets ∷ shape.pairs ∷ shape.split ∷ []
 
 -- the configuration but for its movement's rows and its pairs, and the current round
-abbrev pub configuration_part : Configuration → ℕ → List ℕ
+abbrev pub configuration_part : ConfigValue → ℕ → List ℕ
 configuration_part configuration round =
     text_bytes configuration.event ++ text_bytes configuration.site ++ configuration.date
     ++ scoring_number configuration.scoring ∷ []
@@ -109,17 +109,17 @@ abbrev pub row_parts : ℕ → List PlainRecord → List (List ℕ)
 row_parts boards records = map (λ index. record_part (record_or_empty records index)) (range_with_len 0 boards)
 
 -- the plays, by round, then by table, then by the board's place in its set
-abbrev pub play_parts : State → List (List ℕ)
+abbrev pub play_parts : SessionValue → List (List ℕ)
 play_parts s = flat_map (row_parts s.configuration.boards) s.records
 
 -- the boards, and then the plays
-abbrev pub board_parts : State → List (List ℕ)
+abbrev pub board_parts : SessionValue → List (List ℕ)
 board_parts s = map deal_part s.deals ++ play_parts s
 
 -- the pairs, and then the rest
-abbrev pub pair_parts : State → List (List ℕ)
+abbrev pub pair_parts : SessionValue → List (List ℕ)
 pair_parts s = map pair_part s.configuration.pairs ++ board_parts s
 
 -- The parts of a session: the configuration and the round, the movement, the pairs, the boards, the plays.
-abbrev pub parts_of : State → List (List ℕ)
+abbrev pub parts_of : SessionValue → List (List ℕ)
 parts_of s = configuration_part s.configuration s.round ∷ movement_part s.configuration.movement.rows ∷ pair_parts s

@@ -12,11 +12,11 @@ use Rattle.bridge_movement.specs.Shape.{row_count}
 use Rattle.bridge_play.specs.declared.claim.Claim.{Claim}
 use Rattle.bridge_score.specs.declared.ranking.Scoring.{Scoring}
 use Rattle.bridge_score.specs.declared.ranking.Scoring.TheVariants.{MatchPoints, Imps}
-use Rattle.bridge_config.specs.Configuration.{Configuration, Pair}
+use Rattle.bridge_config.specs.ConfigValue.{ConfigValue, Pair}
 use Rattle.bridge_session.specs.declared.ruling.Ruling.{Ruling}
 use Rattle.bridge_session.specs.declared.ruling.Ruling.TheVariants as ruling
 use Rattle.bridge_session.specs.Record.{PlainRecord}
-use Rattle.bridge_session.specs.State.{State, row_boards}
+use Rattle.bridge_session.specs.State.{SessionValue, row_boards}
 
 -- the text that bytes begin with, after its length
 abbrev pub text_in : List ℕ → List ℕ
@@ -78,7 +78,7 @@ pair_in part = record {
 }
 
 -- the configuration of the first part, the second, and the parts that begin with those of the pairs
-abbrev pub configuration_in : List ℕ → List ℕ → List (List ℕ) → Configuration
+abbrev pub configuration_in : List ℕ → List ℕ → List (List ℕ) → ConfigValue
 configuration_in heading movement rest = record {
   event = text_in heading;
   site = text_in (after_text heading);
@@ -167,7 +167,7 @@ tables_in boards (row ∷ rows) parts = records_in (row_boards boards row) parts
 -- The session
 
 -- the session of a configuration and a round, by the parts of the boards and then those of the plays
-abbrev pub state_with : Configuration → ℕ → List (List ℕ) → State
+abbrev pub state_with : ConfigValue → ℕ → List (List ℕ) → SessionValue
 state_with configuration round rest =
     let boards = configuration.movement.shape.sets * configuration.boards in
     record {
@@ -178,10 +178,10 @@ state_with configuration round rest =
     }
 
 -- the session of the first part, the second, and the rest
-abbrev pub state_in : List ℕ → List ℕ → List (List ℕ) → State
+abbrev pub state_in : List ℕ → List ℕ → List (List ℕ) → SessionValue
 state_in heading movement rest =
     state_with (configuration_in heading movement rest) (slice_index (numbers_in heading) 11) (drop (slice_index (numbers_in heading) 5) rest)
 
 -- the session that parts name
-abbrev pub state_read : List (List ℕ) → State
+abbrev pub state_read : List (List ℕ) → SessionValue
 state_read parts = state_in (slice_index_or parts 0 []) (slice_index_or parts 1 []) (drop 2 parts)

@@ -11,7 +11,7 @@ use Rattle.bridge_cards.specs.Vulnerability.{includes_side}
 use Rattle.bridge_auction.specs.declared.contract.Contract.{Contract}
 use Rattle.bridge_movement.specs.declared.row.Row.{Row}
 use Rattle.bridge_movement.specs.declared.shape.Shape.{Shape}
-use Rattle.bridge_config.specs.Configuration.{Configuration}
+use Rattle.bridge_config.specs.ConfigValue.{ConfigValue}
 use Rattle.bridge_score.specs.declared.ranking.Scoring.{Scoring}
 use Rattle.bridge_score.specs.declared.ranking.Scoring.TheVariants.{MatchPoints, Imps}
 use Rattle.bridge_score.specs.declared.ranking.Line.{Line}
@@ -28,7 +28,7 @@ use Rattle.bridge_session.specs.declared.refused.Refused.{Refused}
 use Rattle.bridge_session.specs.declared.refused.Refused.TheVariants.{NoKey, NotAllowed, NoSuchPlay}
 use Rattle.bridge_session.specs.Record.{PlainRecord}
 use Rattle.bridge_session.specs.Outcome.{outcome_of}
-use Rattle.bridge_session.specs.State.{State, player_of, is_closed}
+use Rattle.bridge_session.specs.State.{SessionValue, player_of, is_closed}
 use Rattle.bridge_session.specs.Step.{if_allowed}
 
 -- The plays that count
@@ -63,7 +63,7 @@ abbrev pub games_in : Row × List PlainRecord → List Game
 games_in both = filter_map (game_in both.0) both.1
 
 -- the plays of a session that count, of all rounds, tables and fields
-abbrev pub games_of : State → List Game
+abbrev pub games_of : SessionValue → List Game
 games_of s = flat_map games_in (zip s.configuration.movement.rows s.records)
 
 -- What a pair gains
@@ -121,18 +121,18 @@ pairs_of_field shape First = range_with_len 1 shape.split
 pairs_of_field shape Second = range_with_len (shape.split + 1) (shape.pairs - shape.split)
 
 -- whether the key's holder may see rankings: the director may, and a player once the session is closed
-abbrev pub ranking_asker : Configuration → ℕ → ℕ → Result (Unit {0}) Refused
+abbrev pub ranking_asker : ConfigValue → ℕ → ℕ → Result (Unit {0}) Refused
 ranking_asker configuration round key =
     if key == configuration.director then Ok tt
     else if is_some (player_of configuration key) then (if is_closed configuration round then Ok tt else Err NotAllowed)
     else Err NoKey
 
 -- the answer to who asks for the ranking of a field
-abbrev pub ranking_answer : State → ℕ → Field → Result (Unit {0}) Refused
+abbrev pub ranking_answer : SessionValue → ℕ → Field → Result (Unit {0}) Refused
 ranking_answer s key field =
     if_allowed (ranking_asker s.configuration s.round key) (if has_field s.configuration.movement.shape field then Ok tt else Err NoSuchPlay)
 
-abbrev pub lines_of : State → Field → List Line
+abbrev pub lines_of : SessionValue → Field → List Line
 lines_of s field =
     map (line_of s.configuration.scoring (games_of s)) (pairs_of_field s.configuration.movement.shape field)
 
@@ -142,6 +142,6 @@ pub record IsRankingOf (scoring : Scoring) (lines : List Line) (ranking : List R
   pub order : AllPairs StandsBefore ranking
 
 -- the ranking of the field, to one who may see it
-pub record IsRankingTo (s : State) (key : ℕ) (field : Field) (ranking : List Ranked) : Type 0 where
+pub record IsRankingTo (s : SessionValue) (key : ℕ) (field : Field) (ranking : List Ranked) : Type 0 where
   pub allowed : ranking_answer s key field ≡ Ok tt
   pub ranked : IsRankingOf s.configuration.scoring (lines_of s field) ranking

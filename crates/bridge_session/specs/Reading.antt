@@ -12,7 +12,7 @@ use Rattle.bridge_auction.specs.declared.call.Call.{Call}
 use Rattle.bridge_auction.specs.Call.{call_number}
 use Rattle.bridge_movement.specs.declared.row.Row.{Row}
 use Rattle.bridge_play.specs.declared.claim.Claim.{Claim}
-use Rattle.bridge_play.specs.Play.{Playing, IsPlay, is_over}
+use Rattle.bridge_play.specs.Play.{PlayValue, IsPlay, is_over}
 use Rattle.bridge_session.specs.declared.record.Record.{Record}
 use Rattle.bridge_session.specs.declared.record_fields.RecordFields.{RecordFields}
 use Rattle.bridge_session.specs.declared.ruling.Ruling.{Ruling}
@@ -176,7 +176,7 @@ pub record IsPlayed (hands : List ℕ) (plain : PlainRecord) : Type 0 where
   pub play : IfSome (play_of hands plain) IsPlay
 
 -- a ruling of tricks stands only where the play is over
-abbrev pub may_stand : Option Playing → Option Ruling → Bool
+abbrev pub may_stand : Option PlayValue → Option Ruling → Bool
 may_stand play None = true
 may_stand play (Some (ruling.Tricks tricks)) = option_map_or is_over play false
 may_stand play (Some ruling.Void) = true

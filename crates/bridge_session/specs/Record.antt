@@ -4,11 +4,11 @@ use Rattle.std.specs.Option.{option_map, option_map_or}
 use Rattle.bridge_cards.specs.Board.{dealer_of}
 use Rattle.bridge_auction.specs.declared.call.Call.{Call}
 use Rattle.bridge_auction.specs.declared.contract.Contract.{Contract}
-use Rattle.bridge_auction.specs.Auction.{Bidding}
+use Rattle.bridge_auction.specs.Auction.{AuctionValue}
 use Rattle.bridge_auction.specs.Contract.{contract_of}
 use Rattle.bridge_auction.specs.Legal.{is_ended}
 use Rattle.bridge_play.specs.declared.claim.Claim.{Claim}
-use Rattle.bridge_play.specs.Play.{Playing, is_over}
+use Rattle.bridge_play.specs.Play.{PlayValue, is_over}
 use Rattle.bridge_session.specs.declared.ruling.Ruling.{Ruling}
 use Rattle.bridge_session.specs.declared.ruling.Ruling.TheVariants as ruling
 
@@ -26,7 +26,7 @@ pub record PlainRecord : Type 0 where
 abbrev pub empty_record : ℕ → PlainRecord
 empty_record board = record { board = board; calls = []; cards = []; claims = 0; claim = None; ruling = None }
 
-abbrev pub bidding_of : PlainRecord → Bidding
+abbrev pub bidding_of : PlainRecord → AuctionValue
 bidding_of plain = record { dealer = dealer_of plain.board; calls = plain.calls }
 
 -- the contract of the calls
@@ -34,7 +34,7 @@ abbrev pub contract_in : PlainRecord → Option Contract
 contract_in plain = contract_of (dealer_of plain.board) plain.calls
 
 -- the cards and claims of a record, of those hands in that contract
-abbrev pub playing_in : List ℕ → PlainRecord → Contract → Playing
+abbrev pub playing_in : List ℕ → PlainRecord → Contract → PlayValue
 playing_in hands plain contract = record {
   hands = hands;
   contract = contract;
@@ -44,11 +44,11 @@ playing_in hands plain contract = record {
 }
 
 -- the play of those hands, once there is a contract
-abbrev pub play_of : List ℕ → PlainRecord → Option Playing
+abbrev pub play_of : List ℕ → PlainRecord → Option PlayValue
 play_of hands plain = option_map (playing_in hands plain) (contract_in plain)
 
 -- a play is finished when it is over, or passed out where the auction ended without a contract
-abbrev pub is_done : List Call → Option Playing → Bool
+abbrev pub is_done : List Call → Option PlayValue → Bool
 is_done calls play = option_map_or is_over play (is_ended calls)
 
 -- whether the record is of a finished play; the hands do not matter to it

@@ -7,7 +7,7 @@ use Rattle.bridge_auction.specs.Call.{IsCall}
 use Rattle.bridge_auction.specs.Legal.{is_ended, is_admissible, MayFollow, IsLegal}
 use Rattle.bridge_play.specs.Legal.{holds, follows, MayPlay}
 use Rattle.bridge_play.specs.Legal as cards
-use Rattle.bridge_play.specs.Play.{Playing, is_claim_in, IsClaimIn, IsPlay}
+use Rattle.bridge_play.specs.Play.{PlayValue, is_claim_in, IsClaimIn, IsPlay}
 use Rattle.bridge_play.specs.Trick.{turn_of}
 use Rattle.bridge_play.proofs.RegularClaim.{regular_claim, claim_regular}
 use Rattle.bridge_session.specs.declared.refused.Refused.{Refused}
@@ -51,7 +51,7 @@ decided_cards hands contract played =
     decided_places (λ index card. MayPlay hands contract (take index played) card) (λ index card. decided_card hands contract (take index played) card) played
 
 -- whether cards and claims are a play
-decided_play : (play : Playing) → Decided (IsPlay play)
+decided_play : (play : PlayValue) → Decided (IsPlay play)
 decided_play play =
     decided_like
     (decided_both (decided_cards play.hands play.contract play.cards) (decided_both (decided_most play.claims 99)
@@ -65,7 +65,7 @@ decided_accepted (Ok done) = inl refl
 decided_accepted (Err refused) = inr (λ same. cc)
 
 -- whether a ruling may stand
-decided_ruling : (play : Option Playing) (made : Ruling) → Decided (MayStand play made)
+decided_ruling : (play : Option PlayValue) (made : Ruling) → Decided (MayStand play made)
 decided_ruling play (ruling.Tricks tricks) = decided_accepted (tricks_answer play)
 decided_ruling play ruling.Void = inl tt
 

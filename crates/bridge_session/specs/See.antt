@@ -11,13 +11,13 @@ use Rattle.bridge_auction.specs.declared.contract.Contract.{Contract}
 use Rattle.bridge_play.specs.declared.claim.Claim.{Claim}
 use Rattle.bridge_play.specs.Dummy.{dummy_of}
 use Rattle.bridge_play.specs.Legal.{holds}
-use Rattle.bridge_play.specs.Play.{Playing}
+use Rattle.bridge_play.specs.Play.{PlayValue}
 use Rattle.bridge_play.specs.Trick.{leader_of, trick_at, tricks_won}
 use Rattle.bridge_session.specs.declared.refused.Refused.{Refused}
 use Rattle.bridge_session.specs.declared.refused.Refused.TheVariants.{NotCurrent, NotDealt}
 use Rattle.bridge_session.specs.declared.seating.Seating.{Seating}
 use Rattle.bridge_session.specs.Record.{PlainRecord, play_of}
-use Rattle.bridge_session.specs.State.{State, deal_on, row_at, current_place, seating_of}
+use Rattle.bridge_session.specs.State.{SessionValue, deal_on, row_at, current_place, seating_of}
 
 -- the seat that led to a trick, and its cards in order
 pub record PlainTrick : Type 0 where
@@ -57,10 +57,10 @@ plain_trick contract cards trick = record { leader = leader_of contract cards tr
 abbrev pub last_trick : Contract → List ℕ → Option PlainTrick
 last_trick contract cards = if length cards / 4 == 0 then None else Some (plain_trick contract cards (length cards / 4 - 1))
 
-abbrev pub shown_dummy : Playing → Option (List ℕ)
+abbrev pub shown_dummy : PlayValue → Option (List ℕ)
 shown_dummy play = if length play.cards == 0 then None else Some (cards_left play.hands play.cards (dummy_of play.contract))
 
-abbrev pub shown_play : Playing → ShownPlay
+abbrev pub shown_play : PlayValue → ShownPlay
 shown_play play = record {
   trick = plain_trick play.contract play.cards (length play.cards / 4);
   last = last_trick play.contract play.cards;
@@ -70,15 +70,15 @@ shown_play play = record {
 }
 
 -- what a player in that seat may be shown of the play of the board, the index-th of the table's
-abbrev pub shown_with : ℕ → Seat → List ℕ → ℕ → List Call → Option Playing → Shown
+abbrev pub shown_with : ℕ → Seat → List ℕ → ℕ → List Call → Option PlayValue → Shown
 shown_with index seat hands board calls play = record {
   index = index;
   board = board;
   calls = calls;
-  cards_made = length (option_map_or (λ (p : Playing). p.cards) play []);
-  claims_made = option_map_or (λ (p : Playing). p.claims) play 0;
-  claim = option_map_or (λ (p : Playing). p.claim) play None;
-  hand = cards_left hands (option_map_or (λ (p : Playing). p.cards) play []) seat;
+  cards_made = length (option_map_or (λ (p : PlayValue). p.cards) play []);
+  claims_made = option_map_or (λ (p : PlayValue). p.claims) play 0;
+  claim = option_map_or (λ (p : PlayValue). p.claim) play None;
+  hand = cards_left hands (option_map_or (λ (p : PlayValue). p.cards) play []) seat;
   play = option_map shown_play play;
 }
 
@@ -105,10 +105,10 @@ shown_current deals seat place (Some plain) = shown_dealt seat place plain (deal
 abbrev pub shown_among : List (Option (List ℕ)) → Seat → List PlainRecord → Result Shown Refused
 shown_among deals seat records = shown_current deals seat (current_place records) (slice_get records (current_place records))
 
-abbrev pub shown_seated : State → Result Seating Refused → Result Shown Refused
+abbrev pub shown_seated : SessionValue → Result Seating Refused → Result Shown Refused
 shown_seated s (Err refused) = Err refused
 shown_seated s (Ok seating) = shown_among s.deals seating.seat (row_at s.records seating.place)
 
 -- all that the player of the key may be shown of the session, or why not
-abbrev pub shown_to : State → ℕ → Result Shown Refused
+abbrev pub shown_to : SessionValue → ℕ → Result Shown Refused
 shown_to s key = shown_seated s (seating_of s.configuration s.round key)

@@ -3,13 +3,13 @@ use Rattle.std.proofs.Common.{◌≡◌, ◌+◌, ◌*◌, ◌^◌, ℕ, List, m
 use Rattle.std.specs.List.{list_all}
 use Rattle.bridge_cards.specs.CardSet.{IsCardSet}
 use Rattle.bridge_cards.specs.Deal.{is_dealt_out}
-use Rattle.bridge_config.specs.Configuration.{Configuration, Pair, keys_of}
+use Rattle.bridge_config.specs.ConfigValue.{ConfigValue, Pair, keys_of}
 use Rattle.bridge_config.specs.Limits.{is_name, is_date_form, is_date_within, is_between, are_distinct, IsKeyNumber, AreKeys, IsPair, IsConfiguration}
 use Rattle.bridge_movement.specs.declared.row.Row.{Row}
 use Rattle.bridge_session.specs.declared.ruling.Ruling.{Ruling}
 use Rattle.bridge_session.specs.declared.ruling.Ruling.TheVariants as ruling
 use Rattle.bridge_session.specs.Record.{PlainRecord}
-use Rattle.bridge_session.specs.State.{State, row_at, row_boards}
+use Rattle.bridge_session.specs.State.{SessionValue, row_at, row_boards}
 use Rattle.bridge_session.specs.Valid.{IsDealtOut, IsDealOrNone, board_of, IsValidRecord, IsValid}
 use Rattle.bridge_session.specs.StateRange.{AreHands, AreHandsOrNone, IsOfFourSeats, IsRulingInRange, IsRecordInRange, IsStateInRange, IsSession}
 use Rattle.bridge_session.specs.Decided.{Decided, decided_like, decided_both, decided_equal, decided_less, decided_most, decided_true, decided_lists, decided_found, decided_all, decided_places}
@@ -31,7 +31,7 @@ decided_keys keys =
     (λ both. record { numbers = both.0; distinct = both.1 }) (λ are. (are.numbers, are.distinct))
 
 -- whether a configuration is within its limits
-decided_configuration : (configuration : Configuration) → Decided (IsConfiguration configuration)
+decided_configuration : (configuration : ConfigValue) → Decided (IsConfiguration configuration)
 decided_configuration configuration =
     decided_like
     (decided_both (decided_true (is_name configuration.event))
@@ -62,18 +62,18 @@ decided_configuration configuration =
     ))
 
 -- the records of the row at a place are valid
-abbrev AreValid : State → ℕ → Row → Type 0
+abbrev AreValid : SessionValue → ℕ → Row → Type 0
 AreValid s place row =
     (index : ℕ) (plain : PlainRecord) → slice_get (row_at s.records place) index ≡ Some plain → IsValidRecord s.deals s.round row.round plain
 
 -- whether they are
-decided_plays : (s : State) (place : ℕ) (row : Row) → Decided (AreValid s place row)
+decided_plays : (s : SessionValue) (place : ℕ) (row : Row) → Decided (AreValid s place row)
 decided_plays s place row =
     decided_places (λ index plain. IsValidRecord s.deals s.round row.round plain)
     (λ index plain. decided_record s.deals s.round row.round plain) (row_at s.records place)
 
 -- whether a state is valid
-decided_valid : (s : State) → Decided (IsValid s)
+decided_valid : (s : SessionValue) → Decided (IsValid s)
 decided_valid s =
     decided_like
     (decided_both (decided_configuration s.configuration)
@@ -118,7 +118,7 @@ decided_record_range plain =
     (λ both. record { claim = both.0; ruling = both.1 }) (λ is. (is.claim, is.ruling))
 
 -- whether a state is within its ranges
-decided_ranges : (s : State) → Decided (IsStateInRange s)
+decided_ranges : (s : SessionValue) → Decided (IsStateInRange s)
 decided_ranges s =
     decided_like
     (decided_both (decided_all AreHandsOrNone (decided_found AreHands decided_hands) s.deals)
@@ -126,7 +126,7 @@ decided_ranges s =
     (λ both. record { deals = both.0; records = both.1 }) (λ is. (is.deals, is.records))
 
 -- whether a state is that of a session
-pub decided_session : (s : State) → Decided (IsSession s)
+pub decided_session : (s : SessionValue) → Decided (IsSession s)
 decided_session s =
     decided_like (decided_both (decided_valid s) (decided_ranges s)) (λ both. record { valid = both.0; ranges = both.1 })
     (λ is. (is.valid, is.ranges))

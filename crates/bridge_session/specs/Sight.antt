@@ -4,16 +4,16 @@ use Rattle.std.specs.Option.{option_map_or}
 use Rattle.bridge_cards.specs.declared.seat.Seat.{Seat}
 use Rattle.bridge_cards.specs.declared.seat.Side.{Side}
 use Rattle.bridge_play.specs.Dummy.{dummy_of}
-use Rattle.bridge_play.specs.Play.{Playing}
+use Rattle.bridge_play.specs.Play.{PlayValue}
 use Rattle.bridge_play.specs.Trick.{tricks_won}
 use Rattle.bridge_session.specs.declared.seating.Seating.{Seating}
 use Rattle.bridge_session.specs.Record.{PlainRecord, play_of}
-use Rattle.bridge_session.specs.State.{State, deal_on, row_at, current_place, seating_of}
+use Rattle.bridge_session.specs.State.{SessionValue, deal_on, row_at, current_place, seating_of}
 use Rattle.bridge_session.specs.See.{cards_left, plain_trick, last_trick}
 
 -- Two plays of cards look alike: as many cards and claims, the claim, the trick that is not whole, the last whole trick, the
 -- tricks of both sides, and once a card was played the cards left to dummy.
-pub record PlaysLookAlike (p q : Playing) : Type 0 where
+pub record PlaysLookAlike (p q : PlayValue) : Type 0 where
   pub cards_made : length p.cards ≡ length q.cards
   pub claims_made : p.claims ≡ q.claims
   pub claim : p.claim ≡ q.claim
@@ -23,14 +23,14 @@ pub record PlaysLookAlike (p q : Playing) : Type 0 where
   pub dummy : length p.cards ≢ 0 → cards_left p.hands p.cards (dummy_of p.contract) ≡ cards_left q.hands q.cards (dummy_of q.contract)
 
 -- both have a contract, or neither
-abbrev pub CardsLookAlike : Option Playing → Option Playing → Type 0
+abbrev pub CardsLookAlike : Option PlayValue → Option PlayValue → Type 0
 CardsLookAlike None None = Unit {0}
 CardsLookAlike None (Some q) = ⊥
 CardsLookAlike (Some p) None = ⊥
 CardsLookAlike (Some p) (Some q) = PlaysLookAlike p q
 
-abbrev pub cards_in : Option Playing → List ℕ
-cards_in play = option_map_or (λ (p : Playing). p.cards) play []
+abbrev pub cards_in : Option PlayValue → List ℕ
+cards_in play = option_map_or (λ (p : PlayValue). p.cards) play []
 
 -- Two records with those hands look alike from a seat: they are of one board, with the same calls, the same cards are left to
 -- the seat, and the plays look alike. Of the cards of the other hands nothing is said.
@@ -61,7 +61,7 @@ pub record TablesLookAlike (seat : Seat) (deals : List (Option (List ℕ))) (rec
 
 -- Two sessions have one configuration and one round, and where the player of the key sits in it, the current plays of that
 -- table look alike from the player's seat.
-pub record LookAlikeTo (key : ℕ) (s t : State) : Type 0 where
+pub record LookAlikeTo (key : ℕ) (s t : SessionValue) : Type 0 where
   pub configuration : s.configuration ≡ t.configuration
   pub round : s.round ≡ t.round
   pub table : (seating : Seating) → seating_of s.configuration s.round key ≡ Ok seating →

@@ -11,7 +11,7 @@ use Rattle.bridge_movement.specs.declared.row.Row.{Row}
 use Rattle.bridge_movement.specs.declared.shape.Shape.{Shape}
 use Rattle.bridge_movement.specs.Row.{is_live}
 use Rattle.bridge_movement.specs.Seating.{place_of}
-use Rattle.bridge_config.specs.Configuration.{Configuration, Pair}
+use Rattle.bridge_config.specs.ConfigValue.{ConfigValue, Pair}
 use Rattle.bridge_session.specs.declared.refused.Refused.{Refused}
 use Rattle.bridge_session.specs.declared.refused.Refused.TheVariants.{NoKey, NotAllowed, Closed, SitsOut}
 use Rattle.bridge_session.specs.declared.seating.Player.{Player}
@@ -21,8 +21,8 @@ use Rattle.bridge_session.specs.Record.{PlainRecord, empty_record, is_open}
 -- The configuration, the round, the deal of each board by the boards' numbers, and for each row of the movement the
 -- records of its plays in order: one for each board of its set where the row is live, and otherwise none. The round is
 -- one more than the last once the session is closed.
-pub record State : Type 0 where
-  pub configuration : Configuration
+pub record SessionValue : Type 0 where
+  pub configuration : ConfigValue
   pub round : ℕ
   pub deals : List (Option (List ℕ))
   pub records : List (List PlainRecord)
@@ -36,7 +36,7 @@ abbrev pub opening_row : ℕ → Row → List PlainRecord
 opening_row boards row = map empty_record (row_boards boards row)
 
 -- The opening session of a configuration: round 1, no board dealt, and nothing has happened in any play.
-abbrev pub opening : Configuration → State
+abbrev pub opening : ConfigValue → SessionValue
 opening configuration = record {
   configuration = configuration;
   round = 1;
@@ -77,16 +77,16 @@ abbrev pub player_in : List Pair → ℕ → Option Player
 player_in pairs key =
     option_map (λ (place : ℕ). record { pair = place + 1; first = is_first_key pairs key place }) (position (has_key key) pairs)
 
-abbrev pub player_of : Configuration → ℕ → Option Player
+abbrev pub player_of : ConfigValue → ℕ → Option Player
 player_of configuration key = player_in configuration.pairs key
 
 -- the player who may act by the key
-abbrev pub acting_player : Configuration → ℕ → Result Player Refused
+abbrev pub acting_player : ConfigValue → ℕ → Result Player Refused
 acting_player configuration key =
     if key == configuration.director then Err NotAllowed else ok_or (player_of configuration key) NoKey
 
 -- whether the director may act by the key
-abbrev pub director_answer : Configuration → ℕ → Result (Unit {0}) Refused
+abbrev pub director_answer : ConfigValue → ℕ → Result (Unit {0}) Refused
 director_answer configuration key =
     if key == configuration.director then Ok tt else Err (if is_some (player_of configuration key) then NotAllowed else NoKey)
 
@@ -102,10 +102,10 @@ abbrev pub row_place : Shape → ℕ → ℕ → ℕ
 row_place shape round table = (round - 1) * shape.tables + (table - 1)
 
 -- the session is closed after the last round
-abbrev pub is_closed : Configuration → ℕ → Bool
+abbrev pub is_closed : ConfigValue → ℕ → Bool
 is_closed configuration round = nat_lt configuration.movement.shape.rounds round
 
-abbrev pub seating_at : Configuration → ℕ → Bool → Place → Seating
+abbrev pub seating_at : ConfigValue → ℕ → Bool → Place → Seating
 seating_at configuration round first place = record {
   place = row_place configuration.movement.shape round place.table;
   table = place.table;
@@ -114,17 +114,17 @@ seating_at configuration round first place = record {
 }
 
 -- where the player sits in the round
-abbrev pub seated : Configuration → ℕ → Result Player Refused → Result Seating Refused
+abbrev pub seated : ConfigValue → ℕ → Result Player Refused → Result Seating Refused
 seated configuration round (Err refused) = Err refused
 seated configuration round (Ok player) =
     if is_closed configuration round then Err Closed
     else ok_or (option_map (seating_at configuration round player.first) (place_of configuration.movement.rows round player.pair)) SitsOut
 
 -- where the player of the key sits in the round
-abbrev pub seating_of : Configuration → ℕ → ℕ → Result Seating Refused
+abbrev pub seating_of : ConfigValue → ℕ → ℕ → Result Seating Refused
 seating_of configuration round key = seated configuration round (acting_player configuration key)
 
 -- the boards of a set
-abbrev pub is_of_set : Configuration → ℕ → ℕ → Bool
+abbrev pub is_of_set : ConfigValue → ℕ → ℕ → Bool
 is_of_set configuration set board =
     nat_lt ((set - 1) * configuration.boards) board && nat_le board (set * configuration.boards)

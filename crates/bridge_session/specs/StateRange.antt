@@ -8,7 +8,7 @@ use Rattle.bridge_session.specs.declared.ruling.Ruling.{Ruling}
 use Rattle.bridge_session.specs.declared.ruling.Ruling.TheVariants as ruling
 use Rattle.bridge_session.specs.Numbers.{IsTrickCount}
 use Rattle.bridge_session.specs.Record.{PlainRecord}
-use Rattle.bridge_session.specs.State.{State}
+use Rattle.bridge_session.specs.State.{SessionValue}
 use Rattle.bridge_session.specs.Valid.{IsValid}
 
 -- four sets of cards
@@ -40,11 +40,11 @@ pub record IsRecordInRange (plain : PlainRecord) : Type 0 where
   pub ruling : IfSome plain.ruling IsRulingInRange
 
 -- What a session holds is within its ranges. So is that of each session by the types of its fields.
-pub record IsStateInRange (s : State) : Type 0 where
+pub record IsStateInRange (s : SessionValue) : Type 0 where
   pub deals : All AreHandsOrNone s.deals
   pub records : All (All IsRecordInRange) s.records
 
 -- What each session is: valid, and within its ranges.
-pub record IsSession (s : State) : Type 0 where
+pub record IsSession (s : SessionValue) : Type 0 where
   pub valid : IsValid s
   pub ranges : IsStateInRange s

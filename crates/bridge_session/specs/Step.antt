@@ -4,7 +4,7 @@ use Rattle.std.specs.List.{list_any}
 use Rattle.bridge_cards.specs.declared.seat.Seat.{Seat}
 use Rattle.bridge_cards.specs.Deal.{is_dealt_out}
 use Rattle.bridge_movement.specs.declared.shape.Shape.{Shape}
-use Rattle.bridge_config.specs.Configuration.{Configuration}
+use Rattle.bridge_config.specs.ConfigValue.{ConfigValue}
 use Rattle.bridge_session.specs.declared.action.Action.{Action}
 use Rattle.bridge_session.specs.declared.action.Action.TheVariants.{Deal, Call, Card, Claim, Agree, Refuse, NextRound, Tricks, Void, Restore}
 use Rattle.bridge_session.specs.declared.action.PlayId.{PlayId}
@@ -18,27 +18,27 @@ use Rattle.bridge_session.specs.declared.seating.Seating.{Seating}
 use Rattle.bridge_session.specs.Record.{PlainRecord, bidding_of, play_of, is_open}
 use Rattle.bridge_session.specs.Deed.{deed_answer, with_deed}
 use Rattle.bridge_session.specs.Correction.{ruling_by, ruling_answer}
-use Rattle.bridge_session.specs.State.{State, deal_on, row_at, changed_at, current_place, director_answer, row_place, is_closed, seating_of, is_of_set}
+use Rattle.bridge_session.specs.State.{SessionValue, deal_on, row_at, changed_at, current_place, director_answer, row_place, is_closed, seating_of, is_of_set}
 
 -- A player's action
 
 -- All that the answer to a player may depend on: the configuration, the round, the deal of the board that is named, if it
 -- is one of the set that the player's table plays, and the records of that table in that round.
 pub record Seen : Type 0 where
-  pub configuration : Configuration
+  pub configuration : ConfigValue
   pub round : ℕ
   pub deal : Option (List ℕ)
   pub records : List PlainRecord
 
-abbrev pub seen_deal : State → ℕ → Result Seating Refused → Option (List ℕ)
+abbrev pub seen_deal : SessionValue → ℕ → Result Seating Refused → Option (List ℕ)
 seen_deal s board (Err refused) = None
 seen_deal s board (Ok seating) = if is_of_set s.configuration seating.set board then deal_on s.deals board else None
 
-abbrev pub seen_records : State → Result Seating Refused → List PlainRecord
+abbrev pub seen_records : SessionValue → Result Seating Refused → List PlainRecord
 seen_records s (Err refused) = []
 seen_records s (Ok seating) = row_at s.records seating.place
 
-abbrev pub seen_by : State → ℕ → ℕ → Seen
+abbrev pub seen_by : SessionValue → ℕ → ℕ → Seen
 seen_by s key board = record {
   configuration = s.configuration;
   round = s.round;
@@ -78,11 +78,11 @@ player_answer seen key board at done =
 abbrev pub acted_among : Seat → Deed → List PlainRecord → List PlainRecord
 acted_among seat done records = changed_at (with_deed seat done) records (current_place records)
 
-abbrev pub acted_at : State → Deed → Result Seating Refused → State
+abbrev pub acted_at : SessionValue → Deed → Result Seating Refused → SessionValue
 acted_at s done (Err refused) = s
 acted_at s done (Ok seating) = record s { records = changed_at (acted_among seating.seat done) s.records seating.place }
 
-abbrev pub acted : State → ℕ → Deed → State
+abbrev pub acted : SessionValue → ℕ → Deed → SessionValue
 acted s key done = acted_at s done (seating_of s.configuration s.round key)
 
 -- The director's actions
@@ -93,7 +93,7 @@ if_allowed (Err refused) answer = Err refused
 if_allowed (Ok allowed) answer = answer
 
 -- the answer to a deal of the board
-abbrev pub deal_answer : State → ℕ → List ℕ → Result (Unit {0}) Refused
+abbrev pub deal_answer : SessionValue → ℕ → List ℕ → Result (Unit {0}) Refused
 deal_answer s board hands =
     if is_closed s.configuration s.round then Err Closed
     else if not (nat_le board (s.configuration.movement.shape.sets * s.configuration.boards)) then Err NoSuchPlay
@@ -102,12 +102,12 @@ deal_answer s board hands =
     else Ok tt
 
 -- the records of the tables in the current round
-abbrev pub records_of_round : State → List (List PlainRecord)
+abbrev pub records_of_round : SessionValue → List (List PlainRecord)
 records_of_round s =
     take s.configuration.movement.shape.tables (drop ((s.round - 1) * s.configuration.movement.shape.tables) s.records)
 
 -- the answer to the end of a round
-abbrev pub next_answer : State → ℕ → Result (Unit {0}) Refused
+abbrev pub next_answer : SessionValue → ℕ → Result (Unit {0}) Refused
 next_answer s round =
     if is_closed s.configuration s.round then Err Closed
     else if not (round == s.round) then Err Stale
@@ -118,7 +118,7 @@ abbrev pub is_row_within : Shape → ℕ → ℕ → Bool
 is_row_within shape round table = nat_le round shape.rounds && nat_le table shape.tables
 
 -- the record of a play, if there is such a play at a live row
-abbrev pub record_of : State → PlayId → Option PlainRecord
+abbrev pub record_of : SessionValue → PlayId → Option PlainRecord
 record_of s play =
     if is_row_within s.configuration.movement.shape play.round play.table
     then slice_get (row_at s.records (row_place s.configuration.movement.shape play.round play.table)) (play.index - 1)
@@ -133,7 +133,7 @@ rule_answer now round correction (Some plain) =
 abbrev pub with_ruling : Correction → PlainRecord → PlainRecord
 with_ruling correction plain = record plain { ruling = ruling_by correction }
 
-abbrev pub ruled : State → PlayId → Correction → State
+abbrev pub ruled : SessionValue → PlayId → Correction → SessionValue
 ruled s play correction = record s {
   records = changed_at (λ records. changed_at (with_ruling correction) records (play.index - 1)) s.records
       (row_place s.configuration.movement.shape play.round play.table);
@@ -142,7 +142,7 @@ ruled s play correction = record s {
 -- Each action
 
 -- the answer: the first refusal that applies, or that the action is accepted
-abbrev pub step_answer : State → Action → Result (Unit {0}) Refused
+abbrev pub step_answer : SessionValue → Action → Result (Unit {0}) Refused
 step_answer s (Deal key board hands) = if_allowed (director_answer s.configuration key.0) (deal_answer s board hands)
 step_answer s (Call key board at call) = player_answer (seen_by s key.0 board) key.0 board at (deed.Call call)
 step_answer s (Card key board at card) = player_answer (seen_by s key.0 board) key.0 board at (deed.Card card)
@@ -158,7 +158,7 @@ step_answer s (Restore key play) =
     if_allowed (director_answer s.configuration key.0) (rule_answer s.round play.round correction.Restore (record_of s play))
 
 -- the session after an accepted action
-abbrev pub changed : State → Action → State
+abbrev pub changed : SessionValue → Action → SessionValue
 changed s (Deal key board hands) = record s { deals = slice_set s.deals (board - 1) (Some hands) }
 changed s (Call key board at call) = acted s key.0 (deed.Call call)
 changed s (Card key board at card) = acted s key.0 (deed.Card card)

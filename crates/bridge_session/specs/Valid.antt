@@ -5,7 +5,7 @@ use Rattle.bridge_auction.specs.Call.{IsCall}
 use Rattle.bridge_auction.specs.Legal.{IsLegal}
 use Rattle.bridge_movement.specs.declared.row.Row.{Row}
 use Rattle.bridge_config.specs.Limits.{IsConfiguration}
-use Rattle.bridge_play.specs.Play.{Playing, IsPlay}
+use Rattle.bridge_play.specs.Play.{PlayValue, IsPlay}
 use Rattle.bridge_session.specs.declared.action.Action.{Action}
 use Rattle.bridge_session.specs.declared.action.Action.TheVariants.{Deal, Call, Card, Claim, Agree, Refuse, NextRound, Tricks, Void, Restore}
 use Rattle.bridge_session.specs.declared.action.PlayId.{PlayId}
@@ -15,10 +15,10 @@ use Rattle.bridge_session.specs.declared.ruling.Ruling.{Ruling}
 use Rattle.bridge_session.specs.declared.ruling.Ruling.TheVariants as ruling
 use Rattle.bridge_session.specs.Correction.{tricks_answer}
 use Rattle.bridge_session.specs.Record.{PlainRecord, empty_record, contract_in, play_of, is_open}
-use Rattle.bridge_session.specs.State.{State, deal_on, row_at, row_boards, hands_on}
+use Rattle.bridge_session.specs.State.{SessionValue, deal_on, row_at, row_boards, hands_on}
 
 -- a ruling may stand: one of tricks where the play is over
-abbrev pub MayStand : Option Playing → Ruling → Type 0
+abbrev pub MayStand : Option PlayValue → Ruling → Type 0
 MayStand play (ruling.Tricks tricks) = tricks_answer play ≡ Ok tt
 MayStand play ruling.Void = Unit {0}
 
@@ -51,7 +51,7 @@ board_of plain = plain.board
 
 -- The configuration is within its limits, the round is one of its rounds or the one after the last, each deal is one, and the
 -- records are those of the boards of their rows and valid.
-pub record IsValid (s : State) : Type 0 where
+pub record IsValid (s : SessionValue) : Type 0 where
   pub configured : IsConfiguration s.configuration
   pub begun : 1 ≤ s.round
   pub ends : s.round ≤ s.configuration.movement.shape.rounds + 1

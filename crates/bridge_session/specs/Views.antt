@@ -9,7 +9,7 @@ use Rattle.bridge_session.specs.declared.seating.Seating.{Seating}
 use Rattle.bridge_session.specs.declared.view.Trick.{Trick}
 use Rattle.bridge_session.specs.declared.view.View.{View}
 use Rattle.bridge_session.specs.Record.{PlainRecord}
-use Rattle.bridge_session.specs.State.{State, seating_of}
+use Rattle.bridge_session.specs.State.{SessionValue, seating_of}
 use Rattle.bridge_session.specs.See.{PlainTrick, Shown, ShownPlay, shown_turn, shown_among, shown_to}
 
 abbrev pub plain_seen : Trick → PlainTrick
@@ -47,7 +47,7 @@ pub record IsViewAmong (deals : List (Option (List ℕ))) (records : List PlainR
   pub fields : IsViewOf round table seat shown view
 
 -- the view shows what may be shown to the player of the key, where that player sits
-pub record IsViewTo (s : State) (key : ℕ) (view : View) : Type 0 where
+pub record IsViewTo (s : SessionValue) (key : ℕ) (view : View) : Type 0 where
   pub seating : Seating
   pub sits : seating_of s.configuration s.round key ≡ Ok seating
   pub shown : Shown

@@ -1,6 +1,6 @@
 //! The action that bytes of the disk are those of.
 ghost use Rattle.std.specs.Prelude.{◌≡◌, ◌≢◌, ◌<◌, IfSome, IfNone, List, ℕ, length};
-ghost use Rattle.bridge_session.specs.declared.action.Action.{Action as ActionValue};
+ghost use Rattle.bridge_session.specs.declared.action.Action.{Action as ActionType};
 ghost use Rattle.bridge_session.specs.ActionRange.{IsInRange};
 ghost use Rattle.bridge_session.specs.ActionBytes.{action_bytes, action_of, action_in, turn_in, player_action, ruling_in, ruling_on, play_in, deal_in, hands_in, hand_in, only_byte, at_end};
 
@@ -14,7 +14,7 @@ use bridge_config::Key;
 pub fn read_action(bytes: &[u8]) -> Option<Action>
     ensures value { result ≡ action_of bytes.now }
     ensures written { IfSome result (λ action. action_bytes action ≡ bytes.now) }
-    ensures other { IfNone result ((action : ActionValue) → IsInRange action → action_bytes action ≢ bytes.now) }
+    ensures other { IfNone result ((action : ActionType) → IsInRange action → action_bytes action ≢ bytes.now) }
 {
     let [kind, a, b, c, d, rest @ ..] = bytes else {
         return None;

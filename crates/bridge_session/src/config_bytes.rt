@@ -1,7 +1,7 @@
 //! The parts of the configuration, the movement, the pairs and the boards.
 ghost use Rattle.std.specs.Prelude.{◌≡◌, ◌≤◌, [], length};
 ghost use Rattle.std.specs.Option.{option_copied};
-ghost use Rattle.bridge_config.specs.Configuration.{pair_of};
+ghost use Rattle.bridge_config.specs.ConfigValue.{pair_of};
 ghost use Rattle.bridge_session.specs.Parts.{scoring_number, configuration_part, movement_part, pair_part, deal_part};
 
 use crate::part_bytes::{put, put_text};

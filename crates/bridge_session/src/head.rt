@@ -2,7 +2,7 @@
 ghost use Rattle.std.specs.Prelude.{◌≡◌, ◌≢◌, ◌↔◌, ◌+◌, ◌*◌, ◌<◌, ◌≤◌, ◌++◌, ℕ, List, length, map, drop, take, slice_index, IfSome, IfNone, IsTrue, All, Any};
 ghost use Rattle.bridge_movement.specs.declared.row.Row.{Row as RowType};
 ghost use Rattle.bridge_movement.specs.Shape.{IsShape, row_count};
-ghost use Rattle.bridge_config.specs.Configuration.{Configuration, Pair, pair_of};
+ghost use Rattle.bridge_config.specs.ConfigValue.{ConfigValue, Pair, pair_of};
 ghost use Rattle.bridge_config.specs.Limits.{IsConfiguration, IsPair};
 ghost use Rattle.bridge_session.specs.Parts.{configuration_part, movement_part, pair_part};
 ghost use Rattle.bridge_session.specs.PartsRead.{text_in, after_text, scoring_at, numbers_in, shape_in, key_in, row_in, rows_in, pair_in, configuration_in};
@@ -318,7 +318,7 @@ fn head_of(first: &[u8], second: &[u8], rest: &[ArrayVec<u8, 480>]) -> Option<He
 pub fn read_head(parts: &[ArrayVec<u8, 480>]) -> Option<Head>
     ensures written { IfSome result (λ head. head_parts head.config head.round ≡ take (2 + length head.config.pairs) (map items_of parts.now)) }
     ensures round { IfSome result (λ head. IsRound head.config head.round) }
-    ensures other { IfNone result ((configuration : Configuration) (round : ℕ) (boards : List (List ℕ)) → IsConfiguration configuration →
+    ensures other { IfNone result ((configuration : ConfigValue) (round : ℕ) (boards : List (List ℕ)) → IsConfiguration configuration →
         IsRound configuration round → head_parts configuration round ++ boards ≢ map items_of parts.now) }
 {
     let Some((first, rest)) = parts.split_first() else {

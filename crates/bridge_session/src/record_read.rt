@@ -1,7 +1,7 @@
 //! The record of a play, read from its part.
 ghost use Rattle.std.specs.Prelude.{◌≡◌, ◌≢◌, ◌≤◌, ℕ, List, [], length, map, is_some, unwrap_or, IfSome, IfNone, All, Any, None, false};
 ghost use Rattle.bridge_cards.specs.Board.{dealer_of};
-ghost use Rattle.bridge_auction.specs.declared.call.Call.{Call as CallValue};
+ghost use Rattle.bridge_auction.specs.declared.call.Call.{Call as CallType};
 ghost use Rattle.bridge_auction.specs.Call.{call_number, call_at};
 ghost use Rattle.bridge_auction.specs.Legal.{IsLegal};
 ghost use Rattle.bridge_session.specs.Record.{PlainRecord, play_of};
@@ -74,7 +74,7 @@ fn auction_of(numbers: &[u8], board: BoardNumber, is_dealt: bool) -> Option<Auct
     ensures calls { IfSome result (λ auction. map call_number auction.calls ≡ numbers.now) }
     ensures legal { IfSome result (λ auction. IsLegal auction.calls) }
     ensures dealt { IfSome result (λ auction. is_dealt ≡ false → auction.calls ≡ []) }
-    ensures none { IfNone result ((calls : List CallValue) → IsLegal calls → (is_dealt ≡ false → calls ≡ []) → map call_number calls ≢ numbers.now) }
+    ensures none { IfNone result ((calls : List CallType) → IsLegal calls → (is_dealt ≡ false → calls ≡ []) → map call_number calls ≢ numbers.now) }
 {
     if !is_dealt && !numbers.is_empty() {
         return None;

@@ -1,6 +1,6 @@
 //! Who acts by a key, and where a player sits.
 ghost use Rattle.std.specs.Prelude.{◌≡◌, ◌==◌, ◌<◌, ◌≤◌, slice_index, length, map, position, IfOk, IfSome, if◌then◌else◌, Some, None};
-ghost use Rattle.bridge_config.specs.Configuration.{pair_of};
+ghost use Rattle.bridge_config.specs.ConfigValue.{pair_of};
 ghost use Rattle.bridge_config.specs.declared.fields.PairFields.{PairFields as PairType};
 ghost use Rattle.bridge_movement.specs.Shape.{row_count};
 ghost use Rattle.bridge_session.specs.State.{has_key, player_in, player_of, acting_player, director_answer, seat_on, is_closed, seating_of, is_of_set, row_place};

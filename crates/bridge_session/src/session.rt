@@ -51,10 +51,10 @@ pub struct Session {
 
 impl Model for Session {
     ghost use Rattle.std.specs.Prelude.{map};
-    ghost use Rattle.bridge_session.specs.State.{State};
+    ghost use Rattle.bridge_session.specs.State.{SessionValue};
     ghost use Rattle.bridge_session.specs.Kept.{state_of, IsKept};
 
-    ghost Value = { State };
+    ghost Value = { SessionValue };
 
     ghost view = { λ s. state_of s.config s.round s.deals.items (map (λ table. table.items) s.tables.items) };
 

@@ -1,7 +1,7 @@
 //! What a store may rely on, as laws over the definitions of parts, actions and steps.
 ghost use Rattle.std.specs.Prelude.{All};
 ghost use Rattle.session_store.specs.Keeping.{IsLawful};
-ghost use Rattle.bridge_config.specs.Configuration.{Configuration};
+ghost use Rattle.bridge_config.specs.ConfigValue.{ConfigValue};
 ghost use Rattle.bridge_config.specs.Limits.{IsConfiguration};
 ghost use Rattle.bridge_session.specs.SessionKeeping.{session_keeping};
 ghost use Rattle.bridge_session.specs.State.{opening};
@@ -11,6 +11,6 @@ ghost use Rattle.bridge_session.specs.StateRange.{IsSession};
 /// an action is read back from its bytes, and other bytes are none; all of them fit into sectors; and an accepted action
 /// makes a session of a session.
 pub fn sessions_can_be_stored()
-    ensures opening { (configuration : Configuration) → IsConfiguration configuration → IsSession (opening configuration) }
+    ensures opening { (configuration : ConfigValue) → IsConfiguration configuration → IsSession (opening configuration) }
     ensures lawful { IsLawful session_keeping }
 {}

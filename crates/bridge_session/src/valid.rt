@@ -1,9 +1,9 @@
 //! Every session is valid, as laws over the definitions that `new` and `step` answer by.
 ghost use Rattle.std.specs.Prelude.{◌≡◌, Ok};
-ghost use Rattle.bridge_config.specs.Configuration.{Configuration};
+ghost use Rattle.bridge_config.specs.ConfigValue.{ConfigValue};
 ghost use Rattle.bridge_config.specs.Limits.{IsConfiguration};
 ghost use Rattle.bridge_session.specs.declared.action.Action.{Action as ActionType};
-ghost use Rattle.bridge_session.specs.State.{State, opening};
+ghost use Rattle.bridge_session.specs.State.{SessionValue, opening};
 ghost use Rattle.bridge_session.specs.Step.{step_answer, changed};
 ghost use Rattle.bridge_session.specs.Valid.{IsAction, IsValid};
 
@@ -11,7 +11,7 @@ ghost use Rattle.bridge_session.specs.Valid.{IsAction, IsValid};
 /// cards are legal lists on dealt boards, its claims and rulings stand by the rules, nothing has happened in a later round,
 /// and no play of an earlier one is open.
 pub fn sessions_are_valid()
-    ensures opening { (configuration : Configuration) → IsConfiguration configuration → IsValid (opening configuration) }
-    ensures steps { (action : ActionType) (s : State) → IsAction action → IsValid s → step_answer s action ≡ Ok tt →
+    ensures opening { (configuration : ConfigValue) → IsConfiguration configuration → IsValid (opening configuration) }
+    ensures steps { (action : ActionType) (s : SessionValue) → IsAction action → IsValid s → step_answer s action ≡ Ok tt →
         IsValid (changed s action) }
 {}

@@ -11,8 +11,6 @@ mod lines;
 mod numeral;
 mod refusal;
 mod split;
-#[cfg(test)]
-mod tests;
 mod words;
 mod write;
 

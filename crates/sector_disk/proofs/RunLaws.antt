@@ -1,7 +1,7 @@
 -- How a run of calls begins, and goes on by one call more or by another run.
-use Rattle.std.proofs.Common.{◌≡◌, ◌⊎◌, ◌≤◌, ℕ, List, Result, inl, inr, ⊎_elim, arith, refl, sym, ◌∙◌}
+use Rattle.std.proofs.Common.{◌≡◌, ◌⊎◌, ℕ, List, Result, inl, inr, ⊎_elim, arith, refl, ◌∙◌}
 use Rattle.sector_disk.specs.Disk.{Image, with_sector, Disk}
-use Rattle.sector_disk.specs.Calls.{Called, Reads, Writes, Syncs, IsSynced}
+use Rattle.sector_disk.specs.Calls.{Called, Reads, Writes, Syncs}
 use Rattle.sector_disk.specs.Runs.{EveryMoment, OnlyRead, Remains, Quiet}
 use Rattle.sector_disk.proofs.ImageLaws.{image_is, same_has}
 use Rattle.sector_disk.proofs.CallLaws.{write_leaves, sync_leaves, sync_reads}

@@ -1,5 +1,5 @@
 -- What one call of a disk does.
-use Rattle.std.specs.Prelude.{◌≡◌, ◌≢◌, ◌⊎◌, ◌<◌, ◌≤◌, ℕ, List, Result, OnOk, OnErr}
+use Rattle.std.specs.Prelude.{◌≡◌, ◌⊎◌, ◌<◌, ◌≤◌, ℕ, List, Result, OnOk, OnErr}
 use Rattle.sector_disk.specs.Disk.{Image, IsSame, with_sector, Disk, one_more}
 
 -- Time goes on: a power cut since t might have left what it might have left before, or what it may leave now.

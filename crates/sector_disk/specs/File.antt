@@ -7,8 +7,8 @@ use Rattle.sector_disk.specs.declared.file.FileDisk.{FileDisk}
 
 -- What no contract can tell of a file: whether it is honest, what reads give, what power cuts leave. No proof above can
 -- unfold this. Inside, no file is honest: a call of the system promises nothing from which a read, a write or a sync of
--- an honest disk could be proved. From the lemmas file_reads, file_writes and file_syncs below a proof above could refute
--- the honesty of every file; none may cite them, and the repository's gate looks that none does.
+-- an honest disk could be proved. From the lemmas file_called, file_reads, file_writes and file_syncs below a proof above
+-- could refute the honesty of every file; none may cite them, and the repository's gate looks that none does.
 pub left_open : {F : Type 0} → Disk (FileDisk F)
 left_open = record {
   honest = λ d. ⊥;

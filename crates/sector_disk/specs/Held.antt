@@ -9,7 +9,7 @@ use Rattle.sector_disk.specs.declared.memory.events.Event.{Event}
 use Rattle.sector_disk.specs.declared.memory.events.Event.TheVariants.{Write, Sync}
 
 -- one sector
-pub record Held : Type 0 where
+pub record SectorValue : Type 0 where
   -- when the disk was made, or last lost power
   pub first : List ℕ
   -- at the last sync since then
@@ -23,65 +23,65 @@ last_of v [] = v
 last_of v (w ∷ ws) = last_of w ws
 
 -- what a read gives
-abbrev pub newest : Held → List ℕ
+abbrev pub newest : SectorValue → List ℕ
 newest h = last_of h.synced h.since
 
 -- what a power cut may leave: the synced value, which is value 0, and each one written since
-abbrev pub possible : Held → List (List ℕ)
+abbrev pub possible : SectorValue → List (List ℕ)
 possible h = h.synced ∷ h.since
 
 -- as it was at first
-abbrev pub restarted : Held → Held
+abbrev pub restarted : SectorValue → SectorValue
 restarted h = record { first = h.first; synced = h.first; since = [] }
 
 -- after a write of this value
-abbrev pub written : List ℕ → Held → Held
+abbrev pub written : List ℕ → SectorValue → SectorValue
 written bytes h = record { first = h.first; synced = h.synced; since = h.since ++ bytes ∷ [] }
 
 -- after a sync
-abbrev pub settled : Held → Held
+abbrev pub settled : SectorValue → SectorValue
 settled h = record { first = h.first; synced = newest h; since = [] }
 
 -- after a power cut that left this value
-abbrev pub cut_to : List ℕ → Held
+abbrev pub cut_to : List ℕ → SectorValue
 cut_to v = record { first = v; synced = v; since = [] }
 
--- the value that a pick means: that place of the list, counted round
-abbrev pub picked : Held → ℕ → List ℕ
+-- the value that a pick means: that place of the list, modulo its length
+abbrev pub picked : SectorValue → ℕ → List ℕ
 picked h pick = slice_index_or (possible h) (pick % length (possible h)) []
 
 -- where there is no such sector
-abbrev pub blank : Held
+abbrev pub blank : SectorValue
 blank = cut_to []
 
 -- the sector k of these
-abbrev pub sector_at : List Held → ℕ → Held
+abbrev pub sector_at : List SectorValue → ℕ → SectorValue
 sector_at sectors k = slice_index_or sectors k blank
 
 -- sector k after an event
-abbrev pub after : ℕ → Held → Event → Held
+abbrev pub after : ℕ → SectorValue → Event → SectorValue
 after k h (Write i bytes) = if i == k then written bytes h else h
 after k h Sync = settled h
 
 -- sector k after these events, the first of them first
-abbrev pub replay : ℕ → Held → List Event → Held
+abbrev pub replay : ℕ → SectorValue → List Event → SectorValue
 replay k h [] = h
 replay k h (e ∷ events) = replay k (after k h e) events
 
 -- what the sectors hold is what these events made of their first values
-abbrev pub IsReplayed : (ℕ → Held) → List Event → Type 0
+abbrev pub IsReplayed : (ℕ → SectorValue) → List Event → Type 0
 IsReplayed sectors events = (k : ℕ) → replay k (restarted (sectors k)) events ≡ sectors k
 
 -- each sector of the image has one of its possible values
-abbrev pub IsImage : (ℕ → Held) → Image → Type 0
+abbrev pub IsImage : (ℕ → SectorValue) → Image → Type 0
 IsImage sectors c = (k : ℕ) → Contains (possible (sectors k)) (c k)
 
 -- the sectors after the first n of these events
-abbrev pub after_first : (ℕ → Held) → List Event → ℕ → ℕ → Held
+abbrev pub after_first : (ℕ → SectorValue) → List Event → ℕ → ℕ → SectorValue
 after_first sectors events n k = replay k (restarted (sectors k)) (take n events)
 
 -- a power cut after n of these events, from the number t on, left this image
-abbrev pub LeftSince : (ℕ → Held) → List Event → ℕ → Image → Type 0
+abbrev pub LeftSince : (ℕ → SectorValue) → List Event → ℕ → Image → Type 0
 LeftSince sectors events t c = (n : ℕ) × (t ≤ n) × (n ≤ length events) × IsImage (after_first sectors events n) c
 
 -- the last value is one of them
@@ -89,10 +89,10 @@ last_in : (v : List ℕ) (ws : List (List ℕ)) → Contains (v ∷ ws) (last_of
 last_in v [] = (0, omega arith, refl)
 last_in v (w ∷ ws) = Contains-append_right (v ∷ []) (w ∷ ws) (last_of w ws) (last_in w ws)
 
-pub newest_left : (sectors : ℕ → Held) → IsImage sectors (λ k. newest (sectors k))
+pub newest_left : (sectors : ℕ → SectorValue) → IsImage sectors (λ k. newest (sectors k))
 newest_left sectors k = last_in (sectors k).synced (sectors k).since
 
-module _ (sectors : ℕ → Held) (events : List Event) (replayed : IsReplayed sectors events) where
+module _ (sectors : ℕ → SectorValue) (events : List Event) (replayed : IsReplayed sectors events) where
   -- after all events the sectors are as they are now
   all_events : (k : ℕ) → after_first sectors events (length events) k ≡ sectors k
   all_events k =
@@ -100,9 +100,9 @@ module _ (sectors : ℕ → Held) (events : List Event) (replayed : IsReplayed s
 
   pub left_now : (t : ℕ) (c : Image) → t ≤ length events → IsImage sectors c → LeftSince sectors events t c
   left_now t c le image =
-      (length events, le, omega arith, λ k. subst (λ (h : Held). Contains (possible h) (c k)) (sym (all_events k)) (image k))
+      (length events, le, omega arith, λ k. subst (λ (h : SectorValue). Contains (possible h) (c k)) (sym (all_events k)) (image k))
 
   pub left_only_now : (c : Image) → LeftSince sectors events (length events) c → IsImage sectors c
   left_only_now c left = let all : left.0 ≡ length events = omega (arith, left.1, left.2) in
-      λ k. subst (λ (h : Held). Contains (possible h) (c k))
+      λ k. subst (λ (h : SectorValue). Contains (possible h) (c k))
       (ap (λ (n : ℕ). after_first sectors events n k) all ∙ all_events k) (left.3 k)

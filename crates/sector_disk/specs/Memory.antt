@@ -1,15 +1,15 @@
 -- What a disk in memory means.
 use Rattle.std.specs.Prelude.{◌≡◌, ℕ, length}
 use Rattle.sector_disk.specs.Disk.{Disk}
-use Rattle.sector_disk.specs.Held.{Held, newest, sector_at, IsImage, LeftSince, newest_left, left_now, left_only_now}
+use Rattle.sector_disk.specs.Held.{SectorValue, newest, sector_at, IsImage, LeftSince, newest_left, left_now, left_only_now}
 use Rattle.sector_disk.specs.declared.memory.MemoryDisk.{MemoryDisk}
 
 -- what sector k holds
-abbrev pub held : MemoryDisk → ℕ → Held
+abbrev pub held : MemoryDisk → ℕ → SectorValue
 held m k = sector_at m.sectors.items k
 
 -- each sector k holds what this made of what it held
-abbrev pub IsHeld : MemoryDisk → MemoryDisk → (ℕ → Held → Held) → Type 0
+abbrev pub IsHeld : MemoryDisk → MemoryDisk → (ℕ → SectorValue → SectorValue) → Type 0
 IsHeld old new step = (k : ℕ) → held new k ≡ step k (held old k)
 
 -- It is honest. Its clock counts its writes and syncs.

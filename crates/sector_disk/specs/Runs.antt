@@ -19,7 +19,7 @@ pub record OnlyRead {D : Type 0} (disk : Disk D) (old new : D) : Type 0 where
   pub reads : IsSame (disk.reads new) (disk.reads old)
   pub moments : EveryMoment disk old new (disk.may_leave old)
 
--- what no call changes: honesty, or the want of it, and the number of sectors
+-- what no call changes: whether the disk is honest, and the number of sectors
 pub record Remains {D : Type 0} (disk : Disk D) (old new : D) : Type 0 where
   pub stays_honest : disk.honest old → disk.honest new
   pub was_honest : disk.honest new → disk.honest old

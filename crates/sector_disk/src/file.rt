@@ -5,12 +5,13 @@ ghost use Rattle.std.specs.Prelude.{◌≡◌, ◌/◌, ◌-◌, ◌^◌, min, I
 mod tests;
 
 use crate::faults::counted;
-use crate::{DiskFault, SectorDisk};
+use crate::{DiskFault, SectorDisk, disk};
 use std::fs::{OpenFile, OpenOptions};
 use std::os::unix::fs::FileExt;
 use std::rt::Files;
 
-const SECTOR_BYTES: u64 = 512;
+/// Bytes of a sector, as places in a file are counted.
+const SECTOR_BYTES: u64 = disk::SECTOR_BYTES as u64;
 
 /// Bytes of a file that is made: 2,048 sectors.
 const NEW_BYTES: u64 = 1_048_576;
@@ -118,12 +119,12 @@ impl<F: OpenFile + FileExt> SectorDisk for FileDisk<F> {
         self.count
     }
 
-    fn read(&mut self, i: u32, bytes: &mut [u8; 512]) -> Result<(), DiskFault> {
+    fn read(&mut self, i: u32, bytes: &mut [u8; disk::SECTOR_BYTES]) -> Result<(), DiskFault> {
         let outcome = self.file.read_exact_at(bytes, u64::from(i) * SECTOR_BYTES);
         counted(&mut self.faults, outcome.map_err(|_| DiskFault::Read))
     }
 
-    fn write(&mut self, i: u32, bytes: &[u8; 512]) -> Result<(), DiskFault> {
+    fn write(&mut self, i: u32, bytes: &[u8; disk::SECTOR_BYTES]) -> Result<(), DiskFault> {
         let outcome = self.file.write_all_at(bytes, u64::from(i) * SECTOR_BYTES);
         counted(&mut self.faults, outcome.map_err(|_| DiskFault::Write))
     }

@@ -8,7 +8,7 @@ ghost use Rattle.sector_disk.specs.Fuse.{fuse_disk, FuseReads, FuseWrites, FuseS
 mod tests;
 
 use crate::faults::counted;
-use crate::{DiskFault, SectorDisk};
+use crate::{DiskFault, SECTOR_BYTES, SectorDisk};
 
 /// How often a fuse fails.
 #[derive(Clone, Copy, Debug, PartialEq, Eq)]
@@ -87,7 +87,7 @@ impl<D: SectorDisk> SectorDisk for Fuse<D> {
         self.disk.count()
     }
 
-    fn read(&mut self, i: u32, bytes: &mut [u8; 512]) -> Result<(), DiskFault>
+    fn read(&mut self, i: u32, bytes: &mut [u8; SECTOR_BYTES]) -> Result<(), DiskFault>
         requires { i < (fuse_disk D.disk).count self.old }
         ensures called { Called (fuse_disk D.disk) self.old self.new result }
         ensures reads { (fuse_disk D.disk).honest self.old
@@ -103,7 +103,7 @@ impl<D: SectorDisk> SectorDisk for Fuse<D> {
         counted(&mut self.faults, outcome)
     }
 
-    fn write(&mut self, i: u32, bytes: &[u8; 512]) -> Result<(), DiskFault>
+    fn write(&mut self, i: u32, bytes: &[u8; SECTOR_BYTES]) -> Result<(), DiskFault>
         requires { i < (fuse_disk D.disk).count self.old }
         ensures called { Called (fuse_disk D.disk) self.old self.new result }
         ensures writes { (fuse_disk D.disk).honest self.old

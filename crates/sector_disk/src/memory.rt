@@ -9,7 +9,7 @@ mod sectors;
 mod tests;
 
 use crate::faults::counted;
-use crate::{DiskFault, SectorDisk};
+use crate::{DiskFault, SECTOR_BYTES, SectorDisk};
 use changes::{keep_sync, keep_write, lose_power};
 use events::Event;
 use sectors::Sector;
@@ -50,7 +50,7 @@ impl MemoryDisk {
         })
     }
 
-    /// Loses power. Sector `i` takes value `picks[i]` of its list, counted round: value 0 is the synced one, then
+    /// Loses power. Sector `i` takes value `picks[i]` of its list, modulo the list's length: value 0 is the synced one, then
     /// come those written since, in order. Where `picks` has no entry it takes value 0.
     pub fn crash(&mut self, picks: &[u32])
         ensures picked { (k : ℕ) → k < memory_disk.count self.old
@@ -80,7 +80,7 @@ impl SectorDisk for MemoryDisk {
     }
 
     /// A read that never fails.
-    fn read(&mut self, i: u32, bytes: &mut [u8; 512]) -> Result<(), DiskFault>
+    fn read(&mut self, i: u32, bytes: &mut [u8; SECTOR_BYTES]) -> Result<(), DiskFault>
         requires { i < memory_disk.count self.old }
         ensures called { Called memory_disk self.old self.new result }
         ensures reads { memory_disk.honest self.old → Reads memory_disk self.old self.new i bytes.new result }
@@ -93,7 +93,7 @@ impl SectorDisk for MemoryDisk {
     }
 
     /// A write keeps each value that was possible before. It fails where memory is refused, and then does nothing.
-    fn write(&mut self, i: u32, bytes: &[u8; 512]) -> Result<(), DiskFault>
+    fn write(&mut self, i: u32, bytes: &[u8; SECTOR_BYTES]) -> Result<(), DiskFault>
         requires { i < memory_disk.count self.old }
         ensures called { Called memory_disk self.old self.new result }
         ensures writes { memory_disk.honest self.old → Writes memory_disk self.old self.new i bytes.now result }

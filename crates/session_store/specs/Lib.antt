@@ -10,5 +10,3 @@ pub mod Store
 pub mod Answers
 pub mod Opening
 pub mod Run
-pub mod Counter
-pub mod CounterLaws

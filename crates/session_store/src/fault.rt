@@ -1,4 +1,5 @@
 //! Why a call of a store fails.
+use std::fmt::{Debug, Display};
 use thiserror::Error;
 
 /// Why a disk was not formatted or not opened.
@@ -36,17 +37,23 @@ pub enum PartsFault {
 }
 
 /// Why an action was not taken, or not written.
-#[derive(Drop)]
+#[derive(Debug, Drop, Error)]
+#[error_bound(R: Debug + Display)]
 pub enum SubmitFault<R> {
     /// A call of the disk had failed before.
+    #[error("the disk had failed before")]
     Failed,
     /// 64 actions are pending.
+    #[error("too many actions are pending")]
     Batch,
     /// The journal is full, and the epoch is 2^64 - 1.
+    #[error("epochs spent")]
     EpochsSpent,
     /// The action was refused.
+    #[error("action refused: {0}")]
     Refused(R),
     /// A call of the disk failed. The action is in the state, and may be lost or kept.
+    #[error("disk fault")]
     Disk,
 }
 

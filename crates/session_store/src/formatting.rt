@@ -8,7 +8,7 @@ ghost use Rattle.session_store.specs.Sound.{IsSoundDisk, StandsOnlyFor};
 
 use crate::snapshot::write_snapshot;
 use crate::{Kept, StoreFault};
-use sector_disk::{DiskFault, SectorDisk};
+use sector_disk::{DiskFault, SECTOR_BYTES, SectorDisk};
 
 /// The number of sectors that a store uses.
 pub(crate) const SECTORS: u32 = 2048;
@@ -25,7 +25,7 @@ fn clear<D: SectorDisk>(disk: &mut D) -> Result<(), DiskFault>
         → EveryMoment D.disk disk.old disk.new (SameBehind (D.disk.may_leave disk.old)) }
 {
     for i in 0..SECTORS {
-        disk.write(i, &[0; 512])?;
+        disk.write(i, &[0; SECTOR_BYTES])?;
     }
     disk.sync()?;
     Ok(())

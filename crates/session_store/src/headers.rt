@@ -5,12 +5,12 @@ ghost use Rattle.sector_disk.specs.Runs.{Quiet};
 ghost use Rattle.session_store.specs.Stands.{header_at, header_in, newer};
 
 use crate::reading::{Header, read_header};
-use crate::snapshot::place_of;
-use sector_disk::{DiskFault, SectorDisk};
+use crate::snapshot::{SNAPSHOT_A, SNAPSHOT_B, place_of};
+use sector_disk::{DiskFault, SECTOR_BYTES, SectorDisk};
 
 /// The header of these bytes at this sector, if it is one in form and its epoch's snapshot stands there.
 #[tactic(auto, unfolding(crate::specs::Stands::placed))]
-fn placed_header(at: u32, bytes: &[u8; 512]) -> Option<Header>
+fn placed_header(at: u32, bytes: &[u8; SECTOR_BYTES]) -> Option<Header>
     ensures { result ≡ header_at at bytes.now }
 {
     match read_header(bytes) {
@@ -47,9 +47,12 @@ pub(crate) fn find_header<D: SectorDisk>(disk: &mut D) -> Result<Option<Header>,
     ensures range { IfOk result (λ header. IfSome header (λ h. (1 ≤ h.epoch) × (h.parts ≤ 494))) }
     ensures found { D.disk.honest disk.old → IfOk result (λ header. header ≡ header_in (D.disk.reads disk.old)) }
 {
-    let mut first = [0; 512];
-    disk.read(0, &mut first)?;
-    let mut second = [0; 512];
-    disk.read(512, &mut second)?;
-    Ok(newer_header(placed_header(0, &first), placed_header(512, &second)))
+    let mut first = [0; SECTOR_BYTES];
+    disk.read(SNAPSHOT_A, &mut first)?;
+    let mut second = [0; SECTOR_BYTES];
+    disk.read(SNAPSHOT_B, &mut second)?;
+    Ok(newer_header(
+        placed_header(SNAPSHOT_A, &first),
+        placed_header(SNAPSHOT_B, &second),
+    ))
 }

@@ -6,6 +6,9 @@ use crate::PartsFault;
 use arrayvec::ArrayVec;
 use std::alloc::Global;
 
+/// Bytes of a part or of an action, at most.
+pub const PAYLOAD_BYTES: usize = 480;
+
 /// A state that a store can keep: written as parts, read from them, and changed by actions.
 pub trait Kept: Sized + Drop {
     /// What changes a state.
@@ -22,18 +25,18 @@ pub trait Kept: Sized + Drop {
         ensures state { kept.IsState self.now };
 
     /// Clears `part`, and writes part `i` of the state into it, counted from 0.
-    fn write_part(&self, i: u32, part: &mut ArrayVec<u8, 480>)
+    fn write_part(&self, i: u32, part: &mut ArrayVec<u8, PAYLOAD_BYTES>)
         requires { i < length (kept.parts self.now) }
         ensures { part.new.items ≡ slice_index_or (kept.parts self.now) i [] };
 
     /// The state of these parts. `Bad` where they are not exactly those of a state, `Memory` where it is out of
     /// memory.
-    fn from_parts(alloc: Global, parts: &[ArrayVec<u8, 480>]) -> Result<Self, PartsFault>
+    fn from_parts(alloc: Global, parts: &[ArrayVec<u8, PAYLOAD_BYTES>]) -> Result<Self, PartsFault>
         ensures state { IfOk result (λ s. kept.state_of (map (λ part. part.items) parts.now) ≡ Some s) }
         ensures bad { IsErrOf result PartsFault.Bad → kept.state_of (map (λ part. part.items) parts.now) ≡ None };
 
     /// Clears `bytes`, and writes the action into it.
-    fn write_action(action: &Self::Action, bytes: &mut ArrayVec<u8, 480>)
+    fn write_action(action: &Self::Action, bytes: &mut ArrayVec<u8, PAYLOAD_BYTES>)
         ensures bytes { bytes.new.items ≡ kept.action_bytes action.now }
         ensures action { kept.IsAction action.now };
 

@@ -1,4 +1,11 @@
 //! A store that keeps a state on a disk of sectors: a journal of actions, and two snapshots that take turns.
+//!
+//! ```rust
+//! let disk = format(disk, &state)?;
+//! let mut store = Store::open(rt.alloc(), disk)?;
+//! store.submit(&action)?;
+//! store.confirm()?;
+//! ```
 #![tactic(auto)]
 
 mod checkpointing;
@@ -18,11 +25,9 @@ mod sectors;
 mod snapshot;
 mod store;
 mod submitting;
-#[cfg(test)]
-mod tests;
 
 pub use fault::{CheckpointFault, ConfirmFault, PartsFault, StoreFault, SubmitFault};
 pub use formatting::format;
-pub use kept::Kept;
+pub use kept::{Kept, PAYLOAD_BYTES};
 pub use laws::{crash_law, frame_law};
-pub use store::Store;
+pub use store::{MOST_PENDING, Store};

@@ -6,11 +6,11 @@ ghost use Rattle.session_store.specs.Form.{part_mark, payload_in, place};
 ghost use Rattle.session_store.specs.Opening.{IsCause};
 ghost use Rattle.session_store.specs.Stands.{parts_from};
 
-use crate::StoreFault;
 use crate::reading::{Header, PART_MARK, read_payload};
 use crate::snapshot::place_of;
+use crate::{PAYLOAD_BYTES, StoreFault};
 use arrayvec::ArrayVec;
-use sector_disk::SectorDisk;
+use sector_disk::{SECTOR_BYTES, SectorDisk};
 use std::alloc::Global;
 
 /// Reads part `i` of this epoch's snapshot.
@@ -18,7 +18,7 @@ fn read_part<D: SectorDisk>(
     disk: &mut D,
     epoch: u64,
     i: u32,
-) -> Result<ArrayVec<u8, 480>, StoreFault>
+) -> Result<ArrayVec<u8, PAYLOAD_BYTES>, StoreFault>
     requires sectors { 2048 ≤ D.disk.count disk.old }
     requires few { i < 494 }
     ensures quiet { Quiet D.disk disk.old disk.new }
@@ -31,7 +31,7 @@ fn read_part<D: SectorDisk>(
         → payload_in part_mark epoch i (D.disk.reads disk.old (place epoch + 1 + i)) ≡ None))) }
 {
     let at = place_of(epoch) + 1 + i;
-    let mut bytes = [0; 512];
+    let mut bytes = [0; SECTOR_BYTES];
     match disk.read(at, &mut bytes) {
         Err(_) => Err(StoreFault::Disk),
         Ok(()) => match read_payload(&PART_MARK, epoch, i, &bytes) {
@@ -50,7 +50,7 @@ pub(crate) fn read_parts<D: SectorDisk>(
     alloc: Global,
     disk: &mut D,
     header: Header,
-) -> Result<Vec<ArrayVec<u8, 480>>, StoreFault>
+) -> Result<Vec<ArrayVec<u8, PAYLOAD_BYTES>>, StoreFault>
     requires sectors { 2048 ≤ D.disk.count disk.old }
     requires few { header.parts ≤ 494 }
     ensures quiet { Quiet D.disk disk.old disk.new }

@@ -3,7 +3,10 @@ ghost use Rattle.std.specs.Prelude.{◌≡◌, ◌<◌, ◌≤◌, ◌^◌, IfSo
 ghost use Rattle.std.specs.Option.{option_copied};
 ghost use Rattle.session_store.specs.Form.{epoch_field, number_field, payload_in, header_of};
 
-use crate::sectors::make_sector;
+use crate::PAYLOAD_BYTES;
+use crate::sectors::{HEAD_BYTES, make_sector};
+use crate::snapshot::MOST_PARTS;
+use sector_disk::SECTOR_BYTES;
 
 /// The marks of a header, a part and a record.
 pub(crate) const HEADER_MARK: [u8; 4] = *b"BD1H";
@@ -32,7 +35,7 @@ pub enum Entry<A> {
 }
 
 /// The epoch that a sector states.
-fn read_epoch(bytes: &[u8; 512]) -> u64
+fn read_epoch(bytes: &[u8; SECTOR_BYTES]) -> u64
     ensures epoch { result ≡ epoch_field bytes.now }
     ensures fits { result < 2 ^ 64 }
 {
@@ -42,7 +45,7 @@ fn read_epoch(bytes: &[u8; 512]) -> u64
 }
 
 /// The number that a sector states.
-fn read_number(bytes: &[u8; 512]) -> u32
+fn read_number(bytes: &[u8; SECTOR_BYTES]) -> u32
     ensures number { result ≡ number_field bytes.now }
     ensures fits { result < 2 ^ 32 }
 {
@@ -54,16 +57,16 @@ pub(crate) fn read_payload<'a>(
     mark: &[u8; 4],
     epoch: u64,
     number: u32,
-    bytes: &'a [u8; 512],
+    bytes: &'a [u8; SECTOR_BYTES],
 ) -> Option<&'a [u8]>
     ensures payload { option_copied result ≡ payload_in mark.now epoch number bytes.now }
     ensures fits { IfSome result (λ payload. length payload.now ≤ 480) }
 {
     let len = u16::from_be_bytes([bytes[16], bytes[17]]) as usize;
-    if len > 480 {
+    if len > PAYLOAD_BYTES {
         return None;
     }
-    let payload = &bytes[18..18 + len];
+    let payload = &bytes[HEAD_BYTES..HEAD_BYTES + len];
     if make_sector(mark, epoch, number, payload) != *bytes {
         return None;
     }
@@ -71,7 +74,7 @@ pub(crate) fn read_payload<'a>(
 }
 
 /// What a sector states as a header, if it is one in form.
-pub(crate) fn read_header(bytes: &[u8; 512]) -> Option<Header>
+pub(crate) fn read_header(bytes: &[u8; SECTOR_BYTES]) -> Option<Header>
     ensures { result ≡ header_of bytes.now }
 {
     let epoch = read_epoch(bytes);
@@ -82,7 +85,7 @@ pub(crate) fn read_header(bytes: &[u8; 512]) -> Option<Header>
     if parts == 0 {
         return None;
     }
-    if parts > 494 {
+    if parts > MOST_PARTS {
         return None;
     }
     if make_sector(&HEADER_MARK, epoch, parts, &[]) != *bytes {

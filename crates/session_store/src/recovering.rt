@@ -10,7 +10,7 @@ use crate::parts::read_parts;
 use crate::reading::Header;
 use crate::replaying::replay_records;
 use crate::snapshot::place_of;
-use crate::{Kept, PartsFault, StoreFault};
+use crate::{Kept, PAYLOAD_BYTES, PartsFault, StoreFault};
 use arrayvec::ArrayVec;
 use sector_disk::SectorDisk;
 use std::alloc::Global;
@@ -24,7 +24,10 @@ pub(crate) struct Recovered<K: Kept> {
 }
 
 /// Two states of the same parts.
-fn make_states<K: Kept>(alloc: Global, parts: &[ArrayVec<u8, 480>]) -> Result<(K, K), PartsFault>
+fn make_states<K: Kept>(
+    alloc: Global,
+    parts: &[ArrayVec<u8, PAYLOAD_BYTES>],
+) -> Result<(K, K), PartsFault>
     ensures state { IfOk result (λ both. K.kept.state_of (map (λ part. part.items) parts.now) ≡ Some both.1) }
     ensures same { IfOk result (λ both. both.0 ≡ both.1) }
     ensures bad { IsErrOf result PartsFault.Bad → K.kept.state_of (map (λ part. part.items) parts.now) ≡ None }

@@ -10,7 +10,7 @@ use crate::entry::read_entry;
 use crate::reading::Entry;
 use crate::submitting::{JOURNAL, RECORDS};
 use crate::{Kept, StoreFault};
-use sector_disk::{DiskFault, SectorDisk};
+use sector_disk::{DiskFault, SECTOR_BYTES, SectorDisk};
 
 /// Reads what sector of the journal is to the record of this epoch and number.
 fn read_record<D: SectorDisk, K: Kept>(
@@ -26,7 +26,7 @@ fn read_record<D: SectorDisk, K: Kept>(
     ensures entry { D.disk.honest disk.old → IfOk result (λ entry.
         entry ≡ entry_in K.kept epoch number (D.disk.reads disk.old (1024 + number))) }
 {
-    let mut bytes = [0; 512];
+    let mut bytes = [0; SECTOR_BYTES];
     match disk.read(JOURNAL + number, &mut bytes) {
         Err(fault) => Err(fault),
         Ok(()) => Ok(read_entry::<K>(epoch, number, &bytes)),

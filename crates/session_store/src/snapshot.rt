@@ -12,12 +12,25 @@ use crate::sectors::make_sector;
 use arrayvec::ArrayVec;
 use sector_disk::{DiskFault, SectorDisk};
 
+/// The sector of the header of the first snapshot, which odd epochs use.
+pub(crate) const SNAPSHOT_A: u32 = 0;
+
+/// The sector of the header of the second snapshot, which even epochs use.
+pub(crate) const SNAPSHOT_B: u32 = 512;
+
+/// The number of parts that a snapshot has room for.
+pub(crate) const MOST_PARTS: u32 = 494;
+
 /// The sector of the header of this epoch's snapshot.
 pub(crate) fn place_of(epoch: u64) -> u32
     ensures place { result ≡ place epoch }
     ensures first { result ≤ 512 }
 {
-    if epoch % 2 == 1 { 0 } else { 512 }
+    if epoch % 2 == 1 {
+        SNAPSHOT_A
+    } else {
+        SNAPSHOT_B
+    }
 }
 
 /// Writes part `i` of the state into this epoch's snapshot.

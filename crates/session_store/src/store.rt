@@ -9,6 +9,9 @@ use arrayvec::ArrayVec;
 use sector_disk::SectorDisk;
 use std::marker::Model;
 
+/// The number of actions that may be pending.
+pub const MOST_PENDING: usize = 64;
+
 /// A state kept on a disk: a base that stands there, and the actions accepted since, up to 64, that a power cut may
 /// still lose from the last on.
 #[derive(Drop)]
@@ -16,7 +19,7 @@ pub struct Store<D: SectorDisk + Drop, K: Kept> {
     pub(crate) disk: D,
     pub(crate) base: K,
     pub(crate) state: K,
-    pub(crate) pending: ArrayVec<K::Action, 64>,
+    pub(crate) pending: ArrayVec<K::Action, MOST_PENDING>,
     pub(crate) epoch: u64,
     pub(crate) records: u32,
     pub(crate) failed: bool,

@@ -4,7 +4,7 @@ use Rattle.std.specs.Prelude.{IfOk, IfErr}
 use Rattle.sector_disk.specs.Disk.{Disk}
 use Rattle.session_store.specs.Value.{StoreValue}
 use Rattle.bridge_session.specs.declared.action.Action.{Action}
-use Rattle.bridge_session.specs.State.{State}
+use Rattle.bridge_session.specs.State.{SessionValue}
 use Rattle.line_text.specs.Streams.{Stream, stream}
 use Rattle.table_server.specs.declared.fault.ServeFault.{ServeFault}
 use Rattle.table_server.specs.declared.fault.ServeFault.TheVariants.{Read, Write, Accept}
@@ -14,7 +14,7 @@ use Rattle.table_server.specs.ServedStreams.{HasServed, StopsServing, EndsServin
 
 module _ {D : Type 0} (disk : Disk D) where
   -- nothing is pending once lines were served, where the store works
-  pub served_ready : (start store : StoreValue D State Action) (reader writer : Stream) (result : Result Served ServeFault)
+  pub served_ready : (start store : StoreValue D SessionValue Action) (reader writer : Stream) (result : Result Served ServeFault)
       → EndsServing disk start store reader writer result → store.failed ≡ false → store.pending ≡ []
   served_ready start store reader writer (Ok result) s works = (s.served.works works).1
   served_ready start store reader writer (Err Read) s works = (s.served.works works).1
@@ -24,14 +24,14 @@ module _ {D : Type 0} (disk : Disk D) where
 
 module _ {D : Type 0} (disk : Disk D) {S : Type 0} (remaining contents : S → Option (List ℕ)) where
   -- the lines of a connection were served, where those of its sides were
-  pub one_served : (start store : StoreValue D State Action) (sides : Sides S) (result : Result Served ServeFault)
+  pub one_served : (start store : StoreValue D SessionValue Action) (sides : Sides S) (result : Result Served ServeFault)
       → IfOk result (HasServed disk start store (stream remaining sides.reader_old sides.reader_new) (stream contents sides.writer_old sides.writer_new))
       → IfOk result (HasServedOne disk remaining contents start store)
   one_served start store sides (Ok result) s = record { sides = sides; served = s }
   one_served start store sides (Err fault) s = tt
 
   -- and where they were not
-  pub one_stopped : (start store : StoreValue D State Action) (sides : Sides S) (result : Result Served ServeFault)
+  pub one_stopped : (start store : StoreValue D SessionValue Action) (sides : Sides S) (result : Result Served ServeFault)
       → IfErr result (StopsServing disk start store (stream remaining sides.reader_old sides.reader_new) (stream contents sides.writer_old sides.writer_new))
       → IfErr result (StopsAccepting disk remaining contents start store)
   one_stopped start store sides (Ok result) s = tt

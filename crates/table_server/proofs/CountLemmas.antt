@@ -2,7 +2,7 @@
 use Rattle.std.proofs.Common.{◌≡◌, ℕ, zero, suc, ◌+◌, ◌≤◌, ◌∙◌, List, [], ◌∷◌, ◌++◌, length, Result, Ok, Err, refl, sym, ap, arith, length-append, append-nil}
 use Rattle.bridge_session.specs.declared.action.Action.{Action}
 use Rattle.bridge_session.specs.declared.refused.Refused.{Refused as SessionRefused}
-use Rattle.bridge_session.specs.State.{State}
+use Rattle.bridge_session.specs.State.{SessionValue}
 use Rattle.table_server.specs.declared.asked.Asked.{Asked}
 use Rattle.table_server.specs.declared.asked.Asked.TheVariants.{Change, Told, BadLine, LongLine}
 use Rattle.table_server.specs.Answered.{after, accepted, after_all, accepted_all}
@@ -10,12 +10,12 @@ use Rattle.table_server.specs.Serving.{accepted_count}
 use Rattle.table_server.specs.Standing.{Standing, answer_in, change_reply, reply_within, accepted_change, accepted_within}
 use Rattle.table_server.proofs.Folds.{accepted_one}
 
-count_within : (n : ℕ) (action : Action) (answer : Result State SessionRefused) → length (accepted_within n action answer) ≡ accepted_count (reply_within n answer)
+count_within : (n : ℕ) (action : Action) (answer : Result SessionValue SessionRefused) → length (accepted_within n action answer) ≡ accepted_count (reply_within n answer)
 count_within zero action answer = refl
 count_within (suc n) action (Ok state) = refl
 count_within (suc n) action (Err refused) = refl
 
-few_within : (n : ℕ) (action : Action) (answer : Result State SessionRefused) → length (accepted_within n action answer) ≤ 1
+few_within : (n : ℕ) (action : Action) (answer : Result SessionValue SessionRefused) → length (accepted_within n action answer) ≤ 1
 few_within zero action answer = omega arith
 few_within (suc n) action (Ok state) = omega arith
 few_within (suc n) action (Err refused) = omega arith

@@ -8,7 +8,7 @@ use Rattle.session_store.specs.Store.{Continues}
 use Rattle.session_store.specs.Value.{StoreValue}
 use Rattle.bridge_session.specs.declared.action.Action.{Action}
 use Rattle.bridge_session.specs.SessionKeeping.{session_keeping}
-use Rattle.bridge_session.specs.State.{State}
+use Rattle.bridge_session.specs.State.{SessionValue}
 use Rattle.table_server.specs.declared.asked.Asked.{Asked}
 use Rattle.table_server.specs.declared.asked.Asked.TheVariants.{Change}
 use Rattle.table_server.specs.Answered.{after, accepted, after_all, accepted_all, disk_errors}
@@ -20,7 +20,7 @@ use Rattle.table_server.proofs.ServingLemmas.{confirmed_enough, joined}
 
 module _ {D : Type 0} (disk : Disk D) where
   -- the store failed as the lines that were held were to be confirmed
-  pub failed_settling : (start store new : StoreValue D State Action) (asked : List Asked) (text : List ℕ) (count : ℕ) (written : List ℕ)
+  pub failed_settling : (start store new : StoreValue D SessionValue Action) (asked : List Asked) (text : List ℕ) (count : ℕ) (written : List ℕ)
       → Holding disk start asked store text count written → new.failed ≡ true → new.state ≡ store.state
       → Continues session_keeping disk store [] new
       → IsServed disk start asked new (written ++ disk_errors count) (length (accepted_all (standing_of start) asked))
@@ -55,7 +55,7 @@ module _ {D : Type 0} (disk : Disk D) where
       }
 
   -- the store failed as it took a change
-  pub failed_taking : (start store new : StoreValue D State Action) (asked : List Asked) (action : Action) (text : List ℕ) (count : ℕ) (written : List ℕ)
+  pub failed_taking : (start store new : StoreValue D SessionValue Action) (asked : List Asked) (action : Action) (text : List ℕ) (count : ℕ) (written : List ℕ)
       → Holding disk start asked store text count written → count < 64 → FailsTaking disk store action new
       → IsServed disk start (asked ++ Change action ∷ []) new (written ++ disk_errors (count + 1))
       (length (accepted_all (standing_of start) asked) + 1)
@@ -109,7 +109,7 @@ module _ {D : Type 0} (disk : Disk D) where
       }
 
   -- a line that comes after the store failed
-  pub failed_more : (start store : StoreValue D State Action) (asked : List Asked) (one : Asked) (written : List ℕ) (actions : ℕ)
+  pub failed_more : (start store : StoreValue D SessionValue Action) (asked : List Asked) (one : Asked) (written : List ℕ) (actions : ℕ)
       → IsServed disk start asked store written actions → store.failed ≡ true
       → IsServed disk start (asked ++ one ∷ []) store (written ++ disk_errors 1) actions
   failed_more start store asked one written actions s failed =
@@ -140,7 +140,7 @@ module _ {D : Type 0} (disk : Disk D) where
       }
 
   -- and where the store had failed
-  pub begins_failed : (store : StoreValue D State Action) → store.failed ≡ true → IsServed disk store [] store [] 0
+  pub begins_failed : (store : StoreValue D SessionValue Action) → store.failed ≡ true → IsServed disk store [] store [] 0
   begins_failed store failed = record {
     answered = [];
     taken = [];

@@ -9,7 +9,7 @@ use Rattle.std.proofs.lemmas.List.{take_all, length-take-le}
 use Rattle.sector_disk.specs.Disk.{Disk}
 use Rattle.session_store.specs.Value.{StoreValue}
 use Rattle.bridge_session.specs.declared.action.Action.{Action}
-use Rattle.bridge_session.specs.State.{State}
+use Rattle.bridge_session.specs.State.{SessionValue}
 use Rattle.line_text.specs.Lines.{complete_lines, is_long, is_within_line}
 use Rattle.line_text.specs.Streams.{Stream, between}
 use Rattle.line_text.proofs.CompleteLines.{lines_none}
@@ -98,7 +98,7 @@ hears_line bytes begun new line byte asked one h step within asks =
 
 module _ {D : Type 0} (disk : Disk D) where
   -- a line was answered
-  pub heard_line : (start store new : StoreValue D State Action) (bytes : List ℕ) (old service : LineService) (byte : ℕ) (one : Asked) (written : List ℕ) (writer : Stream) (result : Result (Unit {0}) ServeFault)
+  pub heard_line : (start store new : StoreValue D SessionValue Action) (bytes : List ℕ) (old service : LineService) (byte : ℕ) (one : Asked) (written : List ℕ) (writer : Stream) (result : Result (Unit {0}) ServeFault)
       → (h : Hearing disk start bytes store old written) → Hears (bytes ++ byte ∷ []) (h.asked ++ one ∷ []) service.feed
       → Serves disk start (h.asked ++ one ∷ []) new service.held written writer result
       → service.held.served.lines ≡ old.held.served.lines + 1
@@ -126,7 +126,7 @@ module _ {D : Type 0} (disk : Disk D) where
   )
 
   -- no line was complete
-  pub heard_begun : (start store : StoreValue D State Action) (bytes : List ℕ) (old service : LineService) (byte : ℕ) (written : List ℕ) (before : Option (List ℕ))
+  pub heard_begun : (start store : StoreValue D SessionValue Action) (bytes : List ℕ) (old service : LineService) (byte : ℕ) (written : List ℕ) (before : Option (List ℕ))
       → (h : Hearing disk start bytes store old written) → Hears (bytes ++ byte ∷ []) h.asked service.feed → service.held ≡ old.held
       → HearsOn disk start (bytes ++ byte ∷ []) store service written (between before before) (Ok tt)
   heard_begun start store bytes old service byte written before h hears same = (
@@ -141,7 +141,7 @@ module _ {D : Type 0} (disk : Disk D) where
   )
 
   -- after what was written whole
-  pub hears_after : (start store : StoreValue D State Action) (bytes : List ℕ) (service : LineService) (written text : List ℕ) (a b c : Option (List ℕ)) (result : Result (Unit {0}) ServeFault)
+  pub hears_after : (start store : StoreValue D SessionValue Action) (bytes : List ℕ) (service : LineService) (written text : List ℕ) (a b c : Option (List ℕ)) (result : Result (Unit {0}) ServeFault)
       → Appends a b text → HearsOn disk start bytes store service (written ++ text) (between b c) result
       → HearsOn disk start bytes store service written (between a c) result
   hears_after start store bytes service written text a b c (Ok u) wrote it = (
@@ -162,7 +162,7 @@ module _ {D : Type 0} (disk : Disk D) where
   )
 
   -- of more bytes the first were heard, as a write failed
-  pub cut_before : (start store : StoreValue D State Action) (bytes more : List ℕ) (written : List ℕ) (writer : Stream)
+  pub cut_before : (start store : StoreValue D SessionValue Action) (bytes more : List ℕ) (written : List ℕ) (writer : Stream)
       → IsCutShort disk start bytes store written writer → IsCutShort disk start (bytes ++ more) store written writer
   cut_before start store bytes more written writer cut = record {
     heard = cut.heard;

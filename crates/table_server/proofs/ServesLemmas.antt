@@ -12,7 +12,7 @@ use Rattle.session_store.specs.Store.{Continues}
 use Rattle.session_store.specs.Value.{StoreValue}
 use Rattle.bridge_session.specs.declared.action.Action.{Action}
 use Rattle.bridge_session.specs.SessionKeeping.{session_keeping}
-use Rattle.bridge_session.specs.State.{State}
+use Rattle.bridge_session.specs.State.{SessionValue}
 use Rattle.line_text.specs.Streams.{Stream, between, TakesPrefix, Written}
 use Rattle.table_server.specs.declared.asked.Asked.{Asked}
 use Rattle.table_server.specs.declared.fault.ServeFault.{ServeFault}
@@ -38,7 +38,7 @@ module _ {D : Type 0} (disk : Disk D) where
   }
 
   -- and what was served has answers
-  answers_served : (start store : StoreValue D State Action) (asked : List Asked) (text : List ℕ) (actions : ℕ)
+  answers_served : (start store : StoreValue D SessionValue Action) (asked : List Asked) (text : List ℕ) (actions : ℕ)
       → IsServed disk start asked store text actions → AreAnswers (standing_of start) asked text
   answers_served start store asked text actions s = record {
     answered = s.answered;
@@ -50,7 +50,7 @@ module _ {D : Type 0} (disk : Disk D) where
   }
 
   -- a write failed in the text of the last lines
-  stopped_now : (start store : StoreValue D State Action) (asked whole group : List Asked) (written text : List ℕ) (writer : Stream) (actions : ℕ)
+  stopped_now : (start store : StoreValue D SessionValue Action) (asked whole group : List Asked) (written text : List ℕ) (writer : Stream) (actions : ℕ)
       → asked ≡ whole ++ group → length group ≤ 64 → AreTogether store.failed whole group → AreAnswers (standing_of start) whole written
       → IsServed disk start asked store (written ++ text) actions → TakesPrefix writer text
       → IsStopped disk start asked store written writer
@@ -75,7 +75,7 @@ module _ {D : Type 0} (disk : Disk D) where
       }
 
   -- the store works, and nothing is written
-  pub serves_held : (start store : StoreValue D State Action) (asked : List Asked) (held : HeldReplies) (written : List ℕ) (before : Option (List ℕ))
+  pub serves_held : (start store : StoreValue D SessionValue Action) (asked : List Asked) (held : HeldReplies) (written : List ℕ) (before : Option (List ℕ))
       → Holding disk start asked store held.text.bytes held.count written → held.served.failed ≡ false
       → held.served.accepted ≡ length (accepted_all (standing_of start) asked)
       → Serves disk start asked store held written (between before before) (Ok tt)
@@ -86,7 +86,7 @@ module _ {D : Type 0} (disk : Disk D) where
   )
 
   -- the store has failed
-  pub serves_failing : (start store : StoreValue D State Action) (asked : List Asked) (held : HeldReplies) (written text : List ℕ) (writer : Stream) (result : Result (Unit {0}) ServeFault)
+  pub serves_failing : (start store : StoreValue D SessionValue Action) (asked : List Asked) (held : HeldReplies) (written text : List ℕ) (writer : Stream) (result : Result (Unit {0}) ServeFault)
       → (whole group : List Asked) → asked ≡ whole ++ group → length group ≤ 64 → AreTogether store.failed whole group → AreAnswers (standing_of start) whole written
       → IsServed disk start asked store (written ++ text) held.served.accepted → store.failed ≡ true → held.count ≡ 0
       → held.served.failed ≡ true → Written writer text result → IfErr result (λ fault. fault ≡ Write)
@@ -97,7 +97,7 @@ module _ {D : Type 0} (disk : Disk D) where
       (fault, stopped_now start store asked whole group written text writer held.served.accepted all few one_group answers s wrote)
 
   -- the store works, and all is confirmed
-  pub serves_working : (start store : StoreValue D State Action) (asked : List Asked) (held : HeldReplies) (written text : List ℕ) (writer : Stream) (result : Result (Unit {0}) ServeFault)
+  pub serves_working : (start store : StoreValue D SessionValue Action) (asked : List Asked) (held : HeldReplies) (written text : List ℕ) (writer : Stream) (result : Result (Unit {0}) ServeFault)
       → (whole group : List Asked) → asked ≡ whole ++ group → length group ≤ 64 → AreTogether store.failed whole group → AreAnswers (standing_of start) whole written
       → Settled disk start asked store (written ++ text) → held_after asked ≡ 0 → held.text.bytes ≡ [] → held.count ≡ 0
       → held.served.failed ≡ false → held.served.accepted ≡ length (accepted_all (standing_of start) asked)
@@ -114,7 +114,7 @@ module _ {D : Type 0} (disk : Disk D) where
   )
 
   -- a write failed after what was written whole
-  pub stopped_after : (start store : StoreValue D State Action) (asked : List Asked) (written text : List ℕ) (a b c : Option (List ℕ))
+  pub stopped_after : (start store : StoreValue D SessionValue Action) (asked : List Asked) (written text : List ℕ) (a b c : Option (List ℕ))
       → Appends a b text → IsStopped disk start asked store (written ++ text) (between b c)
       → IsStopped disk start asked store written (between a c)
   stopped_after start store asked written text a b c wrote stopped =
@@ -137,7 +137,7 @@ module _ {D : Type 0} (disk : Disk D) where
       }
 
   -- after what was written whole
-  pub serves_after : (start store : StoreValue D State Action) (asked : List Asked) (held : HeldReplies) (written text : List ℕ) (a b c : Option (List ℕ)) (result : Result (Unit {0}) ServeFault)
+  pub serves_after : (start store : StoreValue D SessionValue Action) (asked : List Asked) (held : HeldReplies) (written text : List ℕ) (a b c : Option (List ℕ)) (result : Result (Unit {0}) ServeFault)
       → Appends a b text → Serves disk start asked store held (written ++ text) (between b c) result
       → Serves disk start asked store held written (between a c) result
   serves_after start store asked held written text a b c (Ok u) wrote it = (
@@ -149,7 +149,7 @@ module _ {D : Type 0} (disk : Disk D) where
       (it.0, stopped_after start store asked written text a b c wrote it.1)
 
   -- what was held was to be confirmed and written
-  pub serves_settled : (start store new : StoreValue D State Action) (asked : List Asked) (text : List ℕ) (count : ℕ) (held : HeldReplies) (written : List ℕ) (writer : Stream) (result : Result (Unit {0}) ServeFault)
+  pub serves_settled : (start store new : StoreValue D SessionValue Action) (asked : List Asked) (text : List ℕ) (count : ℕ) (held : HeldReplies) (written : List ℕ) (writer : Stream) (result : Result (Unit {0}) ServeFault)
       → Holding disk start asked store text count written → held_after asked ≡ 0 → Continues session_keeping disk store [] new
       → (failed : Bool) → held.served.failed ≡ failed → SettlesBy disk failed store new text count writer result
       → IfErr result (λ fault. fault ≡ Write) → held.count ≡ 0 → (held.served.failed ≡ false → held.text.bytes ≡ [])
@@ -165,7 +165,7 @@ module _ {D : Type 0} (disk : Disk D) where
       begins (empty is) none is counted settles.1 fault
 
   -- of lines to be answered the first were, as a write failed
-  pub stopped_before : (start store : StoreValue D State Action) (asked more : List Asked) (written : List ℕ) (writer : Stream)
+  pub stopped_before : (start store : StoreValue D SessionValue Action) (asked more : List Asked) (written : List ℕ) (writer : Stream)
       → IsStopped disk start asked store written writer → IsStopped disk start (asked ++ more) store written writer
   stopped_before start store asked more written writer s = record {
     whole = s.whole;
@@ -184,7 +184,7 @@ module _ {D : Type 0} (disk : Disk D) where
   }
 
   -- what was held was to be confirmed and written, and a write failed
-  pub stopped_settling : (start store new : StoreValue D State Action) (asked : List Asked) (text : List ℕ) (count : ℕ) (written : List ℕ) (writer : Stream) (it : ServeFault)
+  pub stopped_settling : (start store new : StoreValue D SessionValue Action) (asked : List Asked) (text : List ℕ) (count : ℕ) (written : List ℕ) (writer : Stream) (it : ServeFault)
       → Holding disk start asked store text count written → Continues session_keeping disk store [] new
       → (failed : Bool) → SettlesBy disk failed store new text count writer (Err it)
       → IsStopped disk start asked new written writer
@@ -198,7 +198,7 @@ module _ {D : Type 0} (disk : Disk D) where
       (served disk start new asked (written ++ text) (settled disk start store new asked text count written h settles.0 call)) settles.1
 
   -- a line that comes after the store failed
-  pub serves_more : (start store : StoreValue D State Action) (asked : List Asked) (one : Asked) (old new : HeldReplies) (written : List ℕ) (writer : Stream) (result : Result (Unit {0}) ServeFault)
+  pub serves_more : (start store : StoreValue D SessionValue Action) (asked : List Asked) (one : Asked) (old new : HeldReplies) (written : List ℕ) (writer : Stream) (result : Result (Unit {0}) ServeFault)
       → Failed disk start asked store old written → new.served.accepted ≡ old.served.accepted → new.count ≡ 0 → new.served.failed ≡ true
       → Written writer (disk_errors (old.count + 1)) result → IfErr result (λ fault. fault ≡ Write)
       → Serves disk start (asked ++ one ∷ []) store new written writer result
@@ -210,7 +210,7 @@ module _ {D : Type 0} (disk : Disk D) where
       (subst (λ n. Written writer (disk_errors n) result) single wrote) fault
 
   -- all was confirmed and written at the end, or the store failed there
-  pub ends_settled : (start store new : StoreValue D State Action) (asked : List Asked) (text : List ℕ) (count : ℕ) (held : HeldReplies) (written : List ℕ) (writer : Stream)
+  pub ends_settled : (start store new : StoreValue D SessionValue Action) (asked : List Asked) (text : List ℕ) (count : ℕ) (held : HeldReplies) (written : List ℕ) (writer : Stream)
       → Holding disk start asked store text count written → Continues session_keeping disk store [] new
       → (failed : Bool) → held.served.failed ≡ failed → SettlesBy disk {E = ServeFault} failed store new text count writer (Ok tt)
       → held.served.accepted ≡ length (accepted_all (standing_of start) asked)
@@ -230,7 +230,7 @@ module _ {D : Type 0} (disk : Disk D) where
       )
 
   -- with nothing pending `confirm` fails only where the store had failed
-  pub had_failed : (old new : StoreValue D State Action) (fault : ConfirmFault) → Confirms session_keeping disk old new (Err fault)
+  pub had_failed : (old new : StoreValue D SessionValue Action) (fault : ConfirmFault) → Confirms session_keeping disk old new (Err fault)
       → (old.failed ≡ false → old.pending ≡ []) → (old.failed ≡ true) × (new ≡ old)
   had_failed old new ConfirmFailed answer none = answer
   had_failed old new ConfirmDisk answer none = absurd (answer.1 (none answer.0))

@@ -9,7 +9,7 @@ use Rattle.session_store.specs.Store.{Continues}
 use Rattle.session_store.specs.Value.{StoreValue}
 use Rattle.bridge_session.specs.declared.action.Action.{Action}
 use Rattle.bridge_session.specs.SessionKeeping.{session_keeping}
-use Rattle.bridge_session.specs.State.{State}
+use Rattle.bridge_session.specs.State.{SessionValue}
 use Rattle.table_server.specs.declared.asked.Asked.{Asked}
 use Rattle.table_server.specs.declared.asked.Asked.TheVariants.{Told}
 use Rattle.table_server.specs.declared.asked.Question.{Question}
@@ -22,13 +22,13 @@ use Rattle.table_server.proofs.Folds.{after_append, accepted_one, replies_append
 
 module _ {D : Type 0} where
   -- confirming changes neither the session nor how many actions can be taken
-  confirmed_standing : (v : StoreValue D State Action) (d : D) → standing_of (after_confirm v d) ≡ standing_of v
+  confirmed_standing : (v : StoreValue D SessionValue Action) (d : D) → standing_of (after_confirm v d) ≡ standing_of v
   unfolding room
   confirmed_standing v d = refl
 
   module _ (disk : Disk D) where
     -- actions accepted that are no longer pending are confirmed
-    pub confirmed_enough : (old new : StoreValue D State Action) (all : List Action) (answered waiting : ℕ)
+    pub confirmed_enough : (old new : StoreValue D SessionValue Action) (all : List Action) (answered waiting : ℕ)
         → (call : Continues session_keeping disk old all new) → length new.pending ≤ waiting
         → length all ≡ answered + waiting → answered ≤ call.confirmed
     confirmed_enough old new all answered waiting call few count =
@@ -38,29 +38,29 @@ module _ {D : Type 0} where
         omega (arith, long, left, rest, few, count)
 
     -- one call more
-    pub joined : (start store new : StoreValue D State Action) (s : Standing) (asked : List Asked) (more : List Action) (all : List Action)
+    pub joined : (start store new : StoreValue D SessionValue Action) (s : Standing) (asked : List Asked) (more : List Action) (all : List Action)
         → Continues session_keeping disk start (accepted_all s asked) store → Continues session_keeping disk store more new
         → all ≡ accepted_all s asked ++ more → Continues session_keeping disk start all new
     joined start store new s asked more all first second is =
         rw is (continues_joins session_keeping disk start store new (accepted_all s asked) more first second)
 
     -- what was held is confirmed
-    pub settled : (start store new : StoreValue D State Action) (asked : List Asked) (text : List ℕ) (count : ℕ) (written : List ℕ)
+    pub settled : (start store new : StoreValue D SessionValue Action) (asked : List Asked) (text : List ℕ) (count : ℕ) (written : List ℕ)
         → Holding disk start asked store text count written → new ≡ after_confirm store new.disk
         → Continues session_keeping disk store [] new → Settled disk start asked new (written ++ text)
     settled start store new asked text count written h is call = record {
       are_replies = rw h.all (replies_append (standing_of start) h.answered h.waiting written text h.are_replies h.are_held);
-      works = ap (λ (v : StoreValue D State Action). v.failed) is ∙ h.works;
+      works = ap (λ (v : StoreValue D SessionValue Action). v.failed) is ∙ h.works;
       worked = h.worked;
       standing = ap standing_of is ∙ confirmed_standing store new.disk ∙ h.standing;
       continues =
           joined start store new (standing_of start) asked [] (accepted_all (standing_of start) asked) h.continues call
           (sym (append-nil (accepted_all (standing_of start) asked)));
-      pending = ap (λ (v : StoreValue D State Action). v.pending) is;
+      pending = ap (λ (v : StoreValue D SessionValue Action). v.pending) is;
     }
 
     -- and then another group may begin
-    pub holding : (start store : StoreValue D State Action) (asked : List Asked) (written : List ℕ)
+    pub holding : (start store : StoreValue D SessionValue Action) (asked : List Asked) (written : List ℕ)
         → Settled disk start asked store written → held_after asked ≡ 0 → Holding disk start asked store [] 0 written
     holding start store asked written s begins = record {
       answered = asked;
@@ -80,7 +80,7 @@ module _ {D : Type 0} where
     }
 
     -- or all was served
-    pub served : (start store : StoreValue D State Action) (asked : List Asked) (written : List ℕ)
+    pub served : (start store : StoreValue D SessionValue Action) (asked : List Asked) (written : List ℕ)
         → (s : Settled disk start asked store written)
         → IsServed disk start asked store written (length (accepted_all (standing_of start) asked))
     served start store asked written s =
@@ -109,13 +109,13 @@ module _ {D : Type 0} where
         }
 
     -- a question was answered
-    pub told : (start store : StoreValue D State Action) (asked : List Asked) (question : Question) (written text : List ℕ)
+    pub told : (start store : StoreValue D SessionValue Action) (asked : List Asked) (question : Question) (written text : List ℕ)
         → Settled disk start asked store written → Tells store.state question text
         → Settled disk start (asked ++ Told question ∷ []) store (written ++ text)
     told start store asked question written text s tells =
         let from = standing_of start in
         let there : Tells (after_all from asked).state question text
-        = subst (λ (t : State). Tells t question text) (ap (λ (t : Standing). t.state) s.standing) tells in record {
+        = subst (λ (t : SessionValue). Tells t question text) (ap (λ (t : Standing). t.state) s.standing) tells in record {
           are_replies = replies_one from asked (Told question) written text s.are_replies there;
           works = s.works;
           worked = s.worked;
@@ -125,7 +125,7 @@ module _ {D : Type 0} where
         }
 
     -- one line more is held
-    pub held_more : (start store new : StoreValue D State Action) (asked : List Asked) (one : Asked) (text reply : List ℕ) (count : ℕ) (written : List ℕ)
+    pub held_more : (start store new : StoreValue D SessionValue Action) (asked : List Asked) (one : Asked) (text reply : List ℕ) (count : ℕ) (written : List ℕ)
         → Holding disk start asked store text count written → count < 64 → is_held one ≡ true
         → IsReply (standing_of store) one reply → new.failed ≡ false → standing_of new ≡ after (standing_of store) one
         → Continues session_keeping disk store (accepted (standing_of store) one) new

@@ -8,7 +8,7 @@ use Rattle.std.proofs.KnownBytes.{Appends-nil, Appends-trans, Consumes-nil, Cons
 use Rattle.sector_disk.specs.Disk.{Disk}
 use Rattle.session_store.specs.Value.{StoreValue}
 use Rattle.bridge_session.specs.declared.action.Action.{Action}
-use Rattle.bridge_session.specs.State.{State}
+use Rattle.bridge_session.specs.State.{SessionValue}
 use Rattle.line_text.specs.Streams.{Stream, between, TakesPrefix}
 use Rattle.table_server.specs.declared.fault.ServeFault.{ServeFault}
 use Rattle.table_server.specs.declared.line_service.LineService.{LineService}
@@ -33,7 +33,7 @@ whole_read (Some input) (Some more) bytes (suc left) count consumed end =
 
 module _ {D : Type 0} (disk : Disk D) where
   -- nothing was read yet
-  pub read_nothing : (start store : StoreValue D State Action) (service : LineService) (given before : Option (List ℕ))
+  pub read_nothing : (start store : StoreValue D SessionValue Action) (service : LineService) (given before : Option (List ℕ))
       → Hearing disk start [] store service [] → HasRead disk start store service (between given given) (between before before) 65536
   read_nothing start store service given before h = record {
     bytes = [];
@@ -45,7 +45,7 @@ module _ {D : Type 0} (disk : Disk D) where
   }
 
   -- one piece more
-  pub read_more : (start store new : StoreValue D State Action) (old service : LineService) (given rest rest' before written written' : Option (List ℕ)) (left left' : ℕ) (piece : List ℕ)
+  pub read_more : (start store new : StoreValue D SessionValue Action) (old service : LineService) (given rest rest' before written written' : Option (List ℕ)) (left left' : ℕ) (piece : List ℕ)
       → (r : HasRead disk start store old (between given rest) (between before written) left) → length piece + left' ≡ left → Consumes rest rest' piece
       → HearsOn disk start (r.bytes ++ piece) new service r.text (between written written') (Ok tt)
       → HasRead disk start new service (between given rest') (between before written') left'
@@ -59,7 +59,7 @@ module _ {D : Type 0} (disk : Disk D) where
   }
 
   -- a write failed among the replies to one piece more
-  pub stops_more : (start store new : StoreValue D State Action) (old service : LineService) (given rest rest' before written written' : Option (List ℕ)) (left : ℕ) (piece : List ℕ) (fault : ServeFault)
+  pub stops_more : (start store new : StoreValue D SessionValue Action) (old service : LineService) (given rest rest' before written written' : Option (List ℕ)) (left : ℕ) (piece : List ℕ) (fault : ServeFault)
       → (r : HasRead disk start store old (between given rest) (between before written) left) → length piece ≤ left → Consumes rest rest' piece
       → HearsOn disk start (r.bytes ++ piece) new service r.text (between written written') (Err fault)
       → StopsReplying disk start new (between given rest') (between before written')
@@ -71,7 +71,7 @@ module _ {D : Type 0} (disk : Disk D) where
   }
 
   -- a read failed
-  pub read_kept : (start store : StoreValue D State Action) (service : LineService) (given rest rest' : Option (List ℕ)) (writer : Stream) (left : ℕ)
+  pub read_kept : (start store : StoreValue D SessionValue Action) (service : LineService) (given rest rest' : Option (List ℕ)) (writer : Stream) (left : ℕ)
       → HasRead disk start store service (between given rest) writer left → Keeps rest rest' → HasRead disk start store service (between given rest') writer left
   read_kept start store service given rest rest' writer left r kept = record {
     bytes = r.bytes;
@@ -83,7 +83,7 @@ module _ {D : Type 0} (disk : Disk D) where
   }
 
   -- a write failed as what was held was to be written
-  pub ends_stopped : (start store new : StoreValue D State Action) (service : LineService) (reader : Stream) (before now after : Option (List ℕ)) (left : ℕ) (fault : ServeFault)
+  pub ends_stopped : (start store new : StoreValue D SessionValue Action) (service : LineService) (reader : Stream) (before now after : Option (List ℕ)) (left : ℕ) (fault : ServeFault)
       → (r : HasRead disk start store service reader (between before now) left)
       → Ends disk start r.hearing.asked new r.text (between now after) (Err fault)
       → StopsServing disk start new reader (between before after) fault
@@ -102,7 +102,7 @@ module _ {D : Type 0} (disk : Disk D) where
   }))
 
   -- the input was at its end
-  pub ends_at_end : (start store new : StoreValue D State Action) (service : LineService) (reader : Stream) (before now after : Option (List ℕ)) (left : ℕ) (result : Served)
+  pub ends_at_end : (start store new : StoreValue D SessionValue Action) (service : LineService) (reader : Stream) (before now after : Option (List ℕ)) (left : ℕ) (result : Served)
       → (r : HasRead disk start store service reader (between before now) left) → 0 < left → IsAtEnd reader.new
       → Ends disk start r.hearing.asked new r.text (between now after) (Ok result) → result.lines ≡ service.held.served.lines
       → HasServed disk start new reader (between before after) result
@@ -122,7 +122,7 @@ module _ {D : Type 0} (disk : Disk D) where
       }
 
   -- the limit was reached, and the notice is written
-  pub ends_at_limit : (start store new : StoreValue D State Action) (service : LineService) (reader : Stream) (before now mid after : Option (List ℕ)) (left : ℕ) (result : Served)
+  pub ends_at_limit : (start store new : StoreValue D SessionValue Action) (service : LineService) (reader : Stream) (before now mid after : Option (List ℕ)) (left : ℕ) (result : Served)
       → (r : HasRead disk start store service reader (between before now) left) → left ≡ 0
       → Ends disk start r.hearing.asked new r.text (between now mid) (Ok result) → result.lines ≡ service.held.served.lines
       → Appends mid after (limit_notice true) → HasServed disk start new reader (between before after) result
@@ -143,7 +143,7 @@ module _ {D : Type 0} (disk : Disk D) where
       }
 
   -- a write failed in the notice
-  pub ends_in_notice : (start store new : StoreValue D State Action) (service : LineService) (reader : Stream) (before now mid after : Option (List ℕ)) (left : ℕ) (result : Served)
+  pub ends_in_notice : (start store new : StoreValue D SessionValue Action) (service : LineService) (reader : Stream) (before now mid after : Option (List ℕ)) (left : ℕ) (result : Served)
       → (r : HasRead disk start store service reader (between before now) left) → left ≡ 0
       → Ends disk start r.hearing.asked new r.text (between now mid) (Ok result)
       → TakesPrefix (between mid after) (limit_notice true) → StopsNoticing disk start new reader (between before after)
@@ -164,7 +164,7 @@ module _ {D : Type 0} (disk : Disk D) where
       }
 
   -- a read failed, and what was held is written
-  pub ends_at_fault : (start store new : StoreValue D State Action) (service : LineService) (reader : Stream) (before now after : Option (List ℕ)) (left : ℕ) (result : Served)
+  pub ends_at_fault : (start store new : StoreValue D SessionValue Action) (service : LineService) (reader : Stream) (before now after : Option (List ℕ)) (left : ℕ) (result : Served)
       → (r : HasRead disk start store service reader (between before now) left) → 0 < left
       → Ends disk start r.hearing.asked new r.text (between now after) (Ok result)
       → StopsReading disk start new reader (between before after)
@@ -181,7 +181,7 @@ module _ {D : Type 0} (disk : Disk D) where
   }
 
   -- nothing more was read
-  pub read_none : (start store : StoreValue D State Action) (service : LineService) (given rest rest' : Option (List ℕ)) (writer : Stream) (left : ℕ)
+  pub read_none : (start store : StoreValue D SessionValue Action) (service : LineService) (given rest rest' : Option (List ℕ)) (writer : Stream) (left : ℕ)
       → HasRead disk start store service (between given rest) writer left → Consumes rest rest' [] → HasRead disk start store service (between given rest') writer left
   read_none start store service given rest rest' writer left r consumed = record {
     bytes = r.bytes;
@@ -193,13 +193,13 @@ module _ {D : Type 0} (disk : Disk D) where
   }
 
   -- what was served, where the end answers Ok
-  pub ends_ok : (start store : StoreValue D State Action) (reader writer : Stream) (result : Result Served ServeFault) → EndsServing disk start store reader writer result
+  pub ends_ok : (start store : StoreValue D SessionValue Action) (reader writer : Stream) (result : Result Served ServeFault) → EndsServing disk start store reader writer result
       → IfOk result (HasServed disk start store reader writer)
   ends_ok start store reader writer (Ok it) e = e
   ends_ok start store reader writer (Err fault) e = tt
 
   -- and where it does not
-  pub ends_err : (start store : StoreValue D State Action) (reader writer : Stream) (result : Result Served ServeFault) → EndsServing disk start store reader writer result
+  pub ends_err : (start store : StoreValue D SessionValue Action) (reader writer : Stream) (result : Result Served ServeFault) → EndsServing disk start store reader writer result
       → IfErr result (StopsServing disk start store reader writer)
   ends_err start store reader writer (Ok it) e = tt
   ends_err start store reader writer (Err fault) e = e

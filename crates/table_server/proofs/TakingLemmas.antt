@@ -8,31 +8,31 @@ use Rattle.session_store.specs.Value.{StoreValue}
 use Rattle.bridge_session.specs.declared.action.Action.{Action}
 use Rattle.bridge_session.specs.declared.refused.Refused.{Refused as SessionRefused}
 use Rattle.bridge_session.specs.SessionKeeping.{session_keeping}
-use Rattle.bridge_session.specs.State.{State}
+use Rattle.bridge_session.specs.State.{SessionValue}
 use Rattle.table_server.specs.Serving.{FailsTaking}
 use Rattle.table_server.specs.Standing.{Standing, standing_of, standing_within, accepted_within}
 
 -- where actions can be taken, one that the session accepts is
-accepted_there : (n : ℕ) (action : Action) (answer : Result State SessionRefused) (s : State) → 0 < n → answer ≡ Ok s → accepted_within n action answer ≡ action ∷ []
+accepted_there : (n : ℕ) (action : Action) (answer : Result SessionValue SessionRefused) (s : SessionValue) → 0 < n → answer ≡ Ok s → accepted_within n action answer ≡ action ∷ []
 accepted_there zero action answer s some is = absurd (omega (arith, some))
 accepted_there (suc n) action answer s some is = rw is refl
 
 -- and the session is the one after it
-state_there : (n : ℕ) (standing : Standing) (answer : Result State SessionRefused) (s : State) → 0 < n → answer ≡ Ok s → s ≡ (standing_within standing n answer).state
+state_there : (n : ℕ) (standing : Standing) (answer : Result SessionValue SessionRefused) (s : SessionValue) → 0 < n → answer ≡ Ok s → s ≡ (standing_within standing n answer).state
 state_there zero standing answer s some is = absurd (omega (arith, some))
 state_there (suc n) standing answer s some is = rw is refl
 
 -- either way the store has failed
-pub failed_either : {D : Type 0} (full : Bool) (v w : StoreValue D State Action) (d : D) → (if full then after_fault v d else after_fault w d).failed ≡ true
+pub failed_either : {D : Type 0} (full : Bool) (v w : StoreValue D SessionValue Action) (d : D) → (if full then after_fault v d else after_fault w d).failed ≡ true
 failed_either true v w d = refl
 failed_either false v w d = refl
 
 -- a store that accepted an action and failed
-pub fails_taking : {D : Type 0} (disk : Disk D) (v new : StoreValue D State Action) (action : Action) → TakesMore v → session_keeping.step v.state action ≡ Ok new.state → new ≡ after_failed_submit v action new.state new.disk → Continues session_keeping disk v (action ∷ []) new → FailsTaking disk v action new
+pub fails_taking : {D : Type 0} (disk : Disk D) (v new : StoreValue D SessionValue Action) (action : Action) → TakesMore v → session_keeping.step v.state action ≡ Ok new.state → new ≡ after_failed_submit v action new.state new.disk → Continues session_keeping disk v (action ∷ []) new → FailsTaking disk v action new
 fails_taking {D} disk v new action more accepts is call =
     let answer = session_keeping.step v.state action in
     let accepted : accepted_within (room v) action answer ≡ action ∷ [] = accepted_there (room v) action answer new.state more.2 accepts in record {
-      failed = ap (λ (w : StoreValue D State Action). w.failed) is
+      failed = ap (λ (w : StoreValue D SessionValue Action). w.failed) is
           ∙ failed_either (v.records == 1024) (with_action v action new.state) (with_record v action new.state) new.disk;
       accepted = accepted;
       state = state_there (room v) (standing_of v) answer new.state more.2 accepts;

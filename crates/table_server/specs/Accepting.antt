@@ -3,7 +3,7 @@ use Rattle.std.specs.Prelude.{◌≡◌, ℕ, List, Option}
 use Rattle.sector_disk.specs.Disk.{Disk}
 use Rattle.session_store.specs.Value.{StoreValue}
 use Rattle.bridge_session.specs.declared.action.Action.{Action}
-use Rattle.bridge_session.specs.State.{State}
+use Rattle.bridge_session.specs.State.{SessionValue}
 use Rattle.line_text.specs.Streams.{stream}
 use Rattle.table_server.specs.declared.fault.ServeFault.{ServeFault}
 use Rattle.table_server.specs.declared.fault.ServeFault.TheVariants.{Read, Write, Accept}
@@ -20,17 +20,17 @@ pub record Sides (S : Type 0) : Type 0 where
 -- of a net: which bytes a connection still gives, and which it has taken
 module _ {D : Type 0} (disk : Disk D) {S : Type 0} (remaining contents : S → Option (List ℕ)) where
   -- the lines that came in at a connection were served, and answered there
-  pub record HasServedOne (start store : StoreValue D State Action) (result : Served) : Type 0 where
+  pub record HasServedOne (start store : StoreValue D SessionValue Action) (result : Served) : Type 0 where
     pub sides : Sides S
     pub served : HasServed disk start store (stream remaining sides.reader_old sides.reader_new) (stream contents sides.writer_old sides.writer_new) result
 
   -- the lines that came in at a connection were served up to this fault of it
-  pub record StopsServingOne (start store : StoreValue D State Action) (fault : ServeFault) : Type 0 where
+  pub record StopsServingOne (start store : StoreValue D SessionValue Action) (fault : ServeFault) : Type 0 where
     pub sides : Sides S
     pub stops : StopsServing disk start store (stream remaining sides.reader_old sides.reader_new) (stream contents sides.writer_old sides.writer_new) fault
 
   -- what holds at a fault; where no connection was had, the store is as it was
-  abbrev pub StopsAccepting : StoreValue D State Action → StoreValue D State Action → ServeFault → Type 0
+  abbrev pub StopsAccepting : StoreValue D SessionValue Action → StoreValue D SessionValue Action → ServeFault → Type 0
   StopsAccepting start store Read = StopsServingOne start store Read
   StopsAccepting start store Write = StopsServingOne start store Write
   StopsAccepting start store Accept = store ≡ start

@@ -7,11 +7,11 @@ use Rattle.table_server.specs.declared.fault.ServeFault.{ServeFault}
 use Rattle.table_server.specs.declared.fault.ServeFault.TheVariants.{Read, Write, Accept}
 use Rattle.line_text.specs.Lines.{complete_lines, is_within_line}
 use Rattle.table_server.specs.Replies.{replies_to, calls_after, output_for, auction_output, byte_limit}
-use Rattle.table_server.specs.AuctionLines.{AuctionLines, replies_from, calls_from}
+use Rattle.table_server.specs.AuctionLines.{AuctionLinesValue, replies_from, calls_from}
 use Rattle.line_text.specs.Streams.{Stream, Gives, Takes, TakesPrefix}
 
 -- The auction has heard some bytes, which the reader gave, and the replies to their complete lines are written.
-pub record Heard (dealer : Seat) (given rest written_before written : Option (List ℕ)) (auction_lines : AuctionLines) (left : ℕ) : Type 0 where
+pub record Heard (dealer : Seat) (given rest written_before written : Option (List ℕ)) (auction_lines : AuctionLinesValue) (left : ℕ) : Type 0 where
   pub bytes : List ℕ
   pub count : length bytes + left ≡ byte_limit
   pub consumed : Consumes given rest bytes

@@ -4,7 +4,7 @@ use Rattle.std.specs.List.{list_all}
 use Rattle.sector_disk.specs.Disk.{Disk}
 use Rattle.session_store.specs.Value.{StoreValue}
 use Rattle.bridge_session.specs.declared.action.Action.{Action}
-use Rattle.bridge_session.specs.State.{State}
+use Rattle.bridge_session.specs.State.{SessionValue}
 use Rattle.line_text.specs.Lines.{complete_lines, is_within_line}
 use Rattle.line_text.specs.Streams.{Stream, Takes}
 use Rattle.table_server.specs.declared.asked.Asked.{Asked}
@@ -23,14 +23,14 @@ pub record Hears (bytes : List ℕ) (asked : List Asked) (begun : List ℕ) : Ty
 
 module _ {D : Type 0} (disk : Disk D) where
   -- The lines of these bytes were taken, from a store on; so far this is written.
-  pub record Hearing (start : StoreValue D State Action) (bytes : List ℕ) (store : StoreValue D State Action) (service : LineService) (written : List ℕ) : Type 0 where
+  pub record Hearing (start : StoreValue D SessionValue Action) (bytes : List ℕ) (store : StoreValue D SessionValue Action) (service : LineService) (written : List ℕ) : Type 0 where
     pub asked : List Asked
     pub hears : Hears bytes asked service.feed
     pub serving : Serving disk start asked store service.held written
     pub lines : service.held.served.lines ≡ length asked
 
   -- A write failed among the lines of these bytes.
-  pub record IsCutShort (start : StoreValue D State Action) (bytes : List ℕ) (store : StoreValue D State Action) (written : List ℕ) (writer : Stream) : Type 0 where
+  pub record IsCutShort (start : StoreValue D SessionValue Action) (bytes : List ℕ) (store : StoreValue D SessionValue Action) (written : List ℕ) (writer : Stream) : Type 0 where
     pub heard : List ℕ
     pub unheard : List ℕ
     pub all : bytes ≡ heard ++ unheard
@@ -39,7 +39,7 @@ module _ {D : Type 0} (disk : Disk D) where
     pub stopped : IsStopped disk start asked store written writer
 
   -- what is written at Ok, and what at a fault
-  abbrev pub HearsOn : StoreValue D State Action → List ℕ → StoreValue D State Action → LineService → List ℕ → Stream → Result (Unit {0}) ServeFault → Type 0
+  abbrev pub HearsOn : StoreValue D SessionValue Action → List ℕ → StoreValue D SessionValue Action → LineService → List ℕ → Stream → Result (Unit {0}) ServeFault → Type 0
   HearsOn start bytes store service written writer (Ok _) =
       (text : List ℕ) × Takes writer text × Hearing start bytes store service (written ++ text)
   HearsOn start bytes store service written writer (Err fault) = (fault ≡ Write) × IsCutShort start bytes store written writer

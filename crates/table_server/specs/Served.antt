@@ -6,14 +6,14 @@ use Rattle.session_store.specs.Store.{Continues}
 use Rattle.session_store.specs.Value.{StoreValue}
 use Rattle.bridge_session.specs.declared.action.Action.{Action}
 use Rattle.bridge_session.specs.SessionKeeping.{session_keeping}
-use Rattle.bridge_session.specs.State.{State}
+use Rattle.bridge_session.specs.State.{SessionValue}
 use Rattle.table_server.specs.declared.asked.Asked.{Asked}
 use Rattle.table_server.specs.Answered.{AreReplies, after_all, accepted_all, held_after, is_held, disk_errors}
 use Rattle.table_server.specs.Standing.{standing_of}
 
 module _ {D : Type 0} (disk : Disk D) where
   -- Lines that ask for these were served, from this store on, with this text, and so many actions were accepted.
-  pub record IsServed (start : StoreValue D State Action) (asked : List Asked) (store : StoreValue D State Action) (text : List ℕ) (actions : ℕ) : Type 0 where
+  pub record IsServed (start : StoreValue D SessionValue Action) (asked : List Asked) (store : StoreValue D SessionValue Action) (text : List ℕ) (actions : ℕ) : Type 0 where
     -- those answered; those taken of the group in which the store failed; and those not taken
     pub answered : List Asked
     pub taken : List Asked

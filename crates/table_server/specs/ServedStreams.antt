@@ -4,7 +4,7 @@ use Rattle.std.specs.Io.KnownBytes.{IsAtEnd}
 use Rattle.sector_disk.specs.Disk.{Disk}
 use Rattle.session_store.specs.Value.{StoreValue}
 use Rattle.bridge_session.specs.declared.action.Action.{Action}
-use Rattle.bridge_session.specs.State.{State}
+use Rattle.bridge_session.specs.State.{SessionValue}
 use Rattle.line_text.specs.Lines.{complete_lines}
 use Rattle.line_text.specs.Streams.{Stream, Gives, Takes}
 use Rattle.table_server.specs.declared.asked.Asked.{Asked}
@@ -27,7 +27,7 @@ IsEnd AtFault left rest = 0 < left
 
 module _ {D : Type 0} (disk : Disk D) where
   -- The reader gave some bytes, so many fewer than the limit, and their lines were taken.
-  pub record HasRead (start store : StoreValue D State Action) (service : LineService) (reader writer : Stream) (left : ℕ) : Type 0 where
+  pub record HasRead (start store : StoreValue D SessionValue Action) (service : LineService) (reader writer : Stream) (left : ℕ) : Type 0 where
     pub bytes : List ℕ
     pub count : length bytes + left ≡ byte_limit
     pub given : Gives reader bytes
@@ -37,7 +37,7 @@ module _ {D : Type 0} (disk : Disk D) where
 
   -- All of the reader's bytes, up to the limit, were served: the replies to their complete lines are written, and at the
   -- limit a notice.
-  pub record HasServed (start store : StoreValue D State Action) (reader writer : Stream) (result : Served) : Type 0 where
+  pub record HasServed (start store : StoreValue D SessionValue Action) (reader writer : Stream) (result : Served) : Type 0 where
     pub bytes : List ℕ
     pub few : length bytes ≤ byte_limit
     pub given : Gives reader bytes
@@ -51,7 +51,7 @@ module _ {D : Type 0} (disk : Disk D) where
     pub failed : result.failed ≡ store.failed
 
   -- A read failed: the replies to the complete lines before it are written.
-  pub record StopsReading (start store : StoreValue D State Action) (reader writer : Stream) : Type 0 where
+  pub record StopsReading (start store : StoreValue D SessionValue Action) (reader writer : Stream) : Type 0 where
     pub bytes : List ℕ
     pub few : length bytes < byte_limit
     pub given : Gives reader bytes
@@ -63,14 +63,14 @@ module _ {D : Type 0} (disk : Disk D) where
     pub served : IsServed disk start asked store text actions
 
   -- A write failed among the replies.
-  pub record StopsReplying (start store : StoreValue D State Action) (reader writer : Stream) : Type 0 where
+  pub record StopsReplying (start store : StoreValue D SessionValue Action) (reader writer : Stream) : Type 0 where
     pub bytes : List ℕ
     pub few : length bytes ≤ byte_limit
     pub given : Gives reader bytes
     pub cut : IsCutShort disk start bytes store [] writer
 
   -- All replies are written, and of the notice at the limit a part, as a write failed.
-  pub record StopsNoticing (start store : StoreValue D State Action) (reader writer : Stream) : Type 0 where
+  pub record StopsNoticing (start store : StoreValue D SessionValue Action) (reader writer : Stream) : Type 0 where
     pub bytes : List ℕ
     pub limit : length bytes ≡ byte_limit
     pub given : Gives reader bytes
@@ -85,12 +85,12 @@ module _ {D : Type 0} (disk : Disk D) where
     pub served : IsServed disk start asked store text actions
 
   -- what holds at a fault; no connection is accepted
-  abbrev pub StopsServing : StoreValue D State Action → StoreValue D State Action → Stream → Stream → ServeFault → Type 0
+  abbrev pub StopsServing : StoreValue D SessionValue Action → StoreValue D SessionValue Action → Stream → Stream → ServeFault → Type 0
   StopsServing start store reader writer Read = StopsReading start store reader writer
   StopsServing start store reader writer Write = StopsReplying start store reader writer ⊎ StopsNoticing start store reader writer
   StopsServing start store reader writer Accept = ⊥
 
   -- what holds at the end
-  abbrev pub EndsServing : StoreValue D State Action → StoreValue D State Action → Stream → Stream → Result Served ServeFault → Type 0
+  abbrev pub EndsServing : StoreValue D SessionValue Action → StoreValue D SessionValue Action → Stream → Stream → Result Served ServeFault → Type 0
   EndsServing start store reader writer (Ok result) = HasServed start store reader writer result
   EndsServing start store reader writer (Err fault) = StopsServing start store reader writer fault

@@ -7,7 +7,7 @@ use Rattle.session_store.specs.Store.{Continues}
 use Rattle.session_store.specs.Value.{StoreValue}
 use Rattle.bridge_session.specs.declared.action.Action.{Action}
 use Rattle.bridge_session.specs.SessionKeeping.{session_keeping}
-use Rattle.bridge_session.specs.State.{State}
+use Rattle.bridge_session.specs.State.{SessionValue}
 use Rattle.line_text.specs.Streams.{Stream, Takes, Written}
 use Rattle.table_server.specs.declared.asked.Asked.{Asked}
 use Rattle.table_server.specs.declared.fault.ServeFault.{ServeFault}
@@ -57,32 +57,32 @@ AreTogether failed before group = ((held_after before ≡ 0) × (list_all is_hel
 
 module _ {D : Type 0} (disk : Disk D) where
   -- the reply to a change, and the store that it leaves
-  pub record IsTaken (old : StoreValue D State Action) (action : Action) (new : StoreValue D State Action) (reply : ShortReply) : Type 0 where
+  pub record IsTaken (old : StoreValue D SessionValue Action) (action : Action) (new : StoreValue D SessionValue Action) (reply : ShortReply) : Type 0 where
     pub works : new.failed ≡ false
     pub reply_is : reply ≡ change_reply (standing_of old) action
     pub standing : standing_of new ≡ after_change (standing_of old) action
     pub continues : Continues session_keeping disk old (accepted_change (standing_of old) action) new
 
   -- the store that accepted an action and failed
-  pub record FailsTaking (old : StoreValue D State Action) (action : Action) (new : StoreValue D State Action) : Type 0 where
+  pub record FailsTaking (old : StoreValue D SessionValue Action) (action : Action) (new : StoreValue D SessionValue Action) : Type 0 where
     pub failed : new.failed ≡ true
     pub accepted : accepted_change (standing_of old) action ≡ action ∷ []
     pub state : new.state ≡ (after_change (standing_of old) action).state
     pub continues : Continues session_keeping disk old (accepted_change (standing_of old) action) new
 
   -- a reply, where the store did not fail
-  abbrev pub Gives : StoreValue D State Action → Action → StoreValue D State Action → Option ShortReply → Type 0
+  abbrev pub Gives : StoreValue D SessionValue Action → Action → StoreValue D SessionValue Action → Option ShortReply → Type 0
   Gives old action new (Some reply) = IsTaken old action new reply
   Gives old action new None = FailsTaking old action new
 
   -- what was accepted is confirmed, and the replies are written; or the store has failed, and for each the error is
-  abbrev pub SettlesBy : {E : Type 0} → Bool → StoreValue D State Action → StoreValue D State Action → List ℕ → ℕ → Stream → Result (Unit {0}) E → Type 0
+  abbrev pub SettlesBy : {E : Type 0} → Bool → StoreValue D SessionValue Action → StoreValue D SessionValue Action → List ℕ → ℕ → Stream → Result (Unit {0}) E → Type 0
   SettlesBy true old new text count writer result =
       (new.failed ≡ true) × (new.state ≡ old.state) × Written writer (disk_errors count) result
   SettlesBy false old new text count writer result = (new ≡ after_confirm old new.disk) × Written writer text result
 
   -- Lines were answered in whole groups, with what is written; and others are held, with this text of replies.
-  pub record Holding (start : StoreValue D State Action) (asked : List Asked) (store : StoreValue D State Action) (text : List ℕ) (count : ℕ) (written : List ℕ) : Type 0 where
+  pub record Holding (start : StoreValue D SessionValue Action) (asked : List Asked) (store : StoreValue D SessionValue Action) (text : List ℕ) (count : ℕ) (written : List ℕ) : Type 0 where
     pub answered : List Asked
     pub waiting : List Asked
     pub all : asked ≡ answered ++ waiting
@@ -99,7 +99,7 @@ module _ {D : Type 0} (disk : Disk D) where
     pub pending : length store.pending ≤ length (accepted_all (after_all (standing_of start) answered) waiting)
 
   -- All lines were answered, and what was accepted of them is confirmed.
-  pub record Settled (start : StoreValue D State Action) (asked : List Asked) (store : StoreValue D State Action) (written : List ℕ) : Type 0 where
+  pub record Settled (start : StoreValue D SessionValue Action) (asked : List Asked) (store : StoreValue D SessionValue Action) (written : List ℕ) : Type 0 where
     pub are_replies : AreReplies (standing_of start) asked written
     pub works : store.failed ≡ false
     pub worked : start.failed ≡ false
@@ -108,27 +108,27 @@ module _ {D : Type 0} (disk : Disk D) where
     pub pending : store.pending ≡ []
 
   -- The store works, and so many actions were accepted.
-  pub record Works (start : StoreValue D State Action) (asked : List Asked) (store : StoreValue D State Action) (held : HeldReplies) (written : List ℕ) : Type 0 where
+  pub record Works (start : StoreValue D SessionValue Action) (asked : List Asked) (store : StoreValue D SessionValue Action) (held : HeldReplies) (written : List ℕ) : Type 0 where
     pub holding : Holding start asked store held.text.bytes held.count written
     pub counted : held.served.accepted ≡ length (accepted_all (standing_of start) asked)
 
   -- The store has failed.
-  pub record Failed (start : StoreValue D State Action) (asked : List Asked) (store : StoreValue D State Action) (held : HeldReplies) (written : List ℕ) : Type 0 where
+  pub record Failed (start : StoreValue D SessionValue Action) (asked : List Asked) (store : StoreValue D SessionValue Action) (held : HeldReplies) (written : List ℕ) : Type 0 where
     pub failed : store.failed ≡ true
     pub none_held : held.count ≡ 0
     pub served : IsServed disk start asked store written held.served.accepted
 
-  abbrev pub ServingBy : Bool → StoreValue D State Action → List Asked → StoreValue D State Action → HeldReplies → List ℕ → Type 0
+  abbrev pub ServingBy : Bool → StoreValue D SessionValue Action → List Asked → StoreValue D SessionValue Action → HeldReplies → List ℕ → Type 0
   ServingBy true start asked store held written = Failed start asked store held written
   ServingBy false start asked store held written = Works start asked store held written
 
   -- Lines that ask for these were taken, from a store on; so far this is written, and these replies are held.
-  abbrev pub Serving : StoreValue D State Action → List Asked → StoreValue D State Action → HeldReplies → List ℕ → Type 0
+  abbrev pub Serving : StoreValue D SessionValue Action → List Asked → StoreValue D SessionValue Action → HeldReplies → List ℕ → Type 0
   Serving start asked store held written = ServingBy held.served.failed start asked store held written
 
   -- A write failed. The first lines were served: the texts of some are written whole, and of the last text, that of at most
   -- 64 lines that are answered together, a part. No other line was taken.
-  pub record IsStopped (start : StoreValue D State Action) (asked : List Asked) (store : StoreValue D State Action) (written : List ℕ) (writer : Stream) : Type 0 where
+  pub record IsStopped (start : StoreValue D SessionValue Action) (asked : List Asked) (store : StoreValue D SessionValue Action) (written : List ℕ) (writer : Stream) : Type 0 where
     pub whole : List Asked
     pub group : List Asked
     pub rest : List Asked
@@ -144,13 +144,13 @@ module _ {D : Type 0} (disk : Disk D) where
     pub wrote : Takes writer (text ++ begun)
 
   -- what is written at Ok, and what at a fault
-  abbrev pub Serves : StoreValue D State Action → List Asked → StoreValue D State Action → HeldReplies → List ℕ → Stream → Result (Unit {0}) ServeFault → Type 0
+  abbrev pub Serves : StoreValue D SessionValue Action → List Asked → StoreValue D SessionValue Action → HeldReplies → List ℕ → Stream → Result (Unit {0}) ServeFault → Type 0
   Serves start asked store held written writer (Ok _) =
       (text : List ℕ) × Takes writer text × Serving start asked store held (written ++ text)
   Serves start asked store held written writer (Err fault) = (fault ≡ Write) × IsStopped start asked store written writer
 
   -- what was served at the end, with what is written then
-  abbrev pub Ends : StoreValue D State Action → List Asked → StoreValue D State Action → List ℕ → Stream → Result Served ServeFault → Type 0
+  abbrev pub Ends : StoreValue D SessionValue Action → List Asked → StoreValue D SessionValue Action → List ℕ → Stream → Result Served ServeFault → Type 0
   Ends start asked store written writer (Ok result) = (text : List ℕ) × Takes writer text
       × IsServed disk start asked store (written ++ text) result.accepted × (result.failed ≡ store.failed)
   Ends start asked store written writer (Err fault) = (fault ≡ Write) × IsStopped start asked store written writer

@@ -3,7 +3,7 @@ use Rattle.std.specs.Prelude.{ℕ, zero, suc, List, [], ◌∷◌, Result, Ok, E
 use Rattle.bridge_session.specs.declared.action.Action.{Action}
 use Rattle.bridge_session.specs.declared.refused.Refused.{Refused as SessionRefused}
 use Rattle.bridge_session.specs.SessionKeeping.{session_keeping}
-use Rattle.bridge_session.specs.State.{State}
+use Rattle.bridge_session.specs.State.{SessionValue}
 use Rattle.session_store.specs.Answers.{room}
 use Rattle.session_store.specs.Value.{StoreValue}
 use Rattle.table_server.specs.declared.short_reply.ShortReply.{ShortReply}
@@ -11,23 +11,23 @@ use Rattle.table_server.specs.declared.short_reply.ShortReply.TheVariants.{Done,
 
 -- a session, and how many actions can be taken before the epochs of its store are spent
 pub record Standing : Type 0 where
-  pub state : State
+  pub state : SessionValue
   pub room : ℕ
 
 -- that of a store
-abbrev pub standing_of : {D : Type 0} → StoreValue D State Action → Standing
+abbrev pub standing_of : {D : Type 0} → StoreValue D SessionValue Action → Standing
 standing_of v = record { state = v.state; room = room v }
 
 -- the session's answer to an action: the session after it, or why it is refused
-abbrev pub answer_in : Standing → Action → Result State SessionRefused
+abbrev pub answer_in : Standing → Action → Result SessionValue SessionRefused
 answer_in standing action = session_keeping.step standing.state action
 
-abbrev pub reply_by : Result State SessionRefused → ShortReply
+abbrev pub reply_by : Result SessionValue SessionRefused → ShortReply
 reply_by (Ok state) = Done
 reply_by (Err refused) = Refused refused
 
 -- where so many actions can be taken
-abbrev pub reply_within : ℕ → Result State SessionRefused → ShortReply
+abbrev pub reply_within : ℕ → Result SessionValue SessionRefused → ShortReply
 reply_within zero answer = EpochsSpent
 reply_within (suc room) answer = reply_by answer
 
@@ -35,11 +35,11 @@ reply_within (suc room) answer = reply_by answer
 abbrev pub change_reply : Standing → Action → ShortReply
 change_reply standing action = reply_within standing.room (answer_in standing action)
 
-abbrev pub standing_by : Standing → ℕ → Result State SessionRefused → Standing
+abbrev pub standing_by : Standing → ℕ → Result SessionValue SessionRefused → Standing
 standing_by standing room (Ok state) = record { state = state; room = room }
 standing_by standing room (Err refused) = standing
 
-abbrev pub standing_within : Standing → ℕ → Result State SessionRefused → Standing
+abbrev pub standing_within : Standing → ℕ → Result SessionValue SessionRefused → Standing
 standing_within standing zero answer = standing
 standing_within standing (suc room) answer = standing_by standing room answer
 
@@ -47,11 +47,11 @@ standing_within standing (suc room) answer = standing_by standing room answer
 abbrev pub after_change : Standing → Action → Standing
 after_change standing action = standing_within standing standing.room (answer_in standing action)
 
-abbrev pub accepted_by_answer : Action → Result State SessionRefused → List Action
+abbrev pub accepted_by_answer : Action → Result SessionValue SessionRefused → List Action
 accepted_by_answer action (Ok state) = action ∷ []
 accepted_by_answer action (Err refused) = []
 
-abbrev pub accepted_within : ℕ → Action → Result State SessionRefused → List Action
+abbrev pub accepted_within : ℕ → Action → Result SessionValue SessionRefused → List Action
 accepted_within zero action answer = []
 accepted_within (suc room) action answer = accepted_by_answer action answer
 

@@ -1,7 +1,7 @@
 -- What the replies to questions tell.
 use Rattle.std.specs.Prelude.{◌≡◌, ◌⊎◌, ◌-◌, ℕ, List, Ok, Err}
 use Rattle.bridge_endings.specs.Ending.{tricks_in, IsEnding}
-use Rattle.bridge_endings.specs.Position.{Position}
+use Rattle.bridge_endings.specs.EndingValue.{EndingValue}
 use Rattle.bridge_endings.specs.Worth.{worth_of}
 use Rattle.bridge_score.specs.declared.ranking.Ranked.{Ranked}
 use Rattle.bridge_session.specs.declared.action.PlayId.{PlayId}
@@ -11,7 +11,7 @@ use Rattle.bridge_session.specs.declared.view.View.{View}
 use Rattle.bridge_session.specs.Ending.{plain_ending, ending_answer}
 use Rattle.bridge_session.specs.Ranking.{ranking_answer, IsRankingTo}
 use Rattle.bridge_session.specs.See.{shown_to}
-use Rattle.bridge_session.specs.State.{State, director_answer}
+use Rattle.bridge_session.specs.State.{SessionValue, director_answer}
 use Rattle.bridge_session.specs.Views.{IsViewTo}
 use Rattle.table_server.specs.declared.asked.Question.{Question}
 use Rattle.table_server.specs.declared.asked.Question.TheVariants.{Sync, See, Rank, Solve, Pbn}
@@ -25,22 +25,22 @@ abbrev pub TellsRefusal : (SessionRefused → Type 0) → List ℕ → Type 0
 TellsRefusal IsAnswer text = (refused : SessionRefused) × IsAnswer refused × (text ≡ short_text (Refused refused))
 
 -- a view that shows the player of the key what it may be shown
-abbrev pub TellsView : State → ℕ → List ℕ → Type 0
+abbrev pub TellsView : SessionValue → ℕ → List ℕ → Type 0
 TellsView s key text = (view : View) × IsViewTo s key view × (text ≡ view_text view)
 
 -- the ranking of a field
-abbrev pub TellsRanking : State → ℕ → Field → List ℕ → Type 0
+abbrev pub TellsRanking : SessionValue → ℕ → Field → List ℕ → Type 0
 TellsRanking s key field text =
     (ranking : List Ranked) × IsRankingTo s key field ranking × (text ≡ ranking_text s.configuration.scoring ranking)
 
 -- the worth of what is left of a play after so many cards: the tricks of North and South, and the others
-abbrev pub TellsWorth : State → ℕ → PlayId → ℕ → List ℕ → Type 0
+abbrev pub TellsWorth : SessionValue → ℕ → PlayId → ℕ → List ℕ → Type 0
 TellsWorth s key play cards text =
-    (ending : Position) × IsEnding ending.hands × (ending_answer s key play cards ≡ Ok (plain_ending ending))
+    (ending : EndingValue) × IsEnding ending.hands × (ending_answer s key play cards ≡ Ok (plain_ending ending))
     × (text ≡ solved_text (worth_of ending) (tricks_in ending.hands - worth_of ending))
 
 -- the text is the reply to a question in this session
-abbrev pub Tells : State → Question → List ℕ → Type 0
+abbrev pub Tells : SessionValue → Question → List ℕ → Type 0
 Tells s Sync text = text ≡ short_text Done
 Tells s (See key) text = TellsView s key.0 text ⊎ TellsRefusal (λ refused. shown_to s key.0 ≡ Err refused) text
 Tells s (Rank key field) text =

@@ -29,10 +29,10 @@ pub struct AuctionLines {
 impl Model for AuctionLines {
     ghost use Rattle.std.specs.Prelude.{◌≡◌, true};
     ghost use Rattle.std.specs.List.{list_all};
-    ghost use Rattle.table_server.specs.AuctionLines.{AuctionLines as LinesValue};
+    ghost use Rattle.table_server.specs.AuctionLines.{AuctionLinesValue};
     ghost use Rattle.line_text.specs.Lines.{is_within_line};
 
-    ghost Value = { LinesValue };
+    ghost Value = { AuctionLinesValue };
 
     ghost view = { λ d. record { dealer = d.auction.dealer; calls = d.auction.calls; line = d.feed } };
 

@@ -3,10 +3,10 @@ ghost use Rattle.std.specs.Prelude.{◌≡◌, ◌<◌, ◌≤◌, ◌+◌, ◌�
 ghost use Rattle.session_store.specs.Value.{StoreValue};
 ghost use Rattle.session_store.specs.Store.{Continues};
 ghost use Rattle.bridge_session.specs.SessionKeeping.{session_keeping};
-ghost use Rattle.bridge_session.specs.State.{State};
-ghost use Rattle.bridge_session.specs.declared.action.Action.{Action as ActionValue};
+ghost use Rattle.bridge_session.specs.State.{SessionValue};
+ghost use Rattle.bridge_session.specs.declared.action.Action.{Action as ActionType};
 ghost use Rattle.line_text.specs.Streams.{stream, Written};
-ghost use Rattle.table_server.specs.declared.asked.Asked.{Asked as AskedValue};
+ghost use Rattle.table_server.specs.declared.asked.Asked.{Asked as AskedType};
 ghost use Rattle.table_server.specs.declared.asked.Asked.TheVariants.{Change, Told};
 ghost use Rattle.table_server.specs.declared.fault.ServeFault.TheVariants.{Write as WriteFault};
 ghost use Rattle.table_server.specs.Answered.{accepted_all, disk_errors};
@@ -174,7 +174,7 @@ impl HeldReplies {
         requires works { self.old.served.failed ≡ false }
         ensures fits { Fits self.new }
         ensures served { self.new.served ≡ record self.old.served { failed = self.new.served.failed } }
-        ensures serves { (start : StoreValue D State ActionValue) (asked : List AskedValue) (written : List ℕ)
+        ensures serves { (start : StoreValue D SessionValue ActionType) (asked : List AskedType) (written : List ℕ)
             → Holding D.disk start asked store.old (self.old.text.bytes ++ short_text reply) (self.old.count + 1) written
             → self.old.served.accepted ≡ length (accepted_all (standing_of start) asked)
             → Serves D.disk start asked store.new self.new written (stream W.contents writer.old writer.new) result }
@@ -200,7 +200,7 @@ impl HeldReplies {
         requires works { self.old.served.failed ≡ false }
         ensures fits { Fits self.new }
         ensures lines { self.new.served.lines ≡ self.old.served.lines }
-        ensures serves { (start : StoreValue D State ActionValue) (asked : List AskedValue) (written : List ℕ)
+        ensures serves { (start : StoreValue D SessionValue ActionType) (asked : List AskedType) (written : List ℕ)
             → Works D.disk start asked store.old self.old written
             → Serves D.disk start (asked ++ Change action.now ∷ []) store.new self.new written (stream W.contents writer.old writer.new) result }
         ensures faults { FailsWithDisk D.disk store.old store.new }
@@ -229,7 +229,7 @@ impl HeldReplies {
         requires works { self.old.served.failed ≡ false }
         ensures fits { Fits self.new }
         ensures lines { self.new.served.lines ≡ self.old.served.lines }
-        ensures serves { (start : StoreValue D State ActionValue) (asked : List AskedValue) (written : List ℕ)
+        ensures serves { (start : StoreValue D SessionValue ActionType) (asked : List AskedType) (written : List ℕ)
             → Works D.disk start asked store.old self.old written
             → Serves D.disk start (asked ++ Told question ∷ []) store.new self.new written (stream W.contents writer.old writer.new) result }
         ensures faults { FailsWithDisk D.disk store.old store.new }
@@ -255,7 +255,7 @@ impl HeldReplies {
         requires few { self.old.served.lines < MOST_BYTES }
         ensures fits { Fits self.new }
         ensures lines { self.new.served.lines ≡ self.old.served.lines + 1 }
-        ensures serves { (start : StoreValue D State ActionValue) (before : List AskedValue) (written : List ℕ)
+        ensures serves { (start : StoreValue D SessionValue ActionType) (before : List AskedType) (written : List ℕ)
             → Serving D.disk start before store.old self.old written
             → Serves D.disk start (before ++ asked ∷ []) store.new self.new written (stream W.contents writer.old writer.new) result }
         ensures faults { FailsWithDisk D.disk store.old store.new }
@@ -280,7 +280,7 @@ impl HeldReplies {
     ) -> Result<Served, ServeFault>
         requires { Fits self.old }
         ensures lines { IfOk result (λ served. served.lines ≡ self.old.served.lines) }
-        ensures ends { (start : StoreValue D State ActionValue) (asked : List AskedValue) (written : List ℕ)
+        ensures ends { (start : StoreValue D SessionValue ActionType) (asked : List AskedType) (written : List ℕ)
             → Serving D.disk start asked store.old self.old written
             → Ends D.disk start asked store.new written (stream W.contents writer.old writer.new) result }
         ensures faults { FailsWithDisk D.disk store.old store.new }

@@ -1,7 +1,7 @@
 //! The command that a line of the protocol states.
 ghost use Rattle.std.specs.Prelude.{◌≡◌, Some, None, IfOk, IfErr};
 ghost use Rattle.line_text.specs.Words.{spaced_words, spaced};
-ghost use Rattle.table_server.specs.declared.command.Command.{Command as CommandValue};
+ghost use Rattle.table_server.specs.declared.command.Command.{Command as CommandType};
 ghost use Rattle.table_server.specs.LineWords.{Gives};
 ghost use Rattle.table_server.specs.LineCommand.{shuffle_line, call_line, card_line, claim_line, agree_line, refuse_line, next_line, play_words, play_and_word, void_line, restore_line, tricks_line, solve_line, see_line, rank_line, pbn_line, reading_line, director_line, plain_line, deal_words, Deals, Reads};
 
@@ -24,9 +24,9 @@ use line_text::{first_word, only_word};
 pub fn read_line_command(line: &[u8]) -> Result<Command, BadLine>
     // The line states the command that is found, and no other.
     ensures found { IfOk result (λ command. Reads line.now (Some command)) }
-    ensures only { IfOk result (λ command. (other : CommandValue) → Reads line.now (Some other) → other ≡ command) }
+    ensures only { IfOk result (λ command. (other : CommandType) → Reads line.now (Some other) → other ≡ command) }
     ensures bad { IfErr result (λ refused. Reads line.now None) }
-    ensures none { IfErr result (λ refused. (command : CommandValue) → ¬ Reads line.now (Some command)) }
+    ensures none { IfErr result (λ refused. (command : CommandType) → ¬ Reads line.now (Some command)) }
 {
     match read_line(line) {
         Some(command) => Ok(command),

@@ -1,8 +1,8 @@
 //! Bytes served as they come: each line is answered once it is complete.
 ghost use Rattle.std.specs.Prelude.{◌≡◌, ◌<◌, ◌≤◌, ◌+◌, ◌-◌, ◌∷◌, ◌++◌, [], List, ℕ, length, false};
 ghost use Rattle.session_store.specs.Value.{StoreValue};
-ghost use Rattle.bridge_session.specs.State.{State};
-ghost use Rattle.bridge_session.specs.declared.action.Action.{Action as ActionValue};
+ghost use Rattle.bridge_session.specs.State.{SessionValue};
+ghost use Rattle.bridge_session.specs.declared.action.Action.{Action as ActionType};
 ghost use Rattle.line_text.specs.Streams.{stream};
 ghost use Rattle.table_server.specs.Faulted.{FailsWithDisk};
 ghost use Rattle.table_server.specs.Hearing.{Hearing, HearsOn};
@@ -53,7 +53,7 @@ impl LineService {
         requires few { self.old.held.served.lines < MOST_BYTES }
         ensures fits { Fits self.new.held }
         ensures lines { self.new.held.served.lines ≤ self.old.held.served.lines + 1 }
-        ensures hears { (start : StoreValue D State ActionValue) (bytes : List ℕ) (written : List ℕ)
+        ensures hears { (start : StoreValue D SessionValue ActionType) (bytes : List ℕ) (written : List ℕ)
             → Hearing D.disk start bytes store.old self.old written
             → HearsOn D.disk start (bytes ++ byte ∷ []) store.new self.new written (stream W.contents writer.old writer.new) result }
         ensures faults { FailsWithDisk D.disk store.old store.new }
@@ -78,7 +78,7 @@ impl LineService {
         requires few { self.old.held.served.lines + length piece.now ≤ MOST_BYTES }
         ensures fits { Fits self.new.held }
         ensures lines { self.new.held.served.lines ≤ self.old.held.served.lines + length piece.now }
-        ensures hears { (start : StoreValue D State ActionValue) (bytes : List ℕ) (written : List ℕ)
+        ensures hears { (start : StoreValue D SessionValue ActionType) (bytes : List ℕ) (written : List ℕ)
             → Hearing D.disk start bytes store.old self.old written
             → HearsOn D.disk start (bytes ++ piece.now) store.new self.new written (stream W.contents writer.old writer.new) result }
         ensures faults { FailsWithDisk D.disk store.old store.new }

@@ -4,8 +4,8 @@ ghost use Rattle.line_text.specs.Streams.{Stream, stream, between};
 ghost use Rattle.table_server.specs.declared.fault.ServeFault.TheVariants.{Write as WriteFault};
 ghost use Rattle.table_server.specs.ServedStreams.{HasRead, IsEnd, HasServed, StopsReplying, StopsServing, EndsServing};
 ghost use Rattle.session_store.specs.Value.{StoreValue};
-ghost use Rattle.bridge_session.specs.State.{State};
-ghost use Rattle.bridge_session.specs.declared.action.Action.{Action as ActionValue};
+ghost use Rattle.bridge_session.specs.State.{SessionValue};
+ghost use Rattle.bridge_session.specs.declared.action.Action.{Action as ActionType};
 ghost use Rattle.table_server.specs.Faulted.{FailsWithDisk};
 ghost use Rattle.table_server.specs.Hearing.{Hearing};
 ghost use Rattle.table_server.specs.Serving.{Fits};
@@ -46,11 +46,11 @@ fn read_lines<D: SectorDisk + Drop, R: Read, W: Write>(
     requires fits { Fits service.old.held }
     requires none { service.old.held.served.lines ≡ 0 }
     ensures fits { Fits service.new.held }
-    ensures read { IfOk result (λ ended. (start : StoreValue D State ActionValue) → Hearing D.disk start [] store.old service.old []
+    ensures read { IfOk result (λ ended. (start : StoreValue D SessionValue ActionType) → Hearing D.disk start [] store.old service.old []
         → (left : ℕ) × IsEnd ended left (R.remaining reader.new)
         × HasRead D.disk start store.new service.new (stream R.remaining reader.old reader.new)
         (stream W.contents writer.old writer.new) left) }
-    ensures fault { IfErr result (λ fault. (start : StoreValue D State ActionValue) → Hearing D.disk start [] store.old service.old []
+    ensures fault { IfErr result (λ fault. (start : StoreValue D SessionValue ActionType) → Hearing D.disk start [] store.old service.old []
         → (fault ≡ WriteFault) × StopsReplying D.disk start store.new
         (stream R.remaining reader.old reader.new) (stream W.contents writer.old writer.new)) }
     ensures faults { FailsWithDisk D.disk store.old store.new }
@@ -80,7 +80,7 @@ fn end_lines<D: SectorDisk + Drop, W: Write>(
     writer: &mut W,
 ) -> Result<Served, ServeFault>
     requires { Fits service.old.held }
-    ensures ends { (start : StoreValue D State ActionValue) (reader : Stream) (before : Option (List ℕ)) (left : ℕ)
+    ensures ends { (start : StoreValue D SessionValue ActionType) (reader : Stream) (before : Option (List ℕ)) (left : ℕ)
         → IsEnd ended left reader.new
         → HasRead D.disk start store.old service.old reader (between before (W.contents writer.old)) left
         → EndsServing D.disk start store.new reader (between before (W.contents writer.new)) result }

@@ -6,7 +6,7 @@ use Rattle.std.specs.Option.{option_map}
 use Rattle.std.proofs.lemmas.List.{map-set, length-map, with_items_is}
 use Rattle.std.proofs.lemmas.List.Elements.{All-set}
 use Rattle.std.proofs.lemmas.Option.{slice_get-map, slice_get_cases, slice_get_read, slice_get_within, get_or_from_slice_get}
-use Rattle.bridge_config.specs.Configuration.{Configuration}
+use Rattle.bridge_config.specs.ConfigValue.{ConfigValue}
 use Rattle.bridge_cards.specs.declared.seat.Seat.{Seat}
 use Rattle.bridge_session.specs.declared.deed.Deed.{Deed}
 use Rattle.bridge_session.specs.declared.deed.Deed.TheVariants as deed
@@ -16,18 +16,18 @@ use Rattle.bridge_session.specs.declared.refused.Refused.{Refused}
 use Rattle.bridge_session.specs.declared.refused.Refused.TheVariants.{NotCurrent}
 use Rattle.bridge_session.specs.declared.seating.Seating.{Seating}
 use Rattle.bridge_session.specs.Record.{PlainRecord}
-use Rattle.bridge_session.specs.State.{State, deal_on, row_at, changed_at, current_place, seating_of, is_of_set}
+use Rattle.bridge_session.specs.State.{SessionValue, deal_on, row_at, changed_at, current_place, seating_of, is_of_set}
 use Rattle.bridge_session.specs.Step.{seen_by, seen_deal, seen_records, answer_among, answer_seated, player_answer, acted_among, acted_at, acted}
 use Rattle.bridge_session.specs.StateRange.{IsSession}
 use Rattle.bridge_session.specs.Kept.{plain_of, board_kept, state_of, StateASession, IsTiedIn, IsKept}
 use Rattle.bridge_session.specs.Laws.Lists.{changed_at-Some, changed_at-None, set_there, at_result}
 
 -- the answer to a player who sits there
-answer_by : State → ℕ → ℕ → Deed → Result Seating Refused → Result (Unit {0}) Refused
+answer_by : SessionValue → ℕ → ℕ → Deed → Result Seating Refused → Result (Unit {0}) Refused
 answer_by s board at done seating =
     answer_seated (record { configuration = s.configuration; round = s.round; deal = seen_deal s board seating; records = seen_records s seating }) board at done seating
 
-pub seated_answer : (s : State) (key board at : ℕ) (done : Deed) (seating : Seating) → seating_of s.configuration s.round key ≡ Ok seating → is_of_set s.configuration seating.set board ≡ true → player_answer (seen_by s key board) key board at done ≡ answer_among (row_at s.records seating.place) (deal_on s.deals board) board seating.seat at done
+pub seated_answer : (s : SessionValue) (key board at : ℕ) (done : Deed) (seating : Seating) → seating_of s.configuration s.round key ≡ Ok seating → is_of_set s.configuration seating.set board ≡ true → player_answer (seen_by s key board) key board at done ≡ answer_among (row_at s.records seating.place) (deal_on s.deals board) board seating.seat at done
 unfolding answer_by
 seated_answer s key board at done seating sits of_set =
     let among : Bool → Result (Unit {0}) Refused = λ b.
@@ -49,9 +49,9 @@ changed_row tables place table after f is left =
     ∙ sym (changed_at-Some f (map (map plain_of) tables) place (map plain_of table) (row_is tables place table is))
 
 -- the session after what a player did
-pub acted_state : (configuration : Configuration) (round : ℕ) (deals : List (Option (List ℕ))) (tables : List (List Record)) (key : ℕ) (done : Deed) (seating : Seating) (table after : List Record) → seating_of configuration round key ≡ Ok seating → slice_get tables seating.place ≡ Some table → map plain_of after ≡ acted_among seating.seat done (map plain_of table) → state_of configuration round deals (slice_set tables seating.place after) ≡ acted (state_of configuration round deals tables) key done
+pub acted_state : (configuration : ConfigValue) (round : ℕ) (deals : List (Option (List ℕ))) (tables : List (List Record)) (key : ℕ) (done : Deed) (seating : Seating) (table after : List Record) → seating_of configuration round key ≡ Ok seating → slice_get tables seating.place ≡ Some table → map plain_of after ≡ acted_among seating.seat done (map plain_of table) → state_of configuration round deals (slice_set tables seating.place after) ≡ acted (state_of configuration round deals tables) key done
 acted_state configuration round deals tables key done seating table after sits is left =
-    let made : List (List PlainRecord) → State = λ records. record { configuration = configuration; round = round; deals = deals; records = records } in
+    let made : List (List PlainRecord) → SessionValue = λ records. record { configuration = configuration; round = round; deals = deals; records = records } in
     ap made (changed_row tables seating.place table after (acted_among seating.seat done) is left)
     ∙ ap (acted_at (state_of configuration round deals tables) done) (sym sits)
 
@@ -62,12 +62,12 @@ few_row tables place table few is =
     subst P (get_or_from_slice_get tables place table [] is) (few place [] (slice_get_within tables place table is))
 
 -- what they state is a session
-pub kept_session : (configuration : Configuration) (round : ℕ) (deals : List (Option (List ℕ))) (tables : List (List Record)) → IsKept configuration round deals tables → IsSession (state_of configuration round deals tables)
+pub kept_session : (configuration : ConfigValue) (round : ℕ) (deals : List (Option (List ℕ))) (tables : List (List Record)) → IsKept configuration round deals tables → IsSession (state_of configuration round deals tables)
 unfolding StateASession
 kept_session configuration round deals tables kept = kept.session
 
 -- the parts are kept
-pub kept_with : (configuration : Configuration) (round : ℕ) (deals : List (Option (List ℕ))) (tables : List (List Record)) (place : ℕ) (table after : List Record) → IsKept configuration round deals tables → slice_get tables place ≡ Some table → map board_kept after ≡ map board_kept table → All (IsTiedIn deals) after → IsSession (state_of configuration round deals (slice_set tables place after)) → IsKept configuration round deals (slice_set tables place after)
+pub kept_with : (configuration : ConfigValue) (round : ℕ) (deals : List (Option (List ℕ))) (tables : List (List Record)) (place : ℕ) (table after : List Record) → IsKept configuration round deals tables → slice_get tables place ≡ Some table → map board_kept after ≡ map board_kept table → All (IsTiedIn deals) after → IsSession (state_of configuration round deals (slice_set tables place after)) → IsKept configuration round deals (slice_set tables place after)
 unfolding StateASession
 kept_with configuration round deals tables place table after kept is same tied session = record {
   session = session;

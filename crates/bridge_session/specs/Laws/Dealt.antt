@@ -8,12 +8,12 @@ use Rattle.std.proofs.lemmas.Option.{unwrap_or-slice_get}
 use Rattle.bridge_cards.specs.Board.{dealer_of}
 use Rattle.bridge_cards.specs.Deal.{is_dealt_out}
 use Rattle.bridge_auction.specs.Legal.{is_ended}
-use Rattle.bridge_config.specs.Configuration.{Configuration}
+use Rattle.bridge_config.specs.ConfigValue.{ConfigValue}
 use Rattle.bridge_session.specs.declared.record.Record.{Record}
 use Rattle.bridge_session.specs.Record.{playing_in, contract_in}
 use Rattle.bridge_session.specs.declared.refused.Refused.{Refused}
 use Rattle.bridge_session.specs.declared.refused.Refused.TheVariants.{Closed, NoSuchPlay, AlreadyDealt, BadDeal}
-use Rattle.bridge_session.specs.State.{State, deal_on, hands_on, is_closed}
+use Rattle.bridge_session.specs.State.{SessionValue, deal_on, hands_on, is_closed}
 use Rattle.bridge_session.specs.Step.{deal_answer}
 use Rattle.bridge_session.specs.StateRange.{IsSession}
 use Rattle.bridge_session.specs.Kept.{plain_of, state_of, StateASession, IsTied, IsTiedIn, IsKept}
@@ -51,7 +51,7 @@ tied_dealt deals board hands kept none tied =
           }
     ]
 
-pub kept_dealt : (configuration : Configuration) (round : ℕ) (deals : List (Option (List ℕ))) (tables : List (List Record)) (board : ℕ) (hands : List ℕ) → deal_on deals board ≡ None → IsSession (state_of configuration round (slice_set deals (board - 1) (Some hands)) tables) → IsKept configuration round deals tables → IsKept configuration round (slice_set deals (board - 1) (Some hands)) tables
+pub kept_dealt : (configuration : ConfigValue) (round : ℕ) (deals : List (Option (List ℕ))) (tables : List (List Record)) (board : ℕ) (hands : List ℕ) → deal_on deals board ≡ None → IsSession (state_of configuration round (slice_set deals (board - 1) (Some hands)) tables) → IsKept configuration round deals tables → IsKept configuration round (slice_set deals (board - 1) (Some hands)) tables
 unfolding StateASession
 kept_dealt configuration round deals tables board hands none session kept = record {
   session = session;
@@ -77,7 +77,7 @@ was_none deals place board deal is within found none =
     ∙ not_some deal none
 
 -- the answer to a deal that is accepted
-pub deal_accepted : (s : State) (board : ℕ) (hands : List ℕ) → is_closed s.configuration s.round ≡ false → board ≤ s.configuration.movement.shape.sets * s.configuration.boards → deal_on s.deals board ≡ None → is_dealt_out hands ≡ true → deal_answer s board hands ≡ Ok tt
+pub deal_accepted : (s : SessionValue) (board : ℕ) (hands : List ℕ) → is_closed s.configuration s.round ≡ false → board ≤ s.configuration.movement.shape.sets * s.configuration.boards → deal_on s.deals board ≡ None → is_dealt_out hands ≡ true → deal_answer s board hands ≡ Ok tt
 deal_accepted s board hands open_session within none dealt =
     let known : nat_le board (s.configuration.movement.shape.sets * s.configuration.boards) ≡ true = le-leb _ _ within in
     let last : Bool → Result (Unit {0}) Refused = λ b. cond (not b) (Err BadDeal) (Ok tt) in

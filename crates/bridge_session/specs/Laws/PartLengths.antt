@@ -12,7 +12,7 @@ use Rattle.std.proofs.lemmas.Option.{slice_get_cases}
 use Rattle.bridge_auction.specs.declared.contract.Contract.{Contract}
 use Rattle.bridge_auction.specs.Call.{call_number}
 use Rattle.bridge_auction.proofs.LegalLength.{legal_length}
-use Rattle.bridge_config.specs.Configuration.{Configuration, Pair}
+use Rattle.bridge_config.specs.ConfigValue.{ConfigValue, Pair}
 use Rattle.bridge_config.specs.Limits.{is_name, IsPair, IsConfiguration}
 use Rattle.bridge_movement.specs.declared.row.Row.{Row}
 use Rattle.bridge_play.specs.declared.claim.Claim.{Claim}
@@ -22,7 +22,7 @@ use Rattle.bridge_session.specs.declared.ruling.Ruling.{Ruling}
 use Rattle.bridge_session.specs.declared.ruling.Ruling.TheVariants as ruling
 use Rattle.bridge_session.specs.Parts.{eight_bytes, configuration_part, row_bytes, movement_part, player_bytes, pair_part, deal_part, is_agreed_in, claim_bytes, ruling_bytes, record_part, record_or_empty, row_parts, play_parts, board_parts, pair_parts, parts_of}
 use Rattle.bridge_session.specs.Record.{PlainRecord, empty_record, contract_in, playing_in}
-use Rattle.bridge_session.specs.State.{State, deal_on, row_boards, hands_on}
+use Rattle.bridge_session.specs.State.{SessionValue, deal_on, row_boards, hands_on}
 use Rattle.bridge_session.specs.StateRange.{AreHands, AreHandsOrNone, IsSession}
 use Rattle.bridge_session.specs.Valid.{IsDealtOut, IsDealOrNone, board_of, IsValidRecord}
 use Rattle.bridge_session.specs.Laws.DealtOut.{dealt_is_deal}
@@ -39,7 +39,7 @@ Fits bytes = length bytes ≤ 480
 name_few : (text : List ℕ) → is_name text ≡ true → length text ≤ 24
 name_few text is = leb-true (length text) 24 (and_parts _ _ is).1
 
-heading_fits : (c : Configuration) (round : ℕ) → IsConfiguration c → Fits (configuration_part c round)
+heading_fits : (c : ConfigValue) (round : ℕ) → IsConfiguration c → Fits (configuration_part c round)
 heading_fits c round is =
     let date : length c.date ≡ 10
     = eqb-true (length c.date) 10 (and_parts _ _ (and_parts _ _ (and_parts _ _ (and_parts _ _ (and_parts _ _ is.date_form).0).0).0).0).0 in
@@ -86,7 +86,7 @@ record_fits plain calls cards =
     simp length-append (omega (arith, numbers, calls, cards, claim, made))
 
 -- the cards of a play of a deal are few
-module _ (s : State) (is : IsSession s) (plain : PlainRecord) (round : ℕ) (valid : IsValidRecord s.deals s.round round plain) where
+module _ (s : SessionValue) (is : IsSession s) (plain : PlainRecord) (round : ℕ) (valid : IsValidRecord s.deals s.round round plain) where
   hands_are_deal : (hands : List ℕ) → deal_on s.deals plain.board ≡ Some hands → IsDealtOut hands × AreHands hands
   hands_are_deal hands found =
       elim (slice_get_cases s.deals (plain.board - 1)).1 [
@@ -141,7 +141,7 @@ row_fits boards records all =
         ]
 
 -- all parts
-module _ (s : State) (is : IsSession s) where
+module _ (s : SessionValue) (is : IsSession s) where
   rows_few : length s.configuration.movement.rows ≤ 144
   rows_few =
       let limits = is.valid.configured in
@@ -161,7 +161,7 @@ module _ (s : State) (is : IsSession s) where
 
   pub parts_fit : All (λ part. length part ≤ 480) (parts_of s)
   parts_fit =
-      let c : Configuration = s.configuration in
+      let c : ConfigValue = s.configuration in
       let plays : All Fits (play_parts s)
       = all_flat Fits (row_parts c.boards) s.records (λ k records within. row_fits c.boards (get_or s.records k records) (plays_fit k records within)) in
       let boards : All Fits (board_parts s)

@@ -4,16 +4,16 @@ use Rattle.std.specs.Prelude.{Option, slice_index_or}
 use Rattle.std.proofs.Math.Nat.{mod-lt}
 use Rattle.std.proofs.lemmas.List.{length-map, get_or-map, get_or_append_left, get_or-append_right}
 use Rattle.std.proofs.lemmas.List.FromFn.{length-map-range_with_len, get_or-map-range_with_len}
-use Rattle.bridge_config.specs.Configuration.{Pair}
+use Rattle.bridge_config.specs.ConfigValue.{Pair}
 use Rattle.bridge_session.specs.Record.{PlainRecord}
-use Rattle.bridge_session.specs.State.{State}
+use Rattle.bridge_session.specs.State.{SessionValue}
 use Rattle.bridge_session.specs.Parts.{deal_part, pair_part, record_part, record_or_empty, row_parts, play_parts, board_parts, pair_parts, parts_of}
 use Rattle.bridge_session.specs.Laws.PartLemmas.{length-flat_fixed, flat_fixed_place}
 
 row_length : (boards : ℕ) (records : List PlainRecord) → length (row_parts boards records) ≡ boards
 row_length boards records = length-map-range_with_len (λ index. record_part (record_or_empty records index)) 0 boards
 
-module _ (s : State) where
+module _ (s : SessionValue) where
   pub count_plays : length (play_parts s) ≡ length s.records * s.configuration.boards
   count_plays = length-flat_fixed (row_parts s.configuration.boards) s.configuration.boards (row_length s.configuration.boards) s.records
 

@@ -4,14 +4,14 @@ use Rattle.std.specs.Prelude.{slice_index}
 use Rattle.std.proofs.lemmas.Bool.{eqb-true, and_parts}
 use Rattle.std.proofs.lemmas.List.{length-map, length-append, get_or_append_left, get_or-append-add}
 use Rattle.std.proofs.lemmas.List.Elements.{All-nil, All-cons, All-head, All-tail}
-use Rattle.bridge_config.specs.Configuration.{Configuration, Pair, keys_in}
+use Rattle.bridge_config.specs.ConfigValue.{ConfigValue, Pair, keys_in}
 use Rattle.bridge_config.specs.Limits.{IsKeyNumber, IsConfiguration}
 use Rattle.bridge_movement.specs.declared.shape.Shape.{Shape}
 use Rattle.bridge_score.specs.declared.ranking.Scoring.{Scoring}
 use Rattle.bridge_score.specs.declared.ranking.Scoring.TheVariants.{MatchPoints, Imps}
 use Rattle.bridge_session.specs.Parts.{text_bytes, four_bytes, scoring_number, size_bytes, configuration_part, movement_part, pair_part, deal_part, play_parts, board_parts, pair_parts, parts_of}
 use Rattle.bridge_session.specs.PartsRead.{text_in, after_text, scoring_at, numbers_in, shape_in, rows_in, key_in, pair_in, configuration_in, deal_of, tables_in, state_with, state_read}
-use Rattle.bridge_session.specs.State.{State}
+use Rattle.bridge_session.specs.State.{SessionValue}
 use Rattle.bridge_session.specs.StateRange.{IsSession}
 use Rattle.bridge_session.specs.Laws.BytesBack.{take_front, drop_front, all_back, text_back, after_back, key_back}
 use Rattle.bridge_session.specs.Laws.PairBack.{pair_back, rows_back, deal_back}
@@ -19,14 +19,14 @@ use Rattle.bridge_session.specs.Laws.SessionRecords.{written}
 use Rattle.bridge_session.specs.Laws.TablesBack.{tables_back}
 
 -- the numbers after the date
-abbrev pub numbers_of : Configuration → ℕ → List ℕ
+abbrev pub numbers_of : ConfigValue → ℕ → List ℕ
 numbers_of c round = scoring_number c.scoring ∷ (size_bytes c.boards c.movement.shape ++ (four_bytes c.director ++ round ∷ []))
 
 joined : (event site date scoring size director round : List ℕ)
     → event ++ site ++ date ++ scoring ++ size ++ director ++ round ≡ event ++ (site ++ (date ++ (scoring ++ (size ++ (director ++ round)))))
 joined event site date scoring size director round = simp append_assoc
 
-heading_is : (c : Configuration) (round : ℕ) → configuration_part c round ≡ text_bytes c.event ++ (text_bytes c.site ++ (c.date ++ numbers_of c round))
+heading_is : (c : ConfigValue) (round : ℕ) → configuration_part c round ≡ text_bytes c.event ++ (text_bytes c.site ++ (c.date ++ numbers_of c round))
 heading_is c round =
     joined (text_bytes c.event) (text_bytes c.site) c.date (scoring_number c.scoring ∷ []) (size_bytes c.boards c.movement.shape)
     (four_bytes c.director) (round ∷ [])
@@ -50,7 +50,7 @@ keys_of_each (pair ∷ pairs) all =
     All-cons (λ (other : Pair). All IsKeyNumber other.keys) pair pairs (all_front pair.keys (keys_in pairs) all)
     (keys_of_each pairs (all_back_half pair.keys (keys_in pairs) all))
 
-module _ (c : Configuration) (round : ℕ) (is : IsConfiguration c) (boards : List (List ℕ)) where
+module _ (c : ConfigValue) (round : ℕ) (is : IsConfiguration c) (boards : List (List ℕ)) where
   director : IsKeyNumber c.director
   director = All-head IsKeyNumber c.director (keys_in c.pairs) is.keys.numbers
 
@@ -104,9 +104,9 @@ module _ (c : Configuration) (round : ℕ) (is : IsConfiguration c) (boards : Li
       }
 
 -- the boards and the plays
-rest_back : (s : State) → IsSession s → state_with s.configuration s.round (board_parts s) ≡ s
+rest_back : (s : SessionValue) → IsSession s → state_with s.configuration s.round (board_parts s) ≡ s
 rest_back s is =
-    let c : Configuration = s.configuration in
+    let c : ConfigValue = s.configuration in
     let boards : ℕ = c.movement.shape.sets * c.boards in
     let long : length (map deal_part s.deals) ≡ boards = length-map s.deals deal_part ∙ is.valid.boards in
     let deals : map deal_of (take boards (board_parts s)) ≡ s.deals
@@ -117,9 +117,9 @@ rest_back s is =
     ∙ tables_back c.boards c.movement.rows s.records is.valid.of_boards (written s is) in
     λ i. record { configuration = c; round = s.round; deals = deals i; records = records i }
 
-pub session_back : (s : State) → IsSession s → state_read (parts_of s) ≡ s
+pub session_back : (s : SessionValue) → IsSession s → state_read (parts_of s) ≡ s
 session_back s is =
-    let c : Configuration = s.configuration in
+    let c : ConfigValue = s.configuration in
     let limits : IsConfiguration c = is.valid.configured in
     let heading : List ℕ = configuration_part c s.round in
     let numbers = numbers_back c s.round limits (board_parts s) in
@@ -130,6 +130,6 @@ session_back s is =
     let long : length (map pair_part c.pairs) ≡ c.movement.shape.pairs = length-map c.pairs pair_part ∙ limits.count in
     let rest : drop (slice_index (numbers_in heading) 5) (pair_parts s) ≡ board_parts s
     = ap (λ n. drop n (pair_parts s)) count ∙ drop_front c.movement.shape.pairs (map pair_part c.pairs) (board_parts s) long in
-    ap (λ (d : Configuration). state_with d (slice_index (numbers_in heading) 11) (drop (slice_index (numbers_in heading) 5) (pair_parts s))) configuration
+    ap (λ (d : ConfigValue). state_with d (slice_index (numbers_in heading) 11) (drop (slice_index (numbers_in heading) 5) (pair_parts s))) configuration
     ∙ ap (λ n. state_with c n (drop (slice_index (numbers_in heading) 5) (pair_parts s))) round
     ∙ ap (state_with c s.round) rest ∙ rest_back s is

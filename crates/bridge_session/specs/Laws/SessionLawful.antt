@@ -6,7 +6,7 @@ use Rattle.bridge_session.specs.declared.refused.Refused.{Refused}
 use Rattle.bridge_session.specs.ActionRange.{IsInRange}
 use Rattle.bridge_session.specs.Parts.{parts_of}
 use Rattle.bridge_session.specs.SessionKeeping.{step_by, session_keeping}
-use Rattle.bridge_session.specs.State.{State}
+use Rattle.bridge_session.specs.State.{SessionValue}
 use Rattle.bridge_session.specs.StateRange.{IsSession}
 use Rattle.bridge_session.specs.Step.{step_answer, changed}
 use Rattle.bridge_session.specs.Laws.ActionInRange.{read_in_range, action_fits}
@@ -17,7 +17,7 @@ use Rattle.bridge_session.specs.Laws.SessionOf.{session_of_is, has_parts}
 use Rattle.bridge_session.specs.Laws.SessionStays.{step_session}
 
 -- an accepted action leads to a session
-steps_by : (s : State) (a : Action) (t : State) (answer : Result (Unit {0}) Refused) → answer ≡ step_answer s a → IsSession s → IsInRange a
+steps_by : (s : SessionValue) (a : Action) (t : SessionValue) (answer : Result (Unit {0}) Refused) → answer ≡ step_answer s a → IsSession s → IsInRange a
     → step_by s a answer ≡ Ok t → IsSession t
 steps_by s a t (Ok done) given is ranges stepped =
     let same : changed s a ≡ t = let stated : Ok (changed s a) ≡ Ok t = stepped in cc in

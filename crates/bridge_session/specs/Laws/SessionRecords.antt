@@ -6,16 +6,16 @@ use Rattle.std.proofs.lemmas.Option.{slice_get-get_or}
 use Rattle.bridge_auction.proofs.LegalLength.{legal_length}
 use Rattle.bridge_movement.specs.declared.row.Row.{Row}
 use Rattle.bridge_session.specs.Record.{PlainRecord}
-use Rattle.bridge_session.specs.State.{State, row_at, row_boards}
+use Rattle.bridge_session.specs.State.{SessionValue, row_at, row_boards}
 use Rattle.bridge_session.specs.StateRange.{IsRecordInRange, IsSession}
 use Rattle.bridge_session.specs.Valid.{board_of, IsValidRecord, IsValid}
 use Rattle.bridge_session.specs.Laws.RecordBack.{IsWritten}
 
 -- the record is valid in some round
-abbrev pub IsOfSomeRound : State → PlainRecord → Type 0
+abbrev pub IsOfSomeRound : SessionValue → PlainRecord → Type 0
 IsOfSomeRound s plain = (round : ℕ) × IsValidRecord s.deals s.round round plain
 
-pub each_record : (s : State) → IsValid s → All (All (IsOfSomeRound s)) s.records
+pub each_record : (s : SessionValue) → IsValid s → All (All (IsOfSomeRound s)) s.records
 each_record s valid place d within index e inside =
     let records : List PlainRecord = get_or s.records place d in
     let rows : List Row = s.configuration.movement.rows in
@@ -30,7 +30,7 @@ each_record s valid place d within index e inside =
     = ap (λ (rs : List PlainRecord). slice_get rs index) at ∙ slice_get-get_or records index e inside in
     (row.round, valid.plays place index row (get_or records index e) there found)
 
-pub written : (s : State) → IsSession s → All (All IsWritten) s.records
+pub written : (s : SessionValue) → IsSession s → All (All IsWritten) s.records
 written s is place d within index e inside =
     let plain : PlainRecord = get_or (get_or s.records place d) index e in
     let valid = (each_record s is.valid place d within index e inside).1 in

@@ -6,7 +6,7 @@ use Rattle.std.proofs.lemmas.List.Elements.{All-set, All-map, All-replicate}
 use Rattle.std.proofs.lemmas.Option.{slice_get_within, get_or_from_slice_get}
 use Rattle.bridge_cards.specs.declared.seat.Seat.{Seat}
 use Rattle.bridge_cards.specs.Seat.{seat_number}
-use Rattle.bridge_config.specs.Configuration.{Configuration}
+use Rattle.bridge_config.specs.ConfigValue.{ConfigValue}
 use Rattle.bridge_play.specs.declared.claim.Claim.{Claim}
 use Rattle.bridge_play.specs.Claims.{with_agreed}
 use Rattle.bridge_session.specs.declared.action.Action.{Action}
@@ -21,7 +21,7 @@ use Rattle.bridge_session.specs.declared.seating.Seating.{Seating}
 use Rattle.bridge_session.specs.ActionRange.{IsInRange}
 use Rattle.bridge_session.specs.Deed.{with_deed}
 use Rattle.bridge_session.specs.Record.{PlainRecord, empty_record}
-use Rattle.bridge_session.specs.State.{State, opening, opening_row, row_boards, row_place, seating_of, changed_at, current_place}
+use Rattle.bridge_session.specs.State.{SessionValue, opening, opening_row, row_boards, row_place, seating_of, changed_at, current_place}
 use Rattle.bridge_session.specs.StateRange.{IsCorrectionInRange, AreHandsOrNone, IsOfFourSeats, IsRecordInRange, IsStateInRange}
 use Rattle.bridge_session.specs.Step.{acted_among, acted_at, with_ruling, ruled, changed}
 
@@ -47,7 +47,7 @@ deed_in_range seat (deed.Claim tricks) plain is = record { claim = refl; ruling 
 deed_in_range seat deed.Agree plain is = record { claim = agreed_in_range seat plain.claim is.claim; ruling = is.ruling }
 deed_in_range seat deed.Refuse plain is = record { claim = tt; ruling = is.ruling }
 
-pub acted_in_range : (s : State) (done : Deed) (at : Result Seating Refused) → IsStateInRange s → IsStateInRange (acted_at s done at)
+pub acted_in_range : (s : SessionValue) (done : Deed) (at : Result Seating Refused) → IsStateInRange s → IsStateInRange (acted_at s done at)
 acted_in_range s done (Err refused) is = is
 acted_in_range s done (Ok seating) is = record {
   deals = is.deals;
@@ -62,7 +62,7 @@ ruling_in_range (correction.Tricks tricks) plain few is = record { claim = is.cl
 ruling_in_range correction.Void plain few is = record { claim = is.claim; ruling = tt }
 ruling_in_range correction.Restore plain few is = record { claim = is.claim; ruling = tt }
 
-pub ruled_in_range : (s : State) (play : PlayId) (made : Correction) → IsCorrectionInRange made → IsStateInRange s → IsStateInRange (ruled s play made)
+pub ruled_in_range : (s : SessionValue) (play : PlayId) (made : Correction) → IsCorrectionInRange made → IsStateInRange s → IsStateInRange (ruled s play made)
 ruled_in_range s play made few is = record {
   deals = is.deals;
   records = all_changed (All IsRecordInRange) (λ records. changed_at (with_ruling made) records (play.index - 1)) s.records
@@ -72,7 +72,7 @@ ruled_in_range s play made few is = record {
 }
 
 -- each action
-pub changed_in_range : (a : Action) (s : State) → IsInRange a → IsStateInRange s → IsStateInRange (changed s a)
+pub changed_in_range : (a : Action) (s : SessionValue) → IsInRange a → IsStateInRange s → IsStateInRange (changed s a)
 changed_in_range (action.Deal key board hands) s ranges is = record {
   deals = All-set AreHandsOrNone s.deals (board - 1) (Some hands) (ranges.2, ranges.3) is.deals;
   records = is.records;
@@ -88,7 +88,7 @@ changed_in_range (action.Void key play) s ranges is = ruled_in_range s play corr
 changed_in_range (action.Restore key play) s ranges is = ruled_in_range s play correction.Restore tt is
 
 -- the opening
-pub opening_in_range : (configuration : Configuration) → IsStateInRange (opening configuration)
+pub opening_in_range : (configuration : ConfigValue) → IsStateInRange (opening configuration)
 opening_in_range configuration = record {
   deals = All-replicate AreHandsOrNone (configuration.movement.shape.sets * configuration.boards) None tt;
   records = All-map (All IsRecordInRange) (opening_row configuration.boards) configuration.movement.rows

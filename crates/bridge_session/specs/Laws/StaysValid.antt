@@ -5,11 +5,11 @@ use Rattle.std.specs.Option.{option_map}
 use Rattle.std.proofs.lemmas.Bool.{cases_eq}
 use Rattle.std.proofs.lemmas.List.{length-replicate, get_or-replicate, get_or-set_same, get_or-set_other}
 use Rattle.std.proofs.lemmas.Option.{slice_get-map, slice_get_cases, slice_get_within, slice_get_past, slice_get-get_or, get_or_from_slice_get}
-use Rattle.bridge_config.specs.Configuration.{Configuration}
+use Rattle.bridge_config.specs.ConfigValue.{ConfigValue}
 use Rattle.bridge_config.specs.Limits.{IsConfiguration}
 use Rattle.bridge_movement.specs.declared.row.Row.{Row}
 use Rattle.bridge_session.specs.Record.{PlainRecord, empty_record}
-use Rattle.bridge_session.specs.State.{State, opening, opening_row, row_at, row_boards, changed_at}
+use Rattle.bridge_session.specs.State.{SessionValue, opening, opening_row, row_at, row_boards, changed_at}
 use Rattle.bridge_session.specs.Valid.{board_of, IsValidRecord, IsDealOrNone, IsValid}
 use Rattle.bridge_session.specs.Laws.Lists.{changed_at-Some, changed_at-None}
 use Rattle.bridge_session.specs.Laws.Acted.{map-changed_at}
@@ -62,13 +62,13 @@ undealt_all n =
     λ k d within. subst IsDealOrNone (sym (get_or-replicate n k none d (omega (arith, within, length-replicate n none)))) tt
 
 -- a row is of a round
-pub round_due : (configuration : Configuration) (place : ℕ) (row : Row) → IsConfiguration configuration → slice_get configuration.movement.rows place ≡ Some row → row.round ≡ place / configuration.movement.shape.tables + 1
+pub round_due : (configuration : ConfigValue) (place : ℕ) (row : Row) → IsConfiguration configuration → slice_get configuration.movement.rows place ≡ Some row → row.round ≡ place / configuration.movement.shape.tables + 1
 round_due configuration place row limits is =
     let rows = configuration.movement.rows in
     let due = (limits.movement.complete.order place (slice_get_within rows place row is)).1 row in
     ap (λ (r : Row). r.round) (sym (get_or_from_slice_get rows place row row is)) ∙ due.1
 
-pub opening_valid : (configuration : Configuration) → IsConfiguration configuration → IsValid (opening configuration)
+pub opening_valid : (configuration : ConfigValue) → IsConfiguration configuration → IsValid (opening configuration)
 opening_valid configuration limits = record {
   configured = limits;
   begun = omega arith;
@@ -142,7 +142,7 @@ record_from f at records place other index after is =
     ]
 
 -- a session in which one record became another that is valid
-pub valid_change : (s : State) (place : ℕ) (f : PlainRecord → PlainRecord) (at : List PlainRecord → ℕ) → IsValid s → ((x : PlainRecord) → (f x).board ≡ x.board) → ((row : Row) (x : PlainRecord) → slice_get s.configuration.movement.rows place ≡ Some row → slice_get (row_at s.records place) (at (row_at s.records place)) ≡ Some x → IsValidRecord s.deals s.round row.round x → IsValidRecord s.deals s.round row.round (f x)) → IsValid (record s { records = changed_at (λ rs. changed_at f rs (at rs)) s.records place })
+pub valid_change : (s : SessionValue) (place : ℕ) (f : PlainRecord → PlainRecord) (at : List PlainRecord → ℕ) → IsValid s → ((x : PlainRecord) → (f x).board ≡ x.board) → ((row : Row) (x : PlainRecord) → slice_get s.configuration.movement.rows place ≡ Some row → slice_get (row_at s.records place) (at (row_at s.records place)) ≡ Some x → IsValidRecord s.deals s.round row.round x → IsValidRecord s.deals s.round row.round (f x)) → IsValid (record s { records = changed_at (λ rs. changed_at f rs (at rs)) s.records place })
 valid_change s place f at valid boards stays = record {
   configured = valid.configured;
   begun = valid.begun;

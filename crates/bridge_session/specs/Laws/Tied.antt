@@ -6,11 +6,11 @@ use Rattle.bridge_cards.specs.declared.seat.Seat.{Seat}
 use Rattle.bridge_cards.specs.Board.{dealer_of}
 use Rattle.bridge_auction.specs.declared.call.Call.{Call}
 use Rattle.bridge_auction.specs.declared.contract.Contract.{Contract}
-use Rattle.bridge_auction.specs.Auction.{Bidding}
+use Rattle.bridge_auction.specs.Auction.{AuctionValue}
 use Rattle.bridge_auction.specs.Call.{is_bid}
 use Rattle.bridge_auction.specs.Contract.{contract_of, contract_at}
 use Rattle.bridge_auction.specs.Legal.{is_ended, last_index}
-use Rattle.bridge_play.specs.Play.{Playing, with_card, with_claim, with_agreement, without_claim}
+use Rattle.bridge_play.specs.Play.{PlayValue, with_card, with_claim, with_agreement, without_claim}
 use Rattle.bridge_session.specs.declared.deed.Deed.{Deed}
 use Rattle.bridge_session.specs.declared.deed.Deed.TheVariants as deed
 use Rattle.bridge_session.specs.declared.record.Record.{Record}
@@ -34,11 +34,11 @@ open_same hands kept tied =
     ap (λ d. not (is_void kept.ruling) && not d) (sym done)
 
 -- a record of these parts
-abbrev kept_of : ℕ → Bidding → Option Playing → Option Ruling → Record
+abbrev kept_of : ℕ → AuctionValue → Option PlayValue → Option Ruling → Record
 kept_of board auction play ruling = record { board = board; auction = auction; play = play; ruling = ruling }
 
 -- a play that is begun has no cards and no claims
-plain_begun : (board : ℕ) (auction : Bidding) (ruling : Option Ruling) (hands : List ℕ) (contract : Option Contract) → plain_of (kept_of board auction (option_map (begun_with hands) contract) ruling) ≡ plain_of (kept_of board auction None ruling)
+plain_begun : (board : ℕ) (auction : AuctionValue) (ruling : Option Ruling) (hands : List ℕ) (contract : Option Contract) → plain_of (kept_of board auction (option_map (begun_with hands) contract) ruling) ≡ plain_of (kept_of board auction None ruling)
 plain_begun board auction ruling hands None = refl
 plain_begun board auction ruling hands (Some contract) = refl
 
@@ -53,10 +53,10 @@ pub record IsAfter (hands : List ℕ) (seat : Seat) (done : Deed) (kept : Record
   pub plain : plain_of (after_deed hands seat done kept) ≡ with_deed seat done (plain_of kept)
   pub tied : IsTied hands (after_deed hands seat done kept)
 
-after_call : (board : ℕ) (auction : Bidding) (play : Option Playing) (ruling : Option Ruling) (hands : List ℕ) (seat : Seat) (call : Call) → IsTied hands (kept_of board auction play ruling) → is_ended auction.calls ≡ false → IsAfter hands seat (deed.Call call) (kept_of board auction play ruling)
+after_call : (board : ℕ) (auction : AuctionValue) (play : Option PlayValue) (ruling : Option Ruling) (hands : List ℕ) (seat : Seat) (call : Call) → IsTied hands (kept_of board auction play ruling) → is_ended auction.calls ≡ false → IsAfter hands seat (deed.Call call) (kept_of board auction play ruling)
 after_call board auction None ruling hands seat call tied open_auction =
     let calls : List Call = auction.calls ++ call ∷ [] in
-    let longer : Bidding = record { dealer = auction.dealer; calls = calls } in
+    let longer : AuctionValue = record { dealer = auction.dealer; calls = calls } in
     let begun = plain_begun board longer ruling hands (contract_of auction.dealer calls) in
     record {
       board = refl;
@@ -73,7 +73,7 @@ after_call board auction (Some play) ruling hands seat call tied open_auction =
     absurd cc
 
 -- a change of the play alone
-after_play : (board : ℕ) (auction : Bidding) (play : Playing) (ruling : Option Ruling) (hands : List ℕ) (f : Playing → Playing) → IsTied hands (kept_of board auction (Some play) ruling) → ((contract : Contract) → f (playing_in hands (plain_of (kept_of board auction (Some play) ruling)) contract) ≡ playing_in hands (plain_of (kept_of board auction (Some (f play)) ruling)) contract) → IsTied hands (kept_of board auction (Some (f play)) ruling)
+after_play : (board : ℕ) (auction : AuctionValue) (play : PlayValue) (ruling : Option Ruling) (hands : List ℕ) (f : PlayValue → PlayValue) → IsTied hands (kept_of board auction (Some play) ruling) → ((contract : Contract) → f (playing_in hands (plain_of (kept_of board auction (Some play) ruling)) contract) ≡ playing_in hands (plain_of (kept_of board auction (Some (f play)) ruling)) contract) → IsTied hands (kept_of board auction (Some (f play)) ruling)
 after_play board auction play ruling hands f tied same =
     let before = plain_of (kept_of board auction (Some play) ruling) in
     let after = plain_of (kept_of board auction (Some (f play)) ruling) in
@@ -83,10 +83,10 @@ after_play board auction play ruling hands f tied same =
       play =
           ap (option_map f) tied.play
           ∙ option_map-twice f (playing_in hands before) contract
-          ∙ ap (λ (g : Contract → Playing). option_map g contract) (λ i k. same k i);
+          ∙ ap (λ (g : Contract → PlayValue). option_map g contract) (λ i k. same k i);
     }
 
-pub after_is : (board : ℕ) (auction : Bidding) (play : Option Playing) (ruling : Option Ruling) (hands : List ℕ) (seat : Seat) (at : ℕ) (done : Deed) → IsTied hands (kept_of board auction play ruling) → deed_answer auction play seat at done ≡ Ok tt → IsAfter hands seat done (kept_of board auction play ruling)
+pub after_is : (board : ℕ) (auction : AuctionValue) (play : Option PlayValue) (ruling : Option Ruling) (hands : List ℕ) (seat : Seat) (at : ℕ) (done : Deed) → IsTied hands (kept_of board auction play ruling) → deed_answer auction play seat at done ≡ Ok tt → IsAfter hands seat done (kept_of board auction play ruling)
 after_is board auction play ruling hands seat at (deed.Call call) tied ok =
     after_call board auction play ruling hands seat call tied (not_refused (is_ended auction.calls) WrongPhase _ ok)
 after_is board auction None ruling hands seat at (deed.Card card) tied ok = absurd cc

@@ -23,7 +23,7 @@ use Rattle.bridge_play.specs.declared.refused.ConsentRefused.TheVariants as cons
 use Rattle.bridge_play.specs.Claims.{is_asked, has_agreed, needs_no_answer, all_agreed, consent_to, with_agreed}
 use Rattle.bridge_play.specs.Dummy.{dummy_of, actor_of}
 use Rattle.bridge_play.specs.Legal as cards
-use Rattle.bridge_play.specs.Play.{Playing, with_card, with_claim, with_agreement, without_claim, is_over, is_agreed, card_answer, claim_answer, consent_answer, consent_if, IsClaimIn, IsPlay}
+use Rattle.bridge_play.specs.Play.{PlayValue, with_card, with_claim, with_agreement, without_claim, is_over, is_agreed, card_answer, claim_answer, consent_answer, consent_if, IsClaimIn, IsPlay}
 use Rattle.bridge_play.specs.Trick.{turn_of}
 use Rattle.bridge_session.specs.declared.deed.Deed.{Deed}
 use Rattle.bridge_session.specs.declared.deed.Deed.TheVariants as deed
@@ -115,7 +115,7 @@ is_none : (o : Option Claim) → is_some o ≡ false → o ≡ None
 is_none None e = refl
 is_none (Some claim) e = absurd cc
 
-card_play : (p : Playing) (seat : Seat) (card : ℕ) → card_answer p seat card ≡ Ok tt → IsPlay p → IsPlay (with_card p card)
+card_play : (p : PlayValue) (seat : Seat) (card : ℕ) → card_answer p seat card ≡ Ok tt → IsPlay p → IsPlay (with_card p card)
 card_play p seat card ok valid =
     let hand = turn_of p.contract p.cards in
     let second = rest_ok (is_over p) card_refused.Over _ ok in
@@ -141,7 +141,7 @@ or_parts : (a b : Bool) → (a || b) ≡ false → (a ≡ false) × (b ≡ false
 or_parts true b is = absurd cc
 or_parts false b is = (refl, is)
 
-claim_play : (p : Playing) (seat : Seat) (tricks : ℕ) → claim_answer p seat tricks ≡ Ok tt → IsPlay p → IsPlay (with_claim p seat tricks)
+claim_play : (p : PlayValue) (seat : Seat) (tricks : ℕ) → claim_answer p seat tricks ≡ Ok tt → IsPlay p → IsPlay (with_claim p seat tricks)
 claim_play p seat tricks ok valid =
     let over = or_parts (length p.cards == 52) (is_agreed p) (not_refused (is_over p) claim_refused.Over _ ok) in
     let second = rest_ok (is_over p) claim_refused.Over _ ok in
@@ -194,7 +194,7 @@ asked_is contract claim seat ok =
     let parts = or_parts (not (is_asked contract claim.claimer seat)) (has_agreed claim seat) (not_refused (needs_no_answer contract claim seat) consent_refused.NotAsked _ rest) in
     not_false (is_asked contract claim.claimer seat) parts.0
 
-agreed_claim : (p : Playing) (seat : Seat) (claim : Claim) → consent_to p.contract claim seat ≡ Ok tt → IsClaimIn p claim → IsClaimIn (with_agreement p seat) (with_agreed seat claim)
+agreed_claim : (p : PlayValue) (seat : Seat) (claim : Claim) → consent_to p.contract claim seat ≡ Ok tt → IsClaimIn p claim → IsClaimIn (with_agreement p seat) (with_agreed seat claim)
 agreed_claim p seat claim ok valid = record {
   counted = valid.counted;
   between = valid.between;
@@ -208,18 +208,18 @@ agreed_claim p seat claim ok valid = record {
       ];
 }
 
-agree_by : (p : Playing) (seat : Seat) (claim : Option Claim) → consent_if p.contract claim seat ≡ Ok tt → IfSome claim (IsClaimIn p) → IfSome (option_map (with_agreed seat) claim) (IsClaimIn (with_agreement p seat))
+agree_by : (p : PlayValue) (seat : Seat) (claim : Option Claim) → consent_if p.contract claim seat ≡ Ok tt → IfSome claim (IsClaimIn p) → IfSome (option_map (with_agreed seat) claim) (IsClaimIn (with_agreement p seat))
 agree_by p seat None ok valid = tt
 agree_by p seat (Some claim) ok valid = agreed_claim p seat claim ok valid
 
-agree_play : (p : Playing) (seat : Seat) → consent_answer p seat p.claims ≡ Ok tt → IsPlay p → IsPlay (with_agreement p seat)
+agree_play : (p : PlayValue) (seat : Seat) → consent_answer p seat p.claims ≡ Ok tt → IsPlay p → IsPlay (with_agreement p seat)
 agree_play p seat ok valid = record {
   legal = valid.legal;
   few = valid.few;
   claimed = agree_by p seat p.claim (rest_ok (not (p.claims == p.claims)) consent_refused.Stale _ ok) valid.claimed;
 }
 
-refuse_play : (p : Playing) → IsPlay p → IsPlay (without_claim p)
+refuse_play : (p : PlayValue) → IsPlay p → IsPlay (without_claim p)
 refuse_play p valid = record { legal = valid.legal; few = valid.few; claimed = tt }
 
 becomes_some : (hands : List ℕ) (x after : PlainRecord) (play : Option Contract) → ((contract : Contract) → play ≡ Some contract → IsPlay (playing_in hands x contract) → IsPlay (playing_in hands after contract)) → IfSome (option_map (playing_in hands x) play) IsPlay → IfSome (option_map (playing_in hands after) play) IsPlay

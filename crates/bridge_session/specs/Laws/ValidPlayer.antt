@@ -7,7 +7,7 @@ use Rattle.std.proofs.lemmas.Bool.{eqb-true}
 use Rattle.std.proofs.lemmas.Option.{slice_get_within, get_or_from_slice_get}
 use Rattle.bridge_cards.specs.declared.seat.Seat.{Seat}
 use Rattle.bridge_cards.specs.declared.seat.Side.TheVariants.{NorthSouth, EastWest}
-use Rattle.bridge_config.specs.Configuration.{Configuration}
+use Rattle.bridge_config.specs.ConfigValue.{ConfigValue}
 use Rattle.bridge_config.specs.Limits.{IsConfiguration}
 use Rattle.bridge_movement.specs.declared.place.Place.{Place}
 use Rattle.bridge_movement.specs.declared.row.Row.{Row}
@@ -19,7 +19,7 @@ use Rattle.bridge_session.specs.declared.seating.Player.{Player}
 use Rattle.bridge_session.specs.declared.seating.Seating.{Seating}
 use Rattle.bridge_session.specs.Deed.{deed_answer, with_deed}
 use Rattle.bridge_session.specs.Record.{PlainRecord, bidding_of, play_of, is_open}
-use Rattle.bridge_session.specs.State.{State, deal_on, row_at, row_place, current_place, acting_player, is_closed, seating_at, seated, seating_of, is_of_set}
+use Rattle.bridge_session.specs.State.{SessionValue, deal_on, row_at, row_place, current_place, acting_player, is_closed, seating_at, seated, seating_of, is_of_set}
 use Rattle.bridge_session.specs.Step.{seen_by, seen_deal, seen_records, answer_dealt, answer_current, answer_among, answer_seated, player_answer, acted_at, acted}
 use Rattle.bridge_session.specs.Valid.{IsDeed, IsValid}
 use Rattle.bridge_session.specs.Laws.StaysValid.{none_of, valid_change}
@@ -88,13 +88,13 @@ has_table : (rows : List Row) (round pair : ℕ) (place : Place) → place_of ro
 has_table [] round pair place is = absurd cc
 has_table (row ∷ rows) round pair place is = first_or_later row rows round pair place (seat_of round pair row) refl (has_table rows round pair place) is
 
-pub record IsSeatedAt (configuration : Configuration) (round : ℕ) (seating : Seating) : Type 0 where
+pub record IsSeatedAt (configuration : ConfigValue) (round : ℕ) (seating : Seating) : Type 0 where
   pub table : ℕ
   pub first : 1 ≤ table
   pub within : table ≤ configuration.movement.shape.tables
   pub place : seating.place ≡ row_place configuration.movement.shape round table
 
-placed_at : (configuration : Configuration) (round : ℕ) (player : Player) (seating : Seating) (found : Option Place) → IsConfiguration configuration → place_of configuration.movement.rows round player.pair ≡ found → ok_or (option_map (seating_at configuration round player.first) found) SitsOut ≡ Ok seating → IsSeatedAt configuration round seating
+placed_at : (configuration : ConfigValue) (round : ℕ) (player : Player) (seating : Seating) (found : Option Place) → IsConfiguration configuration → place_of configuration.movement.rows round player.pair ≡ found → ok_or (option_map (seating_at configuration round player.first) found) SitsOut ≡ Ok seating → IsSeatedAt configuration round seating
 placed_at configuration round player seating None limits is sits = absurd cc
 placed_at configuration round player seating (Some place) limits is sits =
     let own : seating_at configuration round player.first place ≡ seating = cc in
@@ -117,18 +117,18 @@ open_session : (b : Bool) (r : Result Seating Refused) (seating : Seating) → c
 open_session true r seating is = absurd cc
 open_session false r seating is = is
 
-seated_at : (configuration : Configuration) (round : ℕ) (player : Result Player Refused) (seating : Seating) → IsConfiguration configuration → seated configuration round player ≡ Ok seating → IsSeatedAt configuration round seating
+seated_at : (configuration : ConfigValue) (round : ℕ) (player : Result Player Refused) (seating : Seating) → IsConfiguration configuration → seated configuration round player ≡ Ok seating → IsSeatedAt configuration round seating
 seated_at configuration round (Err refused) seating limits sits = absurd cc
 seated_at configuration round (Ok player) seating limits sits =
     placed_at configuration round player seating (place_of configuration.movement.rows round player.pair) limits refl
     (open_session (is_closed configuration round) (ok_or (option_map (seating_at configuration round player.first) (place_of configuration.movement.rows round player.pair)) SitsOut) seating sits)
 
 -- The session after the act
-abbrev pub answer_at : State → ℕ → ℕ → Deed → Result Seating Refused → Result (Unit {0}) Refused
+abbrev pub answer_at : SessionValue → ℕ → ℕ → Deed → Result Seating Refused → Result (Unit {0}) Refused
 answer_at s board at done sits =
     answer_seated (record { configuration = s.configuration; round = s.round; deal = seen_deal s board sits; records = seen_records s sits }) board at done sits
 
-acted_valid : (s : State) (key board at : ℕ) (done : Deed) (sits : Result Seating Refused) → IsValid s → IsDeed done → seating_of s.configuration s.round key ≡ sits → answer_at s board at done sits ≡ Ok tt → IsValid (acted_at s done sits)
+acted_valid : (s : SessionValue) (key board at : ℕ) (done : Deed) (sits : Result Seating Refused) → IsValid s → IsDeed done → seating_of s.configuration s.round key ≡ sits → answer_at s board at done sits ≡ Ok tt → IsValid (acted_at s done sits)
 acted_valid s key board at done (Err refused) valid known is ok = absurd cc
 acted_valid s key board at done (Ok seating) valid known is ok =
     let mine = is_of_set s.configuration seating.set board in
@@ -146,5 +146,5 @@ acted_valid s key board at done (Ok seating) valid known is ok =
     subst (λ (p : PlainRecord). deed_answer (bidding_of p) (play_of on.hands p) seating.seat at done ≡ Ok tt) same on.ok in
     deed_valid s.deals s.round row.round on.hands seating.seat at done x round dealt (first_passes is_open records x was) known answered good)
 
-pub player_valid : (s : State) (key board at : ℕ) (done : Deed) → IsValid s → IsDeed done → player_answer (seen_by s key board) key board at done ≡ Ok tt → IsValid (acted s key done)
+pub player_valid : (s : SessionValue) (key board at : ℕ) (done : Deed) → IsValid s → IsDeed done → player_answer (seen_by s key board) key board at done ≡ Ok tt → IsValid (acted s key done)
 player_valid s key board at done valid known ok = acted_valid s key board at done (seating_of s.configuration s.round key) valid known refl ok

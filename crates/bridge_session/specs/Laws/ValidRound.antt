@@ -13,7 +13,7 @@ use Rattle.bridge_movement.specs.declared.row.Row.{Row}
 use Rattle.bridge_play.specs.Play.{IsPlay}
 use Rattle.bridge_session.specs.declared.refused.Refused.TheVariants.{Closed, Stale, RoundOpen, NoSuchPlay, AlreadyDealt, BadDeal}
 use Rattle.bridge_session.specs.Record.{PlainRecord, playing_in, play_of, is_open}
-use Rattle.bridge_session.specs.State.{State, deal_on, is_closed, hands_on}
+use Rattle.bridge_session.specs.State.{SessionValue, deal_on, is_closed, hands_on}
 use Rattle.bridge_session.specs.Step.{deal_answer, next_answer, records_of_round}
 use Rattle.bridge_session.specs.Valid.{IsValidRecord, IsDealOrNone, IsValid}
 use Rattle.bridge_session.specs.Laws.Lists.{not_refused, not_false}
@@ -60,7 +60,7 @@ div_mod_is : (n t d : ℕ) → 0 < t → n / t ≡ d → n ≡ d * t + n % t
 div_mod_is n t d some is = sym (div-add-mod n t) ∙ ap (λ q. t * q + n % t) is ∙ ap (λ m. m + n % t) (mul_comm t d)
 
 -- the records of a row of the round
-of_round : (s : State) (place : ℕ) (row : Row) (records : List PlainRecord) → IsValid s → slice_get s.configuration.movement.rows place ≡ Some row → row.round ≡ s.round → slice_get s.records place ≡ Some records → slice_get (records_of_round s) (place % s.configuration.movement.shape.tables) ≡ Some records
+of_round : (s : SessionValue) (place : ℕ) (row : Row) (records : List PlainRecord) → IsValid s → slice_get s.configuration.movement.rows place ≡ Some row → row.round ≡ s.round → slice_get s.records place ≡ Some records → slice_get (records_of_round s) (place % s.configuration.movement.shape.tables) ≡ Some records
 of_round s place row records valid is round there =
     let tables : ℕ = s.configuration.movement.shape.tables in
     let due = round_due s.configuration place row valid.configured is in
@@ -70,7 +70,7 @@ of_round s place row records valid is round there =
     taken tables (place % tables) (drop ((s.round - 1) * tables) s.records) records (mod_less place tables (omega arith))
     (dropped ((s.round - 1) * tables) (place % tables) place s.records records place_is there)
 
-pub next_valid : (s : State) (round : ℕ) → IsValid s → next_answer s round ≡ Ok tt → IsValid (record s { round = s.round + 1 })
+pub next_valid : (s : SessionValue) (round : ℕ) → IsValid s → next_answer s round ≡ Ok tt → IsValid (record s { round = s.round + 1 })
 next_valid s round valid ok =
     let opened : is_closed s.configuration s.round ≡ false = not_refused (is_closed s.configuration s.round) Closed _ ok in
     let same = rest_ok (is_closed s.configuration s.round) Closed _ ok in
@@ -143,7 +143,7 @@ is_none : (o : Option (List ℕ)) → is_some o ≡ false → o ≡ None
 is_none None e = refl
 is_none (Some hands) e = absurd cc
 
-pub deal_valid : (s : State) (board : ℕ) (hands : List ℕ) → IsValid s → deal_answer s board hands ≡ Ok tt → IsValid (record s { deals = slice_set s.deals (board - 1) (Some hands) })
+pub deal_valid : (s : SessionValue) (board : ℕ) (hands : List ℕ) → IsValid s → deal_answer s board hands ≡ Ok tt → IsValid (record s { deals = slice_set s.deals (board - 1) (Some hands) })
 deal_valid s board hands valid ok =
     let second = rest_ok (is_closed s.configuration s.round) Closed _ ok in
     let third = rest_ok (not (nat_le board (s.configuration.movement.shape.sets * s.configuration.boards))) NoSuchPlay _ second in

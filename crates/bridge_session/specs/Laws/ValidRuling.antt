@@ -4,10 +4,10 @@ use Rattle.std.specs.Prelude.{slice_get, nat_lt}
 use Rattle.std.proofs.lemmas.Bool.{ltb-false, lt-ltb, leb-true, and_parts}
 use Rattle.std.proofs.lemmas.Nat.{div-mul-add}
 use Rattle.bridge_auction.specs.declared.call.Call.{Call}
-use Rattle.bridge_config.specs.Configuration.{Configuration}
+use Rattle.bridge_config.specs.ConfigValue.{ConfigValue}
 use Rattle.bridge_config.specs.Limits.{IsConfiguration}
 use Rattle.bridge_movement.specs.declared.row.Row.{Row}
-use Rattle.bridge_play.specs.Play.{Playing, is_over}
+use Rattle.bridge_play.specs.Play.{PlayValue, is_over}
 use Rattle.bridge_session.specs.declared.action.PlayId.{PlayId}
 use Rattle.bridge_session.specs.declared.correction.Correction.{Correction}
 use Rattle.bridge_session.specs.declared.correction.Correction.TheVariants as correction
@@ -15,7 +15,7 @@ use Rattle.bridge_session.specs.declared.refused.Refused.{Refused}
 use Rattle.bridge_session.specs.declared.refused.Refused.TheVariants.{NotFinished, NotYet}
 use Rattle.bridge_session.specs.Correction.{tricks_answer, ruling_answer}
 use Rattle.bridge_session.specs.Record.{PlainRecord, play_of, is_done, is_open}
-use Rattle.bridge_session.specs.State.{State, row_at, row_place}
+use Rattle.bridge_session.specs.State.{SessionValue, row_at, row_place}
 use Rattle.bridge_session.specs.Step.{if_allowed, is_row_within, record_of, rule_answer, with_ruling, ruled}
 use Rattle.bridge_session.specs.Valid.{IsPlayId, IsValidRecord, IsValid}
 use Rattle.bridge_session.specs.Laws.StaysValid.{round_due, valid_change}
@@ -30,7 +30,7 @@ accepted_is : (b : Bool) (e : Refused) → ◌≡◌ {A = Result (Unit {0}) Refu
 accepted_is true e is = refl
 accepted_is false e is = absurd cc
 
-pub over_done : (calls : List Call) (play : Option Playing) → tricks_answer play ≡ Ok tt → is_done calls play ≡ true
+pub over_done : (calls : List Call) (play : Option PlayValue) → tricks_answer play ≡ Ok tt → is_done calls play ≡ true
 over_done calls None is = absurd cc
 over_done calls (Some play) is = accepted_is (is_over play) NotFinished is
 
@@ -97,14 +97,14 @@ found_within true o x is = (refl, is)
 found_within false o x is = absurd cc
 
 -- the row of a play is of its round
-pub row_round : (configuration : Configuration) (round table : ℕ) (row : Row) → IsConfiguration configuration → 1 ≤ round → 1 ≤ table → table ≤ configuration.movement.shape.tables → slice_get configuration.movement.rows (row_place configuration.movement.shape round table) ≡ Some row → row.round ≡ round
+pub row_round : (configuration : ConfigValue) (round table : ℕ) (row : Row) → IsConfiguration configuration → 1 ≤ round → 1 ≤ table → table ≤ configuration.movement.shape.tables → slice_get configuration.movement.rows (row_place configuration.movement.shape round table) ≡ Some row → row.round ≡ round
 row_round configuration round table row limits least first within is =
     let tables : ℕ = configuration.movement.shape.tables in
     let due = round_due configuration (row_place configuration.movement.shape round table) row limits is in
     let whole : ((round - 1) * tables + (table - 1)) / tables ≡ round - 1 = div-mul-add (round - 1) tables (table - 1) (omega arith) in
     omega (arith, due, whole)
 
-pub rule_valid : (s : State) (play : PlayId) (made : Correction) → IsValid s → IsPlayId play → rule_answer s.round play.round made (record_of s play) ≡ Ok tt → IsValid (ruled s play made)
+pub rule_valid : (s : SessionValue) (play : PlayId) (made : Correction) → IsValid s → IsPlayId play → rule_answer s.round play.round made (record_of s play) ≡ Ok tt → IsValid (ruled s play made)
 rule_valid s play made valid ranges ok =
     let shape = s.configuration.movement.shape in
     let place = row_place shape play.round play.table in

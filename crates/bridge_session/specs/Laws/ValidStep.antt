@@ -4,14 +4,14 @@ use Rattle.bridge_session.specs.declared.action.Action.{Action}
 use Rattle.bridge_session.specs.declared.action.Action.TheVariants.{Deal, Call, Card, Claim, Agree, Refuse, NextRound, Tricks, Void, Restore}
 use Rattle.bridge_session.specs.declared.correction.Correction.TheVariants as correction
 use Rattle.bridge_session.specs.declared.deed.Deed.TheVariants as deed
-use Rattle.bridge_session.specs.State.{State, director_answer}
+use Rattle.bridge_session.specs.State.{SessionValue, director_answer}
 use Rattle.bridge_session.specs.Step.{deal_answer, next_answer, rule_answer, record_of, step_answer, changed}
 use Rattle.bridge_session.specs.Valid.{IsAction, IsValid}
 use Rattle.bridge_session.specs.Laws.ValidRuling.{allowed_ok, rule_valid}
 use Rattle.bridge_session.specs.Laws.ValidRound.{deal_valid, next_valid}
 use Rattle.bridge_session.specs.Laws.ValidPlayer.{player_valid}
 
-pub step_valid : (action : Action) (s : State) → IsAction action → IsValid s → step_answer s action ≡ Ok tt → IsValid (changed s action)
+pub step_valid : (action : Action) (s : SessionValue) → IsAction action → IsValid s → step_answer s action ≡ Ok tt → IsValid (changed s action)
 step_valid (Deal key board hands) s ranges valid ok =
     deal_valid s board hands valid (allowed_ok (director_answer s.configuration key.0) (deal_answer s board hands) ok)
 step_valid (Call key board at call) s ranges valid ok = player_valid s key.0 board at (deed.Call call) valid ranges ok

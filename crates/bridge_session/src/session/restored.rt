@@ -1,7 +1,7 @@
 //! A session read back from its parts.
 ghost use Rattle.std.specs.Prelude.{◌≡◌, ◌≢◌, length, map, IfOk, IfSome, IfNone, IsErrOf, OnErr};
 ghost use Rattle.bridge_config.specs.Limits.{IsConfiguration};
-ghost use Rattle.bridge_session.specs.State.{State};
+ghost use Rattle.bridge_session.specs.State.{SessionValue};
 ghost use Rattle.bridge_session.specs.StateRange.{IsSession};
 ghost use Rattle.bridge_session.specs.Head.{IsRound, board_part_count, HasHead};
 ghost use Rattle.bridge_session.specs.Parts.{parts_of, board_parts};
@@ -25,7 +25,7 @@ fn read_boards(
     ensures state { IfOk result (λ found. IfSome found (λ s. (s.configuration ≡ config) × (s.round ≡ round))) }
     ensures parts { IfOk result (λ found. IfSome found (λ s. board_parts s ≡ map (λ part. part.items) parts.now)) }
     ensures session { IfOk result (λ found. IfSome found IsSession) }
-    ensures other { IfOk result (λ found. IfNone found ((s : State) → IsSession s → s.configuration ≡ config → s.round ≡ round → board_parts s ≢ map (λ part. part.items) parts.now)) }
+    ensures other { IfOk result (λ found. IfNone found ((s : SessionValue) → IsSession s → s.configuration ≡ config → s.round ≡ round → board_parts s ≢ map (λ part. part.items) parts.now)) }
     ensures counted { OnErr result (length parts.now ≡ board_part_count config) }
 {
     let fields = config.fields();
@@ -58,7 +58,7 @@ impl Session {
     pub fn from_parts(alloc: Global, parts: &[ArrayVec<u8, 480>]) -> Result<Session, PartsFault>
         ensures parts { IfOk result (λ s. parts_of s ≡ map (λ part. part.items) parts.now) }
         ensures session { IfOk result IsSession }
-        ensures bad { IsErrOf result PartsFault.Bad → (s : State) → IsSession s → parts_of s ≢ map (λ part. part.items) parts.now }
+        ensures bad { IsErrOf result PartsFault.Bad → (s : SessionValue) → IsSession s → parts_of s ≢ map (λ part. part.items) parts.now }
         ensures memory { IsErrOf result PartsFault.Memory → HasHead (map (λ part. part.items) parts.now) }
     {
         let Some(head) = read_head(parts) else {

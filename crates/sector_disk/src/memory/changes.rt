@@ -5,6 +5,7 @@ ghost use Rattle.sector_disk.specs.declared.memory.events.Event.TheVariants.{Wri
 
 use super::events::Event;
 use super::sectors::Sector;
+use crate::SECTOR_BYTES;
 use std::alloc::AllocError;
 
 /// Writes a sector. Where memory is refused, nothing changes.
@@ -12,7 +13,7 @@ pub(super) fn keep_write(
     sectors: &mut Vec<Sector>,
     events: &mut Vec<Event>,
     i: u32,
-    bytes: &[u8; 512],
+    bytes: &[u8; SECTOR_BYTES],
 ) -> Result<(), AllocError>
     requires { i < length sectors.old.items }
     ensures event { OnOk result (events.new.items ≡ events.old.items ++ (Write i bytes.now) ∷ []) }

@@ -2,6 +2,7 @@
 ghost use Rattle.std.specs.Prelude.{◌≡◌, OnOk, OnErr, replicate};
 ghost use Rattle.sector_disk.specs.Held.{newest, picked, written, settled, cut_to};
 
+use crate::SECTOR_BYTES;
 use std::alloc::{AllocError, Global};
 use std::marker::Model;
 
@@ -9,15 +10,15 @@ use std::marker::Model;
 /// the same, and each value written since.
 #[derive(Drop)]
 pub(crate) struct Sector {
-    first: [u8; 512],
-    synced: [u8; 512],
-    since: Vec<[u8; 512]>,
+    first: [u8; SECTOR_BYTES],
+    synced: [u8; SECTOR_BYTES],
+    since: Vec<[u8; SECTOR_BYTES]>,
 }
 
 impl Model for Sector {
-    ghost use Rattle.sector_disk.specs.Held.{Held};
+    ghost use Rattle.sector_disk.specs.Held.{SectorValue};
 
-    ghost Value = { Held };
+    ghost Value = { SectorValue };
 
     ghost view = { λ s. record { first = s.first; synced = s.synced; since = s.since.items } };
 }
@@ -28,15 +29,15 @@ impl Sector {
         ensures { result ≡ cut_to (replicate 512 0) }
     {
         Sector {
-            first: [0; 512],
-            synced: [0; 512],
+            first: [0; SECTOR_BYTES],
+            synced: [0; SECTOR_BYTES],
             since: Vec::new(alloc),
         }
     }
 
     /// The value last written.
     #[tactic(auto, using(crate::proofs::Last::last_value))]
-    pub(crate) fn newest(&self) -> &[u8; 512]
+    pub(crate) fn newest(&self) -> &[u8; SECTOR_BYTES]
         ensures { result.now ≡ newest self.now }
     {
         match self.since.last() {
@@ -46,7 +47,7 @@ impl Sector {
     }
 
     /// Another value is written.
-    pub(crate) fn write(&mut self, bytes: &[u8; 512]) -> Result<(), AllocError>
+    pub(crate) fn write(&mut self, bytes: &[u8; SECTOR_BYTES]) -> Result<(), AllocError>
         ensures ok { OnOk result (self.new ≡ written bytes.now self.old) }
         ensures err { OnErr result (self.new ≡ self.old) }
     {

@@ -3,7 +3,7 @@ use Rattle.std.specs.Prelude.{Any, MatchBool}
 use Rattle.std.proofs.lemmas.List.{get_or-map, length-map}
 use Rattle.std.proofs.lemmas.List.Elements.{All-map}
 use Rattle.bridge_config.specs.declared.fields.PairFields.{PairFields}
-use Rattle.bridge_config.specs.Configuration.{pair_of}
+use Rattle.bridge_config.specs.ConfigValue.{pair_of}
 use Rattle.bridge_config.specs.Limits.{IsPair}
 use Rattle.bridge_config.proofs.config.have_names.Goals as goal
 

@@ -1,7 +1,7 @@
 use Rattle.std.proofs.Common.{◌≡◌, ◌∙◌, ◌∷◌, ◌++◌, ◌+◌, [], List, ℕ, map, take, ap, sym, arith}
 use Rattle.std.proofs.lemmas.List.{take_more, take_all}
 use Rattle.bridge_config.specs.declared.fields.PairFields.{PairFields}
-use Rattle.bridge_config.specs.Configuration.{keys_in, pair_of, key_number}
+use Rattle.bridge_config.specs.ConfigValue.{keys_in, pair_of, key_number}
 use Rattle.bridge_config.proofs.Keys.{keys_in-push}
 use Rattle.bridge_config.proofs.config.keys.Goals as goal
 

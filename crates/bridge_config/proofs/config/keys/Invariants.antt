@@ -1,5 +1,5 @@
 use Rattle.std.proofs.Common.{◌≡◌, ◌+◌, ◌*◌, ◌∷◌, length, map, take}
-use Rattle.bridge_config.specs.Configuration.{pair_of, key_number, keys_in}
+use Rattle.bridge_config.specs.ConfigValue.{pair_of, key_number, keys_in}
 use Rattle.bridge_config.proofs.config.keys.Given as goal
 
 -- the director's key and those of the pairs so far

@@ -1,5 +1,5 @@
 use Rattle.std.proofs.Common.{◌≡◌, ◌++◌, ◌+◌, length, map, take}
-use Rattle.bridge_config.specs.Configuration.{key_number}
+use Rattle.bridge_config.specs.ConfigValue.{key_number}
 use Rattle.bridge_config.proofs.config.push_keys.Given as goal
 
 -- the keys so far were added

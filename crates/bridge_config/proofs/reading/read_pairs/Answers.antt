@@ -2,7 +2,7 @@ use Rattle.std.proofs.Common.{◌≡◌, ◌+◌, ◌∙◌, ◌∷◌, [], ◌+
 use Rattle.std.specs.Str.Lines.{lines}
 use Rattle.std.proofs.lemmas.Result.{err_from_is_err_and}
 use Rattle.std.proofs.lemmas.List.{map_push, map-append}
-use Rattle.bridge_config.specs.Configuration.{pair_of, key_number}
+use Rattle.bridge_config.specs.ConfigValue.{pair_of, key_number}
 use Rattle.bridge_config.specs.Reading.{pairs_in}
 use Rattle.bridge_config.proofs.Loops.{pairs_go_on, pairs_miss_line, pairs_end_at, pairs_are_done}
 use Rattle.bridge_config.proofs.reading.read_pairs.Goals as goal

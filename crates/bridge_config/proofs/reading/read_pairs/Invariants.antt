@@ -1,6 +1,6 @@
 use Rattle.std.proofs.Common.{◌≡◌, ◌+◌, ◌-◌, ◌*◌, ◌∷◌, [], length, map}
 use Rattle.std.specs.Str.Lines.{lines}
-use Rattle.bridge_config.specs.Configuration.{pair_of, key_number}
+use Rattle.bridge_config.specs.ConfigValue.{pair_of, key_number}
 use Rattle.bridge_config.specs.Reading.{pairs_in}
 use Rattle.bridge_config.proofs.Loops.{with_front}
 use Rattle.bridge_config.proofs.reading.read_pairs.Given as goal

@@ -1,5 +1,5 @@
 use Rattle.std.proofs.lemmas.List.Elements.{All-replicate}
-use Rattle.bridge_endings.specs.Searched.{IsNothing}
+use Rattle.bridge_endings.specs.SearchValue.{IsNothing}
 use Rattle.bridge_endings.proofs.found.empty_table.Goals as goal
 
 pub returns : goal.returns

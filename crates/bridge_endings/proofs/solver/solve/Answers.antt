@@ -20,3 +20,6 @@ returns-in-Some-clause-capacity c = rw c.in-Some.is c.solve_with.ensures.capacit
 
 pub returns-in-Some-clause-room : goal.returns-in-Some-clause-room
 returns-in-Some-clause-room c = rw c.in-Some.is c.solve_with.ensures.room
+
+pub returns-in-Some-clause-true_bounds : goal.returns-in-Some-clause-true_bounds
+returns-in-Some-clause-true_bounds c = rw c.in-Some.is c.solve_with.ensures.true_bounds

@@ -2,7 +2,7 @@ use Rattle.std.proofs.Common.{◌≡◌, List, ◌++◌, ap, subst}
 use Rattle.std.specs.Option.{option_copied}
 use Rattle.bridge_cards.specs.Board.{dealer_of}
 use Rattle.bridge_auction.specs.declared.call.Call.{Call}
-use Rattle.bridge_config.specs.Configuration.{Configuration}
+use Rattle.bridge_config.specs.ConfigValue.{ConfigValue}
 use Rattle.bridge_pbn.specs.Lines.{lines_text}
 use Rattle.bridge_pbn.specs.Tags.{event_tags, player_tags, board_tags, outcome_tags, table_tags}
 use Rattle.bridge_pbn.specs.Sections.{auction_lines, play_lines}
@@ -19,8 +19,8 @@ returns c =
     let table = table_tags c.args.row in
     let auction = auction_lines (dealer_of c.args.board) c.args.found.now.auction.now.calls in
     let play = play_lines (option_copied c.args.found.now.play) in
-    let pairs = ap (λ (stated : Configuration). stated.pairs) c.fields-fields.ensures.fields in
-    let scoring = ap (λ (stated : Configuration). stated.scoring) c.fields-fields.ensures.fields in
+    let pairs = ap (λ (stated : ConfigValue). stated.pairs) c.fields-fields.ensures.fields in
+    let scoring = ap (λ (stated : ConfigValue). stated.scoring) c.fields-fields.ensures.fields in
     let called = subst (λ (calls : List Call). c.push_auction.new.text.bytes ≡ c.push_table_tags.new.text.bytes ++ lines_text (auction_lines c.dealer.result calls)) c.calls.ensures.calls c.push_auction.ensures.lines in
     lines_then _ _ _ event (players ++ (board ++ (outcome ++ (table ++ (auction ++ play))))) c.push_event_tags.ensures.lines
     (lines_then _ _ _ players (board ++ (outcome ++ (table ++ (auction ++ play)))) (rw (c.as_slice.ensures.value, pairs) at c.push_player_tags.ensures.lines)

@@ -4,7 +4,7 @@ use Rattle.std.specs.Option.{option_to_list}
 use Rattle.std.proofs.lemmas.List.Elements.{filter_map-append}
 use Rattle.line_text.specs.Streams.{between, Takes, TakesPrefix}
 use Rattle.bridge_movement.specs.declared.row.Row.{Row}
-use Rattle.bridge_config.specs.Configuration.{Configuration}
+use Rattle.bridge_config.specs.ConfigValue.{ConfigValue}
 use Rattle.bridge_pbn.specs.Lines.{lines_text}
 use Rattle.bridge_pbn.specs.Games.{game_at}
 use Rattle.bridge_pbn.specs.Written.{games_after, has_begun}
@@ -29,7 +29,7 @@ returns-in-Err g c =
     let rows = c.rows-rows.result.now in
     let i = c.loop-row.row-index in
     let d : Row = record { round = 0; table = 0; ns = 0; ew = 0; set = 0 } in
-    let stated = ap (λ (configuration : Configuration). configuration.movement.rows) (c.fields.ensures.fields ∙ c.config.ensures) in
+    let stated = ap (λ (configuration : ConfigValue). configuration.movement.rows) (c.fields.ensures.fields ∙ c.config.ensures) in
     let whole : filter_map game c.args.session.now.configuration.movement.rows ≡ (filter_map game (take i rows) ++ option_to_list (game (get_or rows i d))) ++ filter_map game (drop (i + 1) rows) =
     ap (filter_map game) (sym (c.rows-rows.ensures.rows ∙ stated))
     ∙ made_whole (filter_map game) (filter_map-append game) rows i d c.loop-row-test.true

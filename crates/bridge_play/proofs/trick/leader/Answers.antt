@@ -6,7 +6,7 @@ loop-earlier-preserved c =
     rw (
       add-one,
       c.clockwise-leader-in-loop-earlier.ensures,
-      c.winning_place.ensures,
+      c.winning_index.ensures.index,
       c.suit.ensures,
       c.split_at-in-loop-earlier.ensures.front,
       c.split_at.ensures.back,

@@ -7,4 +7,4 @@ returns c =
     let cards = c.args.cards.now in
     let whole : length cards % 4 ≡ 0 = omega arith in
     let leads = winner_leads c.args.contract.now cards c.requires.some whole in
-    cc (leads, c.clockwise.ensures, c.winning_place.ensures, c.split_at.ensures.back, c.requires.led)
+    cc (leads, c.clockwise.ensures, c.winning_index.ensures.index, c.split_at.ensures.back, c.requires.led)

@@ -1,6 +1,6 @@
 use Rattle.std.proofs.Common.{◌≡◌, ℕ, List, true, false, sym, ap, ◌∙◌, refl, arith}
 use Rattle.bridge_config.specs.declared.fields.PairFields.{PairFields}
-use Rattle.bridge_config.specs.Configuration.{pair_of}
+use Rattle.bridge_config.specs.ConfigValue.{pair_of}
 use Rattle.bridge_session.specs.Parts.{pair_part}
 use Rattle.bridge_session.specs.Reading.{items_of}
 use Rattle.bridge_session.proofs.HeadLaws.{same_more, same_at}

@@ -1,5 +1,5 @@
 use Rattle.std.proofs.Common.{◌≡◌, map, take}
-use Rattle.bridge_config.specs.Configuration.{pair_of}
+use Rattle.bridge_config.specs.ConfigValue.{pair_of}
 use Rattle.bridge_session.specs.Parts.{pair_part}
 use Rattle.bridge_session.specs.Reading.{items_of}
 use Rattle.bridge_session.proofs.head.have_pairs.Given as goal

@@ -1,5 +1,5 @@
 use Rattle.std.proofs.Common.{◌≡◌, map, length, take}
-use Rattle.bridge_config.specs.Configuration.{pair_of}
+use Rattle.bridge_config.specs.ConfigValue.{pair_of}
 use Rattle.bridge_session.specs.PartsRead.{pair_in}
 use Rattle.bridge_session.specs.Reading.{items_of}
 use Rattle.bridge_session.proofs.head.read_pairs.Given as goal

@@ -1,6 +1,6 @@
 use Rattle.std.proofs.Common.{All, map, take, sym, ap, ◌∙◌, subst}
 use Rattle.std.proofs.lemmas.List.{take-map}
-use Rattle.bridge_config.specs.Configuration.{pair_of}
+use Rattle.bridge_config.specs.ConfigValue.{pair_of}
 use Rattle.bridge_config.specs.Limits.{IsConfiguration}
 use Rattle.bridge_movement.specs.declared.shape.Shape.{Shape}
 use Rattle.bridge_session.specs.PartsRead.{pair_in}

@@ -1,5 +1,5 @@
 use Rattle.std.proofs.Common.{◌≡◌, ◌∙◌, map, ap, sym, subst}
-use Rattle.bridge_auction.specs.Auction.{Bidding}
+use Rattle.bridge_auction.specs.Auction.{AuctionValue}
 use Rattle.bridge_auction.specs.Call.{call_number}
 use Rattle.bridge_auction.specs.Legal.{IsLegal}
 use Rattle.bridge_session.proofs.ReadRecords.{numbers_are, calls_once, no_calls, if_none, if_some_then, none_if}
@@ -11,8 +11,8 @@ returns-in_err-calls-clause-none c =
 
 pub returns-clause-calls : goal.returns-clause-calls
 returns-clause-calls c =
-    if_some_then _ (λ (auction : Bidding). map call_number auction.calls ≡ c.args.numbers.now) c.from_calls.result c.from_calls.ensures.auction
-    (λ auction is. ap (λ (a : Bidding). map call_number a.calls) is ∙ ap (map call_number) c.as_slice.ensures.value
+    if_some_then _ (λ (auction : AuctionValue). map call_number auction.calls ≡ c.args.numbers.now) c.from_calls.result c.from_calls.ensures.auction
+    (λ auction is. ap (λ (a : AuctionValue). map call_number a.calls) is ∙ ap (map call_number) c.as_slice.ensures.value
     ∙ numbers_are c.in_ok-calls.calls.items c.args.numbers.now c.in_ok-calls.ensures.calls)
 
 pub returns-clause-none : goal.returns-clause-none

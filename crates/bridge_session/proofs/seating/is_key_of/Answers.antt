@@ -1,6 +1,6 @@
 use Rattle.std.proofs.Common.{◌==◌, sym, ap}
 use Rattle.std.proofs.Math.ListN.{get_or-map}
-use Rattle.bridge_config.specs.Configuration.{key_number}
+use Rattle.bridge_config.specs.ConfigValue.{key_number}
 use Rattle.bridge_session.proofs.seating.is_key_of.Goals as goal
 
 pub returns : goal.returns

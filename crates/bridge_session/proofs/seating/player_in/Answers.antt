@@ -3,7 +3,7 @@ use Rattle.std.specs.Prelude.{map, position, slice_get, slice_index}
 use Rattle.std.specs.Option.{option_map, option_map_or}
 use Rattle.std.proofs.lemmas.Option.{slice_get-map, slice_get_read}
 use Rattle.std.proofs.lemmas.List.Quantifiers.{position-Some}
-use Rattle.bridge_config.specs.Configuration.{Pair, pair_of}
+use Rattle.bridge_config.specs.ConfigValue.{Pair, pair_of}
 use Rattle.bridge_config.specs.declared.fields.PairFields.{PairFields}
 use Rattle.bridge_session.specs.declared.seating.Player.{Player}
 use Rattle.bridge_session.specs.State.{has_key, is_first_key}

@@ -1,6 +1,6 @@
 use Rattle.std.proofs.Common.{◌≡◌, ◌+◌, ℕ, [], Option, Some, sym, ap, ◌∙◌, subst}
 use Rattle.std.specs.Prelude.{map, unwrap_or, IfSome}
-use Rattle.bridge_play.specs.Play.{Playing}
+use Rattle.bridge_play.specs.Play.{PlayValue}
 use Rattle.bridge_session.specs.Record.{play_of}
 use Rattle.bridge_session.specs.State.{deal_on, current_place}
 use Rattle.bridge_session.specs.See.{shown_with, shown_of, shown_current, shown_dealt}
@@ -37,7 +37,7 @@ returns c =
     let number : c.unwrap-index.result ≡ c.in-Some.place + 1 =
     subst (λ o. IfSome o (λ n. n ≡ c.in-Some.place + 1)) c.unwrap-index.ensures c.new.ensures.value in
     let index = number ∙ ap (λ n. n + 1) (is_current deals table c.in-Some.place c.requires.tied (sym c.in-Some.ensures)) in
-    let Q : ℕ → Option Playing → Type 0 = λ i p.
+    let Q : ℕ → Option PlayValue → Type 0 = λ i p.
     IsViewOf c.args.round c.args.number seat (shown_with i seat hands kept.board kept.auction.calls p) c.view_of.result in
     let seen : Q c.unwrap-index.result kept.play = c.view_of.ensures in
     record {

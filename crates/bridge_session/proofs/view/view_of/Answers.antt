@@ -1,5 +1,5 @@
 use Rattle.std.proofs.Common.{Option, sym, subst}
-use Rattle.bridge_play.specs.Play.{Playing}
+use Rattle.bridge_play.specs.Play.{PlayValue}
 use Rattle.bridge_session.specs.See.{shown_with}
 use Rattle.bridge_session.specs.Views.{IsViewOf}
 use Rattle.bridge_session.proofs.view.view_of.Goals as goal
@@ -7,5 +7,5 @@ use Rattle.bridge_session.proofs.view.view_of.Goals as goal
 pub returns-in-None : goal.returns-in-None
 returns-in-None c =
     let kept = c.args.kept.now in
-    subst (λ (play : Option Playing). IsViewOf c.args.id.round c.args.id.table c.args.seat (shown_with c.args.id.index c.args.seat c.args.deal.now kept.board kept.auction.calls play) c.view_of_auction.result)
+    subst (λ (play : Option PlayValue). IsViewOf c.args.id.round c.args.id.table c.args.seat (shown_with c.args.id.index c.args.seat c.args.deal.now kept.board kept.auction.calls play) c.view_of_auction.result)
     (sym c.in-None.is) c.view_of_auction.ensures

@@ -27,13 +27,20 @@ const LONG: u64 = 1 << 40;
 const GOOD: File = (LONG, 512, 9, Other);
 
 /// A file, what is asked of a disk over it, which of that is done, and the calls that reach the file.
-const ROWS: [(File, &[Asked], &[bool], &str); 13] = [
+const ROWS: [(File, &[Asked], &[bool], &str); 14] = [
     (GOOD, &[Zeros(5), Sync], &[true, true], "w2560+512=0 s "),
     (
         GOOD,
         &[Read(5), Sevens(5)],
         &[true, true],
         "r2560+512 w2560+512=7 ",
+    ),
+    // a sector is read from the file each time
+    (
+        GOOD,
+        &[Read(5), Sevens(5), Read(5), Read(5)],
+        &[true, true, true, true],
+        "r2560+512 w2560+512=7 r2560+512 r2560+512 ",
     ),
     (GOOD, &[Sync, Sync], &[true, true], "s s "),
     (GOOD, &[Sevens(65_536)], &[true], "w33554432+512=7 "),

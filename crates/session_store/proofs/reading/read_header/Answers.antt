@@ -12,10 +12,10 @@ returns-then-parts-eq0 c =
     sym (header_of-out_of_range c.args.bytes.now _ _ c.read_epoch-epoch.ensures.epoch c.read_number-parts.ensures.number
     (no_parts c.args.bytes.now _ _ c.if-parts-eq0.true))
 
-pub returns-then-parts-gt494 : goal.returns-then-parts-gt494
-returns-then-parts-gt494 c =
+pub returns-then-parts-gt-MOST_PARTS : goal.returns-then-parts-gt-MOST_PARTS
+returns-then-parts-gt-MOST_PARTS c =
     sym (header_of-out_of_range c.args.bytes.now _ _ c.read_epoch-epoch.ensures.epoch c.read_number-parts.ensures.number
-    (many_parts c.args.bytes.now _ _ c.if-parts-gt494.true))
+    (many_parts c.args.bytes.now _ _ c.if-parts-gt-MOST_PARTS.true))
 
 pub returns-then-ne : goal.returns-then-ne
 returns-then-ne c =
@@ -26,4 +26,4 @@ pub returns : goal.returns
 returns c =
     let equal = rw c.make_sector.ensures at (sym c.ne.ensures ∙ c.if-ne.false) in
     sym (header_of-equal c.args.bytes.now _ _ c.read_epoch-epoch.ensures.epoch c.read_number-parts.ensures.number
-    (omega (arith, c.if-epoch-eq0.false)) (omega (arith, c.if-parts-eq0.false)) (omega (arith, c.if-parts-gt494.false)) equal)
+    (omega (arith, c.if-epoch-eq0.false)) (omega (arith, c.if-parts-eq0.false)) (omega (arith, c.if-parts-gt-MOST_PARTS.false)) equal)

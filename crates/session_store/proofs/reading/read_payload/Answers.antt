@@ -16,10 +16,10 @@ part_is bytes len is =
     let count : 18 + len - 18 ≡ len = omega arith in
     ap (λ (n : ℕ). take n (drop 18 bytes)) (count ∙ stated bytes len is)
 
-pub returns-then-len-gt480-clause-payload : goal.returns-then-len-gt480-clause-payload
-returns-then-len-gt480-clause-payload c =
+pub returns-then-len-gt-PAYLOAD_BYTES-clause-payload : goal.returns-then-len-gt-PAYLOAD_BYTES-clause-payload
+returns-then-len-gt-PAYLOAD_BYTES-clause-payload c =
     sym (payload_in-long _ _ _ c.args.bytes.now _ (stated c.args.bytes.now _ c.from_be_bytes-len.ensures)
-    (omega (arith, c.fits-bytes)) (omega (arith, c.if-len-gt480.true)))
+    (omega (arith, c.fits-bytes)) (omega (arith, c.if-len-gt-PAYLOAD_BYTES.true)))
 
 pub returns-then-ne-clause-payload : goal.returns-then-ne-clause-payload
 returns-then-ne-clause-payload c =
@@ -30,5 +30,5 @@ pub returns-clause-payload : goal.returns-clause-payload
 returns-clause-payload c =
     let equal = rw c.make_sector.ensures at (sym c.ne.ensures ∙ c.if-ne.false) in
     let len = c.from_be_bytes-len.result in
-    let fits : length (take (18 + len - 18) (drop 18 c.args.bytes.now)) ≤ 480 = simp length-take (omega (arith, c.if-len-gt480.false)) in
+    let fits : length (take (18 + len - 18) (drop 18 c.args.bytes.now)) ≤ 480 = simp length-take (omega (arith, c.if-len-gt-PAYLOAD_BYTES.false)) in
     sym (payload_in-equal _ _ _ c.args.bytes.now _ (part_is c.args.bytes.now _ c.from_be_bytes-len.ensures) fits equal)

@@ -4,7 +4,7 @@ use Rattle.std.proofs.Math.Seq.{take-suc}
 use Rattle.std.proofs.lemmas.List.{take_all}
 use Rattle.bridge_cards.proofs.FollowLaws.{each_may_follow-next}
 use Rattle.bridge_auction.specs.declared.call.Call.{Call}
-use Rattle.bridge_auction.specs.Auction.{Bidding, bidding, with_call}
+use Rattle.bridge_auction.specs.Auction.{AuctionValue, bidding, with_call}
 use Rattle.bridge_auction.specs.Legal.{IsLegal, MayFollow}
 use Rattle.bridge_auction.proofs.auction.Auction.from_calls.Goals as goal
 
@@ -31,9 +31,9 @@ loop-call-preserved c =
     = ap (λ n. take n c.args.calls.now) (add-one c.loop-call.call-index) ∙ next
     ∙ ap (λ call. take c.loop-call.call-index c.args.calls.now ++ call ∷ []) (sym c.call-item.is) in
     record {
-      so_far = taken ∙ ap (λ (auction : Bidding). with_call auction c.call-item.result) c.loop-call.invariant.so_far
+      so_far = taken ∙ ap (λ (auction : AuctionValue). with_call auction c.call-item.result) c.loop-call.invariant.so_far
           ∙ ap (bidding c.args.dealer) (sym longer);
-      legal = subst (λ (auction : Bidding). IsLegal auction.calls) (sym taken)
+      legal = subst (λ (auction : AuctionValue). IsLegal auction.calls) (sym taken)
           (c.try_call.ensures.legal.0 (is_ok_not_err c.try_call.result not_err));
     }
 
@@ -42,13 +42,13 @@ returns-then-is_err-clause-legal c = (
   λ none. cc,
   λ legal.
       let longer = each_may_follow-next MayFollow c.args.calls.now c.loop-call.call-index c.call-item.result legal c.loop-call-test.true c.call-item.is in
-      let so_far = ap (λ (auction : Bidding). auction.calls) c.loop-call.invariant.so_far in
+      let so_far = ap (λ (auction : AuctionValue). auction.calls) c.loop-call.invariant.so_far in
       let ok = c.try_call.ensures.legal.1 (subst (λ (calls : List Call). IsLegal (calls ++ c.call-item.result ∷ [])) (sym so_far) longer) in
       absurd (not_ok c.try_call.result (sym c.is_err.ensures.value ∙ c.if-is_err.true) ok),
 )
 
 pub returns-clause-legal : goal.returns-clause-legal
 returns-clause-legal c =
-    let so_far = ap (λ (auction : Bidding). auction.calls) c.loop-call.invariant.so_far in
+    let so_far = ap (λ (auction : AuctionValue). auction.calls) c.loop-call.invariant.so_far in
     let whole = take_all c.loop-call.call-index c.args.calls.now c.loop-call-test.false in
     (λ some. subst IsLegal (so_far ∙ whole) c.loop-call.invariant.legal, λ legal. refl)

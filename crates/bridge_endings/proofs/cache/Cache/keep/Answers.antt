@@ -25,3 +25,7 @@ returns-clause-capacity c =
 pub returns-clause-room : goal.returns-clause-room
 returns-clause-room c =
     (still_kept c.self.inside.known c.put.new.self c.key.result (record { least = c.args.worth; most = c.args.worth }) c.args.ending.now c.key.ensures.key c.put.result c.put.ensures.entries c.put.ensures.err c.self.invariant c.key.ensures.ending (record { least = omega arith; most = omega arith })).few
+
+pub returns-clause-true_bounds : goal.returns-clause-true_bounds
+returns-clause-true_bounds c =
+    (still_kept c.self.inside.known c.put.new.self c.key.result (record { least = c.args.worth; most = c.args.worth }) c.args.ending.now c.key.ensures.key c.put.result c.put.ensures.entries c.put.ensures.err c.self.invariant c.key.ensures.ending (record { least = omega arith; most = omega arith })).each_true

@@ -1,7 +1,7 @@
 use Rattle.std.proofs.Common.{◌≡◌, sym, ap, ◌∙◌, subst}
 use Rattle.bridge_cards.specs.Seat.{clockwise_from}
-use Rattle.bridge_cards.specs.Trick.{winning_place}
-use Rattle.bridge_endings.specs.TrickCards.{TrickCards, IsKeptWinner}
+use Rattle.bridge_cards.specs.Trick.{winning_index}
+use Rattle.bridge_endings.specs.TrickValue.{TrickValue, IsKeptWinner}
 use Rattle.bridge_endings.proofs.Winning.{winning_is}
 use Rattle.bridge_endings.proofs.trick.Trick.winner.Goals as goal
 
@@ -9,6 +9,6 @@ pub returns : goal.returns
 returns c =
     let trick = c.args.self.now in
     let kept : IsKeptWinner trick.trump trick.cards c.self.inside.winning.card c.self.inside.winning.place =
-    subst (λ (t : TrickCards). IsKeptWinner t.trump t.cards c.self.inside.winning.card c.self.inside.winning.place) c.self.view_is c.self.invariant.2 in
-    let place_is : c.from.result ≡ winning_place trick.trump trick.cards = c.from.ensures ∙ sym (winning_is trick.trump trick.cards c.self.inside.winning.place (kept.winning c.requires)) in
-    c.clockwise.ensures ∙ ap (clockwise_from c.self.inside.leader) place_is ∙ ap (λ (t : TrickCards). clockwise_from t.leader (winning_place trick.trump trick.cards)) c.self.view_is
+    subst (λ (t : TrickValue). IsKeptWinner t.trump t.cards c.self.inside.winning.card c.self.inside.winning.place) c.self.view_is c.self.invariant.2 in
+    let place_is : c.from.result ≡ winning_index trick.trump trick.cards = c.from.ensures ∙ sym (winning_is trick.trump trick.cards c.self.inside.winning.place (kept.winning c.requires)) in
+    c.clockwise.ensures ∙ ap (clockwise_from c.self.inside.leader) place_is ∙ ap (λ (t : TrickValue). clockwise_from t.leader (winning_index trick.trump trick.cards)) c.self.view_is

@@ -2,7 +2,7 @@ use Rattle.std.proofs.Common.{◌≡◌, List, subst, ap, ◌∙◌}
 use Rattle.std.specs.Prelude.{IfSome}
 use Rattle.bridge_movement.specs.declared.row.Row.{Row}
 use Rattle.bridge_movement.specs.Fair.{IsMovement}
-use Rattle.bridge_movement.specs.Schedule.{Schedule}
+use Rattle.bridge_movement.specs.MovementValue.{MovementValue}
 use Rattle.bridge_movement.specs.Seating.{IsFirstSeat, PlaysAt}
 use Rattle.bridge_movement.specs.Shape.{IsShape}
 use Rattle.bridge_movement.proofs.Seats.{first_is_place, place_only, place_within}
@@ -28,7 +28,7 @@ plays c =
 kept : (c : goal.After-place_in) →
     IsShape c.args.self.now.shape × IsMovement c.args.self.now.shape c.args.self.now.rows
 kept c =
-    let P : Schedule → Type 0 = λ m. IsShape m.shape × IsMovement m.shape m.rows in
+    let P : MovementValue → Type 0 = λ m. IsShape m.shape × IsMovement m.shape m.rows in
     subst P c.self.view_is c.self.invariant
 
 pub returns-clause-only : goal.returns-clause-only

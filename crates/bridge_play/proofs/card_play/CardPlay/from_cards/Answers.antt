@@ -3,7 +3,7 @@ use Rattle.std.proofs.Math.Seq.{take-suc, take-append_seam}
 use Rattle.std.proofs.lemmas.List.{take_all}
 use Rattle.bridge_auction.specs.declared.contract.Contract.{Contract}
 use Rattle.bridge_cards.proofs.FollowLaws.{each_may_follow-next, each_may_follow-push, may_follow_front}
-use Rattle.bridge_play.specs.CardPlay.{PlayedCards, played, with_next}
+use Rattle.bridge_play.specs.CardPlay.{CardPlayValue, played, with_next}
 use Rattle.bridge_play.specs.Legal.{IsLegal, MayPlay, may_play}
 use Rattle.bridge_play.proofs.LegalCards.{legal_cards_few, may_play_is, is_may_play}
 use Rattle.bridge_play.proofs.card_play.CardPlay.from_cards.Goals as goal
@@ -13,9 +13,9 @@ one_more : (cards : List ℕ) (index card : ℕ) → index < length cards → ca
 one_more cards index card within is =
     ap (λ n. take n cards) (add-one index) ∙ take-suc cards index card within ∙ ap (λ x. take index cards ++ x ∷ []) (sym is)
 
-test_of : (play : PlayedCards) (hands : List ℕ) (contract : Contract) (cards : List ℕ) (card : ℕ) → play ≡ played hands contract cards
+test_of : (play : CardPlayValue) (hands : List ℕ) (contract : Contract) (cards : List ℕ) (card : ℕ) → play ≡ played hands contract cards
     → may_play play.hands play.contract play.cards card ≡ may_play hands contract cards card
-test_of play hands contract cards card is = ap (λ (p : PlayedCards). may_play p.hands p.contract p.cards card) is
+test_of play hands contract cards card is = ap (λ (p : CardPlayValue). may_play p.hands p.contract p.cards card) is
 
 pub returns-then-cards-gt-DECK-clause-legal : goal.returns-then-cards-gt-DECK-clause-legal
 returns-then-cards-gt-DECK-clause-legal c = (
@@ -36,7 +36,7 @@ loop-card-preserved c =
     let tested = sym (test_of c.loop-card.play hands contract (take index cards) card c.loop-card.invariant.so_far)
     ∙ sym c.may_play.ensures ∙ c.if-not-may_play.false in
     record {
-      so_far = c.push.ensures ∙ ap (λ (play : PlayedCards). with_next play card) c.loop-card.invariant.so_far ∙ ap (played hands contract) (sym longer);
+      so_far = c.push.ensures ∙ ap (λ (play : CardPlayValue). with_next play card) c.loop-card.invariant.so_far ∙ ap (played hands contract) (sym longer);
       legal = subst (IsLegal hands contract) (sym longer)
           (each_may_follow-push (MayPlay hands contract) (take index cards) card c.loop-card.invariant.legal
           (may_play_is hands contract (take index cards) card tested));
@@ -55,4 +55,10 @@ returns-then-not-may_play-clause-legal c = (
       let may = may_follow_front (MayPlay hands contract) (take index cards) card [] next in
       sym c.if-not-may_play.true ∙ c.may_play.ensures ∙ test_of c.loop-card.play hands contract (take index cards) card c.loop-card.invariant.so_far
       ∙ is_may_play hands contract (take index cards) card may,
+)
+
+pub returns-clause-legal : goal.returns-clause-legal
+returns-clause-legal c = (
+  λ some. subst (IsLegal c.args.deal.now c.args.contract) (take_all c.loop-card.card-index c.args.cards.now c.loop-card-test.false) c.loop-card.invariant.legal,
+  λ legal. refl,
 )

@@ -2,26 +2,26 @@ use Rattle.std.proofs.Common.{◌≡◌, ◌↔◌, ◌≤◌, ℕ, Bool, List, 
 use Rattle.std.specs.Prelude.{Option, Some, None, IfSome}
 use Rattle.bridge_auction.specs.declared.contract.Contract.{Contract}
 use Rattle.bridge_play.specs.declared.claim.Claim.{Claim}
-use Rattle.bridge_play.specs.CardPlay.{PlayedCards, played}
+use Rattle.bridge_play.specs.CardPlay.{CardPlayValue, played}
 use Rattle.bridge_play.specs.Legal.{IsLegal}
-use Rattle.bridge_play.specs.Play.{Playing, IsPlay, IsClaimIn, with_claims, playing, is_claim_in}
+use Rattle.bridge_play.specs.Play.{PlayValue, IsPlay, IsClaimIn, with_claims, playing, is_claim_in}
 use Rattle.bridge_play.proofs.RegularClaim.{regular_claim, claim_regular}
 use Rattle.bridge_play.proofs.play.Play.from_parts.Goals as goal
 use Rattle.bridge_play.proofs.play.Play.from_parts.Goals.{In-Some, in-Some-claim+else-not-is_claim_in, in_default-claim}
 
 -- the claim of a play, where there is one, holds what a claim must
-claimed_by : (play : Playing) (claim : Option Claim) (made : Claim) → claim ≡ Some made → is_claim_in play made ≡ true → IfSome claim (IsClaimIn play)
+claimed_by : (play : PlayValue) (claim : Option Claim) (made : Claim) → claim ≡ Some made → is_claim_in play made ≡ true → IfSome claim (IsClaimIn play)
 claimed_by play claim made is test = subst (λ (o : Option Claim). IfSome o (IsClaimIn play)) (sym is) (regular_claim play made test)
 
-unclaimed : (play : Playing) (claim : Option Claim) → claim ≡ None → IfSome claim (IsClaimIn play)
+unclaimed : (play : PlayValue) (claim : Option Claim) → claim ≡ None → IfSome claim (IsClaimIn play)
 unclaimed play claim is = subst (λ (o : Option Claim). IfSome o (IsClaimIn play)) (sym is) tt
 
 -- what a play has of its claim
-claim_of : (play : Playing) (made : Claim) → IsPlay play → play.claim ≡ Some made → is_claim_in play made ≡ true
+claim_of : (play : PlayValue) (made : Claim) → IsPlay play → play.claim ≡ Some made → is_claim_in play made ≡ true
 claim_of play made is same = claim_regular play made (subst (λ (o : Option Claim). IfSome o (IsClaimIn play)) same is.claimed)
 
 -- a claim that stands or was agreed, by its test
-tested : (play : PlayedCards) (claims : ℕ) (claim : Option Claim) (made : Claim) → claim ≡ Some made
+tested : (play : CardPlayValue) (claims : ℕ) (claim : Option Claim) (made : Claim) → claim ≡ Some made
     → is_claim_in (with_claims play claims (Some made)) made ≡ is_claim_in (with_claims play claims claim) made
 tested play claims claim made is = ap (λ (o : Option Claim). is_claim_in (with_claims play claims o) made) (sym is)
 
@@ -38,7 +38,7 @@ returns-then-not-is_claim_in-clause-accepted c = (
       let regular = claim_of play c.in-Some-claim.made is c.in-Some-claim.is in
       sym c.if-not-is_claim_in.true ∙ c.is_claim_in.ensures
       ∙ tested c.in-Some.card_play c.args.claims c.args.claim c.in-Some-claim.made c.in-Some-claim.is
-      ∙ ap (λ (kept : PlayedCards). is_claim_in (with_claims kept c.args.claims c.args.claim) c.in-Some-claim.made) cards
+      ∙ ap (λ (kept : CardPlayValue). is_claim_in (with_claims kept c.args.claims c.args.claim) c.in-Some-claim.made) cards
       ∙ regular,
 )
 
@@ -47,7 +47,7 @@ is_play c =
     let play = with_claims c.in-Some.card_play c.args.claims c.args.claim in
     let cards = c.in-Some.ensures.cards in
     record {
-      legal = subst (λ (kept : PlayedCards). IsLegal kept.hands kept.contract kept.cards) (sym cards) (c.in-Some.ensures.legal.0 refl);
+      legal = subst (λ (kept : CardPlayValue). IsLegal kept.hands kept.contract kept.cards) (sym cards) (c.in-Some.ensures.legal.0 refl);
       few = c.if-claims-gt-MOST_CLAIMS.false;
       claimed = elim c.match-claim.branch [
         | in-Some-claim+else-not-is_claim_in w ↦
@@ -64,6 +64,6 @@ invariant_of-result c = is_play c
 pub returns-clause-accepted : goal.returns-clause-accepted
 returns-clause-accepted c = (
   λ some.
-      subst IsPlay (ap (λ (cards : PlayedCards). with_claims cards c.args.claims c.args.claim) c.in-Some.ensures.cards) (is_play c),
+      subst IsPlay (ap (λ (cards : CardPlayValue). with_claims cards c.args.claims c.args.claim) c.in-Some.ensures.cards) (is_play c),
   λ is. refl,
 )

@@ -1,5 +1,5 @@
 use Rattle.std.proofs.Common.{◌≤◌, ◌*◌, ◌/◌, length, sym, subst, arith}
-use Rattle.bridge_play.specs.Play.{Playing}
+use Rattle.bridge_play.specs.Play.{PlayValue}
 use Rattle.bridge_play.proofs.HandsLeft.{equal_hands, none_twice}
 use Rattle.bridge_play.proofs.play.Play.hands_after.Goals as goal
 use Rattle.bridge_play.proofs.play.Play.hands_after.Goals.{After-left_after}
@@ -8,7 +8,7 @@ use Rattle.bridge_play.proofs.play.Play.hands_after.Goals.{After-left_after}
 within : (c : After-left_after) → 4 * c.args.tricks ≤ length c.self.inside.card_play.cards
 within c =
     let tricks : c.args.tricks ≤ length c.self.inside.card_play.cards / 4 =
-    subst (λ (p : Playing). c.args.tricks ≤ length p.cards / 4) (sym c.self.view_is) c.requires in
+    subst (λ (p : PlayValue). c.args.tricks ≤ length p.cards / 4) (sym c.self.view_is) c.requires in
     omega (arith, tricks)
 
 pub returns-clause-equal : goal.returns-clause-equal

@@ -2,14 +2,14 @@ use Rattle.std.proofs.Common.{◌≡◌, List, ℕ, Some, Result, Ok, Err, IfOk,
 use Rattle.arrayvec.specs.ArrayVec.{ArrayVec}
 use Rattle.session_store.specs.declared.fault.PartsFault.{PartsFault}
 use Rattle.bridge_session.specs.Parts.{parts_of}
-use Rattle.bridge_session.specs.State.{State}
+use Rattle.bridge_session.specs.State.{SessionValue}
 use Rattle.bridge_session.specs.StateRange.{IsSession}
 use Rattle.bridge_session.specs.SessionKeeping.{session_of}
 use Rattle.bridge_session.proofs.SessionOf.{session_of_is, no_session}
 use Rattle.bridge_session.proofs.kept.SessionKept.from_parts.Goals as goal
 
 -- a session that has the parts is theirs
-found : (parts : List (List ℕ)) (result : Result State PartsFault) → IfOk result (λ s. parts_of s ≡ parts) → IfOk result IsSession → IfOk result (λ s. session_of parts ≡ Some s)
+found : (parts : List (List ℕ)) (result : Result SessionValue PartsFault) → IfOk result (λ s. parts_of s ≡ parts) → IfOk result IsSession → IfOk result (λ s. session_of parts ≡ Some s)
 found parts (Ok s) has is = session_of_is s parts is has
 found parts (Err fault) has is = tt
 

@@ -3,7 +3,7 @@ use Rattle.std.specs.Prelude.{All, OnOk, map, slice_get, slice_set}
 use Rattle.std.specs.Vec.{with_items}
 use Rattle.bridge_session.specs.declared.record.Record.{Record}
 use Rattle.bridge_session.specs.declared.refused.Refused.{Refused}
-use Rattle.bridge_session.specs.State.{State, deal_on, seating_of}
+use Rattle.bridge_session.specs.State.{SessionValue, deal_on, seating_of}
 use Rattle.bridge_session.specs.Step.{seen_by, player_answer, answer_among, acted}
 use Rattle.bridge_session.specs.Valid.{IsDeed}
 use Rattle.bridge_session.specs.StateRange.{IsSession}
@@ -43,7 +43,7 @@ is_changed c =
     }
 
 -- the session before
-abbrev before : After-self-1 → State
+abbrev before : After-self-1 → SessionValue
 before c = state_of c.self.inside.config c.self.inside.round c.self.inside.deals.items (lists_in c.self.inside.tables.items)
 
 -- it is one
@@ -92,7 +92,7 @@ invariant_of-self c =
     (boards_same c.in_ok-seating.seating.seat c.args.deed c.act_among.result c.as_mut_slice.result.now c.act_among.new.table c.act_among.ensures.taken c.act_among.ensures.refused) tied (session_after c))
 
 pub returns-clause-answer : goal.returns-clause-answer
-returns-clause-answer c = answered c ∙ ap (λ (s : State). player_answer (seen_by s c.args.key.0 c.args.board) c.args.key.0 c.args.board c.args.at c.args.deed) c.self.view_is
+returns-clause-answer c = answered c ∙ ap (λ (s : SessionValue). player_answer (seen_by s c.args.key.0 c.args.board) c.args.key.0 c.args.board c.args.at c.args.deed) c.self.view_is
 
 pub returns-clause-taken : goal.returns-clause-taken
 returns-clause-taken c =
@@ -103,7 +103,7 @@ returns-clause-taken c =
     (λ ok taken.
     ap (state_of s.config s.round s.deals.items) (is_changed c).left
     ∙ acted_state s.config s.round s.deals.items lists c.args.key.0 c.args.deed seating c.as_mut_slice.result.now c.act_among.new.table (sym c.in_ok-seating.ensures.seating) (is_changed c).row taken
-    ∙ ap (λ (s : State). acted s c.args.key.0 c.args.deed) c.self.view_is)
+    ∙ ap (λ (s : SessionValue). acted s c.args.key.0 c.args.deed) c.self.view_is)
 
 pub returns-clause-refused : goal.returns-clause-refused
 returns-clause-refused c =

@@ -1,6 +1,6 @@
 use Rattle.std.proofs.Common.{◌≡◌, ◌-◌, ◌<◌, ◌≤◌, ◌*◌, length, Some, None, Ok, sym, ap, ◌∙◌, subst, arith}
 use Rattle.std.specs.Prelude.{slice_set}
-use Rattle.bridge_session.specs.State.{State, deal_on, director_answer}
+use Rattle.bridge_session.specs.State.{SessionValue, deal_on, director_answer}
 use Rattle.bridge_session.specs.Step.{if_allowed, deal_answer}
 use Rattle.bridge_session.specs.StateRange.{AreHands, AreHandsOrNone, IsSession}
 use Rattle.bridge_session.specs.Kept.{state_of, IsKept}
@@ -23,7 +23,7 @@ none_there c =
     was_none deals c.from-place.result c.args.board c.index.result.now (place_is c) within c.index.ensures (sym c.is_some.ensures ∙ c.if-is_some.false)
 
 -- the session before
-abbrev before : After-self-1 → State
+abbrev before : After-self-1 → SessionValue
 before c = state_of c.self.inside.config c.self.inside.round c.self.inside.deals.items (lists_in c.self.inside.tables.items)
 
 -- it is one
@@ -57,4 +57,4 @@ pub returns-clause-answer : goal.returns-clause-answer
 returns-clause-answer c =
     sym (accepted c)
     ∙ ap (λ allowed. if_allowed allowed (deal_answer (before c) c.args.board c.args.hands)) c.in_ok-check_director.ensures
-    ∙ ap (λ (t : State). if_allowed (director_answer t.configuration c.args.key.0) (deal_answer t c.args.board c.args.hands)) c.self.view_is
+    ∙ ap (λ (t : SessionValue). if_allowed (director_answer t.configuration c.args.key.0) (deal_answer t c.args.board c.args.hands)) c.self.view_is

@@ -1,7 +1,7 @@
 use Rattle.std.proofs.Common.{◌≡◌, ◌+◌, false, sym, ap, ◌∙◌, subst}
 use Rattle.std.specs.List.{list_any}
 use Rattle.bridge_session.specs.Record.{is_open}
-use Rattle.bridge_session.specs.State.{State, is_closed}
+use Rattle.bridge_session.specs.State.{SessionValue, is_closed}
 use Rattle.bridge_session.specs.Step.{records_of_round}
 use Rattle.bridge_session.specs.StateRange.{IsSession}
 use Rattle.bridge_session.specs.Kept.{state_of, IsKept}
@@ -17,7 +17,7 @@ invariant_of-self c =
     let before = state_of s.config s.round s.deals.items lists in
     let begun : is_closed s.config s.round ≡ false = sym c.is_closed.ensures ∙ c.if-is_closed.false in
     let none : list_any (list_any is_open) (records_of_round before) ≡ false =
-    ap (λ (t : State). list_any (list_any is_open) (records_of_round t)) c.self.view_is ∙ sym c.is_round_open.ensures ∙ c.if-is_round_open.false in
+    ap (λ (t : SessionValue). list_any (list_any is_open) (records_of_round t)) c.self.view_is ∙ sym c.is_round_open.ensures ∙ c.if-is_round_open.false in
     let round = c.number-2.ensures.number ∙ sym c.number.ensures.number ∙ c.if-number-self.false in
     let was = kept_session s.config s.round s.deals.items lists c.self.invariant in
     let is : IsSession (state_of s.config (s.round + 1) s.deals.items lists) = record {

@@ -4,7 +4,7 @@ use Rattle.std.specs.Prelude.{nat_le}
 use Rattle.std.proofs.lemmas.Bool.{leb-true, and_parts}
 use Rattle.bridge_config.specs.Limits.{IsConfiguration}
 use Rattle.bridge_movement.specs.declared.shape.Shape.{Shape}
-use Rattle.bridge_config.specs.Configuration.{Configuration, configuration_of}
+use Rattle.bridge_config.specs.ConfigValue.{ConfigValue, configuration_of}
 use Rattle.bridge_session.specs.Kept.{new_table}
 use Rattle.bridge_session.proofs.Acted.{lists_in}
 use Rattle.bridge_session.proofs.NewSession.{IsNew, new_is_kept, new_is_opening}
@@ -18,7 +18,7 @@ is_new c =
     let sets = c.from.ensures ∙ ap (λ (shape : Shape). shape.sets) c.shape.ensures.shape in
     let count : c.from.result * c.from-2.result ≡ (configuration_of fields).movement.shape.sets * fields.boards =
     ap (λ n. n * c.from-2.result) sets ∙ ap (λ n. (configuration_of fields).movement.shape.sets * n) c.from-2.ensures in
-    subst (λ (configuration : Configuration). IsNew configuration c.in_ok-deals.deals.items (lists_in c.in_ok-tables.tables.items)) c.fields-fields.ensures.fields
+    subst (λ (configuration : ConfigValue). IsNew configuration c.in_ok-deals.deals.items (lists_in c.in_ok-tables.tables.items)) c.fields-fields.ensures.fields
     (record {
       few = leb-true fields.boards 3 (and_parts (nat_le 1 fields.boards) (nat_le fields.boards 3) limits.boards).1;
       rows = ap length (sym c.rows.ensures.rows) ∙ c.rows.ensures.fair.complete.count;

@@ -4,9 +4,9 @@ use Rattle.std.specs.Option.{option_copied}
 use Rattle.std.proofs.lemmas.Bool.{leb-true, and_parts}
 use Rattle.std.proofs.lemmas.List.{length-map}
 use Rattle.bridge_cards.specs.Board.{dealer_of}
-use Rattle.bridge_config.specs.Configuration.{Configuration}
+use Rattle.bridge_config.specs.ConfigValue.{ConfigValue}
 use Rattle.bridge_session.specs.declared.record.Record.{Record}
-use Rattle.bridge_session.specs.State.{State}
+use Rattle.bridge_session.specs.State.{SessionValue}
 use Rattle.bridge_session.specs.Kept.{IsTiedIn}
 use Rattle.bridge_session.specs.Parts.{record_part}
 use Rattle.bridge_session.proofs.Acted.{tied_row, lists_in, list_there}
@@ -24,20 +24,20 @@ if_some P Q (Some kept) follows is = follows kept is
 pub index-table-requires : goal.index-table-requires
 index-table-requires c =
     let s = c.self.inside in
-    let configured : c.from-boards.result ≡ s.config.boards = c.from-boards.ensures ∙ ap (λ (k : Configuration). k.boards) c.fields.ensures.fields in
+    let configured : c.from-boards.result ≡ s.config.boards = c.from-boards.ensures ∙ ap (λ (k : ConfigValue). k.boards) c.fields.ensures.fields in
     let least = leb-true 1 s.config.boards (and_parts (nat_le 1 s.config.boards) (nat_le s.config.boards 3) c.fields.ensures.limits.boards).0 in
-    let within = row_within c.args.self.now (lists_in s.tables.items) c.from-boards.result c.args.place (ap (λ (t : State). t.records) c.self.view_is)
-    (configured ∙ ap (λ (t : State). t.configuration.boards) c.self.view_is) (omega (arith, least, configured)) c.requires in
+    let within = row_within c.args.self.now (lists_in s.tables.items) c.from-boards.result c.args.place (ap (λ (t : SessionValue). t.records) c.self.view_is)
+    (configured ∙ ap (λ (t : SessionValue). t.configuration.boards) c.self.view_is) (omega (arith, least, configured)) c.requires in
     omega (arith, within, length-map s.tables.items (λ (table : Vec Record Global). table.items))
 
 row_there : (c : After-record_at) → slice_get (lists_in c.self.inside.tables.items) (c.args.place / c.from-boards.result) ≡ Some c.as_slice.result.now
 row_there c =
     let s = c.self.inside in
     let place = c.args.place / c.from-boards.result in
-    let configured : c.from-boards.result ≡ s.config.boards = c.from-boards.ensures ∙ ap (λ (k : Configuration). k.boards) c.fields.ensures.fields in
+    let configured : c.from-boards.result ≡ s.config.boards = c.from-boards.ensures ∙ ap (λ (k : ConfigValue). k.boards) c.fields.ensures.fields in
     let least = leb-true 1 s.config.boards (and_parts (nat_le 1 s.config.boards) (nat_le s.config.boards 3) c.fields.ensures.limits.boards).0 in
-    let within = row_within c.args.self.now (lists_in s.tables.items) c.from-boards.result c.args.place (ap (λ (t : State). t.records) c.self.view_is)
-    (configured ∙ ap (λ (t : State). t.configuration.boards) c.self.view_is) (omega (arith, least, configured)) c.requires in
+    let within = row_within c.args.self.now (lists_in s.tables.items) c.from-boards.result c.args.place (ap (λ (t : SessionValue). t.records) c.self.view_is)
+    (configured ∙ ap (λ (t : SessionValue). t.configuration.boards) c.self.view_is) (omega (arith, least, configured)) c.requires in
     list_there s.tables.items place c.index-table.result.now within c.index-table.ensures ∙ ap Some (sym c.as_slice.ensures.value)
 
 pub returns-clause-part : goal.returns-clause-part
@@ -45,10 +45,10 @@ returns-clause-part c =
     let s = c.self.inside in
     let table = c.as_slice.result.now in
     let index = c.args.place % c.from-boards.result in
-    let configured : c.from-boards.result ≡ s.config.boards = c.from-boards.ensures ∙ ap (λ (k : Configuration). k.boards) c.fields.ensures.fields in
+    let configured : c.from-boards.result ≡ s.config.boards = c.from-boards.ensures ∙ ap (λ (k : ConfigValue). k.boards) c.fields.ensures.fields in
     let least = leb-true 1 s.config.boards (and_parts (nat_le 1 s.config.boards) (nat_le s.config.boards 3) c.fields.ensures.limits.boards).0 in
-    let part_is = play_part_is c.args.self.now (lists_in s.tables.items) c.from-boards.result c.args.place (ap (λ (t : State). t.records) c.self.view_is)
-    (configured ∙ ap (λ (t : State). t.configuration.boards) c.self.view_is) (omega (arith, least, configured)) c.requires table (row_there c) in
+    let part_is = play_part_is c.args.self.now (lists_in s.tables.items) c.from-boards.result c.args.place (ap (λ (t : SessionValue). t.records) c.self.view_is)
+    (configured ∙ ap (λ (t : SessionValue). t.configuration.boards) c.self.view_is) (omega (arith, least, configured)) c.requires table (row_there c) in
     ap record_part (sym (found_or_empty table index (option_copied c.record_at.result) c.record_at.ensures)) ∙ sym part_is
 
 pub returns-clause-dealer : goal.returns-clause-dealer

@@ -1,7 +1,7 @@
 use Rattle.std.proofs.Common.{◌≡◌, ◌≤◌, Bool, true, cond, List, length, filter, Ok, Err, Result, Vec, Global, get_or, sym, ap, ◌∙◌, subst, arith, map}
 use Rattle.std.specs.Prelude.{All, IsPermutation}
 use Rattle.std.proofs.lemmas.List.{length-map, get_or_default}
-use Rattle.bridge_config.specs.Configuration.{Configuration}
+use Rattle.bridge_config.specs.ConfigValue.{ConfigValue}
 use Rattle.bridge_movement.specs.declared.row.Row.{Row}
 use Rattle.bridge_movement.specs.declared.shape.Shape.{Shape}
 use Rattle.bridge_score.specs.declared.ranking.Line.{Line}
@@ -11,7 +11,7 @@ use Rattle.bridge_session.specs.declared.game.Game.{Game}
 use Rattle.bridge_session.specs.declared.record.Record.{Record}
 use Rattle.bridge_session.specs.declared.refused.Refused.{Refused}
 use Rattle.bridge_session.specs.declared.refused.Refused.TheVariants.{NoSuchPlay}
-use Rattle.bridge_session.specs.State.{State}
+use Rattle.bridge_session.specs.State.{SessionValue}
 use Rattle.bridge_session.specs.Step.{if_allowed}
 use Rattle.bridge_session.specs.Ranking.{is_on, line_of, lines_of, games_of, pairs_of_field, has_field, IsRankingTo}
 use Rattle.bridge_session.specs.Kept.{IsGame, state_of, kept_games}
@@ -38,7 +38,7 @@ games_are rows others vectors tables games held is found same kept =
 pub lines_of-lines-requires-clause-games : goal.lines_of-lines-requires-clause-games
 lines_of-lines-requires-clause-games c =
     let s = c.self.inside in
-    let rows : c.rows.result.now ≡ s.config.movement.rows = c.rows.ensures.rows ∙ ap (λ (k : Configuration). k.movement.rows) c.fields-fields.ensures.fields in
+    let rows : c.rows.result.now ≡ s.config.movement.rows = c.rows.ensures.rows ∙ ap (λ (k : ConfigValue). k.movement.rows) c.fields-fields.ensures.fields in
     let count : length s.config.movement.rows ≤ 144 = omega (arith, ap length rows, c.rows.ensures.most) in
     let is = games_are s.config.movement.rows c.rows.result.now s.tables.items c.as_slice.result.now c.games_of-games.result.items c.deref.result.now c.deref.ensures.0 c.games_of-games.ensures.games rows c.as_slice.ensures.value in
     record {
@@ -60,9 +60,9 @@ returns c =
     let field = c.args.field in
     let state = state_of s.config s.round s.deals.items (lists_in s.tables.items) in
     let fields = c.fields-fields.ensures.fields in
-    let scoring : c.fields-fields.result.now.scoring ≡ s.config.scoring = ap (λ (k : Configuration). k.scoring) fields in
-    let rows : c.rows.result.now ≡ s.config.movement.rows = c.rows.ensures.rows ∙ ap (λ (k : Configuration). k.movement.rows) fields in
-    let shape : c.shape-shape.result ≡ s.config.movement.shape = c.shape-shape.ensures.shape ∙ ap (λ (k : Configuration). k.movement.shape) fields in
+    let scoring : c.fields-fields.result.now.scoring ≡ s.config.scoring = ap (λ (k : ConfigValue). k.scoring) fields in
+    let rows : c.rows.result.now ≡ s.config.movement.rows = c.rows.ensures.rows ∙ ap (λ (k : ConfigValue). k.movement.rows) fields in
+    let shape : c.shape-shape.result ≡ s.config.movement.shape = c.shape-shape.ensures.shape ∙ ap (λ (k : ConfigValue). k.movement.shape) fields in
     let games : c.deref.result.now ≡ games_of state =
     games_are s.config.movement.rows c.rows.result.now s.tables.items c.as_slice.result.now c.games_of-games.result.items c.deref.result.now c.deref.ensures.0 c.games_of-games.ensures.games rows c.as_slice.ensures.value
     ∙ games_seen s.deals.items s.config.movement.rows (lists_in s.tables.items) c.self.invariant.tied in
@@ -75,7 +75,7 @@ returns c =
     ∙ ap (line s.config.scoring (games_of state)) shape in
     let has : has_field s.config.movement.shape field ≡ true = ap (λ (sh : Shape). has_field sh field) (sym shape) ∙ sym c.if-not-has_field.ensures in
     let answer : Bool → Result (Unit {0}) Refused = λ b. cond b (Ok tt) (Err NoSuchPlay) in
-    subst (λ (t : State). IsRankingTo t key field c.rank.result.items) c.self.view_is
+    subst (λ (t : SessionValue). IsRankingTo t key field c.rank.result.items) c.self.view_is
     (record {
       allowed =
           ap (λ asker. if_allowed asker (answer (has_field s.config.movement.shape field))) (sym c.in_ok-check_asker.ensures)

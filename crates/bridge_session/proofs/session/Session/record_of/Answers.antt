@@ -2,7 +2,7 @@ use Rattle.std.proofs.Common.{◌≡◌, ◌<◌, ◌-◌, length, Some, sym, ap
 use Rattle.std.specs.Prelude.{slice_get, IfSome}
 use Rattle.std.specs.Option.{option_map, option_copied}
 use Rattle.std.proofs.lemmas.Option.{slice_get-map}
-use Rattle.bridge_session.specs.State.{State, row_place}
+use Rattle.bridge_session.specs.State.{SessionValue, row_place}
 use Rattle.bridge_session.specs.Step.{is_row_within, record_of}
 use Rattle.bridge_session.specs.Kept.{plain_of, IsTiedIn}
 use Rattle.bridge_session.proofs.Acted.{tied_row, lists_in, list_there}
@@ -28,7 +28,7 @@ returns-clause-record c =
     ap (option_map plain_of) c.record_at.ensures
     ∙ sym (slice_get-map plain_of table c.from.result)
     ∙ sym (record_found s.config s.round s.deals.items (lists_in s.tables.items) play c.in_ok-place.place c.from.result table place.0 place.1 index (row_there c))
-    ∙ ap (λ (t : State). record_of t play) c.self.view_is
+    ∙ ap (λ (t : SessionValue). record_of t play) c.self.view_is
 
 pub returns-clause-tied : goal.returns-clause-tied
 returns-clause-tied c =
@@ -37,4 +37,4 @@ returns-clause-tied c =
     let tied = tied_row s.deals.items (lists_in s.tables.items) c.in_ok-place.place table c.self.invariant.tied (row_there c) in
     let there : IfSome (option_copied c.record_at.result) (IsTiedIn s.deals.items) =
     subst (λ o. IfSome o (IsTiedIn s.deals.items)) (sym c.record_at.ensures) (all_at (IsTiedIn s.deals.items) table c.from.result tied) in
-    subst (λ (t : State). IfSome (option_copied c.record_at.result) (IsTiedIn t.deals)) c.self.view_is there
+    subst (λ (t : SessionValue). IfSome (option_copied c.record_at.result) (IsTiedIn t.deals)) c.self.view_is there

@@ -4,7 +4,7 @@ use Rattle.std.specs.Vec.{with_items}
 use Rattle.bridge_session.specs.declared.record.Record.{Record}
 use Rattle.bridge_session.specs.declared.refused.Refused.{Refused}
 use Rattle.bridge_session.specs.Record.{PlainRecord}
-use Rattle.bridge_session.specs.State.{State, director_answer, row_place, changed_at}
+use Rattle.bridge_session.specs.State.{SessionValue, director_answer, row_place, changed_at}
 use Rattle.bridge_session.specs.Step.{if_allowed, is_row_within, rule_answer, record_of, ruled, with_ruling}
 use Rattle.bridge_session.specs.StateRange.{IsCorrectionInRange, IsSession}
 use Rattle.bridge_session.specs.Kept.{plain_of, board_kept, state_of, with_kept_ruling, kept_rule_answer, IsTiedIn, IsKept}
@@ -51,7 +51,7 @@ record_is c =
     record_found s.config s.round s.deals.items (lists_in s.tables.items) c.args.play c.in-Some.place c.from-at.result c.as_mut_slice.result.now changed.place.0 changed.place.1 changed.index changed.row
 
 -- the session before
-abbrev before : After-self-1 → State
+abbrev before : After-self-1 → SessionValue
 before c = state_of c.self.inside.config c.self.inside.round c.self.inside.deals.items (lists_in c.self.inside.tables.items)
 
 -- it is one
@@ -77,7 +77,7 @@ ruled_is c taken =
     let made = c.args.correction in
     let lists = lists_in s.tables.items in
     let changed = is_changed c in
-    let after : List (List PlainRecord) → State = λ records. record { configuration = s.config; round = s.round; deals = s.deals.items; records = records } in
+    let after : List (List PlainRecord) → SessionValue = λ records. record { configuration = s.config; round = s.round; deals = s.deals.items; records = records } in
     let change : ℕ → List PlainRecord → List PlainRecord = λ index records. changed_at (with_ruling made) records index in
     let seen = ap (map plain_of) taken ∙ changed_at-map plain_of (with_kept_ruling made) (with_ruling made) c.as_mut_slice.result.now c.from-at.result (λ kept. refl) in
     ap after (changed_row lists c.in-Some.place c.as_mut_slice.result.now c.rule_among.new.table (change c.from-at.result) changed.row seen)
@@ -122,7 +122,7 @@ invariant_of-self c =
 
 pub returns-clause-answer : goal.returns-clause-answer
 returns-clause-answer c =
-    let answer : State → Result (Unit {0}) Refused =
+    let answer : SessionValue → Result (Unit {0}) Refused =
     λ t. if_allowed (director_answer t.configuration c.args.key.0) (rule_answer t.round c.args.play.round c.args.correction (record_of t c.args.play)) in
     answered c
     ∙ ap (λ allowed. if_allowed allowed (rule_answer (before c).round c.args.play.round c.args.correction (record_of (before c) c.args.play))) c.in_ok-check_director.ensures
@@ -135,7 +135,7 @@ returns-clause-taken c =
     (λ ok taken.
     ap (state_of s.config s.round s.deals.items) (is_changed c).left
     ∙ ruled_is c taken
-    ∙ ap (λ (t : State). ruled t c.args.play c.args.correction) c.self.view_is)
+    ∙ ap (λ (t : SessionValue). ruled t c.args.play c.args.correction) c.self.view_is)
 
 pub returns-clause-refused : goal.returns-clause-refused
 returns-clause-refused c =

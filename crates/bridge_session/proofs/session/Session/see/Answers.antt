@@ -1,6 +1,6 @@
 use Rattle.std.proofs.Common.{◌≡◌, ◌<◌, length, Some, Err, sym, ap, ◌∙◌, subst, arith}
 use Rattle.std.specs.Prelude.{All, map, slice_get, IfSome, MatchResult}
-use Rattle.bridge_session.specs.State.{State}
+use Rattle.bridge_session.specs.State.{SessionValue}
 use Rattle.bridge_session.specs.See.{shown_among, shown_seated, shown_to}
 use Rattle.bridge_session.specs.Views.{IsViewOf, IsViewTo}
 use Rattle.bridge_session.specs.Kept.{plain_of, state_of, IsTiedIn}
@@ -43,7 +43,7 @@ returns c =
     ap (shown_seated state) sits
     ∙ ap (shown_among s.deals.items seating.seat) (row_at_is (lists_in s.tables.items) seating.place c.as_slice.result.now row)
     ∙ ap (λ deals. shown_among deals seating.seat records) (sym c.as_slice-2.ensures.value) in
-    subst (λ (t : State). MatchResult c.view_among.result (IsViewTo t key) (λ refused. shown_to t key ≡ Err refused)) c.self.view_is
+    subst (λ (t : SessionValue). MatchResult c.view_among.result (IsViewTo t key) (λ refused. shown_to t key ≡ Err refused)) c.self.view_is
     (match_map _ (IsViewTo state key) _ (λ refused. shown_to state key ≡ Err refused) c.view_among.result c.view_among.ensures
     (λ view seen. record {
       seating = seating;

@@ -1,8 +1,8 @@
 use Rattle.std.proofs.Common.{◌≡◌, ◌<◌, List, length, map, sym, ap, subst, ◌∙◌, arith}
 use Rattle.std.specs.Prelude.{slice_index_or}
 use Rattle.std.proofs.lemmas.List.{length-map, get_or-map}
-use Rattle.bridge_config.specs.Configuration.{Configuration, Pair, pair_of}
-use Rattle.bridge_session.specs.State.{State}
+use Rattle.bridge_config.specs.ConfigValue.{ConfigValue, Pair, pair_of}
+use Rattle.bridge_session.specs.State.{SessionValue}
 use Rattle.bridge_session.specs.Parts.{pair_part}
 use Rattle.bridge_session.proofs.PartPlaces.{place_of_pair}
 use Rattle.bridge_session.proofs.session.Session.write_from_pairs.Goals as goal
@@ -14,7 +14,7 @@ returns-then-place-pairs c =
     let pair = c.index-pairs-place.result in
     let place = c.args.place in
     let are : map pair_of listed ≡ s.configuration.pairs = ap (map pair_of) c.as_slice-pairs.ensures.value
-    ∙ ap (λ (k : Configuration). k.pairs) c.fields.ensures.fields ∙ ap (λ (t : State). t.configuration.pairs) c.self.view_is in
+    ∙ ap (λ (k : ConfigValue). k.pairs) c.fields.ensures.fields ∙ ap (λ (t : SessionValue). t.configuration.pairs) c.self.view_is in
     let inside : place < length (map pair_of listed) = omega (arith, c.if-place-pairs.true, length-map listed pair_of) in
     let within = subst (λ (ps : List Pair). place < length ps) are inside in
     let here : slice_index_or s.configuration.pairs place (pair_of pair) ≡ pair_of pair

@@ -4,7 +4,7 @@ use Rattle.std.specs.List.{take-map, drop-map}
 use Rattle.std.proofs.lemmas.List.{length-map, take-append-drop}
 use Rattle.bridge_movement.specs.declared.row.Row.{Row}
 use Rattle.bridge_movement.specs.declared.shape.Shape.{Shape}
-use Rattle.bridge_config.specs.Configuration.{Configuration, configuration_of}
+use Rattle.bridge_config.specs.ConfigValue.{ConfigValue, configuration_of}
 use Rattle.bridge_session.specs.declared.record.Record.{Record}
 use Rattle.bridge_session.specs.Parts.{deal_part, row_parts, board_parts}
 use Rattle.bridge_session.specs.Reading.{items_of, plains_of, AreDeals, AreRows}
@@ -20,10 +20,10 @@ returns-then-parts-count-clause-other c = λ s is same round of.
     let parts = map items_of c.args.parts.now in
     let known : configuration_of c.fields-fields.result.now ≡ config = c.fields-fields.ensures.fields in
     let sets : c.from.result ≡ config.movement.shape.sets
-    = c.from.ensures ∙ ap (λ (shape : Shape). shape.sets) c.shape.ensures.shape ∙ ap (λ (k : Configuration). k.movement.shape.sets) known in
-    let boards : c.from-2.result ≡ config.boards = c.from-2.ensures ∙ ap (λ (k : Configuration). k.boards) known in
-    let again : c.from-3.result ≡ config.boards = c.from-3.ensures ∙ ap (λ (k : Configuration). k.boards) known in
-    let rows : c.rows-rows.result.now ≡ config.movement.rows = c.rows-rows.ensures.rows ∙ ap (λ (k : Configuration). k.movement.rows) known in
+    = c.from.ensures ∙ ap (λ (shape : Shape). shape.sets) c.shape.ensures.shape ∙ ap (λ (k : ConfigValue). k.movement.shape.sets) known in
+    let boards : c.from-2.result ≡ config.boards = c.from-2.ensures ∙ ap (λ (k : ConfigValue). k.boards) known in
+    let again : c.from-3.result ≡ config.boards = c.from-3.ensures ∙ ap (λ (k : ConfigValue). k.boards) known in
+    let rows : c.rows-rows.result.now ≡ config.movement.rows = c.rows-rows.ensures.rows ∙ ap (λ (k : ConfigValue). k.movement.rows) known in
     let long = parts_long s is config same parts of in
     let count : c.from.result * c.from-2.result ≡ config.movement.shape.sets * config.boards
     = ap (λ n. n * c.from-2.result) sets ∙ ap (λ n. config.movement.shape.sets * n) boards in
@@ -37,8 +37,8 @@ returns-in-None-clause-other c = λ s is same round of.
     let parts = c.args.parts.now in
     let known : configuration_of c.fields-fields.result.now ≡ config = c.fields-fields.ensures.fields in
     let sets : c.from.result ≡ config.movement.shape.sets
-    = c.from.ensures ∙ ap (λ (shape : Shape). shape.sets) c.shape.ensures.shape ∙ ap (λ (k : Configuration). k.movement.shape.sets) known in
-    let boards : c.from-2.result ≡ config.boards = c.from-2.ensures ∙ ap (λ (k : Configuration). k.boards) known in
+    = c.from.ensures ∙ ap (λ (shape : Shape). shape.sets) c.shape.ensures.shape ∙ ap (λ (k : ConfigValue). k.movement.shape.sets) known in
+    let boards : c.from-2.result ≡ config.boards = c.from-2.ensures ∙ ap (λ (k : ConfigValue). k.boards) known in
     let count : c.from.result * c.from-2.result ≡ config.movement.shape.sets * config.boards
     = ap (λ n. n * c.from-2.result) sets ∙ ap (λ n. config.movement.shape.sets * n) boards in
     let front : map items_of c.split_at.result.0.now ≡ take (config.movement.shape.sets * config.boards) (map items_of parts)
@@ -52,12 +52,12 @@ returns-in-None-2-clause-other c = λ s is same round of.
     let parts = c.args.parts.now in
     let known : configuration_of c.fields-fields.result.now ≡ config = c.fields-fields.ensures.fields in
     let sets : c.from.result ≡ config.movement.shape.sets
-    = c.from.ensures ∙ ap (λ (shape : Shape). shape.sets) c.shape.ensures.shape ∙ ap (λ (k : Configuration). k.movement.shape.sets) known in
-    let boards : c.from-2.result ≡ config.boards = c.from-2.ensures ∙ ap (λ (k : Configuration). k.boards) known in
+    = c.from.ensures ∙ ap (λ (shape : Shape). shape.sets) c.shape.ensures.shape ∙ ap (λ (k : ConfigValue). k.movement.shape.sets) known in
+    let boards : c.from-2.result ≡ config.boards = c.from-2.ensures ∙ ap (λ (k : ConfigValue). k.boards) known in
     let count : c.from.result * c.from-2.result ≡ config.movement.shape.sets * config.boards
     = ap (λ n. n * c.from-2.result) sets ∙ ap (λ n. config.movement.shape.sets * n) boards in
-    let of_set : c.fields-fields.result.now.boards ≡ config.boards = ap (λ (k : Configuration). k.boards) known in
-    let rows : c.rows-rows.result.now ≡ config.movement.rows = c.rows-rows.ensures.rows ∙ ap (λ (k : Configuration). k.movement.rows) known in
+    let of_set : c.fields-fields.result.now.boards ≡ config.boards = ap (λ (k : ConfigValue). k.boards) known in
+    let rows : c.rows-rows.result.now ≡ config.movement.rows = c.rows-rows.ensures.rows ∙ ap (λ (k : ConfigValue). k.movement.rows) known in
     let deals : List (Option (List ℕ)) = c.in-Some.deals.items in
     let listed : c.as_slice.result.now ≡ deals = c.as_slice.ensures.value in
     let written : map deal_part deals ≡ map items_of c.split_at.result.0.now
@@ -84,12 +84,12 @@ invariant_of-result c =
     let parts = c.args.parts.now in
     let known : configuration_of c.fields-fields.result.now ≡ config = c.fields-fields.ensures.fields in
     let sets : c.from.result ≡ config.movement.shape.sets
-    = c.from.ensures ∙ ap (λ (shape : Shape). shape.sets) c.shape.ensures.shape ∙ ap (λ (k : Configuration). k.movement.shape.sets) known in
-    let boards : c.from-2.result ≡ config.boards = c.from-2.ensures ∙ ap (λ (k : Configuration). k.boards) known in
+    = c.from.ensures ∙ ap (λ (shape : Shape). shape.sets) c.shape.ensures.shape ∙ ap (λ (k : ConfigValue). k.movement.shape.sets) known in
+    let boards : c.from-2.result ≡ config.boards = c.from-2.ensures ∙ ap (λ (k : ConfigValue). k.boards) known in
     let count : c.from.result * c.from-2.result ≡ config.movement.shape.sets * config.boards
     = ap (λ n. n * c.from-2.result) sets ∙ ap (λ n. config.movement.shape.sets * n) boards in
-    let of_set : c.fields-fields.result.now.boards ≡ config.boards = ap (λ (k : Configuration). k.boards) known in
-    let rows : c.rows-rows.result.now ≡ config.movement.rows = c.rows-rows.ensures.rows ∙ ap (λ (k : Configuration). k.movement.rows) known in
+    let of_set : c.fields-fields.result.now.boards ≡ config.boards = ap (λ (k : ConfigValue). k.boards) known in
+    let rows : c.rows-rows.result.now ≡ config.movement.rows = c.rows-rows.ensures.rows ∙ ap (λ (k : ConfigValue). k.movement.rows) known in
     let deals : List (Option (List ℕ)) = c.in-Some.deals.items in
     let listed : c.as_slice.result.now ≡ deals = c.as_slice.ensures.value in
     let written : map deal_part deals ≡ map items_of c.split_at.result.0.now
@@ -123,12 +123,12 @@ returns-clause-parts c =
     let parts = c.args.parts.now in
     let known : configuration_of c.fields-fields.result.now ≡ config = c.fields-fields.ensures.fields in
     let sets : c.from.result ≡ config.movement.shape.sets
-    = c.from.ensures ∙ ap (λ (shape : Shape). shape.sets) c.shape.ensures.shape ∙ ap (λ (k : Configuration). k.movement.shape.sets) known in
-    let boards : c.from-2.result ≡ config.boards = c.from-2.ensures ∙ ap (λ (k : Configuration). k.boards) known in
+    = c.from.ensures ∙ ap (λ (shape : Shape). shape.sets) c.shape.ensures.shape ∙ ap (λ (k : ConfigValue). k.movement.shape.sets) known in
+    let boards : c.from-2.result ≡ config.boards = c.from-2.ensures ∙ ap (λ (k : ConfigValue). k.boards) known in
     let count : c.from.result * c.from-2.result ≡ config.movement.shape.sets * config.boards
     = ap (λ n. n * c.from-2.result) sets ∙ ap (λ n. config.movement.shape.sets * n) boards in
-    let of_set : c.fields-fields.result.now.boards ≡ config.boards = ap (λ (k : Configuration). k.boards) known in
-    let rows : c.rows-rows.result.now ≡ config.movement.rows = c.rows-rows.ensures.rows ∙ ap (λ (k : Configuration). k.movement.rows) known in
+    let of_set : c.fields-fields.result.now.boards ≡ config.boards = ap (λ (k : ConfigValue). k.boards) known in
+    let rows : c.rows-rows.result.now ≡ config.movement.rows = c.rows-rows.ensures.rows ∙ ap (λ (k : ConfigValue). k.movement.rows) known in
     let deals : List (Option (List ℕ)) = c.in-Some.deals.items in
     let listed : c.as_slice.result.now ≡ deals = c.as_slice.ensures.value in
     let written : map deal_part deals ≡ map items_of c.split_at.result.0.now
@@ -173,12 +173,12 @@ returns-clause-session c =
     let parts = c.args.parts.now in
     let known : configuration_of c.fields-fields.result.now ≡ config = c.fields-fields.ensures.fields in
     let sets : c.from.result ≡ config.movement.shape.sets
-    = c.from.ensures ∙ ap (λ (shape : Shape). shape.sets) c.shape.ensures.shape ∙ ap (λ (k : Configuration). k.movement.shape.sets) known in
-    let boards : c.from-2.result ≡ config.boards = c.from-2.ensures ∙ ap (λ (k : Configuration). k.boards) known in
+    = c.from.ensures ∙ ap (λ (shape : Shape). shape.sets) c.shape.ensures.shape ∙ ap (λ (k : ConfigValue). k.movement.shape.sets) known in
+    let boards : c.from-2.result ≡ config.boards = c.from-2.ensures ∙ ap (λ (k : ConfigValue). k.boards) known in
     let count : c.from.result * c.from-2.result ≡ config.movement.shape.sets * config.boards
     = ap (λ n. n * c.from-2.result) sets ∙ ap (λ n. config.movement.shape.sets * n) boards in
-    let of_set : c.fields-fields.result.now.boards ≡ config.boards = ap (λ (k : Configuration). k.boards) known in
-    let rows : c.rows-rows.result.now ≡ config.movement.rows = c.rows-rows.ensures.rows ∙ ap (λ (k : Configuration). k.movement.rows) known in
+    let of_set : c.fields-fields.result.now.boards ≡ config.boards = ap (λ (k : ConfigValue). k.boards) known in
+    let rows : c.rows-rows.result.now ≡ config.movement.rows = c.rows-rows.ensures.rows ∙ ap (λ (k : ConfigValue). k.movement.rows) known in
     let deals : List (Option (List ℕ)) = c.in-Some.deals.items in
     let listed : c.as_slice.result.now ≡ deals = c.as_slice.ensures.value in
     let written : map deal_part deals ≡ map items_of c.split_at.result.0.now

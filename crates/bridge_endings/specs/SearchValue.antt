@@ -9,7 +9,7 @@ use Rattle.bridge_endings.specs.Left.{left_to}
 use Rattle.bridge_endings.specs.Between.{IsBetween}
 
 -- the hands and the trump suit of the ending, and how many cards were tried
-pub record Searched : Type 0 where
+pub record SearchValue : Type 0 where
   pub hands : List ℕ
   pub trump : Option Suit
   pub tried : ℕ

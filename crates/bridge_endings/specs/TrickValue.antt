@@ -4,7 +4,7 @@ use Rattle.bridge_cards.specs.declared.suit.Suit.{Suit}
 use Rattle.bridge_cards.specs.declared.seat.Seat.{Seat}
 use Rattle.bridge_cards.specs.Trick.{wins}
 
-pub record TrickCards : Type 0 where
+pub record TrickValue : Type 0 where
   pub trump : Option Suit
   pub leader : Seat
   pub cards : List ℕ

@@ -10,12 +10,12 @@ use Rattle.bridge_cards.specs.declared.suit.Suit.{Suit}
 use Rattle.bridge_cards.specs.Suit.{suit_number}
 use Rattle.bridge_cards.specs.Seat.{seat_number}
 use Rattle.bridge_endings.specs.declared.bounds.Bounds.{Bounds}
-use Rattle.bridge_endings.specs.Position.{Position}
+use Rattle.bridge_endings.specs.EndingValue.{EndingValue}
 use Rattle.bridge_endings.specs.Ending.{IsEnding}
 use Rattle.bridge_endings.specs.Worth.{worth_of}
 use Rattle.bridge_endings.specs.Between.{IsBetween}
 
-pub record Cached : Type 0 where
+pub record CacheValue : Type 0 where
   pub entries : List (List ℕ × Bounds)
   pub capacity : ℕ
   pub tried : ℕ
@@ -26,13 +26,13 @@ trump_number None = 0
 trump_number (Some suit) = suit_number suit + 1
 
 -- what stands for an ending: its hands, its trump suit and the seat to lead
-abbrev pub key_of : Position → List ℕ
+abbrev pub key_of : EndingValue → List ℕ
 key_of ending = ending.hands ++ trump_number ending.trump ∷ seat_number ending.leader ∷ []
 
 -- each entry's bounds are true of its ending
 abbrev pub EachIsTrue : List (List ℕ × Bounds) → Type 0
 EachIsTrue entries = (key : List ℕ) (bounds : Bounds) → Contains entries (key, bounds)
-    → (ending : Position) → IsEnding ending.hands → key_of ending ≡ key → IsBetween (worth_of ending) bounds
+    → (ending : EndingValue) → IsEnding ending.hands → key_of ending ≡ key → IsBetween (worth_of ending) bounds
 
 -- what holds of the entries of every cache
 pub record AreKept (entries : List (List ℕ × Bounds)) (capacity : ℕ) : Type 0 where
@@ -41,21 +41,21 @@ pub record AreKept (entries : List (List ℕ × Bounds)) (capacity : ℕ) : Type
   pub few : length entries ≤ capacity
 
 -- the bounds that are kept of an ending
-abbrev pub bounds_of : Cached → Position → Option Bounds
+abbrev pub bounds_of : CacheValue → EndingValue → Option Bounds
 bounds_of cache ending = lookup (pointwise nat_eq (key_of ending)) cache.entries
 
 -- the ending is kept with that number as both bounds
-abbrev pub Keeps : Cached → Position → ℕ → Type 0
+abbrev pub Keeps : CacheValue → EndingValue → ℕ → Type 0
 Keeps cache ending worth = bounds_of cache ending ≡ Some (record { least = worth; most = worth })
 
 -- The entries once the ending is kept with that number as both bounds: it stands first. Where it was not there and the
 -- cache is full, the ending that was used least recently gives way.
-abbrev pub entries_with : Cached → Position → ℕ → List (List ℕ × Bounds)
+abbrev pub entries_with : CacheValue → EndingValue → ℕ → List (List ℕ × Bounds)
 entries_with cache ending worth =
     put_entries (pointwise nat_eq) (lru_cache cache.entries cache.capacity) (key_of ending) (record { least = worth; most = worth })
 
 -- what holds of a cache that is lent, before and after
-abbrev pub OfCache : Option (MutBor Cached) → Unit {0} ⊎ ((MutBor Cached × Unit {0}) ⊎ ⊥) → (Cached → Cached → Type 0) → Type 0
+abbrev pub OfCache : Option (MutBor CacheValue) → Unit {0} ⊎ ((MutBor CacheValue × Unit {0}) ⊎ ⊥) → (CacheValue → CacheValue → Type 0) → Type 0
 OfCache None _ P = Unit {0}
 OfCache (Some cache) (inr (inl left)) P = P cache.now left.0.now
 OfCache (Some cache) _ P = ⊥

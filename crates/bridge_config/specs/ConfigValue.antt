@@ -1,7 +1,7 @@
 -- What contracts see of a configuration: its fields, with texts as lists of bytes and keys as numbers.
 use Rattle.std.specs.Prelude.{ℕ, List, map, flat_map, ◌∷◌}
 use Rattle.bridge_score.specs.declared.ranking.Scoring.{Scoring}
-use Rattle.bridge_movement.specs.Schedule.{Schedule}
+use Rattle.bridge_movement.specs.MovementValue.{MovementValue}
 use Rattle.bridge_config.specs.declared.fields.Key.{Key}
 use Rattle.bridge_config.specs.declared.fields.PairFields.{PairFields}
 use Rattle.bridge_config.specs.declared.fields.ConfigFields.{ConfigFields}
@@ -11,13 +11,13 @@ pub record Pair : Type 0 where
   pub names : List (List ℕ)
   pub keys : List ℕ
 
-pub record Configuration : Type 0 where
+pub record ConfigValue : Type 0 where
   pub event : List ℕ
   pub site : List ℕ
   pub date : List ℕ
   pub scoring : Scoring
   pub boards : ℕ
-  pub movement : Schedule
+  pub movement : MovementValue
   pub director : ℕ
   pub pairs : List Pair
 
@@ -28,7 +28,7 @@ abbrev pub pair_of : PairFields → Pair
 pair_of pair = record { names = map (λ name. name.bytes) pair.names; keys = map key_number pair.keys }
 
 -- what fields state
-abbrev pub configuration_of : ConfigFields → Configuration
+abbrev pub configuration_of : ConfigFields → ConfigValue
 configuration_of fields = record {
   event = fields.event.bytes;
   site = fields.site.bytes;
@@ -45,7 +45,7 @@ abbrev pub keys_in : List Pair → List ℕ
 keys_in pairs = flat_map (λ (pair : Pair). pair.keys) pairs
 
 -- the director's key and then those of the pairs' players, in order
-abbrev pub keys_of : Configuration → List ℕ
+abbrev pub keys_of : ConfigValue → List ℕ
 keys_of configuration = configuration.director ∷ keys_in configuration.pairs
 
 -- what the first five lines of a text state
@@ -56,7 +56,7 @@ pub record Heading : Type 0 where
   pub scoring : Scoring
   pub boards : ℕ
 
-abbrev pub heading_of : Configuration → Heading
+abbrev pub heading_of : ConfigValue → Heading
 heading_of configuration = record {
   event = configuration.event;
   site = configuration.site;
@@ -70,5 +70,5 @@ pub record People : Type 0 where
   pub director : ℕ
   pub pairs : List Pair
 
-abbrev pub people_of : Configuration → People
+abbrev pub people_of : ConfigValue → People
 people_of configuration = record { director = configuration.director; pairs = configuration.pairs }

@@ -3,6 +3,6 @@ use Rattle.std.specs.Prelude.{List}
 use Rattle.bridge_movement.specs.declared.row.Row.{Row}
 use Rattle.bridge_movement.specs.declared.shape.Shape.{Shape}
 
-pub record Schedule : Type 0 where
+pub record MovementValue : Type 0 where
   pub shape : Shape
   pub rows : List Row
