@@ -7,7 +7,7 @@ use Rattle.bridge_auction.specs.declared.bid.Denomination.TheVariants.{Clubs, Di
 use Rattle.bridge_auction.specs.declared.bid.Bid.{Bid}
 use Rattle.bridge_auction.specs.Level.{IsLevel}
 
--- the place of a denomination in their order, from 0
+-- the index of a denomination in their order, from 0
 abbrev pub denomination_number : Denomination → ℕ
 denomination_number Clubs = 0
 denomination_number Diamonds = 1
@@ -23,7 +23,7 @@ denomination_suit Hearts = Some suit.Hearts
 denomination_suit Spades = Some suit.Spades
 denomination_suit NoTrump = None
 
--- the place of a bid in their order, from 0: first by level, then by denomination
+-- the index of a bid in their order, from 0: first by level, then by denomination
 abbrev pub bid_number : Bid → ℕ
 bid_number bid = 5 * (bid.level - 1) + denomination_number bid.denomination
 
@@ -31,12 +31,12 @@ bid_number bid = 5 * (bid.level - 1) + denomination_number bid.denomination
 abbrev pub IsBid : Bid → Type 0
 IsBid bid = IsLevel bid.level
 
--- the denomination at that place in their order, from 0
+-- the denomination at that index in their order, from 0
 abbrev pub denomination_at : ℕ → Denomination
-denomination_at place =
-    if place == 0 then Clubs else if place == 1 then Diamonds else if place == 2 then Hearts else if place == 3 then Spades else NoTrump
+denomination_at index =
+    if index == 0 then Clubs else if index == 1 then Diamonds else if index == 2 then Hearts else if index == 3 then Spades else NoTrump
 
--- the bid at that place in their order, from 0, of which there are 35
+-- the bid at that index in their order, from 0, of which there are 35
 abbrev pub bid_at : ℕ → Option Bid
-bid_at place =
-    if nat_lt place 35 then Some (record { level = place / 5 + 1; denomination = denomination_at (place % 5) }) else None
+bid_at index =
+    if nat_lt index 35 then Some (record { level = index / 5 + 1; denomination = denomination_at (index % 5) }) else None

@@ -35,7 +35,7 @@ impl Denomination {
         Denomination::NoTrump,
     ];
 
-    /// The denomination's place in their order: 0 for clubs to 4 for no trump (Law 18E).
+    /// The denomination's index in their order: 0 for clubs to 4 for no trump (Law 18E).
     pub fn number(self) -> u8
         ensures number { result ≡ denomination_number self }
         ensures range { result < 5 }
@@ -67,7 +67,7 @@ impl Bid {
     /// How many bids there are.
     pub const COUNT: u8 = 35;
 
-    /// The bid's place in their order: 0 for one club to 34 for seven no trump.
+    /// The bid's index in their order: 0 for one club to 34 for seven no trump.
     /// A bid is higher than another exactly where its number is (Law 18B).
     pub fn number(self) -> u8
         ensures number { result ≡ bid_number self }
@@ -77,7 +77,7 @@ impl Bid {
         5 * (self.level.number() - 1) + self.denomination.number()
     }
 
-    /// The bid at that place in their order, or `None` from 35 on.
+    /// The bid at that index in their order, or `None` from 35 on.
     pub fn from_number(number: u8) -> Option<Bid>
         ensures value { result ≡ bid_at number }
     {
@@ -90,7 +90,7 @@ impl Bid {
     }
 }
 
-/// The denomination at that place in their order.
+/// The denomination at that index in their order.
 fn denomination_at(number: u8) -> Denomination
     requires { number < 5 }
     ensures { result ≡ denomination_at number }

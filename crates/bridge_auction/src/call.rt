@@ -58,7 +58,7 @@ impl Call {
     }
 }
 
-/// A pass, so that a list of calls has a value for the places that it does not use.
+/// A pass, so that a list of calls has a value for the indexes that it does not use.
 impl Default for Call {
     ghost use Rattle.std.specs.Prelude.{◌≡◌};
     ghost use Rattle.bridge_auction.specs.declared.call.Call.TheVariants.{Pass};

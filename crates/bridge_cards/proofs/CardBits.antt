@@ -111,20 +111,20 @@ lowest_none (suc n) set beyond =
 two_power_le : (i j : ℕ) → i ≤ j → 2 ^ i ≤ 2 ^ j
 two_power_le i j h = pow-le-pow_right (omega arith) h
 
-pub highest_card : (cards place : ℕ) → IsCardSet cards → 2 ^ place ≤ cards → cards < 2 * 2 ^ place
-    → (place < 52) × (has_card cards place ≡ true) × ((other : ℕ) → place < other → has_card cards other ≡ false)
+pub highest_card : (cards index : ℕ) → IsCardSet cards → 2 ^ index ≤ cards → cards < 2 * 2 ^ index
+    → (index < 52) × (has_card cards index ≡ true) × ((other : ℕ) → index < other → has_card cards other ≡ false)
 unfolding has_card
-highest_card cards place set low high =
-    let one : cards / 2 ^ place ≡ 1
-    = omega (arith, le-div 1 cards (2 ^ place) (pow_pos place) (omega arith), div_below cards (2 ^ place) 2 (pow_pos place) high) in (
-      inside (cases_lt place 52),
+highest_card cards index set low high =
+    let one : cards / 2 ^ index ≡ 1
+    = omega (arith, le-div 1 cards (2 ^ index) (pow_pos index) (omega arith), div_below cards (2 ^ index) 2 (pow_pos index) high) in (
+      inside (cases_lt index 52),
       ap (λ n. n % 2 == 1) one,
-      λ other above. ap (λ n. n == 1) (bit_at_above cards (place + 1) other (omega (arith, pow-add 2 place 1)) (omega arith)),
+      λ other above. ap (λ n. n == 1) (bit_at_above cards (index + 1) other (omega (arith, pow-add 2 index 1)) (omega arith)),
     )
   where
-    inside : (place < 52) ⊎ (52 ≤ place) → place < 52
+    inside : (index < 52) ⊎ (52 ≤ index) → index < 52
     inside (inl h) = h
-    inside (inr h) = absurd (omega (arith, two_power_le 52 place h))
+    inside (inr h) = absurd (omega (arith, two_power_le 52 index h))
 
 -- an option that has the number n, if any
 pub some_at : (r : Option ℕ) (n : ℕ) (P : ℕ → Type 0) → IfSome r (λ x. x ≡ n) → (IsSome r → P n) → IfSome r P

@@ -40,9 +40,9 @@ common_in_deck dealt hand common card set both has =
     ]
 
 -- a hand has a card that one of the hands before it has
-pub held_twice : (hands : List ℕ) (place hand card : ℕ) → place < length hands → hand ≡ get_or hands place hand → holders (take place hands) card ≡ 1 → has_card hand card ≡ true → 1 < holders hands card
-held_twice hands place hand card within is before has =
-    let here : has_card (get_or hands place hand) card ≡ true = ap (λ h. has_card h card) (sym is) ∙ has in
-    let more : holders (take (place + 1) hands) card ≡ holders (take place hands) card + 1 = count_by_more_yes (λ h. has_card h card) hands place hand within here in
-    let most : holders (take (place + 1) hands) card ≤ holders hands card = sum_by-take-le (λ h. cond (has_card h card) 1 0) hands (place + 1) in
+pub held_twice : (hands : List ℕ) (index hand card : ℕ) → index < length hands → hand ≡ get_or hands index hand → holders (take index hands) card ≡ 1 → has_card hand card ≡ true → 1 < holders hands card
+held_twice hands index hand card within is before has =
+    let here : has_card (get_or hands index hand) card ≡ true = ap (λ h. has_card h card) (sym is) ∙ has in
+    let more : holders (take (index + 1) hands) card ≡ holders (take index hands) card + 1 = count_by_more_yes (λ h. has_card h card) hands index hand within here in
+    let most : holders (take (index + 1) hands) card ≤ holders hands card = sum_by-take-le (λ h. cond (has_card h card) 1 0) hands (index + 1) in
     omega arith

@@ -120,17 +120,17 @@ module _ (cards : List ℕ) (mixed : IsPermutation deck cards) where
   once card = omega (arith, times-row card 52 0, sum_by-IsPermutation (λ x. cond (x == card) 1 0) deck cards mixed)
 
   -- thirteen cards in a row are a hand of 13
-  thirteen : (place hand : ℕ) → place + 13 ≤ 52 → ((card : ℕ) → has_card hand card ≡ is_among (take 13 (drop place cards)) card) → card_count hand ≡ 13
+  thirteen : (index hand : ℕ) → index + 13 ≤ 52 → ((card : ℕ) → has_card hand card ≡ is_among (take 13 (drop index cards)) card) → card_count hand ≡ 13
   unfolding card_count deck
-  thirteen place hand fits has =
-      same_count (has_card hand) (is_among (take 13 (drop place cards))) has 52 0
-      ∙ count_among (take 13 (drop place cards)) (All-take (λ card. card < 52) 13 (drop place cards) (All-drop (λ card. card < 52) place cards inside)) (λ card. omega (
+  thirteen index hand fits has =
+      same_count (has_card hand) (is_among (take 13 (drop index cards))) has 52 0
+      ∙ count_among (take 13 (drop index cards)) (All-take (λ card. card < 52) 13 (drop index cards) (All-drop (λ card. card < 52) index cards inside)) (λ card. omega (
         arith,
         once card,
-        sum_by-take-drop (λ x. cond (x == card) 1 0) cards place,
-        sum_by-take-drop (λ x. cond (x == card) 1 0) (drop place cards) 13,
+        sum_by-take-drop (λ x. cond (x == card) 1 0) cards index,
+        sum_by-take-drop (λ x. cond (x == card) 1 0) (drop index cards) 13,
       ))
-      ∙ omega (arith, length-take 13 (drop place cards), length-drop place cards, long)
+      ∙ omega (arith, length-take 13 (drop index cards), length-drop index cards, long)
     where
       same_count : (p q : ℕ → Bool) → ((x : ℕ) → p x ≡ q x) → (k a : ℕ) → count_by p (range_with_len a k) ≡ count_by q (range_with_len a k)
       same_count p q same zero a = refl

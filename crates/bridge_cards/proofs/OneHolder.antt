@@ -25,7 +25,7 @@ counted p [] k within passes = absurd (omega arith)
 counted p (x ∷ xs) zero within passes = omega (arith, count_first p x xs passes)
 counted p (x ∷ xs) (suc k) within passes = omega (arith, count_rest p x xs, counted p xs k (omega arith) passes)
 
--- two places of a list pass a test
+-- two indexes of a list pass a test
 counted_twice : (p : ℕ → Bool) (xs : List ℕ) (j k : ℕ) → j < k → k < length xs → p (get_or xs j 0) ≡ true → p (get_or xs k 0) ≡ true → 2 ≤ count_by p xs
 counted_twice p [] j k less within first second = absurd (omega arith)
 counted_twice p (x ∷ xs) j zero less within first second = absurd (omega arith)

@@ -14,7 +14,7 @@ has_card-half : (n card : ℕ) → has_card n (card + 1) ≡ has_card (n / 2) ca
 unfolding has_card
 has_card-half n card = ap (λ i. bit_at n i == 1) (add-one card) ∙ ap (λ d. d == 1) (bit_at-suc n card)
 
--- the cards of n from place a + 1 on are those of n / 2 from place a on
+-- the cards of n from index a + 1 on are those of n / 2 from index a on
 count-half : (n a k : ℕ) → count_by (has_card n) (range_with_len (a + 1) k) ≡ count_by (has_card (n / 2)) (range_with_len a k)
 count-half n a zero = refl
 count-half n a (suc k) =

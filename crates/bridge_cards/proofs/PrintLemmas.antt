@@ -45,23 +45,23 @@ lowest_letters-no hand suit n h =
     ap (λ b. cond b (rank_letter (n + 2) ∷ []) [] ++ flat_map (letter_of hand suit) (lowest_ranks n)) h
 
 -- a step of the printing, from what is left to what is printed
-pub printed_yes : (bytes total : List ℕ) (hand : ℕ) (suit : Suit) (n place : ℕ) → place ≡ suc n → has_card hand (card_of suit (n + 2)) ≡ true
-    → bytes ++ lowest_letters hand suit place ≡ total → (bytes ++ rank_letter (n + 2) ∷ []) ++ lowest_letters hand suit n ≡ total
-printed_yes bytes total hand suit n place e has h =
+pub printed_yes : (bytes total : List ℕ) (hand : ℕ) (suit : Suit) (n index : ℕ) → index ≡ suc n → has_card hand (card_of suit (n + 2)) ≡ true
+    → bytes ++ lowest_letters hand suit index ≡ total → (bytes ++ rank_letter (n + 2) ∷ []) ++ lowest_letters hand suit n ≡ total
+printed_yes bytes total hand suit n index e has h =
     append_assoc bytes (rank_letter (n + 2) ∷ []) (lowest_letters hand suit n)
     ∙ ap (λ l. bytes ++ l) (sym (lowest_letters-yes hand suit n has) ∙ ap (lowest_letters hand suit) (sym e))
     ∙ h
 
-pub printed_no : (bytes total : List ℕ) (hand : ℕ) (suit : Suit) (n place : ℕ) → place ≡ suc n → has_card hand (card_of suit (n + 2)) ≡ false
-    → bytes ++ lowest_letters hand suit place ≡ total → bytes ++ lowest_letters hand suit n ≡ total
-printed_no bytes total hand suit n place e has h =
+pub printed_no : (bytes total : List ℕ) (hand : ℕ) (suit : Suit) (n index : ℕ) → index ≡ suc n → has_card hand (card_of suit (n + 2)) ≡ false
+    → bytes ++ lowest_letters hand suit index ≡ total → bytes ++ lowest_letters hand suit n ≡ total
+printed_no bytes total hand suit n index e has h =
     ap (λ l. bytes ++ l) (sym (lowest_letters-no hand suit n has) ∙ ap (lowest_letters hand suit) (sym e)) ∙ h
 
 -- and it has room for one letter more
-pub printed_room : (bytes total : List ℕ) (hand : ℕ) (suit : Suit) (n place : ℕ) → place ≡ suc n → has_card hand (card_of suit (n + 2)) ≡ true
-    → bytes ++ lowest_letters hand suit place ≡ total → length bytes + 1 ≤ length total
-printed_room bytes total hand suit n place e has h =
-    let whole = ap length (printed_yes bytes total hand suit n place e has h) in
+pub printed_room : (bytes total : List ℕ) (hand : ℕ) (suit : Suit) (n index : ℕ) → index ≡ suc n → has_card hand (card_of suit (n + 2)) ≡ true
+    → bytes ++ lowest_letters hand suit index ≡ total → length bytes + 1 ≤ length total
+printed_room bytes total hand suit n index e has h =
+    let whole = ap length (printed_yes bytes total hand suit n index e has h) in
     omega (arith, whole, length-append (bytes ++ rank_letter (n + 2) ∷ []) (lowest_letters hand suit n), length-append bytes (rank_letter (n + 2) ∷ []))
 
 -- how often a rank's letter stands where one rank is printed

@@ -21,8 +21,8 @@ unfolding deck
 no_card p none = list_any_none p (range_with_len 0 52) (λ k d within. none _)
 
 -- the suit of a card by its number
-suit_number-at : (place : ℕ) → place < 4 → suit_number (suit_at place) ≡ place
-suit_number-at place inside = grind arith
+suit_number-at : (index : ℕ) → index < 4 → suit_number (suit_at index) ≡ index
+suit_number-at index inside = grind arith
 
 pub is_of_suit-card_suit : (led card : ℕ) → led < 52 → is_of_suit (card_suit led) card ≡ same_suit card led
 is_of_suit-card_suit led card inside = ap (λ n. card / 13 == n) (suit_number-at (led / 13) (omega arith))

@@ -62,13 +62,13 @@ SpellsSuit-push hand new suit letters letter rank spelled is_rank is_letter abse
         ∙ sym (ap (λ b. cond b 1 0) now)
 
 -- the first letters and one more
-pub SpellsSuit-more : (hand new : ℕ) (suit : Suit) (letters : List ℕ) (place letter rank : ℕ) → place < length letters → letter ≡ get_or letters place 0
-    → SpellsSuit hand suit (take place letters) → IsRank rank → rank_letter rank ≡ letter → has_card hand (card_of suit rank) ≡ false
-    → ((other : ℕ) → has_card new other ≡ (has_card hand other || other == card_of suit rank)) → SpellsSuit new suit (take (place + 1) letters)
-SpellsSuit-more hand new suit letters place letter rank inside at spelled is_rank is_letter absent added =
-    let grown : take (place + 1) letters ≡ take place letters ++ letter ∷ []
-    = take_more letters place 0 inside ∙ ap (λ l. take place letters ++ l ∷ []) (sym at) in
-    subst (SpellsSuit new suit) (sym grown) (SpellsSuit-push hand new suit (take place letters) letter rank spelled is_rank is_letter absent added)
+pub SpellsSuit-more : (hand new : ℕ) (suit : Suit) (letters : List ℕ) (index letter rank : ℕ) → index < length letters → letter ≡ get_or letters index 0
+    → SpellsSuit hand suit (take index letters) → IsRank rank → rank_letter rank ≡ letter → has_card hand (card_of suit rank) ≡ false
+    → ((other : ℕ) → has_card new other ≡ (has_card hand other || other == card_of suit rank)) → SpellsSuit new suit (take (index + 1) letters)
+SpellsSuit-more hand new suit letters index letter rank inside at spelled is_rank is_letter absent added =
+    let grown : take (index + 1) letters ≡ take index letters ++ letter ∷ []
+    = take_more letters index 0 inside ∙ ap (λ l. take index letters ++ l ∷ []) (sym at) in
+    subst (SpellsSuit new suit) (sym grown) (SpellsSuit-push hand new suit (take index letters) letter rank spelled is_rank is_letter absent added)
 
 -- a card is of its suit
 pub is_of_suit-card_of : (suit : Suit) (rank : ℕ) → IsRank rank → is_of_suit suit (card_of suit rank) ≡ true

@@ -15,8 +15,8 @@ dealer_of board = seat_at (board - 1)
 
 -- the four in turn, one place later after each four boards
 abbrev pub vulnerability_at : ℕ → Vulnerability
-vulnerability_at place =
-    if place % 4 == 0 then Neither else if place % 4 == 1 then NorthSouth else if place % 4 == 2 then EastWest else Both
+vulnerability_at index =
+    if index % 4 == 0 then Neither else if index % 4 == 1 then NorthSouth else if index % 4 == 2 then EastWest else Both
 
 abbrev pub vulnerability_on : ℕ → Vulnerability
 vulnerability_on board = vulnerability_at ((board - 1) + (board - 1) / 4)

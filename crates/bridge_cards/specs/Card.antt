@@ -11,7 +11,7 @@ IsCard card = card < 52
 abbrev pub card_of : Suit → ℕ → ℕ
 card_of suit rank = 13 * suit_number suit + (rank - 2)
 
--- the place of a card's suit in the order of the suits
+-- the index of a card's suit in the order of the suits
 abbrev pub suit_number_of : ℕ → ℕ
 suit_number_of card = card / 13
 

@@ -81,7 +81,7 @@ impl Card {
         ensures rank { result ≡ card_rank self }
         ensures range { IsRank result }
     {
-        Rank::of_place(self.number % 13)
+        Rank::of_index(self.number % 13)
     }
 
     /// The card's text, as `SK` or `HT`: its suit's letter, and its rank's.

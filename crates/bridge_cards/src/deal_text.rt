@@ -162,8 +162,8 @@ fn print_suit<const N: usize>(hand: CardSet, suit: Suit, text: &mut ArrayString<
     requires { length text.old.bytes + length (suit_text hand suit) ≤ N }
     ensures { text.new.bytes ≡ text.old.bytes ++ suit_text hand suit }
 {
-    for place in (0..13).rev() {
-        let rank = Rank::of_place(place);
+    for index in (0..13).rev() {
+        let rank = Rank::of_index(index);
         if hand.has(Card::of(suit, rank)) {
             text.push(char::from(rank.letter()));
         }

@@ -37,12 +37,12 @@ impl Rank {
         }
     }
 
-    /// The rank at that place of a suit, from 0 for the 2.
-    pub(crate) fn of_place(place: u8) -> Rank
-        requires { place < 13 }
-        ensures { result ≡ place + 2 }
+    /// The rank at that index of a suit, from 0 for the 2.
+    pub(crate) fn of_index(index: u8) -> Rank
+        requires { index < 13 }
+        ensures { result ≡ index + 2 }
     {
-        Rank { number: place + 2 }
+        Rank { number: index + 2 }
     }
 
     /// The rank's number, 2 to 14.

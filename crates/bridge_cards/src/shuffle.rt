@@ -56,7 +56,7 @@ fn shuffled_deck(seed: &[u8; 32], board: BoardNumber) -> [Card; DECK]
 fn ordered_deck() -> [Card; DECK]
     ensures { result ≡ deck }
 {
-    array::from_fn(|place| Card::new(place as u8).unwrap())
+    array::from_fn(|index| Card::new(index as u8).unwrap())
 }
 
 /// The set of these cards.

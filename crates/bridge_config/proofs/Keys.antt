@@ -33,19 +33,19 @@ flipped key (other ∷ keys) = ap (λ b. b || list_any (λ o. key == o) keys) (e
 pub are_distinct-cons : (key : ℕ) (keys : List ℕ) → are_distinct (key ∷ keys) ≡ (not (stands_in keys key) && are_distinct keys)
 are_distinct-cons key keys = ap (λ b. not b && are_distinct keys) (flipped key keys)
 
--- the keys from a place on
-pub are_distinct-drop : (keys : List ℕ) (place : ℕ) (d : ℕ) → place < length keys → are_distinct (drop place keys) ≡ (not (stands_in (drop (place + 1) keys) (get_or keys place d)) && are_distinct (drop (place + 1) keys))
-are_distinct-drop keys place d within =
-    let one : place + 1 ≡ suc place = omega arith in
-    ap are_distinct (drop-cons keys place d within ∙ ap (λ n. get_or keys place d ∷ drop n keys) (sym one))
-    ∙ are_distinct-cons (get_or keys place d) (drop (place + 1) keys)
+-- the keys from an index on
+pub are_distinct-drop : (keys : List ℕ) (index : ℕ) (d : ℕ) → index < length keys → are_distinct (drop index keys) ≡ (not (stands_in (drop (index + 1) keys) (get_or keys index d)) && are_distinct (drop (index + 1) keys))
+are_distinct-drop keys index d within =
+    let one : index + 1 ≡ suc index = omega arith in
+    ap are_distinct (drop-cons keys index d within ∙ ap (λ n. get_or keys index d ∷ drop n keys) (sym one))
+    ∙ are_distinct-cons (get_or keys index d) (drop (index + 1) keys)
 
--- keys of four bytes, by their places
-pub are_numbers : (keys : List ℕ) → ((place : ℕ) → get_or keys place 0 < 2 ^ 32) → All IsKeyNumber keys
-are_numbers keys below place d within =
-    let least = below place in
-    let most : get_or keys place 0 ≤ 4294967295 = omega (arith, least) in
-    subst IsKeyNumber (sym (get_or_default keys place d 0 within)) most
+-- keys of four bytes, by their indexes
+pub are_numbers : (keys : List ℕ) → ((index : ℕ) → get_or keys index 0 < 2 ^ 32) → All IsKeyNumber keys
+are_numbers keys below index d within =
+    let least = below index in
+    let most : get_or keys index 0 ≤ 4294967295 = omega (arith, least) in
+    subst IsKeyNumber (sym (get_or_default keys index d 0 within)) most
 
 -- keys of four bytes by a test whether one stands twice
 pub keys_told : (keys : List ℕ) (test : Bool) → test ≡ are_distinct keys → All IsKeyNumber keys → IsTrue test ↔ AreKeys keys

@@ -8,7 +8,7 @@ use Rattle.bridge_movement.specs.declared.refused.MovementRefused.{MovementRefus
 use Rattle.bridge_movement.specs.MovementValue.{MovementValue}
 use Rattle.bridge_movement.specs.Shape.{row_count}
 use Rattle.bridge_movement.specs.Fair.{IsMovement}
-use Rattle.bridge_movement.specs.Refused.{IsRefusal, refused_place}
+use Rattle.bridge_movement.specs.Refused.{IsRefusal, refused_row}
 use Rattle.bridge_config.specs.declared.refused.ConfigFault.{ConfigFault}
 use Rattle.bridge_config.specs.declared.refused.ConfigRefused.TheVariants.{TooLong, Movement}
 use Rattle.bridge_config.specs.ConfigValue.{ConfigValue, Pair, Heading, People}
@@ -76,7 +76,7 @@ JudgesRows shape (Ok rows) (Ok moved) =
     × (moved ≡ record { movement = record { shape = shape; rows = rows.0 }; number = 7 + row_count shape; rest = rows.1 })
 JudgesRows shape (Ok rows) (Err fault) =
     (refused : MovementRefused) × (¬ IsMovement shape rows.0) × IsRefusal shape rows.0 refused
-    × (fault ≡ record { line = 6 + refused_place refused; cause = Movement refused })
+    × (fault ≡ record { line = 6 + refused_row refused; cause = Movement refused })
 
 -- `MOVEMENT` with its rows
 abbrev pub ReadsShape : List (List ℕ) → Result Shape ConfigFault → Result Moved ConfigFault → Type 0

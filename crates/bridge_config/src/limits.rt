@@ -82,8 +82,8 @@ fn two_digits(tens: u8, ones: u8) -> u32
 pub fn are_keys(keys: &[u32]) -> bool
     ensures { IsTrue result ↔ AreKeys keys.now }
 {
-    for (place, key) in keys.iter().enumerate() {
-        let (_, later) = keys.split_at(place + 1);
+    for (index, key) in keys.iter().enumerate() {
+        let (_, later) = keys.split_at(index + 1);
         if later.contains(key) {
             return false;
         }

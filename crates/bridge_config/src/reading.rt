@@ -148,7 +148,7 @@ fn read_movement_rows(shape: Shape, text: &[u8]) -> Result<Moved<'_>, ConfigFaul
             rest,
         }),
         Err(refused) => Err(ConfigFault {
-            line: 6 + u32::from(refused.place()),
+            line: 6 + u32::from(refused.row_number()),
             cause: ConfigRefused::Movement(refused),
         }),
     }
@@ -161,8 +161,8 @@ fn read_rows(count: u32, text: &[u8]) -> Result<(ArrayVec<Row, MOST_ROWS>, &[u8]
 {
     let mut rows = ArrayVec::new();
     let mut rest = text;
-    for place in 0..count {
-        let (line, after) = due_line(7 + place, rest)?;
+    for index in 0..count {
+        let (line, after) = due_line(7 + index, rest)?;
         rows.push(line.row()?);
         rest = after;
     }
@@ -204,9 +204,9 @@ fn read_pairs(
     let mut keys: ArrayVec<Key, 49> = ArrayVec::new();
     keys.push(director);
     let mut rest = text;
-    for place in 0..count {
-        let (line, after) = due_line(number + place, rest)?;
-        let pair = line.pair(1 + place, keys.as_slice())?;
+    for index in 0..count {
+        let (line, after) = due_line(number + index, rest)?;
+        let pair = line.pair(1 + index, keys.as_slice())?;
         pairs.push(pair);
         keys.try_extend_from_slice(&pair.keys).unwrap();
         rest = after;

@@ -24,7 +24,7 @@ use Rattle.bridge_endings.proofs.Seats.{seat_at-number}
 -- trump suits by their numbers
 trump_at : ℕ → Option Suit
 trump_at zero = None
-trump_at (suc place) = Some (suit_at place)
+trump_at (suc index) = Some (suit_at index)
 
 trump_at-number : (trump : Option Suit) → trump_at (trump_number trump) ≡ trump
 unfolding trump_at

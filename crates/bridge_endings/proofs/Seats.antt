@@ -30,7 +30,7 @@ one_place leader seat j k p q one other =
     let f = seat_number-clockwise leader k q in
     omega arith
 
--- two places of a trick are two seats
+-- two indexes of a trick are two seats
 pub other_place : (leader : Seat) (j k : ℕ) → j < 4 → k < 4 → (j ≡ k → ⊥) → same_seat (clockwise_from leader k) (clockwise_from leader j) ≡ false
 other_place leader j k p q differ = at (same_seat (clockwise_from leader k) (clockwise_from leader j)) refl
   where

@@ -35,11 +35,11 @@ module _ (hands : List ℕ) (ending : IsEnding hands) (trump : Option Suit) (lef
   is_left seat card has = (and_parts (dealt hands seat card) (has_card left card) has).1
 
   -- what another seat holds is among the others
-  among_others : (place : ℕ) → 0 < place → place < 4 → (card : ℕ) → left_to hands left (clockwise_from leader place) card ≡ true → has_card others card ≡ true
-  among_others place some few card has =
-      let seat : Seat = clockwise_from leader place in
+  among_others : (index : ℕ) → 0 < index → index < 4 → (card : ℕ) → left_to hands left (clockwise_from leader index) card ≡ true → has_card others card ≡ true
+  among_others index some few card has =
+      let seat : Seat = clockwise_from leader index in
       let was_dealt = (and_parts (dealt hands seat card) (has_card left card) has).0 in
-      let differs : same_seat leader seat ≡ false = ap (λ (s : Seat). same_seat s seat) (sym (first_place leader)) ∙ other_place leader place 0 few (omega arith) (λ e. omega arith) in
+      let differs : same_seat leader seat ≡ false = ap (λ (s : Seat). same_seat s seat) (sym (first_place leader)) ∙ other_place leader index 0 few (omega arith) (λ e. omega arith) in
       let not_dealt = one_owner hands ending seat card was_dealt leader differs in
       rest card ∙ left_not_in_hand (has_card left card) (has_card hand card) (is_left seat card has) (holds card ∙ ap (λ b. b && has_card left card) not_dealt)
 
@@ -52,8 +52,8 @@ module _ (hands : List ℕ) (ending : IsEnding hands) (trump : Option Suit) (lef
       suit = is.lead.2;
       not_above = not_higher trump card is.lead.0 is.lead.2 (not_above leader is.lead.0 has_led is.lead.2);
       others = each;
-      beats_each = λ place some few other there.
-          no_ruff trump card other (not_above (clockwise_from leader place) other there) (not_trump place some few other there trumps);
+      beats_each = λ index some few other there.
+          no_ruff trump card other (not_above (clockwise_from leader index) other there) (not_trump index some few other there trumps);
     },
   )
     where
@@ -67,9 +67,9 @@ module _ (hands : List ℕ) (ending : IsEnding hands) (trump : Option Suit) (lef
       not_above : (seat : Seat) (other : ℕ) → left_to hands left seat other ≡ true → same_suit other card ≡ true → card < other → ⊥
       not_above seat other has suited higher = let gone = is.highest other suited higher in let there = is_left seat other has in cc
 
-      not_trump : (place : ℕ) → 0 < place → place < 4 → (other : ℕ) → left_to hands left (clockwise_from leader place) other ≡ true → ((c : ℕ) → has_card others c ≡ true → is_trump trump c ≡ false) ⊎ (is_trump trump card ≡ true) → (is_trump trump other ≡ false) ⊎ (is_trump trump card ≡ true)
-      not_trump place some few other there (inl none) = inl (none other (among_others place some few other there))
-      not_trump place some few other there (inr is_trump_too) = inr is_trump_too
+      not_trump : (index : ℕ) → 0 < index → index < 4 → (other : ℕ) → left_to hands left (clockwise_from leader index) other ≡ true → ((c : ℕ) → has_card others c ≡ true → is_trump trump c ≡ false) ⊎ (is_trump trump card ≡ true) → (is_trump trump other ≡ false) ⊎ (is_trump trump card ≡ true)
+      not_trump index some few other there (inl none) = inl (none other (among_others index some few other there))
+      not_trump index some few other there (inr is_trump_too) = inr is_trump_too
 
   -- no other hand has a trump
   pub sure_without_trumps : (card : Option ℕ) → IfSome card (IsHighest hand partner left) → ((other : ℕ) → has_card others other ≡ true → is_trump trump other ≡ false) → IfSome card (λ c. (led : ℕ) × IsSure trump (left_to hands left) leader c led)

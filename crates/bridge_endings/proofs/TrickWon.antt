@@ -122,13 +122,13 @@ module _ (trump : Option Suit) (cards need : ℕ) (held : Seat → ℕ → Bool)
       ∙ best_all need after (may_play (held turn) trick) (side_of turn) answer legal.0 (out.inside turn legal.0 (may_play-held (held turn) trick legal.0 legal.1)) legal.1
       (λ other may. all other (may_play-held (held turn) trick other may))
 
--- A trick that the card at that place wins so far. The hands still to play have cards, and none that beats it.
-module _ (trump : Option Suit) (leader : Seat) (led winner place : ℕ) where
+-- A trick that the card at that index wins so far. The hands still to play have cards, and none that beats it.
+module _ (trump : Option Suit) (leader : Seat) (led winner index : ℕ) where
   pub record IsWon (held : Seat → ℕ → Bool) (trick : List ℕ) : Type 0 where
     pub out : IsDealtOut held
     pub first : get_or trick 0 0 ≡ led
-    pub winner_is : get_or trick place 0 ≡ winner
-    pub winning : IsWinning trump trick place
+    pub winner_is : get_or trick index 0 ≡ winner
+    pub winning : IsWinning trump trick index
     pub others : (k : ℕ) → length trick ≤ k → k < 4 → (card : ℕ) × (held (clockwise_from leader k) card ≡ true)
     pub unbeaten : (k : ℕ) → length trick ≤ k → k < 4 → (card : ℕ) → held (clockwise_from leader k) card ≡ true → beats trump led card winner ≡ false
 
@@ -136,13 +136,13 @@ module _ (trump : Option Suit) (leader : Seat) (led winner place : ℕ) where
   won_after held trick is part card has =
       let long : length (trick ++ card ∷ []) ≡ length trick + 1 = length-append trick (card ∷ []) in
       let some : 0 < length trick = omega (arith, is.winning.within) in
-      let not_beaten : beats trump (get_or trick 0 0) card (get_or trick place 0) ≡ false =
-      ap (λ l. beats trump l card (get_or trick place 0)) is.first ∙ ap (beats trump led card) is.winner_is ∙ is.unbeaten (length trick) (omega arith) part card has in
+      let not_beaten : beats trump (get_or trick 0 0) card (get_or trick index 0) ≡ false =
+      ap (λ l. beats trump l card (get_or trick index 0)) is.first ∙ ap (beats trump led card) is.winner_is ∙ is.unbeaten (length trick) (omega arith) part card has in
       record {
         out = dealt_out_after held is.out card;
         first = get_or_append_left trick (card ∷ []) 0 0 some ∙ is.first;
-        winner_is = get_or_append_left trick (card ∷ []) 0 place is.winning.within ∙ is.winner_is;
-        winning = winning_kept trump trick card place is.winning not_beaten;
+        winner_is = get_or_append_left trick (card ∷ []) 0 index is.winning.within ∙ is.winner_is;
+        winning = winning_kept trump trick card index is.winning not_beaten;
         others = λ k later few.
             let there = is.others k (omega arith) few in
             (there.0, kept_card held is.out card (clockwise_from leader (length trick)) (clockwise_from leader k) there.0 (other_place leader (length trick) k part few (λ e. omega arith)) has there.1);
@@ -151,15 +151,15 @@ module _ (trump : Option Suit) (leader : Seat) (led winner place : ℕ) where
       }
 
   -- the answer once the trick is won is the answer before
-  module _ (rest need : ℕ) (answer : Bool) (then : (held : Seat → ℕ → Bool) → nat_le need (trick_for (side_of (clockwise_from leader place)) + worth_with trump rest held (clockwise_from leader place) []) ≡ answer) where
+  module _ (rest need : ℕ) (answer : Bool) (then : (held : Seat → ℕ → Bool) → nat_le need (trick_for (side_of (clockwise_from leader index)) + worth_with trump rest held (clockwise_from leader index) []) ≡ answer) where
     pub won : (more : ℕ) (held : Seat → ℕ → Bool) (trick : List ℕ) → length trick + more ≡ 4 → IsWon held trick → nat_le need (worth_after trump (worth_with trump (rest + more)) held leader trick) ≡ answer
     won zero held trick whole is =
-        let seat : next_leader trump leader trick ≡ clockwise_from leader place = ap (clockwise_from leader) (winning_is trump trick place is.winning) in
+        let seat : next_leader trump leader trick ≡ clockwise_from leader index = ap (clockwise_from leader) (winning_is trump trick index is.winning) in
         let none_more : rest + 0 ≡ rest = omega arith in
         ap (nat_le need) (
         worth_after-whole trump (worth_with trump (rest + 0)) held leader trick (omega arith)
         ∙ ap (λ (s : Seat). trick_for (side_of s) + worth_with trump (rest + 0) held s []) seat
-        ∙ ap (λ cards. trick_for (side_of (clockwise_from leader place)) + worth_with trump cards held (clockwise_from leader place) []) none_more)
+        ∙ ap (λ cards. trick_for (side_of (clockwise_from leader index)) + worth_with trump cards held (clockwise_from leader index) []) none_more)
         ∙ then held
     won (suc more) held trick whole is =
         let part : length trick < 4 = omega arith in

@@ -1,4 +1,4 @@
--- The place that wins a trick, when one card more is played: the new card's where it beats the winner, else the winner's.
+-- The index that wins a trick, when one card more is played: the new card's where it beats the winner, else the winner's.
 use Rattle.std.proofs.Common.{◌≡◌, ℕ, ◌<◌, Bool, true, false, ◌&&◌, ◌||◌, ◌==◌, cond, nat_lt, List, [], ◌∷◌, ◌++◌, length, get_or, slice_get, Option, Some, None, unwrap_or, refl, ap, ◌∙◌, arith, length-append}
 use Rattle.std.specs.List.{list_all, position_or_len}
 use Rattle.std.proofs.lemmas.Bool.{eq-eqb}
@@ -37,12 +37,12 @@ module _ (trump : Option Suit) (led : ℕ) where
   total : (w x : ℕ) → is_or_beats trump led w led ≡ true → B x w ≡ false → is_or_beats trump led w x ≡ true
   total w x led_too not_beaten = grind (arith, nat_tests)
 
--- it is the winner's place
-pub winning_is : (trump : Option Suit) (trick : List ℕ) (place : ℕ) → IsWinning trump trick place → winning_index trump trick ≡ place
-winning_is trump trick place is =
-    let at : position_or_len (wins trump trick) trick ≡ place = position_or_len_is (wins trump trick) trick place 0 (omega (arith, is.within)) is.first (λ within. is.wins_there) in
+-- it is the winner's index
+pub winning_is : (trump : Option Suit) (trick : List ℕ) (index : ℕ) → IsWinning trump trick index → winning_index trump trick ≡ index
+winning_is trump trick index is =
+    let at : position_or_len (wins trump trick) trick ≡ index = position_or_len_is (wins trump trick) trick index 0 (omega (arith, is.within)) is.first (λ within. is.wins_there) in
     ap (λ n. unwrap_or (cond (nat_lt n (length trick)) (Some n) None) 0) at
-    ∙ ap (λ less. unwrap_or (cond less (Some place) None) 0) (lt-ltb place (length trick) is.within)
+    ∙ ap (λ less. unwrap_or (cond less (Some index) None) 0) (lt-ltb index (length trick) is.within)
 
 -- the card led wins at first
 pub winning_led : (trump : Option Suit) (led : ℕ) → IsWinning trump (led ∷ []) 0
@@ -56,12 +56,12 @@ and_false : (a : Bool) → (a && false) ≡ false
 and_false true = refl
 and_false false = refl
 
-module _ (trump : Option Suit) (trick : List ℕ) (card place : ℕ) (is : IsWinning trump trick place) where
+module _ (trump : Option Suit) (trick : List ℕ) (card index : ℕ) (is : IsWinning trump trick index) where
   abbrev led : ℕ
   led = get_or trick 0 0
 
   abbrev winner : ℕ
-  winner = get_or trick place 0
+  winner = get_or trick index 0
 
   wins_more : (x : ℕ) → wins trump (trick ++ card ∷ []) x ≡ (wins trump trick x && is_or_beats trump led x card)
   wins_more x =
@@ -95,10 +95,10 @@ module _ (trump : Option Suit) (trick : List ℕ) (card place : ℕ) (is : IsWin
     }
 
   -- it does not
-  pub winning_kept : beats trump led card winner ≡ false → IsWinning trump (trick ++ card ∷ []) place
+  pub winning_kept : beats trump led card winner ≡ false → IsWinning trump (trick ++ card ∷ []) index
   winning_kept not_beaten = record {
     within = omega (arith, is.within, length-append trick (card ∷ []));
-    wins_there = rw (get_or_append_left trick (card ∷ []) 0 place is.within) (
+    wins_there = rw (get_or_append_left trick (card ∷ []) 0 index is.within) (
         wins_more winner
         ∙ ap (λ b. b && is_or_beats trump led winner card) is.wins_there
         ∙ total trump led winner card (beaten 0 (omega (arith, is.within))) not_beaten);
@@ -113,28 +113,28 @@ got_first : (xs : List ℕ) (x : ℕ) → slice_get xs 0 ≡ Some x → (0 < len
 got_first [] x is = cc
 got_first (y ∷ ys) x is = (omega arith, cc)
 
-module _ (trump : Option Suit) (trick : List ℕ) (led card winner place : ℕ) (some : slice_get trick 0 ≡ Some led) (kept : IsKeptWinner trump trick winner place) where
+module _ (trump : Option Suit) (trick : List ℕ) (led card winner index : ℕ) (some : slice_get trick 0 ≡ Some led) (kept : IsKeptWinner trump trick winner index) where
   first_is : get_or trick 0 0 ≡ led
   first_is = (got_first trick led some).1
 
-  was : IsWinning trump trick place
+  was : IsWinning trump trick index
   was = kept.winning ((got_first trick led some).0)
 
-  winner_is : get_or trick place 0 ≡ winner
+  winner_is : get_or trick index 0 ≡ winner
   winner_is = kept.card_is ((got_first trick led some).0)
 
-  told : (answer : Bool) → beats trump led card winner ≡ answer → beats trump (get_or trick 0 0) card (get_or trick place 0) ≡ answer
-  told answer is = ap (λ l. beats trump l card (get_or trick place 0)) first_is ∙ ap (beats trump led card) winner_is ∙ is
+  told : (answer : Bool) → beats trump led card winner ≡ answer → beats trump (get_or trick 0 0) card (get_or trick index 0) ≡ answer
+  told answer is = ap (λ l. beats trump l card (get_or trick index 0)) first_is ∙ ap (beats trump led card) winner_is ∙ is
 
   pub keeps_new : (at : ℕ) → at ≡ length trick → beats trump led card winner ≡ true → IsKeptWinner trump (trick ++ card ∷ []) card at
   keeps_new at here does =
       rw here (record {
-        winning = λ _. winning_card trump trick card place was (told true does);
+        winning = λ _. winning_card trump trick card index was (told true does);
         card_is = λ _. get_or-append_seam trick card [] 0;
       })
 
-  pub keeps_old : beats trump led card winner ≡ false → IsKeptWinner trump (trick ++ card ∷ []) winner place
+  pub keeps_old : beats trump led card winner ≡ false → IsKeptWinner trump (trick ++ card ∷ []) winner index
   keeps_old not_beaten = record {
-    winning = λ _. winning_kept trump trick card place was (told false not_beaten);
-    card_is = λ _. get_or_append_left trick (card ∷ []) 0 place was.within ∙ winner_is;
+    winning = λ _. winning_kept trump trick card index was (told false not_beaten);
+    card_is = λ _. get_or_append_left trick (card ∷ []) 0 index was.within ∙ winner_is;
   }

@@ -20,7 +20,7 @@ pub record CacheValue : Type 0 where
   pub capacity : ℕ
   pub tried : ℕ
 
--- the trump suit's place, from 1; 0 where there is none
+-- the trump suit's number, from 1; 0 where there is none
 abbrev pub trump_number : Option Suit → ℕ
 trump_number None = 0
 trump_number (Some suit) = suit_number suit + 1

@@ -23,4 +23,4 @@ IsSettled played tricks need = (played ≡ 0) × ((need ≡ 0) ⊎ (tricks < nee
 
 -- each card of the trick was dealt to the seat that played it
 abbrev pub EachDealt : List ℕ → Seat → List ℕ → Type 0
-EachDealt hands leader trick = (place : ℕ) → place < length trick → dealt hands (clockwise_from leader place) (slice_index trick place) ≡ true
+EachDealt hands leader trick = (index : ℕ) → index < length trick → dealt hands (clockwise_from leader index) (slice_index trick index) ≡ true

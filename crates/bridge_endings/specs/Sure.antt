@@ -11,12 +11,12 @@ use Rattle.bridge_cards.specs.Trick.{is_or_beats}
 
 -- each of the three other hands has a card
 abbrev pub EachHasSome : (Seat → ℕ → Bool) → Seat → Type 0
-EachHasSome held leader = (place : ℕ) → 0 < place → place < 4 → (card : ℕ) × IsTrue (held (clockwise_from leader place) card)
+EachHasSome held leader = (index : ℕ) → 0 < index → index < 4 → (card : ℕ) × IsTrue (held (clockwise_from leader index) card)
 
 -- where its suit is led, the card is or beats each card of the three other hands
 abbrev pub BeatsEach : Option Suit → (Seat → ℕ → Bool) → Seat → ℕ → Type 0
-BeatsEach trump held leader card = (place : ℕ) → 0 < place → place < 4
-    → (other : ℕ) → held (clockwise_from leader place) other ≡ true → is_or_beats trump card card other ≡ true
+BeatsEach trump held leader card = (index : ℕ) → 0 < index → index < 4
+    → (other : ℕ) → held (clockwise_from leader index) other ≡ true → is_or_beats trump card card other ≡ true
 
 -- the leader or the partner has the card, and wins the trick with it, once the leader leads that card of its suit
 pub record IsSure (trump : Option Suit) (held : Seat → ℕ → Bool) (leader : Seat) (card led : ℕ) : Type 0 where

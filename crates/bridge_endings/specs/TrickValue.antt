@@ -9,13 +9,13 @@ pub record TrickValue : Type 0 where
   pub leader : Seat
   pub cards : List ℕ
 
--- the card at that place beats the others, and none before it does
-pub record IsWinning (trump : Option Suit) (trick : List ℕ) (place : ℕ) : Type 0 where
-  pub within : place < length trick
-  pub wins_there : wins trump trick (slice_index trick place) ≡ true
-  pub first : (k : ℕ) → k < place → wins trump trick (slice_index trick k) ≡ false
+-- the card at that index beats the others, and none before it does
+pub record IsWinning (trump : Option Suit) (trick : List ℕ) (index : ℕ) : Type 0 where
+  pub within : index < length trick
+  pub wins_there : wins trump trick (slice_index trick index) ≡ true
+  pub first : (k : ℕ) → k < index → wins trump trick (slice_index trick k) ≡ false
 
--- where a card is played, that card wins so far, at that place
-pub record IsKeptWinner (trump : Option Suit) (trick : List ℕ) (card place : ℕ) : Type 0 where
-  pub winning : 0 < length trick → IsWinning trump trick place
-  pub card_is : 0 < length trick → slice_index trick place ≡ card
+-- where a card is played, that card wins so far, at that index
+pub record IsKeptWinner (trump : Option Suit) (trick : List ℕ) (card index : ℕ) : Type 0 where
+  pub winning : 0 < length trick → IsWinning trump trick index
+  pub card_is : 0 < length trick → slice_index trick index ≡ card

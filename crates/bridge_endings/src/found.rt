@@ -5,8 +5,8 @@ ghost use Rattle.bridge_endings.specs.SearchValue.{IsNothing};
 use crate::bounds::Bounds;
 use bridge_cards::{CardSet, Seat};
 
-/// How many places the table has; it lies on the stack.
-pub const PLACES: usize = 1024;
+/// How many slots the table has; it lies on the stack.
+pub const SLOTS: usize = 1024;
 
 /// What was found of the cards left at the start of a trick.
 #[derive(Clone, Copy)]
@@ -36,17 +36,17 @@ impl Found {
 }
 
 /// The table in which nothing is found yet.
-pub fn empty_table() -> [Found; PLACES]
+pub fn empty_table() -> [Found; SLOTS]
     ensures { All IsNothing result }
 {
-    [Found::nothing(); PLACES]
+    [Found::nothing(); SLOTS]
 }
 
-/// The place in the table of what is left.
-pub fn place(left: CardSet, leader: Seat) -> usize
-    ensures { result < PLACES }
+/// The slot in the table of what is left.
+pub fn slot(left: CardSet, leader: Seat) -> usize
+    ensures { result < SLOTS }
 {
-    // 2^64 over the golden ratio, made odd: the upper bits of a product spread like sets over the places.
+    // 2^64 over the golden ratio, made odd: the upper bits of a product spread like sets over the slots.
     let mixed = (left.bits() ^ u64::from(leader.number())).wrapping_mul(0x9e37_79b9_7f4a_7c15);
-    (mixed >> 32) as usize % PLACES
+    (mixed >> 32) as usize % SLOTS
 }

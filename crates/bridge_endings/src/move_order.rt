@@ -80,20 +80,20 @@ fn lowest_rank(cards: CardSet, other: Card) -> Card
     }
 }
 
-/// The number in which bit n says whether the cards have one of the rank so many places above the 2.
+/// The number in which bit n says whether the cards have one of the rank so many ranks above the 2.
 fn ranks(cards: CardSet) -> u64 {
     let bits = cards.bits();
     (bits | bits >> 13 | bits >> 26 | bits >> 39) & 0x1fff
 }
 
-/// Those of the cards that have the rank so many places above the 2.
-fn of_rank(cards: CardSet, place: u32) -> CardSet
-    requires { place < 64 }
+/// Those of the cards that have the rank so many ranks above the 2.
+fn of_rank(cards: CardSet, above: u32) -> CardSet
+    requires { above < 64 }
     ensures { (card : ℕ) → has_card result card ≡ true → has_card cards card ≡ true }
 {
     // The 2 of each suit.
     let twos: u64 = 0x80_0400_2001;
-    match CardSet::from_bits(twos << place) {
+    match CardSet::from_bits(twos << above) {
         Some(rank) => cards.intersection(rank),
         None => CardSet::new(),
     }

@@ -15,14 +15,14 @@ ghost use Rattle.bridge_endings.specs.SearchValue.{IsFound};
 use crate::bounds::{Bounds, narrowed};
 use crate::ending::Ending;
 use crate::equal::equal_cards;
-use crate::found::{Found, PLACES, empty_table, place};
+use crate::found::{Found, SLOTS, empty_table, slot};
 use crate::move_order::{Leads, next_card};
 use crate::trick::Trick;
 use bridge_cards::{Card, CardSet, DECK, Seat, Side, Suit};
 use std::marker::Model;
 
 /// A search of an ending, and how many cards it has tried. Its table has bounds of what was left at the start of a trick;
-/// a later entry replaces the one in its place.
+/// a later entry replaces the one in its slot.
 #[derive(Drop)]
 pub struct Search {
     hands: [CardSet; 4],
@@ -30,7 +30,7 @@ pub struct Search {
     tried: u64,
     /// For each card, by its number, cards that are equal to it.
     equals: [CardSet; DECK],
-    table: [Found; PLACES],
+    table: [Found; SLOTS],
 }
 
 impl Model for Search {
@@ -89,7 +89,7 @@ impl Search {
     fn bounds(&self, left: CardSet, leader: Seat, tricks: u8) -> Bounds
         ensures { IsBetween (worth_with self.now.trump (4 * tricks) (left_to self.now.hands left) leader []) result }
     {
-        let found = self.table[place(left, leader)];
+        let found = self.table[slot(left, leader)];
         if found.left == left && found.leader == leader && found.tricks == tricks {
             found.bounds
         } else {
@@ -107,7 +107,7 @@ impl Search {
         ensures trump { self.new.trump ≡ self.old.trump }
         ensures tried { self.new.tried ≡ self.old.tried }
     {
-        self.table[place(found.left, found.leader)] = found;
+        self.table[slot(found.left, found.leader)] = found;
     }
 
     /// How many cards were tried, with those before; at `u64::MAX` it stays.
@@ -163,7 +163,7 @@ impl Search {
     {
         let mut rest = left;
         let mut trick = Trick::new(self.trump(), leader);
-        for place in 0..4_usize {
+        for index in 0..4_usize {
             let card = self.only_card(rest, &trick)?;
             self.count_card();
             rest = rest.without(card);
@@ -176,8 +176,8 @@ impl Search {
     fn others_have_cards(&self, left: CardSet, leader: Seat) -> bool
         ensures { IsTrue result → EachHasSome (left_to self.now.hands left) leader }
     {
-        for place in 1..4_usize {
-            if self.held(left, leader.clockwise(place)).is_empty() {
+        for index in 1..4_usize {
+            if self.held(left, leader.clockwise(index)).is_empty() {
                 return false;
             }
         }

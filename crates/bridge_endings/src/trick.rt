@@ -20,11 +20,11 @@ pub struct Trick {
     winning: Winning,
 }
 
-/// A card of a trick, and its place from the one led.
+/// A card of a trick, and its index from the one led.
 #[derive(Clone, Copy)]
 struct Winning {
     card: Card,
-    place: u8,
+    index: u8,
 }
 
 impl Model for Trick {
@@ -35,7 +35,7 @@ impl Model for Trick {
 
     ghost view = { λ t. record { trump = t.trump; leader = t.leader; cards = take t.played t.cards } };
 
-    ghost invariant = { λ t. (t.played ≤ 4) × (length t.cards ≡ 4) × IsKeptWinner t.trump (take t.played t.cards) t.winning.card t.winning.place };
+    ghost invariant = { λ t. (t.played ≤ 4) × (length t.cards ≡ 4) × IsKeptWinner t.trump (take t.played t.cards) t.winning.card t.winning.index };
 }
 
 impl Trick {
@@ -52,7 +52,7 @@ impl Trick {
             played: 0,
             winning: Winning {
                 card: Card::default(),
-                place: 0,
+                index: 0,
             },
         }
     }
@@ -99,8 +99,8 @@ impl Trick {
         }
     }
 
-    /// The cards with one more; what stands in the places behind it does not count. Each place is written by itself, since
-    /// an array that is copied just after a place of it was written is slow.
+    /// The cards with one more; what stands in the indexes behind it does not count. Each index is written by itself, since
+    /// an array that is copied just after an index of it was written is slow.
     fn cards_with(&self, card: Card) -> [Card; 4]
         requires { length self.now.cards < 4 }
         ensures { take (length self.now.cards + 1) result ≡ self.now.cards ++ card ∷ [] }
@@ -117,15 +117,15 @@ impl Trick {
     /// The winner so far once the card is played.
     fn winning_with(&self, card: Card) -> Winning
         requires { length self.now.cards < 4 }
-        ensures { IsKeptWinner self.now.trump (self.now.cards ++ card ∷ []) result.card result.place }
+        ensures { IsKeptWinner self.now.trump (self.now.cards ++ card ∷ []) result.card result.index }
     {
         let Some(led) = self.led() else {
-            return Winning { card, place: 0 };
+            return Winning { card, index: 0 };
         };
         if beats(self.trump, led, card, self.winning.card) {
             Winning {
                 card,
-                place: self.played,
+                index: self.played,
             }
         } else {
             self.winning
@@ -134,7 +134,7 @@ impl Trick {
 
     /// Whether the partner of the hand in turn wins so far.
     pub fn partner_wins(&self) -> bool {
-        self.played >= 2 && self.winning.place == self.played - 2
+        self.played >= 2 && self.winning.index == self.played - 2
     }
 
     /// Those of the cards that would beat the one that wins so far: the higher ones of its suit, and trumps where it is
@@ -155,7 +155,7 @@ impl Trick {
         requires { 0 < length self.now.cards }
         ensures { result ≡ next_leader self.now.trump self.now.leader self.now.cards }
     {
-        self.leader.clockwise(usize::from(self.winning.place))
+        self.leader.clockwise(usize::from(self.winning.index))
     }
 }
 

@@ -88,7 +88,7 @@ shared_side T r t r' t' here there (pair, some, a, b) =
       | inr p ↦ elim b [ inl q ↦ absurd (omega arith) | inr q ↦ inr (omega arith) ]
     ]
 
--- two places are in other rounds or at other tables
+-- two indexes are in other rounds or at other tables
 apart : (T i j : ℕ) → i < j → (i / T ≡ j / T) × (i % T ≡ j % T) → ⊥
 apart T i j less (rounds, tables) =
     let i_is : i / T * T + i % T ≡ i = div-add-mod' i T in
@@ -96,7 +96,7 @@ apart T i j less (rounds, tables) =
     let same : i / T * T ≡ j / T * T = ap (λ k. k * T) rounds in
     omega arith
 
--- the game at a place
+-- the game at an index
 game_at : (T k : ℕ) → 2 ≤ T → k < mitchell_rounds T * T →
     Game T (T / 2) (k / T) (k % T) (set_of T (k / T) (k % T)) (tables_moved T (k / T)) (pair_of T (k / T) (k % T))
 game_at T k least within =

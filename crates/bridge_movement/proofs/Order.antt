@@ -9,19 +9,19 @@ use Rattle.bridge_movement.specs.Refused.{IsFirstMisplaced}
 use Rattle.bridge_movement.specs.Shape.{row_count}
 
 -- a row that was read and is due stands in place
-pub in_place : (shape : Shape) (rows : List Row) (place : ℕ) (d : Row) → place < length rows →
-    IsDue shape place (slice_index_or rows place d) → IsInPlace shape rows place
-in_place shape rows place d within due =
-    let P : Row → Type 0 = λ row. IsDue shape place row in
-    (within, λ e. subst P (get_or_default rows place d e within) due)
+pub in_place : (shape : Shape) (rows : List Row) (index : ℕ) (d : Row) → index < length rows →
+    IsDue shape index (slice_index_or rows index d) → IsInPlace shape rows index
+in_place shape rows index d within due =
+    let P : Row → Type 0 = λ row. IsDue shape index row in
+    (within, λ e. subst P (get_or_default rows index d e within) due)
 
 -- rows in place up to one that is not due
-pub misplaced_at : (shape : Shape) (rows : List Row) (place : ℕ) (d : Row) → place < length rows →
-    ((k : ℕ) → k < place → IsInPlace shape rows k) →
-    (IsDue shape place (slice_index_or rows place d) → ⊥) → IsFirstMisplaced shape rows place
-misplaced_at shape rows place d within before not_due =
-    let not_here : IsInPlace shape rows place → ⊥ = λ p. not_due (p.1 d) in
-    record { incomplete = λ complete. not_here (complete.order place within); here = not_here; before = before }
+pub misplaced_at : (shape : Shape) (rows : List Row) (index : ℕ) (d : Row) → index < length rows →
+    ((k : ℕ) → k < index → IsInPlace shape rows k) →
+    (IsDue shape index (slice_index_or rows index d) → ⊥) → IsFirstMisplaced shape rows index
+misplaced_at shape rows index d within before not_due =
+    let not_here : IsInPlace shape rows index → ⊥ = λ p. not_due (p.1 d) in
+    record { incomplete = λ complete. not_here (complete.order index within); here = not_here; before = before }
 
 -- rows in place, of which some are lacking
 pub lacking : (shape : Shape) (rows : List Row) → length rows < row_count shape →

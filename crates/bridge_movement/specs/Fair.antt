@@ -5,20 +5,20 @@ use Rattle.bridge_movement.specs.declared.shape.Shape.{Shape}
 use Rattle.bridge_movement.specs.Row.{SeatPairTwice, PlaySetAgain}
 use Rattle.bridge_movement.specs.Shape.{row_count}
 
--- the row that is due at a place: rows stand by round, then by table
+-- the row that is due at an index: rows stand by round, then by table
 abbrev pub IsDue : Shape → ℕ → Row → Type 0
-IsDue shape place row =
-    (place < row_count shape) × (row.round ≡ place / shape.tables + 1) × (row.table ≡ place % shape.tables + 1)
+IsDue shape index row =
+    (index < row_count shape) × (row.round ≡ index / shape.tables + 1) × (row.table ≡ index % shape.tables + 1)
 
--- there is a row at the place, and it is the one due there
+-- there is a row at the index, and it is the one due there
 abbrev pub IsInPlace : Shape → List Row → ℕ → Type 0
-IsInPlace shape rows place =
-    (place < length rows) × ((d : Row) → IsDue shape place (slice_index_or rows place d))
+IsInPlace shape rows index =
+    (index < length rows) × ((d : Row) → IsDue shape index (slice_index_or rows index d))
 
 -- one row for each table in each round, by round, then by table
 pub record IsComplete (shape : Shape) (rows : List Row) : Type 0 where
   pub count : length rows ≡ row_count shape
-  pub order : (place : ℕ) → place < length rows → IsInPlace shape rows place
+  pub order : (index : ℕ) → index < length rows → IsInPlace shape rows index
 
 -- the numbers of the pairs are within the shape; 0 is nobody
 abbrev pub HasPairsWithin : Shape → Row → Type 0

@@ -1,4 +1,4 @@
--- The Mitchell movement. Rounds, tables and places count from 0 here.
+-- The Mitchell movement. Rounds, tables and indexes count from 0 here.
 use Rattle.std.specs.Prelude.{ℕ, ◌≡◌, ◌<◌, ◌+◌, ◌*◌, ◌-◌, ◌/◌, ◌%◌, ◌==◌, nat_le, ◌&&◌, if◌then◌else◌, List, length, slice_index_or}
 use Rattle.bridge_movement.specs.declared.row.Row.{Row}
 use Rattle.bridge_movement.specs.declared.shape.Shape.{Shape}
@@ -32,11 +32,11 @@ mitchell_row tables round table = record {
   set = (table + round) % tables + 1;
 }
 
--- the row at a place
+-- the row at an index
 abbrev pub mitchell_row_at : ℕ → ℕ → Row
-mitchell_row_at tables place = mitchell_row tables (place / tables) (place % tables)
+mitchell_row_at tables index = mitchell_row tables (index / tables) (index % tables)
 
 -- each row is the one of its round and table
 abbrev pub FollowsMitchell : ℕ → List Row → Type 0
 FollowsMitchell tables rows =
-    (place : ℕ) (d : Row) → place < length rows → slice_index_or rows place d ≡ mitchell_row_at tables place
+    (index : ℕ) (d : Row) → index < length rows → slice_index_or rows index d ≡ mitchell_row_at tables index

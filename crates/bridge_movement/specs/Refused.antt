@@ -7,11 +7,11 @@ use Rattle.bridge_movement.specs.declared.shape.Shape.{Shape}
 use Rattle.bridge_movement.specs.Fair.{IsInPlace, IsComplete, HasPairsWithin, HasTwoPairs, HasSetWithin}
 use Rattle.bridge_movement.specs.Row.{SeatPairTwice, PlaySetAgain}
 
--- the least place at which the row due does not stand, of rows that are not complete and in order
-pub record IsFirstMisplaced (shape : Shape) (rows : List Row) (place : ℕ) : Type 0 where
+-- the least index at which the row due does not stand, of rows that are not complete and in order
+pub record IsFirstMisplaced (shape : Shape) (rows : List Row) (index : ℕ) : Type 0 where
   pub incomplete : ¬ IsComplete shape rows
-  pub here : ¬ IsInPlace shape rows place
-  pub before : (k : ℕ) → k < place → IsInPlace shape rows k
+  pub here : ¬ IsInPlace shape rows index
+  pub before : (k : ℕ) → k < index → IsInPlace shape rows k
 
 -- a pair of the row stands in an earlier row of its round
 abbrev pub HasPairTwice : List Row → Row → Type 0
@@ -41,37 +41,37 @@ IsFaultOf shape earlier row (SetAgain _) =
     HasPairsWithin shape row × HasTwoPairs row × HasSetWithin shape row × (¬ HasPairTwice earlier row)
     × HasSetAgain earlier row
 
--- the place that a refusal names, from 1
-abbrev pub refused_place : MovementRefused → ℕ
-refused_place (MissingRow place) = place
-refused_place (BadPair place) = place
-refused_place (SamePair place) = place
-refused_place (BadSet place) = place
-refused_place (PairTwice place) = place
-refused_place (SetAgain place) = place
+-- the number of the row that a refusal names, from 1
+abbrev pub refused_row : MovementRefused → ℕ
+refused_row (MissingRow number) = number
+refused_row (BadPair number) = number
+refused_row (SamePair number) = number
+refused_row (BadSet number) = number
+refused_row (PairTwice number) = number
+refused_row (SetAgain number) = number
 
 -- why the rows are no movement, in a word
 abbrev pub refusal_name : MovementRefused → List ℕ
-refusal_name (MissingRow place) = codes "MissingRow"
-refusal_name (BadPair place) = codes "BadPair"
-refusal_name (SamePair place) = codes "SamePair"
-refusal_name (BadSet place) = codes "BadSet"
-refusal_name (PairTwice place) = codes "PairTwice"
-refusal_name (SetAgain place) = codes "SetAgain"
+refusal_name (MissingRow number) = codes "MissingRow"
+refusal_name (BadPair number) = codes "BadPair"
+refusal_name (SamePair number) = codes "SamePair"
+refusal_name (BadSet number) = codes "BadSet"
+refusal_name (PairTwice number) = codes "PairTwice"
+refusal_name (SetAgain number) = codes "SetAgain"
 
--- the row at a place, after the rows before it, has no fault
+-- the row at an index, after the rows before it, has no fault
 abbrev pub IsFaultlessAt : Shape → List Row → ℕ → Type 0
-IsFaultlessAt shape rows place =
-    (d : Row) → IsFaultless shape (take place rows) (slice_index_or rows place d)
+IsFaultlessAt shape rows index =
+    (d : Row) → IsFaultless shape (take index rows) (slice_index_or rows index d)
 
 -- the fault of the first row that has one
-pub record IsFirstFault (shape : Shape) (rows : List Row) (place : ℕ) (refused : MovementRefused) : Type 0 where
-  pub within : place < length rows
-  pub here : (d : Row) → IsFaultOf shape (take place rows) (slice_index_or rows place d) refused
-  pub before : (k : ℕ) → k < place → IsFaultlessAt shape rows k
+pub record IsFirstFault (shape : Shape) (rows : List Row) (index : ℕ) (refused : MovementRefused) : Type 0 where
+  pub within : index < length rows
+  pub here : (d : Row) → IsFaultOf shape (take index rows) (slice_index_or rows index d) refused
+  pub before : (k : ℕ) → k < index → IsFaultlessAt shape rows k
 
 -- the refusal of rows: the order of all rows comes before the faults of any
 abbrev pub IsRefusal : Shape → List Row → MovementRefused → Type 0
-IsRefusal shape rows (MissingRow at) = (place : ℕ) × (at ≡ place + 1) × IsFirstMisplaced shape rows place
+IsRefusal shape rows (MissingRow at) = (index : ℕ) × (at ≡ index + 1) × IsFirstMisplaced shape rows index
 IsRefusal shape rows refused =
-    (place : ℕ) × (refused_place refused ≡ place + 1) × IsComplete shape rows × IsFirstFault shape rows place refused
+    (index : ℕ) × (refused_row refused ≡ index + 1) × IsComplete shape rows × IsFirstFault shape rows index refused

@@ -59,15 +59,15 @@ impl Movement {
     {
         let shape = mitchell::shape_of(tables);
         let mut rows = ArrayVec::new();
-        for place in 0..shape.rounds * tables {
-            rows.push(mitchell::row_of(tables, place / tables, place % tables));
+        for index in 0..shape.rounds * tables {
+            rows.push(mitchell::row_of(tables, index / tables, index % tables));
         }
         Movement { shape, rows }
     }
 
     /// The movement of that shape with those rows, which stand by round, then by table, one for each.
     ///
-    /// Refused is the first of these: a row that isn't the one due at its place, or rows lacking or left over
+    /// Refused is the first of these: a row that isn't the one due at its index, or rows lacking or left over
     /// (`MissingRow`); then, row by row, a pair above the number of pairs (`BadPair`), a pair that meets itself
     /// (`SamePair`), a set outside 1 to the number of sets (`BadSet`), a pair that stands in an earlier row of the round
     /// (`PairTwice`), and a pair that has played the set in an earlier row (`SetAgain`).
@@ -77,8 +77,8 @@ impl Movement {
         ensures movement { IfOk result (λ m. m ≡ record { shape = shape; rows = rows.now }) }
         ensures refused { IfErr result (IsRefusal shape rows.now) }
     {
-        if let Some(place) = first_misplaced(shape, rows) {
-            return Err(MovementRefused::MissingRow(place as u16 + 1));
+        if let Some(index) = first_misplaced(shape, rows) {
+            return Err(MovementRefused::MissingRow(index as u16 + 1));
         }
         if let Some(refused) = first_fault(shape, rows) {
             return Err(refused);

@@ -1,13 +1,13 @@
 ghost use Rattle.std.specs.Prelude.{◌≡◌, ◌≤◌, length};
-ghost use Rattle.bridge_movement.specs.Refused.{refused_place, refusal_name};
+ghost use Rattle.bridge_movement.specs.Refused.{refused_row, refusal_name};
 
 use std::fmt;
 
-/// Why rows are no movement, with the place of the first row at fault, from 1.
+/// Why rows are no movement, with the number of the first row at fault, from 1.
 #[derive(Clone, Copy, Debug, PartialEq, Eq)]
 pub enum MovementRefused {
     /// The row there isn't the one due: rows stand by round, then by table, one for each. Where rows are lacking or
-    /// left over and all before are in place, it is the place after them.
+    /// left over and all before are in place, it is the number after them.
     MissingRow(u16),
     /// The number of a pair is above the number of pairs.
     BadPair(u16),
@@ -22,17 +22,17 @@ pub enum MovementRefused {
 }
 
 impl MovementRefused {
-    /// The place of the row at fault, from 1.
-    pub fn place(self) -> u16
-        ensures { result ≡ refused_place self }
+    /// The number of the row at fault, from 1.
+    pub fn row_number(self) -> u16
+        ensures { result ≡ refused_row self }
     {
         match self {
-            MovementRefused::MissingRow(place)
-            | MovementRefused::BadPair(place)
-            | MovementRefused::SamePair(place)
-            | MovementRefused::BadSet(place)
-            | MovementRefused::PairTwice(place)
-            | MovementRefused::SetAgain(place) => place,
+            MovementRefused::MissingRow(number)
+            | MovementRefused::BadPair(number)
+            | MovementRefused::SamePair(number)
+            | MovementRefused::BadSet(number)
+            | MovementRefused::PairTwice(number)
+            | MovementRefused::SetAgain(number) => number,
         }
     }
 

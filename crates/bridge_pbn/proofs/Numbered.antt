@@ -6,7 +6,7 @@ use Rattle.std.proofs.lemmas.List.Concat.{flat_map-append}
 use Rattle.std.proofs.lemmas.List.FromFn.{length-range_with_len, get_or-range_with_len}
 use Rattle.bridge_pbn.proofs.Walked.{made_more, made_whole}
 
--- the place of a number
+-- the index of a number
 place_within : (count n : ℕ) → 1 ≤ n → n ≤ count → n - 1 < length (range_with_len 1 count)
 place_within count n least most = omega (arith, length-range_with_len 1 count)
 

@@ -49,8 +49,8 @@ fn push_calls(text: &mut GameText, calls: &[Call])
     ensures text { text.new.bytes ≡ text.old.bytes ++ spaced (map call_text calls.now) }
     ensures room { array_string_len text.new ≤ array_string_len text.old + CALL_BYTES * length calls.now }
 {
-    for place in 0..calls.len() {
-        push_next_call(text, place == 0, calls[place]);
+    for index in 0..calls.len() {
+        push_next_call(text, index == 0, calls[index]);
     }
 }
 

@@ -109,7 +109,7 @@ one_if_le : (a b : Bool) → (a ≡ true → b ≡ true) → one_if a ≤ one_if
 one_if_le true b more = omega (arith, ap one_if (more refl))
 one_if_le false b more = omega arith
 
-holders_le : (less more : List ℕ) (card : ℕ) → length less ≡ length more → ((place : ℕ) → place < length more → has_card (get_or less place 0) card ≡ true → has_card (get_or more place 0) card ≡ true) → holders less card ≤ holders more card
+holders_le : (less more : List ℕ) (card : ℕ) → length less ≡ length more → ((index : ℕ) → index < length more → has_card (get_or less index 0) card ≡ true → has_card (get_or more index 0) card ≡ true) → holders less card ≤ holders more card
 holders_le [] more card long has = omega arith
 holders_le (x ∷ xs) [] card long has = absurd (omega arith)
 holders_le (x ∷ xs) (y ∷ ys) card long has =
@@ -118,7 +118,7 @@ holders_le (x ∷ xs) (y ∷ ys) card long has =
       sum_by-cons (λ hand. one_if (has_card hand card)) x xs,
       sum_by-cons (λ hand. one_if (has_card hand card)) y ys,
       one_if_le (has_card x card) (has_card y card) (has 0 (omega arith)),
-      holders_le xs ys card (omega arith) (λ place inside. has (suc place) (omega arith)),
+      holders_le xs ys card (omega arith) (λ index inside. has (suc index) (omega arith)),
     )
 
 module _ (hands : List ℕ) (deal : IsDeal hands) (contract : Contract) (cards : List ℕ) (legal : IsLegal hands contract cards) where
@@ -139,11 +139,11 @@ module _ (hands : List ℕ) (deal : IsDeal hands) (contract : Contract) (cards :
       ∙ ap (λ list. left_count hands list seat + one_if (same_seat seat (turn_of contract (take n cards)))) (sym (take-suc cards n 0 within))
       ∙ ap (λ (s : Seat). left_count hands (take (suc n) cards) seat + one_if (same_seat seat s)) (turn_is n (omega arith))
 
-  -- the turn at a place of a trick
-  at_place : (tricks place n : ℕ) (seat : Seat) → place < 4 → n ≡ 4 * tricks + place → one_if (same_seat seat (clockwise_from (leader_of contract cards (n / 4)) (n % 4))) ≡ one_if (same_seat seat (clockwise_from (leader_of contract cards tricks) place))
-  at_place tricks place n seat few is =
+  -- the turn at an index of a trick
+  at_place : (tricks index n : ℕ) (seat : Seat) → index < 4 → n ≡ 4 * tricks + index → one_if (same_seat seat (clockwise_from (leader_of contract cards (n / 4)) (n % 4))) ≡ one_if (same_seat seat (clockwise_from (leader_of contract cards tricks) index))
+  at_place tricks index n seat few is =
       let trick : n / 4 ≡ tricks = omega arith in
-      let rest : n % 4 ≡ place = omega arith in
+      let rest : n % 4 ≡ index = omega arith in
       ap (λ j. one_if (same_seat seat (clockwise_from (leader_of contract cards j) (n % 4)))) trick
       ∙ ap (λ p. one_if (same_seat seat (clockwise_from (leader_of contract cards tricks) p))) rest
 
@@ -183,13 +183,13 @@ module _ (hands : List ℕ) (deal : IsDeal hands) (contract : Contract) (cards :
     pub equal_hands : All (λ hand. card_count hand + tricks ≡ 13) left
     equal_hands =
         All-from_get_or (λ hand. card_count hand + tricks ≡ 13) left 0
-        (λ place inside. let seat = seat_numbered place (omega arith) in subst (λ n. card_count (get_or left n 0) + tricks ≡ 13) seat.1 (count_of seat.0))
+        (λ index inside. let seat = seat_numbered index (omega arith) in subst (λ n. card_count (get_or left n 0) + tricks ≡ 13) seat.1 (count_of seat.0))
 
     pub none_twice : NoneTwice left
     none_twice card =
         let fewer = holders_le left hands card (omega (arith, deal.four))
-        (λ place inside.
-        let seat = seat_numbered place (omega arith) in
+        (λ index inside.
+        let seat = seat_numbered index (omega arith) in
         subst (λ n. has_card (get_or left n 0) card ≡ true → has_card (get_or hands n 0) card ≡ true) seat.1
         (λ has. (and_parts (has_card (hand_at hands seat.0) card) (not (was_played (take (4 * tricks) cards) card)) (sym (same seat.0 card) ∙ has)).0)) in
         omega (arith, fewer, deal.once card)

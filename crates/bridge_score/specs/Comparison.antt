@@ -4,7 +4,7 @@ use Rattle.std.specs.List.{range_with_len}
 use Rattle.bridge_score.specs.ImpScale.{imps_of}
 
 abbrev pub score_at : List ℤ → ℕ → ℤ
-score_at scores place = slice_index_or scores place (pos 0)
+score_at scores index = slice_index_or scores index (pos 0)
 
 -- the sum of signed numbers, one for each element
 abbrev pub int_sum_by : {X : Type 0} → (X → ℤ) → List X → ℤ
@@ -13,9 +13,9 @@ int_sum_by f xs = fold (λ total x. total +ℤ f x) (pos 0) xs
 abbrev pub int_sum : List ℤ → ℤ
 int_sum xs = int_sum_by (λ x. x) xs
 
--- the places of a list, from 0
-abbrev pub places : List ℤ → List ℕ
-places scores = range_with_len 0 (length scores)
+-- the indexes of a list, from 0
+abbrev pub indexes : List ℤ → List ℕ
+indexes scores = range_with_len 0 (length scores)
 
 -- two for an inferior score, one for an equal one (Law 78A)
 abbrev pub matchpoints_against : ℤ → ℤ → ℕ
@@ -23,7 +23,7 @@ matchpoints_against own other = if int_lt other own then 2 else (if int_lt own o
 
 -- against each of the other scores
 abbrev pub matchpoints_of : List ℤ → ℕ → ℕ
-matchpoints_of scores place = sum_by (matchpoints_against (score_at scores place)) (remove scores place)
+matchpoints_of scores index = sum_by (matchpoints_against (score_at scores index)) (remove scores index)
 
 -- the IMPs of the difference, lost where the other score is greater (Law 78B)
 abbrev pub imps_against : ℤ → ℤ → ℤ
@@ -32,4 +32,4 @@ imps_against own other =
 
 -- against each of the other scores
 abbrev pub cross_imps_of : List ℤ → ℕ → ℤ
-cross_imps_of scores place = int_sum_by (imps_against (score_at scores place)) (remove scores place)
+cross_imps_of scores index = int_sum_by (imps_against (score_at scores index)) (remove scores index)

@@ -32,12 +32,12 @@ fn matchpoints_over(own: i32, others: &[i32]) -> u16
         .sum()
 }
 
-/// The matchpoints of the score at place `i`, from 0, of the scores of a board: two for each other score that is
+/// The matchpoints of the score at index `i`, from 0, of the scores of a board: two for each other score that is
 /// inferior, one for each that is equal (Law 78A). There are at most 144 scores, each from -7600 to 7600.
 pub fn matchpoints(scores: &[i32], i: usize) -> u16
     requires count { length scores.now ≤ 144 }
     requires scores { All IsScore scores.now }
-    requires place { i < length scores.now }
+    requires index { i < length scores.now }
     ensures value { result ≡ matchpoints_of scores.now i }
     ensures most { result ≤ 2 * (length scores.now - 1) }
 {
@@ -69,13 +69,13 @@ fn imps_over(own: i32, others: &[i32]) -> i32
     total
 }
 
-/// The cross-IMPs of the score at place `i`, from 0, of the scores of a board: the sum of the IMPs against each other
+/// The cross-IMPs of the score at index `i`, from 0, of the scores of a board: the sum of the IMPs against each other
 /// score, won from a lesser one and lost to a greater one (Law 78B). There are at most 144 scores, each from -7600 to
 /// 7600.
 pub fn cross_imps(scores: &[i32], i: usize) -> i32
     requires count { length scores.now ≤ 144 }
     requires scores { All IsScore scores.now }
-    requires place { i < length scores.now }
+    requires index { i < length scores.now }
     ensures value { result ≡ cross_imps_of scores.now i }
     ensures least { neg_ℤ (pos (24 * (length scores.now - 1))) ≤ℤ result }
     ensures most { result ≤ℤ pos (24 * (length scores.now - 1)) }

@@ -12,7 +12,7 @@ use Rattle.bridge_session.specs.declared.record.Record.{Record}
 use Rattle.bridge_session.specs.declared.refused.Refused.TheVariants.{NotCurrent, NotDealt}
 use Rattle.bridge_session.specs.Record.{PlainRecord, is_open, play_of}
 use Rattle.bridge_session.specs.Deed.{deed_answer, with_deed}
-use Rattle.bridge_session.specs.State.{deal_on, current_place, hands_on}
+use Rattle.bridge_session.specs.State.{deal_on, current_index, hands_on}
 use Rattle.bridge_session.specs.Step.{answer_current, answer_dealt, acted_among}
 use Rattle.bridge_session.specs.Kept.{plain_of, is_kept_open, after_deed, IsTied, IsTiedIn}
 use Rattle.bridge_session.proofs.Lists.{position_or_len-map, position_is, position_none, changed_at-Some}
@@ -22,32 +22,32 @@ abbrev Deals : Type 0
 Deals = List (Option (List ℕ))
 
 -- the current play is found by what is kept
-place_same : (deals : Deals) (table : List Record) → All (IsTiedIn deals) table → current_place (map plain_of table) ≡ position_or_len is_kept_open table
-place_same deals table tied =
+index_same : (deals : Deals) (table : List Record) → All (IsTiedIn deals) table → current_index (map plain_of table) ≡ position_or_len is_kept_open table
+index_same deals table tied =
     position_or_len-map is_open is_kept_open plain_of table
     (λ k d within. let kept = slice_index_or table k d in open_same (hands_on deals kept.board) kept (tied k d within).tied)
 
-pub none_current : (deals : Deals) (table : List Record) → All (IsTiedIn deals) table → position is_kept_open table ≡ None → slice_get (map plain_of table) (current_place (map plain_of table)) ≡ None
+pub none_current : (deals : Deals) (table : List Record) → All (IsTiedIn deals) table → position is_kept_open table ≡ None → slice_get (map plain_of table) (current_index (map plain_of table)) ≡ None
 none_current deals table tied none =
-    ap (slice_get (map plain_of table)) (place_same deals table tied)
+    ap (slice_get (map plain_of table)) (index_same deals table tied)
     ∙ slice_get-map plain_of table (position_or_len is_kept_open table)
     ∙ ap (option_map plain_of) (position_none is_kept_open table none)
 
-pub is_current : (deals : Deals) (table : List Record) (place : ℕ) → All (IsTiedIn deals) table → position is_kept_open table ≡ Some place → place ≡ current_place (map plain_of table)
-is_current deals table place tied found = position_is is_kept_open table place found ∙ sym (place_same deals table tied)
+pub is_current : (deals : Deals) (table : List Record) (index : ℕ) → All (IsTiedIn deals) table → position is_kept_open table ≡ Some index → index ≡ current_index (map plain_of table)
+is_current deals table index tied found = position_is is_kept_open table index found ∙ sym (index_same deals table tied)
 
-pub current_is : (deals : Deals) (table : List Record) (place : ℕ) (kept : Record) → All (IsTiedIn deals) table → position is_kept_open table ≡ Some place → kept ≡ slice_index_or table place kept → slice_get (map plain_of table) (current_place (map plain_of table)) ≡ Some (plain_of kept)
-current_is deals table place kept tied found is =
-    let within : place < length table = (position-Some is_kept_open table place kept found).0 in
-    ap (slice_get (map plain_of table)) (sym (is_current deals table place tied found))
-    ∙ slice_get-map plain_of table place
-    ∙ ap (option_map plain_of) (slice_get_read table (length table) place kept refl within is)
+pub current_is : (deals : Deals) (table : List Record) (index : ℕ) (kept : Record) → All (IsTiedIn deals) table → position is_kept_open table ≡ Some index → kept ≡ slice_index_or table index kept → slice_get (map plain_of table) (current_index (map plain_of table)) ≡ Some (plain_of kept)
+current_is deals table index kept tied found is =
+    let within : index < length table = (position-Some is_kept_open table index kept found).0 in
+    ap (slice_get (map plain_of table)) (sym (is_current deals table index tied found))
+    ∙ slice_get-map plain_of table index
+    ∙ ap (option_map plain_of) (slice_get_read table (length table) index kept refl within is)
 
 -- the record that is found is tied
-pub tied_there : (deals : Deals) (table : List Record) (place : ℕ) (kept : Record) → All (IsTiedIn deals) table → position is_kept_open table ≡ Some place → kept ≡ slice_index_or table place kept → IsTiedIn deals kept
-tied_there deals table place kept tied found is =
-    let within : place < length table = (position-Some is_kept_open table place kept found).0 in
-    subst (IsTiedIn deals) (sym is) (tied place kept within)
+pub tied_there : (deals : Deals) (table : List Record) (index : ℕ) (kept : Record) → All (IsTiedIn deals) table → position is_kept_open table ≡ Some index → kept ≡ slice_index_or table index kept → IsTiedIn deals kept
+tied_there deals table index kept tied found is =
+    let within : index < length table = (position-Some is_kept_open table index kept found).0 in
+    subst (IsTiedIn deals) (sym is) (tied index kept within)
 
 -- the answer where another board is played
 pub other_board : (deal : Option (List ℕ)) (kept : Record) (board : ℕ) (seat : Seat) (at : ℕ) (done : Deed) → (kept.board == board) ≡ false → answer_current deal board seat at done (Some (plain_of kept)) ≡ Err NotCurrent
@@ -92,10 +92,10 @@ one_board a b same =
     ap (λ (plain : PlainRecord). plain.board) seen
 
 -- the records of a table, of which the current one was changed
-pub acted_is : (deals : Deals) (table : List Record) (place : ℕ) (kept after : Record) (seat : Seat) (done : Deed) → All (IsTiedIn deals) table → position is_kept_open table ≡ Some place → kept ≡ slice_index_or table place kept → plain_of after ≡ with_deed seat done (plain_of kept) → map plain_of (slice_set table place after) ≡ acted_among seat done (map plain_of table)
-acted_is deals table place kept after seat done tied found is left =
+pub acted_is : (deals : Deals) (table : List Record) (index : ℕ) (kept after : Record) (seat : Seat) (done : Deed) → All (IsTiedIn deals) table → position is_kept_open table ≡ Some index → kept ≡ slice_index_or table index kept → plain_of after ≡ with_deed seat done (plain_of kept) → map plain_of (slice_set table index after) ≡ acted_among seat done (map plain_of table)
+acted_is deals table index kept after seat done tied found is left =
     let records = map plain_of table in
-    map-set plain_of table place after
-    ∙ ap (slice_set records place) left
-    ∙ ap (λ at. slice_set records at (with_deed seat done (plain_of kept))) (is_current deals table place tied found)
-    ∙ sym (changed_at-Some (with_deed seat done) records (current_place records) (plain_of kept) (current_is deals table place kept tied found is))
+    map-set plain_of table index after
+    ∙ ap (slice_set records index) left
+    ∙ ap (λ at. slice_set records at (with_deed seat done (plain_of kept))) (is_current deals table index tied found)
+    ∙ sym (changed_at-Some (with_deed seat done) records (current_index records) (plain_of kept) (current_is deals table index kept tied found is))

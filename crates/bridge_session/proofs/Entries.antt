@@ -12,12 +12,12 @@ use Rattle.bridge_session.specs.declared.ruling.Ruling.{Ruling}
 use Rattle.bridge_session.specs.declared.ruling.Ruling.TheVariants as ruling
 use Rattle.bridge_session.specs.Record.{PlainRecord, playing_in, contract_in}
 use Rattle.bridge_session.specs.Outcome.{outcome_by, outcome_of}
-use Rattle.bridge_session.specs.State.{row_place, row_at, hands_on}
+use Rattle.bridge_session.specs.State.{index_of_row, row_at, hands_on}
 use Rattle.bridge_session.specs.Step.{is_row_within, record_of}
 use Rattle.bridge_session.specs.Kept.{plain_of, state_of, IsTiedIn}
 use Rattle.bridge_session.proofs.Acted.{row_at_is}
 
--- what holds of each element holds of the one at a place
+-- what holds of each element holds of the one at an index
 pub all_at : {X : Type 0} (P : X → Type 0) (xs : List X) (i : ℕ) → All P xs → IfSome (slice_get xs i) P
 all_at P xs i all =
     elim (slice_get_cases xs i).1 [
@@ -38,12 +38,12 @@ outcome_seen deals kept tied =
     ap (λ play. outcome_by kept.auction.calls play kept.ruling) tied.tied.play
     ∙ by_hands kept.auction.calls (hands_on deals kept.board) (plain_of kept) kept.ruling (contract_in (plain_of kept))
 
--- the record of a play is the one at its place in its table
-pub record_found : (configuration : ConfigValue) (round : ℕ) (deals : List (Option (List ℕ))) (tables : List (List Record)) (play : PlayId) (place index : ℕ) (table : List Record) → is_row_within configuration.movement.shape play.round play.table ≡ true → row_place configuration.movement.shape play.round play.table ≡ place → index ≡ play.index - 1 → slice_get tables place ≡ Some table → record_of (state_of configuration round deals tables) play ≡ slice_get (map plain_of table) index
-record_found configuration round deals tables play place index table within there is row =
+-- the record of a play is the one at its index in its table
+pub record_found : (configuration : ConfigValue) (round : ℕ) (deals : List (Option (List ℕ))) (tables : List (List Record)) (play : PlayId) (row_index index : ℕ) (table : List Record) → is_row_within configuration.movement.shape play.round play.table ≡ true → index_of_row configuration.movement.shape play.round play.table ≡ row_index → index ≡ play.index - 1 → slice_get tables row_index ≡ Some table → record_of (state_of configuration round deals tables) play ≡ slice_get (map plain_of table) index
+record_found configuration round deals tables play row_index index table within there is row =
     let records = map (map plain_of) tables in
-    let at : ℕ → ℕ → Option PlainRecord = λ place index. slice_get (row_at records place) index in
-    ap (λ b. cond b (at (row_place configuration.movement.shape play.round play.table) (play.index - 1)) None) within
-    ∙ ap (λ place. at place (play.index - 1)) there
-    ∙ ap (at place) (sym is)
-    ∙ ap (λ row. slice_get row index) (row_at_is tables place table row)
+    let at : ℕ → ℕ → Option PlainRecord = λ row_index index. slice_get (row_at records row_index) index in
+    ap (λ b. cond b (at (index_of_row configuration.movement.shape play.round play.table) (play.index - 1)) None) within
+    ∙ ap (λ row_index. at row_index (play.index - 1)) there
+    ∙ ap (at row_index) (sym is)
+    ∙ ap (λ row. slice_get row index) (row_at_is tables row_index table row)

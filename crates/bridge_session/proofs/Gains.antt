@@ -62,10 +62,10 @@ listed side games i d lists score within is_board is so_far =
     let board = (get_or games i d).board in
     let now = map (scores_on (take (i + 1) games) side) (range_with_len 1 36) in
     let new = with_score lists board score in
-    let place = board - 1 in
-    let added = get_or lists place [] ++ score ∷ [] in
+    let index = board - 1 in
+    let added = get_or lists index [] ++ score ∷ [] in
     let count : length lists ≡ 36 = ap length so_far ∙ length-map-range_with_len (scores_on (take i games) side) 1 36 in
-    let same_length : length new ≡ 36 = length-set lists place added ∙ count in
+    let same_length : length new ≡ 36 = length-set lists index added ∙ count in
     let was : (k : ℕ) → k < 36 → get_or lists k [] ≡ scores_on (take i games) side (k + 1) =
     λ k inside. ap (λ ls. get_or ls k []) so_far ∙ get_or-map-range_with_len (scores_on (take i games) side) 1 36 k (k + 1) [] inside (omega arith) in
     let becomes : (k : ℕ) → k < 36 → get_or now k [] ≡ scores_on (take (i + 1) games) side (k + 1) =
@@ -74,15 +74,15 @@ listed side games i d lists score within is_board is so_far =
     let inside : k < 36 = omega (arith, less, same_length) in
     elim (eqb_tells board (k + 1)) [
       | inl at ↦
-          let here : k ≡ place = omega (arith, at.1) in
-          let get : get_or new k [] ≡ added = ap (λ j. get_or new j []) here ∙ get_or-set_same lists place added [] (omega (arith, here, inside, count)) in
+          let here : k ≡ index = omega (arith, at.1) in
+          let get : get_or new k [] ≡ added = ap (λ j. get_or new j []) here ∙ get_or-set_same lists index added [] (omega (arith, here, inside, count)) in
           get
           ∙ scored side (k + 1) games i d true (get_or lists k []) added within at.0 (was k inside)
           (ap (λ j. get_or lists j [] ++ score ∷ []) (sym here) ∙ ap (λ z. get_or lists k [] ++ z ∷ []) is)
           ∙ sym (becomes k inside)
       | inr other ↦
-          let apart : k ≢ place = λ same. other.1 (omega (arith, same, is_board.0)) in
-          get_or-set_other lists place k added [] apart
+          let apart : k ≢ index = λ same. other.1 (omega (arith, same, is_board.0)) in
+          get_or-set_other lists index k added [] apart
           ∙ scored side (k + 1) games i d false (get_or lists k []) (get_or lists k []) within other.0 (was k inside) (sym (append-nil (get_or lists k [])))
           ∙ sym (becomes k inside)
     ])
@@ -97,7 +97,7 @@ scores_range games side board each =
     All-map IsScore (λ (game : Game). score_for side game.score) (filter (is_on board) games)
     (λ k d within. score_range side (get_or (filter (is_on board) games) k d).score ((All-filter (is_on board) IsGame games each k d within).0))
 
--- the list at a board's place is its scores
+-- the list at a board's index is its scores
 pub scores_there : (games : List Game) (side : Side) (lists : List (List ℤ)) (board : ℕ) (found : List ℤ) → lists ≡ map (scores_on games side) (range_with_len 1 36) → slice_get lists (board - 1) ≡ Some found → IsBoard board → found ≡ scores_on games side board
 scores_there games side lists board found are there is =
     sym (get_or_from_slice_get lists (board - 1) found [] there)

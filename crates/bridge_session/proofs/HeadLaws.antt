@@ -121,7 +121,7 @@ head_stated c round boards is =
     let shape : shape_in (numbers_in (configuration_part c round)) ≡ c.movement.shape = ap shape_in numbers in
     let count : length (map pair_part c.pairs) ≡ c.movement.shape.pairs = length-map c.pairs pair_part ∙ is.count in
     let rows : length (movement_part c.movement.rows) ≡ row_count c.movement.shape * 3 = movement_length c.movement.rows ∙ ap (λ n. n * 3) is.movement.complete.count in
-    let each : All IsPairPart (map pair_part c.pairs) = All-map IsPairPart pair_part c.pairs (λ place d within. pair_stated (get_or c.pairs place d) (is.pairs place d within)) in
+    let each : All IsPairPart (map pair_part c.pairs) = All-map IsPairPart pair_part c.pairs (λ index d within. pair_stated (get_or c.pairs index d) (is.pairs index d within)) in
     record {
       heading = heading_stated c round is;
       long = rows ∙ ap (λ (sh : Shape). row_count sh * 3) (sym shape);
@@ -133,7 +133,7 @@ head_stated c round boards is =
 -- Two lists whose elements are seen in one way
 
 module _ {X Y Z : Type 0} (f : X → Z) (g : Y → Z) (xs : List X) (ys : List Y) (i : ℕ) (x : X) (y : Y) where
-  -- the same up to a place, and at it
+  -- the same up to an index, and at it
   pub same_more : i < length xs → i < length ys → map f (take i xs) ≡ take i (map g ys) → f (get_or xs i x) ≡ g (get_or ys i y) →
       map f (take (i + 1) xs) ≡ take (i + 1) (map g ys)
   same_more one other same here =
@@ -143,7 +143,7 @@ module _ {X Y Z : Type 0} (f : X → Z) (g : Y → Z) (xs : List X) (ys : List Y
       ∙ ap (λ z. take i (map g ys) ++ z ∷ []) (here ∙ sym (get_or-map g ys i y (g y) other))
       ∙ sym (take_more (map g ys) i (g y) (omega (arith, other, length-map ys g)))
 
-  -- the same all along, and so at a place
+  -- the same all along, and so at an index
   pub same_at : i < length xs → length xs ≤ length ys → map f xs ≡ take (length xs) (map g ys) → f (get_or xs i x) ≡ g (get_or ys i y)
   same_at within enough same =
       sym (get_or-map f xs i x (g y) within)

@@ -45,5 +45,5 @@ hands_seen (n ∷ e ∷ s ∷ w ∷ x ∷ rest) hands cards four same = absurd (
 -- what is seen of an ending with those sets
 pub ending_seen : (play : PlayValue) (tricks : ℕ) (left : List ℕ) (trump : Option Suit) (leader : Seat) (ending : EndingValue) → length left ≡ 4 → ((seat : Seat) (card : ℕ) → has_card (hand_at left seat) card ≡ holds play.hands (take (4 * tricks) play.cards) seat card) → trump ≡ trump_of play.contract → leader ≡ leader_of play.contract play.cards tricks → ending ≡ record { hands = left; trump = trump; leader = leader } → plain_ending ending ≡ ending_after play (4 * tricks)
 ending_seen play tricks left trump leader ending four same suit leads is =
-    let place : tricks ≡ 4 * tricks / 4 = omega arith in
-    rw (is, hands_seen left play.hands (take (4 * tricks) play.cards) four same, suit, leads ∙ ap (leader_of play.contract play.cards) place) refl
+    let index : tricks ≡ 4 * tricks / 4 = omega arith in
+    rw (is, hands_seen left play.hands (take (4 * tricks) play.cards) four same, suit, leads ∙ ap (leader_of play.contract play.cards) index) refl

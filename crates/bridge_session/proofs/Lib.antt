@@ -25,8 +25,8 @@ pub mod EqualGains
 pub use Rattle.bridge_session.specs.Laws.ActionLaws
 pub mod LeftEndings
 pub use Rattle.bridge_session.specs.Laws.PartLemmas
-pub use Rattle.bridge_session.specs.Laws.PartPlaces
-pub mod PlayPlaces
+pub use Rattle.bridge_session.specs.Laws.PartIndexes
+pub mod PlayIndexes
 pub mod PartCount
 pub use Rattle.bridge_session.specs.Laws.BytesBack
 pub use Rattle.bridge_session.specs.Laws.PairBack

@@ -9,7 +9,7 @@ use Rattle.bridge_config.specs.Limits.{IsConfiguration}
 use Rattle.bridge_session.specs.declared.record.Record.{Record}
 use Rattle.bridge_session.specs.Kept.{state_of, plain_of, IsKept}
 use Rattle.bridge_session.specs.Parts.{parts_of}
-use Rattle.bridge_session.proofs.PartPlaces.{count_parts}
+use Rattle.bridge_session.proofs.PartIndexes.{count_parts}
 
 -- the numbers of pairs, boards and plays are within bounds
 pub record AreFew (configuration : ConfigValue) (deals : List (Option (List ℕ))) (tables : List (List Record)) : Type 0 where

@@ -23,7 +23,7 @@ use Rattle.bridge_session.specs.declared.refused.Refused.TheVariants.{NotCurrent
 use Rattle.bridge_session.specs.declared.seating.Seating.{Seating}
 use Rattle.bridge_session.specs.Deed.{with_deed}
 use Rattle.bridge_session.specs.Record.{PlainRecord}
-use Rattle.bridge_session.specs.State.{SessionValue, deal_on, row_at, row_place, row_boards, changed_at, current_place, director_answer, seating_of, is_of_set}
+use Rattle.bridge_session.specs.State.{SessionValue, deal_on, row_at, index_of_row, row_boards, changed_at, current_index, director_answer, seating_of, is_of_set}
 use Rattle.bridge_session.specs.Step.{seen_by, answer_among, player_answer, acted_at, acted, is_row_within, record_of, rule_answer, with_ruling, ruled, step_answer, changed}
 use Rattle.bridge_session.specs.Valid.{board_of, IsPlayId, IsAction, IsValid}
 use Rattle.bridge_session.specs.Own.{Done, ByPlayer, ByDirector, done_by, same_play, ruled_in, done_in}
@@ -43,17 +43,17 @@ perhaps_done (Some done) x = done_to done x
 abbrev changes : (PlainRecord → PlainRecord) → (List PlainRecord → ℕ) → List PlainRecord → List PlainRecord
 changes f at records = changed_at f records (at records)
 
-changed_there : (f : PlainRecord → PlainRecord) (at : List PlainRecord → ℕ) (records : List (List PlainRecord)) (place index : ℕ) (x : PlainRecord) → slice_get (row_at records place) index ≡ Some x → row_at (changed_at (changes f at) records place) place ≡ changes f at (row_at records place)
-changed_there f at records place index x is =
-    let own = row_found records place index x is in
-    let within = slice_get_within records place own.0 own.1 in
-    ap (λ o. unwrap_or o []) (ap (λ rs. slice_get rs place) (changed_at-Some (changes f at) records place own.0 own.1) ∙ set_read records place (changes f at own.0) within)
+changed_there : (f : PlainRecord → PlainRecord) (at : List PlainRecord → ℕ) (records : List (List PlainRecord)) (row_index index : ℕ) (x : PlainRecord) → slice_get (row_at records row_index) index ≡ Some x → row_at (changed_at (changes f at) records row_index) row_index ≡ changes f at (row_at records row_index)
+changed_there f at records row_index index x is =
+    let own = row_found records row_index index x is in
+    let within = slice_get_within records row_index own.0 own.1 in
+    ap (λ o. unwrap_or o []) (ap (λ rs. slice_get rs row_index) (changed_at-Some (changes f at) records row_index own.0 own.1) ∙ set_read records row_index (changes f at own.0) within)
     ∙ ap (changes f at) (sym own.2)
 
-here_changed : (f : PlainRecord → PlainRecord) (at : List PlainRecord → ℕ) (records : List (List PlainRecord)) (place index : ℕ) (x : PlainRecord) → slice_get (row_at records place) index ≡ Some x → at (row_at records place) ≡ index → slice_get (row_at (changed_at (changes f at) records place) place) index ≡ Some (f x)
-here_changed f at records place index x is same =
-    let row = row_at records place in
-    ap (λ rs. slice_get rs index) (changed_there f at records place index x is)
+here_changed : (f : PlainRecord → PlainRecord) (at : List PlainRecord → ℕ) (records : List (List PlainRecord)) (row_index index : ℕ) (x : PlainRecord) → slice_get (row_at records row_index) index ≡ Some x → at (row_at records row_index) ≡ index → slice_get (row_at (changed_at (changes f at) records row_index) row_index) index ≡ Some (f x)
+here_changed f at records row_index index x is same =
+    let row = row_at records row_index in
+    ap (λ rs. slice_get rs index) (changed_there f at records row_index index x is)
     ∙ ap (λ i. slice_get (changed_at f row i) index) same
     ∙ ap (λ rs. slice_get rs index) (changed_at-Some f row index x is)
     ∙ set_read row index (f x) (slice_get_within row index x is)
@@ -65,29 +65,29 @@ other_index f xs i j apart =
       | inr (past, none) ↦ ap (λ rs. slice_get rs j) (changed_at-None f xs i none)
     ]
 
-index_apart : (f : PlainRecord → PlainRecord) (at : List PlainRecord → ℕ) (records : List (List PlainRecord)) (place index : ℕ) (x : PlainRecord) → slice_get (row_at records place) index ≡ Some x → index ≢ at (row_at records place) → slice_get (row_at (changed_at (changes f at) records place) place) index ≡ Some x
-index_apart f at records place index x is apart =
-    ap (λ rs. slice_get rs index) (changed_there f at records place index x is)
-    ∙ other_index f (row_at records place) (at (row_at records place)) index apart
+index_apart : (f : PlainRecord → PlainRecord) (at : List PlainRecord → ℕ) (records : List (List PlainRecord)) (row_index index : ℕ) (x : PlainRecord) → slice_get (row_at records row_index) index ≡ Some x → index ≢ at (row_at records row_index) → slice_get (row_at (changed_at (changes f at) records row_index) row_index) index ≡ Some x
+index_apart f at records row_index index x is apart =
+    ap (λ rs. slice_get rs index) (changed_there f at records row_index index x is)
+    ∙ other_index f (row_at records row_index) (at (row_at records row_index)) index apart
     ∙ is
 
-place_apart : (g : List PlainRecord → List PlainRecord) (records : List (List PlainRecord)) (changed_place place : ℕ) → place ≢ changed_place → row_at (changed_at g records changed_place) place ≡ row_at records place
-place_apart g records changed_place place apart =
-    elim (slice_get_cases records changed_place).1 [
+index_apart : (g : List PlainRecord → List PlainRecord) (records : List (List PlainRecord)) (changed_index row_index : ℕ) → row_index ≢ changed_index → row_at (changed_at g records changed_index) row_index ≡ row_at records row_index
+index_apart g records changed_index row_index apart =
+    elim (slice_get_cases records changed_index).1 [
       | inl (rs, within, found, read) ↦
-          ap (λ o. unwrap_or o []) (ap (λ rows. slice_get rows place) (changed_at-Some g records changed_place rs found) ∙ set_other records changed_place place (g rs) apart)
-      | inr (past, none) ↦ ap (λ rows. row_at rows place) (changed_at-None g records changed_place none)
+          ap (λ o. unwrap_or o []) (ap (λ rows. slice_get rows row_index) (changed_at-Some g records changed_index rs found) ∙ set_other records changed_index row_index (g rs) apart)
+      | inr (past, none) ↦ ap (λ rows. row_at rows row_index) (changed_at-None g records changed_index none)
     ]
 
--- the record of the play, of which the place is within
-record_at : (s : SessionValue) (records : List (List PlainRecord)) (play : PlayId) (y : PlainRecord) → is_row_within s.configuration.movement.shape play.round play.table ≡ true → slice_get (row_at records (row_place s.configuration.movement.shape play.round play.table)) (play.index - 1) ≡ Some y → record_of (record s { records = records }) play ≡ Some y
+-- the record of the play, of which the index is within
+record_at : (s : SessionValue) (records : List (List PlainRecord)) (play : PlayId) (y : PlainRecord) → is_row_within s.configuration.movement.shape play.round play.table ≡ true → slice_get (row_at records (index_of_row s.configuration.movement.shape play.round play.table)) (play.index - 1) ≡ Some y → record_of (record s { records = records }) play ≡ Some y
 record_at s records play y within is =
-    ap (λ b. cond b (slice_get (row_at records (row_place s.configuration.movement.shape play.round play.table)) (play.index - 1)) None) within ∙ is
+    ap (λ b. cond b (slice_get (row_at records (index_of_row s.configuration.movement.shape play.round play.table)) (play.index - 1)) None) within ∙ is
 
 -- Rulings
 
--- a place is of one round and table
-one_place : (shape : Shape) (round table other_round other_table : ℕ) → 1 ≤ round → 1 ≤ table → table ≤ shape.tables → 1 ≤ other_round → 1 ≤ other_table → other_table ≤ shape.tables → row_place shape round table ≡ row_place shape other_round other_table → (round ≡ other_round) × (table ≡ other_table)
+-- an index is of one round and table
+one_place : (shape : Shape) (round table other_round other_table : ℕ) → 1 ≤ round → 1 ≤ table → table ≤ shape.tables → 1 ≤ other_round → 1 ≤ other_table → other_table ≤ shape.tables → index_of_row shape round table ≡ index_of_row shape other_round other_table → (round ≡ other_round) × (table ≡ other_table)
 one_place shape round table other_round other_table least first within least_other first_other within_other same =
     let tables : ℕ = shape.tables in
     let a : ((round - 1) * tables + (table - 1)) / tables ≡ round - 1 = div-mul-add (round - 1) tables (table - 1) (omega arith) in
@@ -112,30 +112,30 @@ fields_same : (a b : PlayId) → a.round ≡ b.round → a.table ≡ b.table →
 fields_same a b round table index =
     all_true (a.round == b.round) (a.table == b.table) (a.index == b.index) (eq-eqb a.round b.round round) (eq-eqb a.table b.table table) (eq-eqb a.index b.index index)
 
-ruled_by : (s : SessionValue) (play named : PlayId) (made : Correction) (x : PlainRecord) (same : Bool) → IsPlayId play → IsPlayId named → same_play named play ≡ same → is_row_within s.configuration.movement.shape named.round named.table ≡ true → is_row_within s.configuration.movement.shape play.round play.table ≡ true → slice_get (row_at s.records (row_place s.configuration.movement.shape play.round play.table)) (play.index - 1) ≡ Some x → record_of (ruled s named made) play ≡ Some (perhaps_done (cond same (Some (ByDirector made)) None) x)
+ruled_by : (s : SessionValue) (play named : PlayId) (made : Correction) (x : PlainRecord) (same : Bool) → IsPlayId play → IsPlayId named → same_play named play ≡ same → is_row_within s.configuration.movement.shape named.round named.table ≡ true → is_row_within s.configuration.movement.shape play.round play.table ≡ true → slice_get (row_at s.records (index_of_row s.configuration.movement.shape play.round play.table)) (play.index - 1) ≡ Some x → record_of (ruled s named made) play ≡ Some (perhaps_done (cond same (Some (ByDirector made)) None) x)
 ruled_by s play named made x true ranges ranges_named test within_named within is =
     let shape = s.configuration.movement.shape in
     let same = same_fields named play test in
-    let place : row_place shape named.round named.table ≡ row_place shape play.round play.table = ap (λ r. row_place shape r named.table) same.0 ∙ ap (row_place shape play.round) same.1 in
+    let row_index : index_of_row shape named.round named.table ≡ index_of_row shape play.round play.table = ap (λ r. index_of_row shape r named.table) same.0 ∙ ap (index_of_row shape play.round) same.1 in
     let at : List PlainRecord → ℕ = λ records. named.index - 1 in
     let g = changes (with_ruling made) at in
-    record_at s (changed_at g s.records (row_place shape named.round named.table)) play (with_ruling made x) within
-    (ap (λ p. slice_get (row_at (changed_at g s.records p) (row_place shape play.round play.table)) (play.index - 1)) place
-    ∙ here_changed (with_ruling made) at s.records (row_place shape play.round play.table) (play.index - 1) x is (ap (λ n. n - 1) same.2))
+    record_at s (changed_at g s.records (index_of_row shape named.round named.table)) play (with_ruling made x) within
+    (ap (λ p. slice_get (row_at (changed_at g s.records p) (index_of_row shape play.round play.table)) (play.index - 1)) row_index
+    ∙ here_changed (with_ruling made) at s.records (index_of_row shape play.round play.table) (play.index - 1) x is (ap (λ n. n - 1) same.2))
 ruled_by s play named made x false ranges ranges_named test within_named within is =
     let shape = s.configuration.movement.shape in
-    let mine = row_place shape play.round play.table in
-    let its = row_place shape named.round named.table in
+    let mine = index_of_row shape play.round play.table in
+    let its = index_of_row shape named.round named.table in
     let at : List PlainRecord → ℕ = λ records. named.index - 1 in
     let g = changes (with_ruling made) at in
     record_at s (changed_at g s.records its) play x within
     (elim (cases_eq mine its) [
-      | inr apart ↦ ap (λ rs. slice_get rs (play.index - 1)) (place_apart g s.records its mine apart) ∙ is
-      | inl place ↦
-          ap (λ p. slice_get (row_at (changed_at g s.records p) mine) (play.index - 1)) (sym place)
+      | inr apart ↦ ap (λ rs. slice_get rs (play.index - 1)) (index_apart g s.records its mine apart) ∙ is
+      | inl row_index ↦
+          ap (λ p. slice_get (row_at (changed_at g s.records p) mine) (play.index - 1)) (sym row_index)
           ∙ index_apart (with_ruling made) at s.records mine (play.index - 1) x is
           (λ index.
-          let both = one_place shape named.round named.table play.round play.table ranges_named.0 ranges_named.1 (leb-true named.table shape.tables (and_parts _ _ within_named).1) ranges.0 ranges.1 (leb-true play.table shape.tables (and_parts _ _ within).1) (sym place) in
+          let both = one_place shape named.round named.table play.round play.table ranges_named.0 ranges_named.1 (leb-true named.table shape.tables (and_parts _ _ within_named).1) ranges.0 ranges.1 (leb-true play.table shape.tables (and_parts _ _ within).1) (sym row_index) in
           let here : named.index ≡ play.index = omega (arith, ranges.2, ranges_named.2, index) in
           false≢true (sym test ∙ fields_same named play both.0 both.1 here))
     ])
@@ -144,19 +144,19 @@ pub rule_step : (s : SessionValue) (play named : PlayId) (made : Correction) (x 
 rule_step s play named made x ranges ranges_named ok is =
     let shape = s.configuration.movement.shape in
     let on = ruled_on s.round named.round made (record_of s named) ok in
-    let within_named = (found_within (is_row_within shape named.round named.table) (slice_get (row_at s.records (row_place shape named.round named.table)) (named.index - 1)) on.plain on.is).0 in
-    let found = found_within (is_row_within shape play.round play.table) (slice_get (row_at s.records (row_place shape play.round play.table)) (play.index - 1)) x is in
+    let within_named = (found_within (is_row_within shape named.round named.table) (slice_get (row_at s.records (index_of_row shape named.round named.table)) (named.index - 1)) on.plain on.is).0 in
+    let found = found_within (is_row_within shape play.round play.table) (slice_get (row_at s.records (index_of_row shape play.round play.table)) (play.index - 1)) x is in
     ruled_by s play named made x (same_play named play) ranges ranges_named refl within_named found.0 found.1
 
 -- Players
 
 -- the boards of a row in order
-board_there : (boards : ℕ) (rows : List Row) (records : List (List PlainRecord)) (place index : ℕ) (x : PlainRecord) → map (map board_of) records ≡ map (row_boards boards) rows → slice_get (row_at records place) index ≡ Some x → (row : Row) × (slice_get rows place ≡ Some row) × (slice_get (row_boards boards row) index ≡ Some x.board)
-board_there boards rows records place index x same is =
-    let own = row_found records place index x is in
-    let seen : slice_get (map (row_boards boards) rows) place ≡ Some (map board_of own.0) =
-    ap (λ rs. slice_get rs place) (sym same) ∙ slice_get-map (map board_of) records place ∙ ap (option_map (map board_of)) own.1 in
-    let row = mapped_from (row_boards boards) rows place (map board_of own.0) seen in
+board_there : (boards : ℕ) (rows : List Row) (records : List (List PlainRecord)) (row_index index : ℕ) (x : PlainRecord) → map (map board_of) records ≡ map (row_boards boards) rows → slice_get (row_at records row_index) index ≡ Some x → (row : Row) × (slice_get rows row_index ≡ Some row) × (slice_get (row_boards boards row) index ≡ Some x.board)
+board_there boards rows records row_index index x same is =
+    let own = row_found records row_index index x is in
+    let seen : slice_get (map (row_boards boards) rows) row_index ≡ Some (map board_of own.0) =
+    ap (λ rs. slice_get rs row_index) (sym same) ∙ slice_get-map (map board_of) records row_index ∙ ap (option_map (map board_of)) own.1 in
+    let row = mapped_from (row_boards boards) rows row_index (map board_of own.0) seen in
     (row.0, row.1, ap (λ rs. slice_get rs index) row.2 ∙ slice_get-map board_of own.0 index ∙ ap (option_map board_of) (ap (λ rs. slice_get rs index) (sym own.2) ∙ is))
 
 board_number : (live : Bool) (first n index board : ℕ) → slice_get (cond live (range_with_len first n) []) index ≡ Some board → board ≡ first + index
@@ -165,55 +165,55 @@ board_number true first n index board is =
     sym (get_or_from_slice_get (range_with_len first n) index board board is) ∙ get_or-range_with_len first n index board (omega (arith, within, length-range_with_len first n))
 board_number false first n index board is = let within = slice_get_within {A = ℕ} [] index board is in absurd (omega arith)
 
--- in a row one board is in one place
-one_index : (s : SessionValue) (place i j : ℕ) (x y : PlainRecord) → IsValid s → slice_get (row_at s.records place) i ≡ Some x → slice_get (row_at s.records place) j ≡ Some y → x.board ≡ y.board → i ≡ j
-one_index s place i j x y valid at_i at_j same =
+-- in a row one board is in one index
+one_index : (s : SessionValue) (row_index i j : ℕ) (x y : PlainRecord) → IsValid s → slice_get (row_at s.records row_index) i ≡ Some x → slice_get (row_at s.records row_index) j ≡ Some y → x.board ≡ y.board → i ≡ j
+one_index s row_index i j x y valid at_i at_j same =
     let n : ℕ = s.configuration.boards in
-    let a = board_there n s.configuration.movement.rows s.records place i x valid.of_boards at_i in
-    let b = board_there n s.configuration.movement.rows s.records place j y valid.of_boards at_j in
+    let a = board_there n s.configuration.movement.rows s.records row_index i x valid.of_boards at_i in
+    let b = board_there n s.configuration.movement.rows s.records row_index j y valid.of_boards at_j in
     let row : a.0 ≡ b.0 = let both : Some a.0 ≡ Some b.0 = sym a.1 ∙ b.1 in cc in
     let first : ℕ = (b.0.set - 1) * n + 1 in
     let at_x = board_number (is_live b.0) first n i x.board (ap (λ (r : Row). slice_get (row_boards n r) i) (sym row) ∙ a.2) in
     let at_y = board_number (is_live b.0) first n j y.board b.2 in
     omega (arith, at_x, at_y, same)
 
-acted_by : (s : SessionValue) (play : PlayId) (seat : Seat) (place : ℕ) (done : Deed) (board named : ℕ) (x current : PlainRecord) (a b : Bool) → IsValid s → (place == row_place s.configuration.movement.shape play.round play.table) ≡ a → (named == board) ≡ b → x.board ≡ board → slice_get (row_at s.records place) (current_place (row_at s.records place)) ≡ Some current → current.board ≡ named → slice_get (row_at s.records (row_place s.configuration.movement.shape play.round play.table)) (play.index - 1) ≡ Some x → slice_get (row_at (changed_at (changes (with_deed seat done) current_place) s.records place) (row_place s.configuration.movement.shape play.round play.table)) (play.index - 1) ≡ Some (perhaps_done (cond (a && b) (Some (ByPlayer seat done)) None) x)
-acted_by s play seat place done board named x current true true valid at_place of_board own now on is =
-    let mine = row_place s.configuration.movement.shape play.round play.table in
-    let same : place ≡ mine = eqb-true place mine at_place in
+acted_by : (s : SessionValue) (play : PlayId) (seat : Seat) (row_index : ℕ) (done : Deed) (board named : ℕ) (x current : PlainRecord) (a b : Bool) → IsValid s → (row_index == index_of_row s.configuration.movement.shape play.round play.table) ≡ a → (named == board) ≡ b → x.board ≡ board → slice_get (row_at s.records row_index) (current_index (row_at s.records row_index)) ≡ Some current → current.board ≡ named → slice_get (row_at s.records (index_of_row s.configuration.movement.shape play.round play.table)) (play.index - 1) ≡ Some x → slice_get (row_at (changed_at (changes (with_deed seat done) current_index) s.records row_index) (index_of_row s.configuration.movement.shape play.round play.table)) (play.index - 1) ≡ Some (perhaps_done (cond (a && b) (Some (ByPlayer seat done)) None) x)
+acted_by s play seat row_index done board named x current true true valid at_index of_board own now on is =
+    let mine = index_of_row s.configuration.movement.shape play.round play.table in
+    let same : row_index ≡ mine = eqb-true row_index mine at_index in
     let name : named ≡ board = eqb-true named board of_board in
-    let there : slice_get (row_at s.records place) (play.index - 1) ≡ Some x = ap (λ p. slice_get (row_at s.records p) (play.index - 1)) same ∙ is in
-    let index = one_index s place (current_place (row_at s.records place)) (play.index - 1) current x valid now there (on ∙ name ∙ sym own) in
-    ap (λ p. slice_get (row_at (changed_at (changes (with_deed seat done) current_place) s.records place) p) (play.index - 1)) (sym same)
-    ∙ here_changed (with_deed seat done) current_place s.records place (play.index - 1) x there index
-acted_by s play seat place done board named x current true false valid at_place of_board own now on is =
-    let mine = row_place s.configuration.movement.shape play.round play.table in
-    let same : place ≡ mine = eqb-true place mine at_place in
-    let there : slice_get (row_at s.records place) (play.index - 1) ≡ Some x = ap (λ p. slice_get (row_at s.records p) (play.index - 1)) same ∙ is in
-    ap (λ p. slice_get (row_at (changed_at (changes (with_deed seat done) current_place) s.records place) p) (play.index - 1)) (sym same)
-    ∙ index_apart (with_deed seat done) current_place s.records place (play.index - 1) x there
+    let there : slice_get (row_at s.records row_index) (play.index - 1) ≡ Some x = ap (λ p. slice_get (row_at s.records p) (play.index - 1)) same ∙ is in
+    let index = one_index s row_index (current_index (row_at s.records row_index)) (play.index - 1) current x valid now there (on ∙ name ∙ sym own) in
+    ap (λ p. slice_get (row_at (changed_at (changes (with_deed seat done) current_index) s.records row_index) p) (play.index - 1)) (sym same)
+    ∙ here_changed (with_deed seat done) current_index s.records row_index (play.index - 1) x there index
+acted_by s play seat row_index done board named x current true false valid at_index of_board own now on is =
+    let mine = index_of_row s.configuration.movement.shape play.round play.table in
+    let same : row_index ≡ mine = eqb-true row_index mine at_index in
+    let there : slice_get (row_at s.records row_index) (play.index - 1) ≡ Some x = ap (λ p. slice_get (row_at s.records p) (play.index - 1)) same ∙ is in
+    ap (λ p. slice_get (row_at (changed_at (changes (with_deed seat done) current_index) s.records row_index) p) (play.index - 1)) (sym same)
+    ∙ index_apart (with_deed seat done) current_index s.records row_index (play.index - 1) x there
     (λ index.
-    let found : slice_get (row_at s.records place) (current_place (row_at s.records place)) ≡ Some x = ap (slice_get (row_at s.records place)) (sym index) ∙ there in
+    let found : slice_get (row_at s.records row_index) (current_index (row_at s.records row_index)) ≡ Some x = ap (slice_get (row_at s.records row_index)) (sym index) ∙ there in
     let one : current ≡ x = let both : Some current ≡ Some x = sym now ∙ found in cc in
     let name : named ≡ board = sym on ∙ ap board_of one ∙ own in
     eqb-false named board of_board name)
-acted_by s play seat place done board named x current false b valid at_place of_board own now on is =
-    let mine = row_place s.configuration.movement.shape play.round play.table in
-    ap (λ rs. slice_get rs (play.index - 1)) (place_apart (changes (with_deed seat done) current_place) s.records place mine (λ same. eqb-false place mine at_place (sym same))) ∙ is
+acted_by s play seat row_index done board named x current false b valid at_index of_board own now on is =
+    let mine = index_of_row s.configuration.movement.shape play.round play.table in
+    ap (λ rs. slice_get rs (play.index - 1)) (index_apart (changes (with_deed seat done) current_index) s.records row_index mine (λ same. eqb-false row_index mine at_index (sym same))) ∙ is
 
 player_by : (s : SessionValue) (play : PlayId) (board named at : ℕ) (done : Deed) (x : PlainRecord) (sits : Result Seating Refused) → IsValid s → answer_at s named at done sits ≡ Ok tt → record_of s play ≡ Some x → x.board ≡ board → record_of (acted_at s done sits) play ≡ Some (perhaps_done (done_by s.configuration play board named done sits) x)
 player_by s play board named at done x (Err refused) valid ok is own = absurd cc
 player_by s play board named at done x (Ok seating) valid ok is own =
     let shape = s.configuration.movement.shape in
     let mine = is_of_set s.configuration seating.set named in
-    let records = row_at s.records seating.place in
+    let records = row_at s.records seating.row in
     let of_set = passed mine NotCurrent (answer_among records (cond mine (deal_on s.deals named) None) named seating.seat at done) ok in
-    let on = acted_on (cond mine (deal_on s.deals named) None) named seating.seat at done (slice_get records (current_place records)) of_set.1 in
-    let found = found_within (is_row_within shape play.round play.table) (slice_get (row_at s.records (row_place shape play.round play.table)) (play.index - 1)) x is in
-    let a : Bool = seating.place == row_place shape play.round play.table in
+    let on = acted_on (cond mine (deal_on s.deals named) None) named seating.seat at done (slice_get records (current_index records)) of_set.1 in
+    let found = found_within (is_row_within shape play.round play.table) (slice_get (row_at s.records (index_of_row shape play.round play.table)) (play.index - 1)) x is in
+    let a : Bool = seating.row == index_of_row shape play.round play.table in
     let b : Bool = named == board in
-    record_at s (changed_at (changes (with_deed seating.seat done) current_place) s.records seating.place) play (perhaps_done (cond (a && b) (Some (ByPlayer seating.seat done)) None) x) found.0
-    (acted_by s play seating.seat seating.place done board named x on.plain a b valid refl refl own on.is on.same found.1)
+    record_at s (changed_at (changes (with_deed seating.seat done) current_index) s.records seating.row) play (perhaps_done (cond (a && b) (Some (ByPlayer seating.seat done)) None) x) found.0
+    (acted_by s play seating.seat seating.row done board named x on.plain a b valid refl refl own on.is on.same found.1)
 
 pub player_step : (s : SessionValue) (play : PlayId) (key board named at : ℕ) (done : Deed) (x : PlainRecord) → IsValid s → player_answer (seen_by s key named) key named at done ≡ Ok tt → record_of s play ≡ Some x → x.board ≡ board → record_of (acted s key done) play ≡ Some (perhaps_done (done_by s.configuration play board named done (seating_of s.configuration s.round key)) x)
 player_step s play key board named at done x valid ok is own = player_by s play board named at done x (seating_of s.configuration s.round key) valid ok is own

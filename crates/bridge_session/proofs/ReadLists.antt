@@ -9,18 +9,18 @@ use Rattle.bridge_cards.proofs.FollowLaws.{slice_get-left, slice_get-seam}
 use Rattle.bridge_session.proofs.Entries.{all_at}
 use Rattle.bridge_session.proofs.StaysValid.{mapped_from, none_of}
 
--- what holds of all holds of the one at a place
+-- what holds of all holds of the one at an index
 pub all_there : {X : Type 0} (P : X → Type 0) (xs : List X) (i : ℕ) (x : X) → All P xs → slice_get xs i ≡ Some x → P x
 all_there P xs i x all is = subst (λ o. IfSome o P) is (all_at P xs i all)
 
--- where two lists are seen as one, the elements at a place are
+-- where two lists are seen as one, the elements at an index are
 pub mapped_at : {A B X : Type 0} (f : A → B) (g : X → B) (ys : List A) (xs : List X) (i : ℕ) (x : X) → map f ys ≡ map g xs → i < length xs → x ≡ get_or xs i x
     → (a : A) × (slice_get ys i ≡ Some a) × (f a ≡ g x)
 mapped_at f g ys xs i x same within is =
     let there : slice_get xs i ≡ Some x = slice_get_read xs (length xs) i x refl within is in
     mapped_from f ys i (g x) (ap (λ zs. slice_get zs i) same ∙ slice_get-map g xs i ∙ ap (option_map g) there)
 
--- there is an element at a place within
+-- there is an element at an index within
 pub some_there : {X : Type 0} (xs : List X) (i : ℕ) → i < length xs → (x : X) × (slice_get xs i ≡ Some x)
 some_there xs i within =
     elim (slice_get_cases xs i).1 [
@@ -28,19 +28,19 @@ some_there xs i within =
       | inr (past, none) ↦ absurd (omega (arith, within, past))
     ]
 
--- what holds at each place of two lists holds with one more of each
+-- what holds at each index of two lists holds with one more of each
 pub both_push : {A B : Type 0} (P : A → B → Type 0) (xs : List A) (ys : List B) (x : A) (y : B) → length ys ≡ length xs
-    → ((place : ℕ) (a : A) (b : B) → slice_get xs place ≡ Some a → slice_get ys place ≡ Some b → P a b) → P x y
-    → (place : ℕ) (a : A) (b : B) → slice_get (xs ++ x ∷ []) place ≡ Some a → slice_get (ys ++ y ∷ []) place ≡ Some b → P a b
-both_push {A} {B} P xs ys x y same each holds place a b first second =
-    elim (cases_lt place (length xs)) [
+    → ((index : ℕ) (a : A) (b : B) → slice_get xs index ≡ Some a → slice_get ys index ≡ Some b → P a b) → P x y
+    → (index : ℕ) (a : A) (b : B) → slice_get (xs ++ x ∷ []) index ≡ Some a → slice_get (ys ++ y ∷ []) index ≡ Some b → P a b
+both_push {A} {B} P xs ys x y same each holds index a b first second =
+    elim (cases_lt index (length xs)) [
       | inl before ↦
-          each place a b (sym (slice_get-left xs (x ∷ []) place before) ∙ first)
-          (sym (slice_get-left ys (y ∷ []) place (omega (arith, before, same))) ∙ second)
+          each index a b (sym (slice_get-left xs (x ∷ []) index before) ∙ first)
+          (sym (slice_get-left ys (y ∷ []) index (omega (arith, before, same))) ∙ second)
       | inr from ↦
-          let within = slice_get_within (xs ++ x ∷ []) place a first in
-          let last : place ≡ length xs = omega (arith, within, from, length-append xs (x ∷ [])) in
-          let last_too : place ≡ length ys = omega (arith, last, same) in
+          let within = slice_get_within (xs ++ x ∷ []) index a first in
+          let last : index ≡ length xs = omega (arith, within, from, length-append xs (x ∷ [])) in
+          let last_too : index ≡ length ys = omega (arith, last, same) in
           let one : Some a ≡ Some x = sym first ∙ ap (slice_get (xs ++ x ∷ [])) last ∙ slice_get-seam xs x [] in
           let two : Some b ≡ Some y = sym second ∙ ap (slice_get (ys ++ y ∷ [])) last_too ∙ slice_get-seam ys y [] in
           let a_is : a ≡ x = cc in

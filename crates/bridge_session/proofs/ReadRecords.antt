@@ -220,7 +220,7 @@ empty_is plain calls unplayed ruled =
     ∙ ap (λ c. made [] [] 0 c plain.ruling) unplayed.claim
     ∙ ap (λ r. made [] [] 0 None r) ruled
 
--- what the test of a record's place says
+-- what the test of a record's index says
 pub record IsInPlace (now round : ℕ) (plain : PlainRecord) : Type 0 where
   pub ruled : IfSome plain.ruling (MayStand (play_of [] plain))
   pub later : now < round → plain ≡ empty_record plain.board

@@ -44,13 +44,13 @@ module _ (deals : List (Option (List ℕ))) (now round : ℕ) where
         in_range = All-push IsRecordInRange (map plain_of table) (plain_of kept) are.in_range read.in_range;
       })
 
--- the number at a place of a range
+-- the number at an index of a range
 pub range_at : (first count i n : ℕ) → slice_get (range_with_len first count) i ≡ Some n → n ≡ first + i
 range_at first zero i n is = let within = slice_get_within {A = ℕ} [] i n is in absurd (omega (arith, within))
 range_at first (suc count) zero n is = let same : first ≡ n = cc in omega (arith, same)
 range_at first (suc count) (suc i) n is = let next = range_at (first + 1) count i n is in omega (arith, next)
 
--- the board of a record by its place
+-- the board of a record by its index
 pub board_there : (first count i : ℕ) (records : List PlainRecord) (plain : PlainRecord) → map board_of records ≡ range_with_len first count
     → slice_get records i ≡ Some plain → plain.board ≡ first + i
 board_there first count i records plain is found =
@@ -147,10 +147,10 @@ found_none P Q (Err e) holds then = tt
 -- All rows
 
 -- the rows that are left, with one and without it
-pub suc_row : (rows place boards : ℕ) → place < rows → (rows - place) * boards ≡ boards + (rows - (place + 1)) * boards
-suc_row rows place boards within =
-    let next : rows - place ≡ suc (rows - (place + 1)) = omega (arith, within) in
-    ap (λ n. n * boards) next ∙ suc_times (rows - (place + 1)) boards
+pub suc_row : (rows row_index boards : ℕ) → row_index < rows → (rows - row_index) * boards ≡ boards + (rows - (row_index + 1)) * boards
+suc_row rows row_index boards within =
+    let next : rows - row_index ≡ suc (rows - (row_index + 1)) = omega (arith, within) in
+    ap (λ n. n * boards) next ∙ suc_times (rows - (row_index + 1)) boards
 
 row_length : (boards : ℕ) (records : List PlainRecord) → length (row_parts boards records) ≡ boards
 row_length boards records = length-map-range_with_len (λ index. record_part (record_or_empty records index)) 0 boards
@@ -169,7 +169,7 @@ module _ (deals : List (Option (List ℕ))) (now boards : ℕ) where
         each = both_push (IsRowOf deals now boards) (take i rows) (map plains_of tables) row (plains_of table) are.count are.each own;
       }))
 
-  -- the records of the row at a place have the parts there
+  -- the records of the row at an index have the parts there
   pub row_there : (rows : List Row) (records front : List (List PlainRecord)) (rest : List (List ℕ)) (i : ℕ) (row : Row)
       → AreRows deals now boards rows records → flat_map (row_parts boards) front ++ rest ≡ flat_map (row_parts boards) records
       → length front ≡ i → i < length rows → slice_get rows i ≡ Some row

@@ -25,14 +25,14 @@ use Rattle.bridge_session.specs.StateRange.{IsRecordInRange, IsStateInRange, IsS
 use Rattle.bridge_session.specs.Valid.{board_of, IsValidRecord, IsValid}
 use Rattle.bridge_session.specs.Reading.{plains_of, AreDeals, AreRows}
 use Rattle.bridge_session.proofs.Acted.{lists_in}
-use Rattle.bridge_session.proofs.PartPlaces.{count_boards}
+use Rattle.bridge_session.proofs.PartIndexes.{count_boards}
 use Rattle.bridge_session.proofs.ReadLists.{all_there, some_there}
 use Rattle.bridge_session.proofs.SessionBack.{numbers_back, configuration_back}
 use Rattle.bridge_session.proofs.PairBack.{deal_back}
 use Rattle.bridge_session.proofs.BytesBack.{all_back, take_front, drop_front}
 use Rattle.bridge_session.proofs.StaysValid.{mapped_from, row_found}
 
--- Lists, by their places
+-- Lists, by their indexes
 
 pub all_from : {X : Type 0} (P : X → Type 0) (xs : List X) → ((i : ℕ) (x : X) → slice_get xs i ≡ Some x → P x) → All P xs
 all_from P xs each i d within = each i (get_or xs i d) (slice_get-get_or xs i d within)
@@ -85,18 +85,18 @@ session_count s is =
 pub session_rows : (s : SessionValue) → IsSession s → AreRows s.deals s.round s.configuration.boards s.configuration.movement.rows s.records
 session_rows s is = record {
   count = session_count s is;
-  each = λ place row own found there.
+  each = λ row_index row own found there.
       let boards : ℕ = s.configuration.boards in
       let rows : List Row = s.configuration.movement.rows in
       let same : Some (map board_of own) ≡ Some (row_boards boards row)
-      = sym (slice_get-map (map board_of) s.records place ∙ ap (option_map (map board_of)) there)
-      ∙ ap (λ bs. slice_get bs place) is.valid.of_boards
-      ∙ (slice_get-map (row_boards boards) rows place ∙ ap (option_map (row_boards boards)) found) in
+      = sym (slice_get-map (map board_of) s.records row_index ∙ ap (option_map (map board_of)) there)
+      ∙ ap (λ bs. slice_get bs row_index) is.valid.of_boards
+      ∙ (slice_get-map (row_boards boards) rows row_index ∙ ap (option_map (row_boards boards)) found) in
       record {
         boards_are = cc;
         valid = all_from (IsValidRecord s.deals s.round row.round) own (λ i x at.
-            is.valid.plays place i row x found (ap (λ o. slice_get (unwrap_or o []) i) there ∙ at));
-        in_range = all_there (All IsRecordInRange) s.records place own is.ranges.records there;
+            is.valid.plays row_index i row x found (ap (λ o. slice_get (unwrap_or o []) i) there ∙ at));
+        in_range = all_there (All IsRecordInRange) s.records row_index own is.ranges.records there;
       };
 }
 
@@ -154,19 +154,19 @@ module _ (configuration : ConfigValue) (round : ℕ) (deals : List (Option (List
     boards = made.boards;
     deals = made.dealt.dealt;
     of_boards = of_boards;
-    plays = λ place index row plain found at.
-        let own = row_found (map plains_of tables) place index plain at in
-        all_there (IsValidRecord deals round row.round) own.0 index plain (made.rows.each place row own.0 found own.1).valid
+    plays = λ row_index index row plain found at.
+        let own = row_found (map plains_of tables) row_index index plain at in
+        all_there (IsValidRecord deals round row.round) own.0 index plain (made.rows.each row_index row own.0 found own.1).valid
         (ap (λ rs. slice_get rs index) (sym own.2) ∙ at);
   }
 
   made_ranges : IsStateInRange made_state
   made_ranges = record {
     deals = made.dealt.hands;
-    records = all_from (All IsRecordInRange) (map plains_of tables) (λ place own there.
-        let within = slice_get_within (map plains_of tables) place own there in
-        let row = some_there configuration.movement.rows place (omega (arith, within, made.rows.count)) in
-        (made.rows.each place row.0 own row.1 there).in_range);
+    records = all_from (All IsRecordInRange) (map plains_of tables) (λ row_index own there.
+        let within = slice_get_within (map plains_of tables) row_index own there in
+        let row = some_there configuration.movement.rows row_index (omega (arith, within, made.rows.count)) in
+        (made.rows.each row_index row.0 own row.1 there).in_range);
   }
 
   pub made_session : IsSession made_state
@@ -181,11 +181,11 @@ module _ (configuration : ConfigValue) (round : ℕ) (deals : List (Option (List
   boards_kept : map (map board_kept) (lists_in tables) ≡ map (row_boards configuration.boards) configuration.movement.rows
   boards_kept = kept_boards tables ∙ of_boards
 
-  table_few : (place : ℕ) (table : List Record) → slice_get (lists_in tables) place ≡ Some table → length table ≤ 3
-  table_few place table there =
-      let seen : slice_get (map (row_boards configuration.boards) configuration.movement.rows) place ≡ Some (map board_kept table)
-      = ap (λ bs. slice_get bs place) (sym boards_kept) ∙ slice_get-map (map board_kept) (lists_in tables) place ∙ ap (option_map (map board_kept)) there in
-      let row = mapped_from (row_boards configuration.boards) configuration.movement.rows place (map board_kept table) seen in
+  table_few : (row_index : ℕ) (table : List Record) → slice_get (lists_in tables) row_index ≡ Some table → length table ≤ 3
+  table_few row_index table there =
+      let seen : slice_get (map (row_boards configuration.boards) configuration.movement.rows) row_index ≡ Some (map board_kept table)
+      = ap (λ bs. slice_get bs row_index) (sym boards_kept) ∙ slice_get-map (map board_kept) (lists_in tables) row_index ∙ ap (option_map (map board_kept)) there in
+      let row = mapped_from (row_boards configuration.boards) configuration.movement.rows row_index (map board_kept table) seen in
       let few = row_boards_few configuration.boards row.0 in
       let same : length (row_boards configuration.boards row.0) ≡ length (map board_kept table) = ap length row.2 in
       omega (arith, few, same, length-map table board_kept, boards_few)

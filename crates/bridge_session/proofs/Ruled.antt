@@ -35,13 +35,13 @@ answer_seen deals kept now round made tied =
     ap (λ play. ruling_answer calls play made over) tied.tied.play ∙ by_hands calls (hands_on deals kept.board) (plain_of kept) made over (contract_in (plain_of kept)) in
     ap (λ answer. cond (nat_lt now round) (Err NotYet) answer) same
 
-pub rule_seen : (deals : List (Option (List ℕ))) (table : List Record) (place now round : ℕ) (made : Correction) → All (IsTiedIn deals) table → kept_rule_answer now round made (slice_get table place) ≡ rule_answer now round made (slice_get (map plain_of table) place)
-rule_seen deals table place now round made tied =
-    let seen = slice_get-map plain_of table place in
-    elim (slice_get_cases table place).1 [
+pub rule_seen : (deals : List (Option (List ℕ))) (table : List Record) (index now round : ℕ) (made : Correction) → All (IsTiedIn deals) table → kept_rule_answer now round made (slice_get table index) ≡ rule_answer now round made (slice_get (map plain_of table) index)
+rule_seen deals table index now round made tied =
+    let seen = slice_get-map plain_of table index in
+    elim (slice_get_cases table index).1 [
       | inl (kept, within, is, found) ↦
           ap (kept_rule_answer now round made) is
-          ∙ answer_seen deals kept now round made (subst (IsTiedIn deals) found (tied place kept within))
+          ∙ answer_seen deals kept now round made (subst (IsTiedIn deals) found (tied index kept within))
           ∙ ap (rule_answer now round made) (sym (seen ∙ ap (option_map plain_of) is))
       | inr (past, none) ↦
           ap (kept_rule_answer now round made) none

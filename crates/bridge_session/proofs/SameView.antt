@@ -14,7 +14,7 @@ use Rattle.bridge_session.specs.declared.refused.Refused.{Refused}
 use Rattle.bridge_session.specs.declared.seating.Seating.{Seating}
 use Rattle.bridge_session.specs.declared.view.View.{View}
 use Rattle.bridge_session.specs.Record.{PlainRecord, play_of}
-use Rattle.bridge_session.specs.State.{SessionValue, deal_on, row_at, current_place, seating_of}
+use Rattle.bridge_session.specs.State.{SessionValue, deal_on, row_at, current_index, seating_of}
 use Rattle.bridge_session.specs.See.{PlainTrick, Shown, ShownPlay, cards_left, shown_dummy, shown_play, shown_of, shown_dealt, shown_current, shown_among, shown_seated, shown_to}
 use Rattle.bridge_session.specs.Views.{IsViewTo}
 use Rattle.bridge_session.specs.Sight.{cards_in, PlaysLookAlike, CardsLookAlike, RecordsLookAlike, DealtLookAlike, CurrentLookAlike, TablesLookAlike, LookAlikeTo}
@@ -77,38 +77,38 @@ by_same index board calls hand (Some p) (Some q) alike =
     ∙ ap (λ c. made (length q.cards) q.claims c (shown_play p)) alike.claim
     ∙ ap (made (length q.cards) q.claims q.claim) (play_same p q alike)
 
-of_same : (place : ℕ) (seat : Seat) (hands others : List ℕ) (a b : PlainRecord) → RecordsLookAlike seat hands a others b → shown_of place seat hands a ≡ shown_of place seat others b
-of_same place seat hands others a b alike =
+of_same : (row_index : ℕ) (seat : Seat) (hands others : List ℕ) (a b : PlainRecord) → RecordsLookAlike seat hands a others b → shown_of row_index seat hands a ≡ shown_of row_index seat others b
+of_same row_index seat hands others a b alike =
     let p = play_of hands a in
     let q = play_of others b in
-    ap (λ hand. shown_by (place + 1) a.board a.calls hand p) alike.hand
-    ∙ by_same (place + 1) a.board a.calls (cards_left others (cards_in q) seat) p q alike.play
-    ∙ ap (λ board. shown_by (place + 1) board a.calls (cards_left others (cards_in q) seat) q) alike.board
-    ∙ ap (λ calls. shown_by (place + 1) b.board calls (cards_left others (cards_in q) seat) q) alike.calls
+    ap (λ hand. shown_by (row_index + 1) a.board a.calls hand p) alike.hand
+    ∙ by_same (row_index + 1) a.board a.calls (cards_left others (cards_in q) seat) p q alike.play
+    ∙ ap (λ board. shown_by (row_index + 1) board a.calls (cards_left others (cards_in q) seat) q) alike.board
+    ∙ ap (λ calls. shown_by (row_index + 1) b.board calls (cards_left others (cards_in q) seat) q) alike.calls
 
-dealt_same : (seat : Seat) (place : ℕ) (a b : PlainRecord) (hands others : Option (List ℕ)) → DealtLookAlike seat a hands b others → shown_dealt seat place a hands ≡ shown_dealt seat place b others
-dealt_same seat place a b None None alike = refl
-dealt_same seat place a b None (Some others) alike = absurd alike
-dealt_same seat place a b (Some hands) None alike = absurd alike
-dealt_same seat place a b (Some hands) (Some others) alike = ap Ok (of_same place seat hands others a b alike)
+dealt_same : (seat : Seat) (row_index : ℕ) (a b : PlainRecord) (hands others : Option (List ℕ)) → DealtLookAlike seat a hands b others → shown_dealt seat row_index a hands ≡ shown_dealt seat row_index b others
+dealt_same seat row_index a b None None alike = refl
+dealt_same seat row_index a b None (Some others) alike = absurd alike
+dealt_same seat row_index a b (Some hands) None alike = absurd alike
+dealt_same seat row_index a b (Some hands) (Some others) alike = ap Ok (of_same row_index seat hands others a b alike)
 
-current_same : (deals others : List (Option (List ℕ))) (seat : Seat) (place : ℕ) (a b : Option PlainRecord) → CurrentLookAlike seat deals a others b → shown_current deals seat place a ≡ shown_current others seat place b
-current_same deals others seat place None None alike = refl
-current_same deals others seat place None (Some b) alike = absurd alike
-current_same deals others seat place (Some a) None alike = absurd alike
-current_same deals others seat place (Some a) (Some b) alike = dealt_same seat place a b (deal_on deals a.board) (deal_on others b.board) alike
+current_same : (deals others : List (Option (List ℕ))) (seat : Seat) (row_index : ℕ) (a b : Option PlainRecord) → CurrentLookAlike seat deals a others b → shown_current deals seat row_index a ≡ shown_current others seat row_index b
+current_same deals others seat row_index None None alike = refl
+current_same deals others seat row_index None (Some b) alike = absurd alike
+current_same deals others seat row_index (Some a) None alike = absurd alike
+current_same deals others seat row_index (Some a) (Some b) alike = dealt_same seat row_index a b (deal_on deals a.board) (deal_on others b.board) alike
 
 among_same : (deals others : List (Option (List ℕ))) (seat : Seat) (records plays : List PlainRecord) → TablesLookAlike seat deals records others plays → shown_among deals seat records ≡ shown_among others seat plays
 among_same deals others seat records plays alike =
-    current_same deals others seat (current_place records) (slice_get records (current_place records)) (slice_get plays (current_place plays)) alike.current
-    ∙ ap (λ place. shown_current others seat place (slice_get plays (current_place plays))) alike.place
+    current_same deals others seat (current_index records) (slice_get records (current_index records)) (slice_get plays (current_index plays)) alike.current
+    ∙ ap (λ row_index. shown_current others seat row_index (slice_get plays (current_index plays))) alike.row_index
 
 seated_same : (key : ℕ) (s t : SessionValue) (sits : Result Seating Refused) → LookAlikeTo key s t → seating_of s.configuration s.round key ≡ sits → shown_seated s sits ≡ shown_seated t sits
 seated_same key s t (Err refused) alike is = refl
 seated_same key s t (Ok seating) alike is =
-    among_same s.deals t.deals seating.seat (row_at s.records seating.place) (row_at t.records seating.place) (alike.table seating is)
+    among_same s.deals t.deals seating.seat (row_at s.records seating.row) (row_at t.records seating.row) (alike.table seating is)
 
--- the player sits in the same place
+-- the player sits in the same index
 sits_same : (key : ℕ) (s t : SessionValue) → LookAlikeTo key s t → seating_of s.configuration s.round key ≡ seating_of t.configuration t.round key
 sits_same key s t alike =
     ap (λ (k : ConfigValue). seating_of k s.round key) alike.configuration ∙ ap (λ r. seating_of t.configuration r key) alike.round

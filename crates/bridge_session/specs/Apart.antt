@@ -24,4 +24,4 @@ pub record AgreeAtTable (key : ℕ) (s t : SessionValue) : Type 0 where
   pub configuration : s.configuration ≡ t.configuration
   pub round : s.round ≡ t.round
   pub deals : (seating : Seating) (board : ℕ) → seating_of s.configuration s.round key ≡ Ok seating → is_of_set s.configuration seating.set board ≡ true → deal_on s.deals board ≡ deal_on t.deals board
-  pub records : (seating : Seating) → seating_of s.configuration s.round key ≡ Ok seating → row_at s.records seating.place ≡ row_at t.records seating.place
+  pub records : (seating : Seating) → seating_of s.configuration s.round key ≡ Ok seating → row_at s.records seating.row ≡ row_at t.records seating.row

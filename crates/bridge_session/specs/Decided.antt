@@ -101,12 +101,12 @@ module _ {X : Type 0} where
       (λ both. AllPairs-cons R x xs both.0 both.1)
       (λ all. (λ k d within. all 0 (suc k) d (omega arith) (omega arith), λ i j d less within. all (suc i) (suc j) d (omega arith) (omega arith)))
 
-  -- what holds of each element at its place
-  pub decided_places : (P : ℕ → X → Type 0) → ((k : ℕ) (x : X) → Decided (P k x)) → (xs : List X)
+  -- what holds of each element at its index
+  pub decided_indexes : (P : ℕ → X → Type 0) → ((k : ℕ) (x : X) → Decided (P k x)) → (xs : List X)
       → Decided ((k : ℕ) (x : X) → slice_get xs k ≡ Some x → P k x)
-  decided_places P each [] = inl (λ k x same. absurd cc)
-  decided_places P each (y ∷ ys) =
-      decided_like (decided_both (each 0 y) (decided_places (λ k. P (suc k)) (λ k. each (suc k)) ys)) there (λ all. (all 0 y refl, λ k x same. all (suc k) x same))
+  decided_indexes P each [] = inl (λ k x same. absurd cc)
+  decided_indexes P each (y ∷ ys) =
+      decided_like (decided_both (each 0 y) (decided_indexes (λ k. P (suc k)) (λ k. each (suc k)) ys)) there (λ all. (all 0 y refl, λ k x same. all (suc k) x same))
     where
       there : P 0 y × ((k : ℕ) (x : X) → slice_get ys k ≡ Some x → P (suc k) x) → (k : ℕ) (x : X) → slice_get (y ∷ ys) k ≡ Some x → P k x
       there both zero x same = let e : y ≡ x = cc in subst (P 0) e both.0

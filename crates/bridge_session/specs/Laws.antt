@@ -11,7 +11,7 @@ pub mod ValidPlayer
 pub mod ValidStep
 pub mod ActionLaws
 pub mod PartLemmas
-pub mod PartPlaces
+pub mod PartIndexes
 pub mod BytesBack
 pub mod PairBack
 pub mod RecordBack

@@ -6,7 +6,7 @@ use Rattle.bridge_movement.specs.declared.shape.Shape.{Shape}
 use Rattle.bridge_movement.specs.Fair.{IsDue, IsComplete, HasPairsWithin, HasTwoPairs, HasSetWithin, IsFair, IsMovement}
 use Rattle.bridge_movement.specs.Row.{IsLive, SitsIn, ShareAPair, SeatPairTwice, PlaySetAgain}
 use Rattle.bridge_movement.specs.Shape.{IsBetween, IsShape, row_count}
-use Rattle.bridge_session.specs.Decided.{Decided, decided_like, decided_both, decided_either, decided_implies, decided_not, decided_equal, decided_most, decided_less, decided_all, decided_pairs, decided_places}
+use Rattle.bridge_session.specs.Decided.{Decided, decided_like, decided_both, decided_either, decided_implies, decided_not, decided_equal, decided_most, decided_less, decided_all, decided_pairs, decided_indexes}
 
 -- whether a number is within limits
 decided_between : (low high n : ℕ) → Decided (IsBetween low high n)
@@ -21,27 +21,27 @@ decided_shape shape =
     (λ all. record { tables = all.0; rounds = all.1.0; sets = all.1.1.0; pairs = all.1.1.1.0; split = all.1.1.1.1 })
     (λ is. (is.tables, (is.rounds, (is.sets, (is.pairs, is.split)))))
 
--- whether a row is the one due at a place
-decided_due : (shape : Shape) (place : ℕ) (row : Row) → Decided (IsDue shape place row)
-decided_due shape place row =
+-- whether a row is the one due at an index
+decided_due : (shape : Shape) (index : ℕ) (row : Row) → Decided (IsDue shape index row)
+decided_due shape index row =
     decided_like
-    (decided_both (decided_less place (row_count shape))
-    (decided_both (decided_equal row.round (place / shape.tables + 1)) (decided_equal row.table (place % shape.tables + 1))))
+    (decided_both (decided_less index (row_count shape))
+    (decided_both (decided_equal row.round (index / shape.tables + 1)) (decided_equal row.table (index % shape.tables + 1))))
     (λ all. (all.0, all.1.0, all.1.1)) (λ due. (due.0, (due.1, due.2)))
 
 -- whether rows are complete and in order
 decided_complete : (shape : Shape) (rows : List Row) → Decided (IsComplete shape rows)
 decided_complete shape rows =
     decided_like
-    (decided_both (decided_equal (length rows) (row_count shape)) (decided_places (IsDue shape) (decided_due shape) rows))
+    (decided_both (decided_equal (length rows) (row_count shape)) (decided_indexes (IsDue shape) (decided_due shape) rows))
     (λ both. record {
       count = both.0;
-      order = λ place within. (within, λ d. both.1 place (slice_index_or rows place d) (slice_get-get_or rows place d within));
+      order = λ index within. (within, λ d. both.1 index (slice_index_or rows index d) (slice_get-get_or rows index d within));
     })
     (λ is. (
       is.count,
-      λ place row there.
-          subst (IsDue shape place) (get_or_from_slice_get rows place row row there) ((is.order place (slice_get_within rows place row there)).1 row),
+      λ index row there.
+          subst (IsDue shape index) (get_or_from_slice_get rows index row row there) ((is.order index (slice_get_within rows index row there)).1 row),
     ))
 
 -- whether both sides of a row have a pair

@@ -19,7 +19,7 @@ use Rattle.bridge_session.specs.declared.refused.Refused.{Refused}
 use Rattle.bridge_session.specs.declared.seating.Seating.{Seating}
 use Rattle.bridge_session.specs.Correction.{ruling_by}
 use Rattle.bridge_session.specs.Record.{PlainRecord}
-use Rattle.bridge_session.specs.State.{SessionValue, row_place, seating_of}
+use Rattle.bridge_session.specs.State.{SessionValue, index_of_row, seating_of}
 use Rattle.bridge_session.specs.Step.{step_answer, changed}
 use Rattle.bridge_session.specs.Valid.{IsAction}
 
@@ -46,7 +46,7 @@ pub data Done : Type 0 where
 abbrev pub done_by : ConfigValue → PlayId → ℕ → ℕ → Deed → Result Seating Refused → Option Done
 done_by configuration play board named done (Err refused) = None
 done_by configuration play board named done (Ok seating) =
-    if (seating.place == row_place configuration.movement.shape play.round play.table) && (named == board) then Some (ByPlayer seating.seat done) else None
+    if (seating.row == index_of_row configuration.movement.shape play.round play.table) && (named == board) then Some (ByPlayer seating.seat done) else None
 
 abbrev pub same_play : PlayId → PlayId → Bool
 same_play a b = (a.round == b.round) && ((a.table == b.table) && (a.index == b.index))

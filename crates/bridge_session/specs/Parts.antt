@@ -56,7 +56,7 @@ movement_part rows = flat_map row_bytes rows
 
 -- a player of a pair: the name and the key
 abbrev pub player_bytes : Pair → ℕ → List ℕ
-player_bytes pair place = text_bytes (slice_index_or pair.names place []) ++ four_bytes (slice_index pair.keys place)
+player_bytes pair row_index = text_bytes (slice_index_or pair.names row_index []) ++ four_bytes (slice_index pair.keys row_index)
 
 abbrev pub pair_part : Pair → List ℕ
 pair_part pair = player_bytes pair 0 ++ player_bytes pair 1

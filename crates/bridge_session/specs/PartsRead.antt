@@ -48,14 +48,14 @@ shape_in numbers = record {
   split = slice_index numbers 6;
 }
 
--- the row at a place, of the round and the table that are due there, by its three numbers
+-- the row at an index, of the round and the table that are due there, by its three numbers
 abbrev pub row_in : ℕ → List ℕ → ℕ → Row
-row_in tables movement place = record {
-  round = place / tables + 1;
-  table = place % tables + 1;
-  ns = slice_index movement (place * 3);
-  ew = slice_index movement (place * 3 + 1);
-  set = slice_index movement (place * 3 + 2);
+row_in tables movement index = record {
+  round = index / tables + 1;
+  table = index % tables + 1;
+  ns = slice_index movement (index * 3);
+  ew = slice_index movement (index * 3 + 1);
+  set = slice_index movement (index * 3 + 2);
 }
 
 -- as many rows as the shape has

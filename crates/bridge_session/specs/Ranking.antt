@@ -75,10 +75,10 @@ is_on board game = game.board == board
 abbrev pub scores_on : List Game → Side → ℕ → List ℤ
 scores_on games side board = map (λ (game : Game). score_for side game.score) (filter (is_on board) games)
 
--- what the score at a place gains against the others
+-- what the score at an index gains against the others
 abbrev pub gain_at : Scoring → List ℤ → ℕ → ℤ
-gain_at MatchPoints scores place = pos (matchpoints_of scores place)
-gain_at Imps scores place = cross_imps_of scores place
+gain_at MatchPoints scores index = pos (matchpoints_of scores index)
+gain_at Imps scores index = cross_imps_of scores index
 
 -- what a score of the list gains against the others; equal scores gain the same
 abbrev pub gain_of : Scoring → List ℤ → ℤ → ℤ

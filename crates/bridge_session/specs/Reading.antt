@@ -227,7 +227,7 @@ IsRowOf deals now boards row records = AreRecords deals now row.round (row_board
 -- the records of all rows
 pub record AreRows (deals : List (Option (List ℕ))) (now boards : ℕ) (rows : List Row) (records : List (List PlainRecord)) : Type 0 where
   pub count : length records ≡ length rows
-  pub each : (place : ℕ) (row : Row) (own : List PlainRecord) → slice_get rows place ≡ Some row → slice_get records place ≡ Some own →
+  pub each : (index : ℕ) (row : Row) (own : List PlainRecord) → slice_get rows index ≡ Some row → slice_get records index ≡ Some own →
       IsRowOf deals now boards row own
 
 -- the part of a play in which nothing has happened

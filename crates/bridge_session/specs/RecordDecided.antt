@@ -17,7 +17,7 @@ use Rattle.bridge_session.specs.Correction.{tricks_answer}
 use Rattle.bridge_session.specs.Record.{PlainRecord, empty_record, contract_in, play_of, is_open}
 use Rattle.bridge_session.specs.State.{deal_on, hands_on}
 use Rattle.bridge_session.specs.Valid.{MayStand, IsUnplayed, IsValidRecord}
-use Rattle.bridge_session.specs.Decided.{Decided, decided_like, decided_both, decided_implies, decided_equal, decided_less, decided_most, decided_true, decided_false, decided_none, decided_empty, decided_found, decided_places}
+use Rattle.bridge_session.specs.Decided.{Decided, decided_like, decided_both, decided_implies, decided_equal, decided_less, decided_most, decided_true, decided_false, decided_none, decided_empty, decided_found, decided_indexes}
 
 -- whether a call is one of the 38
 decided_call : (call : Call) → Decided (IsCall call)
@@ -36,7 +36,7 @@ decided_follows earlier call =
 -- whether calls are a legal list
 decided_calls : (calls : List Call) → Decided (IsLegal calls)
 decided_calls calls =
-    decided_places (λ index call. MayFollow (take index calls) call) (λ index call. decided_follows (take index calls) call) calls
+    decided_indexes (λ index call. MayFollow (take index calls) call) (λ index call. decided_follows (take index calls) call) calls
 
 -- whether a card may be played after those
 decided_card : (hands : List ℕ) (contract : Contract) (earlier : List ℕ) (card : ℕ) → Decided (MayPlay hands contract earlier card)
@@ -48,7 +48,7 @@ decided_card hands contract earlier card =
 -- whether cards are a legal list
 decided_cards : (hands : List ℕ) (contract : Contract) (played : List ℕ) → Decided (cards.IsLegal hands contract played)
 decided_cards hands contract played =
-    decided_places (λ index card. MayPlay hands contract (take index played) card) (λ index card. decided_card hands contract (take index played) card) played
+    decided_indexes (λ index card. MayPlay hands contract (take index played) card) (λ index card. decided_card hands contract (take index played) card) played
 
 -- whether cards and claims are a play
 decided_play : (play : PlayValue) → Decided (IsPlay play)

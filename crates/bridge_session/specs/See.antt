@@ -17,7 +17,7 @@ use Rattle.bridge_session.specs.declared.refused.Refused.{Refused}
 use Rattle.bridge_session.specs.declared.refused.Refused.TheVariants.{NotCurrent, NotDealt}
 use Rattle.bridge_session.specs.declared.seating.Seating.{Seating}
 use Rattle.bridge_session.specs.Record.{PlainRecord, play_of}
-use Rattle.bridge_session.specs.State.{SessionValue, deal_on, row_at, current_place, seating_of}
+use Rattle.bridge_session.specs.State.{SessionValue, deal_on, row_at, current_index, seating_of}
 
 -- the seat that led to a trick, and its cards in order
 pub record PlainTrick : Type 0 where
@@ -33,7 +33,7 @@ pub record ShownPlay : Type 0 where
   pub tricks_ew : ℕ
   pub dummy : Option (List ℕ)
 
--- All that a player may be shown of the current play of the table: the place of the play among the table's, the board,
+-- All that a player may be shown of the current play of the table: the index of the play among the table's, the board,
 -- the calls, how many cards and claims were made, the claim, the viewer's cards that are left, and what may be shown of
 -- the play of the cards. No other card is in it.
 pub record Shown : Type 0 where
@@ -82,32 +82,32 @@ shown_with index seat hands board calls play = record {
   play = option_map shown_play play;
 }
 
--- what the record at that place shows
+-- what the record at that index shows
 abbrev pub shown_of : ℕ → Seat → List ℕ → PlainRecord → Shown
-shown_of place seat hands plain = shown_with (place + 1) seat hands plain.board plain.calls (play_of hands plain)
+shown_of row_index seat hands plain = shown_with (row_index + 1) seat hands plain.board plain.calls (play_of hands plain)
 
 -- whose turn it is: to call, or once there is a contract whose hand plays next
 abbrev pub shown_turn : Shown → Option ShownPlay → Seat
 shown_turn shown None = clockwise_from (dealer_of shown.board) (length shown.calls)
 shown_turn shown (Some play) = clockwise_from play.trick.leader (length play.trick.cards)
 
--- what may be shown of the play at that place, if it is dealt
+-- what may be shown of the play at that index, if it is dealt
 abbrev pub shown_dealt : Seat → ℕ → PlainRecord → Option (List ℕ) → Result Shown Refused
-shown_dealt seat place plain None = Err NotDealt
-shown_dealt seat place plain (Some hands) = Ok (shown_of place seat hands plain)
+shown_dealt seat row_index plain None = Err NotDealt
+shown_dealt seat row_index plain (Some hands) = Ok (shown_of row_index seat hands plain)
 
 -- and if there is one
 abbrev pub shown_current : List (Option (List ℕ)) → Seat → ℕ → Option PlainRecord → Result Shown Refused
-shown_current deals seat place None = Err NotCurrent
-shown_current deals seat place (Some plain) = shown_dealt seat place plain (deal_on deals plain.board)
+shown_current deals seat row_index None = Err NotCurrent
+shown_current deals seat row_index (Some plain) = shown_dealt seat row_index plain (deal_on deals plain.board)
 
 -- what may be shown of the current play among the records of a table
 abbrev pub shown_among : List (Option (List ℕ)) → Seat → List PlainRecord → Result Shown Refused
-shown_among deals seat records = shown_current deals seat (current_place records) (slice_get records (current_place records))
+shown_among deals seat records = shown_current deals seat (current_index records) (slice_get records (current_index records))
 
 abbrev pub shown_seated : SessionValue → Result Seating Refused → Result Shown Refused
 shown_seated s (Err refused) = Err refused
-shown_seated s (Ok seating) = shown_among s.deals seating.seat (row_at s.records seating.place)
+shown_seated s (Ok seating) = shown_among s.deals seating.seat (row_at s.records seating.row)
 
 -- all that the player of the key may be shown of the session, or why not
 abbrev pub shown_to : SessionValue → ℕ → Result Shown Refused

@@ -12,7 +12,7 @@ use Rattle.bridge_session.specs.Record.{PlainRecord}
 use Rattle.bridge_session.specs.State.{SessionValue, row_at, row_boards}
 use Rattle.bridge_session.specs.Valid.{IsDealtOut, IsDealOrNone, board_of, IsValidRecord, IsValid}
 use Rattle.bridge_session.specs.StateRange.{AreHands, AreHandsOrNone, IsOfFourSeats, IsRulingInRange, IsRecordInRange, IsStateInRange, IsSession}
-use Rattle.bridge_session.specs.Decided.{Decided, decided_like, decided_both, decided_equal, decided_less, decided_most, decided_true, decided_lists, decided_found, decided_all, decided_places}
+use Rattle.bridge_session.specs.Decided.{Decided, decided_like, decided_both, decided_equal, decided_less, decided_most, decided_true, decided_lists, decided_found, decided_all, decided_indexes}
 use Rattle.bridge_session.specs.MovementDecided.{decided_shape, decided_movement}
 use Rattle.bridge_session.specs.RecordDecided.{decided_record}
 
@@ -61,16 +61,16 @@ decided_configuration configuration =
       (is.site, (is.date_form, (is.date_within, (is.boards, (is.shape, (is.movement, (is.count, (is.pairs, is.keys)))))))),
     ))
 
--- the records of the row at a place are valid
+-- the records of the row at an index are valid
 abbrev AreValid : SessionValue → ℕ → Row → Type 0
-AreValid s place row =
-    (index : ℕ) (plain : PlainRecord) → slice_get (row_at s.records place) index ≡ Some plain → IsValidRecord s.deals s.round row.round plain
+AreValid s row_index row =
+    (index : ℕ) (plain : PlainRecord) → slice_get (row_at s.records row_index) index ≡ Some plain → IsValidRecord s.deals s.round row.round plain
 
 -- whether they are
-decided_plays : (s : SessionValue) (place : ℕ) (row : Row) → Decided (AreValid s place row)
-decided_plays s place row =
-    decided_places (λ index plain. IsValidRecord s.deals s.round row.round plain)
-    (λ index plain. decided_record s.deals s.round row.round plain) (row_at s.records place)
+decided_plays : (s : SessionValue) (row_index : ℕ) (row : Row) → Decided (AreValid s row_index row)
+decided_plays s row_index row =
+    decided_indexes (λ index plain. IsValidRecord s.deals s.round row.round plain)
+    (λ index plain. decided_record s.deals s.round row.round plain) (row_at s.records row_index)
 
 -- whether a state is valid
 decided_valid : (s : SessionValue) → Decided (IsValid s)
@@ -82,7 +82,7 @@ decided_valid s =
     (decided_both (decided_equal (length s.deals) (s.configuration.movement.shape.sets * s.configuration.boards))
     (decided_both (decided_all IsDealOrNone (decided_found IsDealtOut (λ hands. decided_true (is_dealt_out hands))) s.deals)
     (decided_both (decided_lists (decided_lists decided_equal) (map (map board_of) s.records) (map (row_boards s.configuration.boards) s.configuration.movement.rows))
-    (decided_places (AreValid s) (decided_plays s) s.configuration.movement.rows)))))))
+    (decided_indexes (AreValid s) (decided_plays s) s.configuration.movement.rows)))))))
     (λ all. record {
       configured = all.0;
       begun = all.1.0;
@@ -90,13 +90,13 @@ decided_valid s =
       boards = all.1.1.1.0;
       deals = all.1.1.1.1.0;
       of_boards = all.1.1.1.1.1.0;
-      plays = λ place index row plain is found. all.1.1.1.1.1.1 place row is index plain found;
+      plays = λ row_index index row plain is found. all.1.1.1.1.1.1 row_index row is index plain found;
     })
     (λ is. (
       is.configured,
       (
         is.begun,
-        (is.ends, (is.boards, (is.deals, (is.of_boards, λ place row there index plain found. is.plays place index row plain there found)))),
+        (is.ends, (is.boards, (is.deals, (is.of_boards, λ row_index row there index plain found. is.plays row_index index row plain there found)))),
       ),
     ))
 

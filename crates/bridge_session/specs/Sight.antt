@@ -8,7 +8,7 @@ use Rattle.bridge_play.specs.Play.{PlayValue}
 use Rattle.bridge_play.specs.Trick.{tricks_won}
 use Rattle.bridge_session.specs.declared.seating.Seating.{Seating}
 use Rattle.bridge_session.specs.Record.{PlainRecord, play_of}
-use Rattle.bridge_session.specs.State.{SessionValue, deal_on, row_at, current_place, seating_of}
+use Rattle.bridge_session.specs.State.{SessionValue, deal_on, row_at, current_index, seating_of}
 use Rattle.bridge_session.specs.See.{cards_left, plain_trick, last_trick}
 
 -- Two plays of cards look alike: as many cards and claims, the claim, the trick that is not whole, the last whole trick, the
@@ -56,8 +56,8 @@ CurrentLookAlike seat deals (Some a) others (Some b) = DealtLookAlike seat a (de
 
 -- the current plays of two tables look alike
 pub record TablesLookAlike (seat : Seat) (deals : List (Option (List ℕ))) (records : List PlainRecord) (others : List (Option (List ℕ))) (plays : List PlainRecord) : Type 0 where
-  pub place : current_place records ≡ current_place plays
-  pub current : CurrentLookAlike seat deals (slice_get records (current_place records)) others (slice_get plays (current_place plays))
+  pub index : current_index records ≡ current_index plays
+  pub current : CurrentLookAlike seat deals (slice_get records (current_index records)) others (slice_get plays (current_index plays))
 
 -- Two sessions have one configuration and one round, and where the player of the key sits in it, the current plays of that
 -- table look alike from the player's seat.
@@ -65,4 +65,4 @@ pub record LookAlikeTo (key : ℕ) (s t : SessionValue) : Type 0 where
   pub configuration : s.configuration ≡ t.configuration
   pub round : s.round ≡ t.round
   pub table : (seating : Seating) → seating_of s.configuration s.round key ≡ Ok seating →
-      TablesLookAlike seating.seat s.deals (row_at s.records seating.place) t.deals (row_at t.records seating.place)
+      TablesLookAlike seating.seat s.deals (row_at s.records seating.row) t.deals (row_at t.records seating.row)

@@ -54,28 +54,28 @@ hands_on deals board = unwrap_or (deal_on deals board) []
 
 -- the records of a row
 abbrev pub row_at : List (List PlainRecord) → ℕ → List PlainRecord
-row_at records place = unwrap_or (slice_get records place) []
+row_at records index = unwrap_or (slice_get records index) []
 
--- a list, in which the element at that place is changed
+-- a list, in which the element at that index is changed
 abbrev pub changed_at : {A : Type 0} → (A → A) → List A → ℕ → List A
-changed_at change xs place = option_map_or (λ x. slice_set xs place (change x)) (slice_get xs place) xs
+changed_at change xs index = option_map_or (λ x. slice_set xs index (change x)) (slice_get xs index) xs
 
--- the place of a table's current play among its records: the first that is neither finished nor void
-abbrev pub current_place : List PlainRecord → ℕ
-current_place records = position_or_len is_open records
+-- the index of a table's current play among its records: the first that is neither finished nor void
+abbrev pub current_index : List PlainRecord → ℕ
+current_index records = position_or_len is_open records
 
 -- whether the key is one of the pair's players'
 abbrev pub has_key : ℕ → Pair → Bool
 has_key key pair = slice_index pair.keys 0 == key || slice_index pair.keys 1 == key
 
--- whether the key is that of the first player of the pair at that place
+-- whether the key is that of the first player of the pair at that index
 abbrev pub is_first_key : List Pair → ℕ → ℕ → Bool
-is_first_key pairs key place = option_map_or (λ (pair : Pair). slice_index pair.keys 0 == key) (slice_get pairs place) false
+is_first_key pairs key index = option_map_or (λ (pair : Pair). slice_index pair.keys 0 == key) (slice_get pairs index) false
 
 -- the player of these pairs whose key it is
 abbrev pub player_in : List Pair → ℕ → Option Player
 player_in pairs key =
-    option_map (λ (place : ℕ). record { pair = place + 1; first = is_first_key pairs key place }) (position (has_key key) pairs)
+    option_map (λ (index : ℕ). record { pair = index + 1; first = is_first_key pairs key index }) (position (has_key key) pairs)
 
 abbrev pub player_of : ConfigValue → ℕ → Option Player
 player_of configuration key = player_in configuration.pairs key
@@ -97,9 +97,9 @@ seat_on NorthSouth false = South
 seat_on EastWest true = East
 seat_on EastWest false = West
 
--- the place of a table's row of a round among the rows of the movement
-abbrev pub row_place : Shape → ℕ → ℕ → ℕ
-row_place shape round table = (round - 1) * shape.tables + (table - 1)
+-- the index of a table's row of a round among the rows of the movement
+abbrev pub index_of_row : Shape → ℕ → ℕ → ℕ
+index_of_row shape round table = (round - 1) * shape.tables + (table - 1)
 
 -- the session is closed after the last round
 abbrev pub is_closed : ConfigValue → ℕ → Bool
@@ -107,7 +107,7 @@ is_closed configuration round = nat_lt configuration.movement.shape.rounds round
 
 abbrev pub seating_at : ConfigValue → ℕ → Bool → Place → Seating
 seating_at configuration round first place = record {
-  place = row_place configuration.movement.shape round place.table;
+  row = index_of_row configuration.movement.shape round place.table;
   table = place.table;
   seat = seat_on place.side first;
   set = place.set;

@@ -18,7 +18,7 @@ use Rattle.bridge_session.specs.declared.seating.Seating.{Seating}
 use Rattle.bridge_session.specs.Record.{PlainRecord, bidding_of, play_of, is_open}
 use Rattle.bridge_session.specs.Deed.{deed_answer, with_deed}
 use Rattle.bridge_session.specs.Correction.{ruling_by, ruling_answer}
-use Rattle.bridge_session.specs.State.{SessionValue, deal_on, row_at, changed_at, current_place, director_answer, row_place, is_closed, seating_of, is_of_set}
+use Rattle.bridge_session.specs.State.{SessionValue, deal_on, row_at, changed_at, current_index, director_answer, index_of_row, is_closed, seating_of, is_of_set}
 
 -- A player's action
 
@@ -36,7 +36,7 @@ seen_deal s board (Ok seating) = if is_of_set s.configuration seating.set board 
 
 abbrev pub seen_records : SessionValue → Result Seating Refused → List PlainRecord
 seen_records s (Err refused) = []
-seen_records s (Ok seating) = row_at s.records seating.place
+seen_records s (Ok seating) = row_at s.records seating.row
 
 abbrev pub seen_by : SessionValue → ℕ → ℕ → Seen
 seen_by s key board = record {
@@ -60,7 +60,7 @@ answer_current deal board seat at done (Some plain) =
 -- among the records of the table
 abbrev pub answer_among : List PlainRecord → Option (List ℕ) → ℕ → Seat → ℕ → Deed → Result (Unit {0}) Refused
 answer_among records deal board seat at done =
-    answer_current deal board seat at done (slice_get records (current_place records))
+    answer_current deal board seat at done (slice_get records (current_index records))
 
 -- of the player who sits there, if there is one
 abbrev pub answer_seated : Seen → ℕ → ℕ → Deed → Result Seating Refused → Result (Unit {0}) Refused
@@ -76,11 +76,11 @@ player_answer seen key board at done =
 
 -- what the player did, in the current play of a table
 abbrev pub acted_among : Seat → Deed → List PlainRecord → List PlainRecord
-acted_among seat done records = changed_at (with_deed seat done) records (current_place records)
+acted_among seat done records = changed_at (with_deed seat done) records (current_index records)
 
 abbrev pub acted_at : SessionValue → Deed → Result Seating Refused → SessionValue
 acted_at s done (Err refused) = s
-acted_at s done (Ok seating) = record s { records = changed_at (acted_among seating.seat done) s.records seating.place }
+acted_at s done (Ok seating) = record s { records = changed_at (acted_among seating.seat done) s.records seating.row }
 
 abbrev pub acted : SessionValue → ℕ → Deed → SessionValue
 acted s key done = acted_at s done (seating_of s.configuration s.round key)
@@ -121,7 +121,7 @@ is_row_within shape round table = nat_le round shape.rounds && nat_le table shap
 abbrev pub record_of : SessionValue → PlayId → Option PlainRecord
 record_of s play =
     if is_row_within s.configuration.movement.shape play.round play.table
-    then slice_get (row_at s.records (row_place s.configuration.movement.shape play.round play.table)) (play.index - 1)
+    then slice_get (row_at s.records (index_of_row s.configuration.movement.shape play.round play.table)) (play.index - 1)
     else None
 
 -- the answer to a ruling on the play of that record; the hands do not matter to it
@@ -136,7 +136,7 @@ with_ruling correction plain = record plain { ruling = ruling_by correction }
 abbrev pub ruled : SessionValue → PlayId → Correction → SessionValue
 ruled s play correction = record s {
   records = changed_at (λ records. changed_at (with_ruling correction) records (play.index - 1)) s.records
-      (row_place s.configuration.movement.shape play.round play.table);
+      (index_of_row s.configuration.movement.shape play.round play.table);
 }
 
 -- Each action

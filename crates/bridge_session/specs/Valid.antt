@@ -58,8 +58,8 @@ pub record IsValid (s : SessionValue) : Type 0 where
   pub boards : length s.deals ≡ s.configuration.movement.shape.sets * s.configuration.boards
   pub deals : All IsDealOrNone s.deals
   pub of_boards : map (map board_of) s.records ≡ map (row_boards s.configuration.boards) s.configuration.movement.rows
-  pub plays : (place index : ℕ) (row : Row) (plain : PlainRecord) → slice_get s.configuration.movement.rows place ≡ Some row →
-      slice_get (row_at s.records place) index ≡ Some plain → IsValidRecord s.deals s.round row.round plain
+  pub plays : (row_index index : ℕ) (row : Row) (plain : PlainRecord) → slice_get s.configuration.movement.rows row_index ≡ Some row →
+      slice_get (row_at s.records row_index) index ≡ Some plain → IsValidRecord s.deals s.round row.round plain
 
 -- a call that a player makes is one
 abbrev pub IsDeed : Deed → Type 0

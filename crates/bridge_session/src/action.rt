@@ -81,7 +81,7 @@ pub enum Action {
     },
 }
 
-/// The end of the first round, so that a list of actions has a value for the places that it does not use.
+/// The end of the first round, so that a list of actions has a value for the indexes that it does not use.
 impl Default for Action {
     ghost use Rattle.std.specs.Prelude.{◌≡◌};
     ghost use Rattle.bridge_session.specs.declared.action.Action.TheVariants.{NextRound};

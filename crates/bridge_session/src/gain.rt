@@ -24,24 +24,24 @@ struct Gain {
     available: u32,
 }
 
-/// The first place of a score.
-fn place_of_score(scores: &[i32], own: i32) -> Option<usize>
+/// The first index of a score.
+fn index_of_score(scores: &[i32], own: i32) -> Option<usize>
     ensures { result ≡ position (int_eq own) scores.now }
 {
     scores.iter().position(|score| own == *score)
 }
 
-/// What the score at a place gains against the others.
-fn gain_at(scoring: Scoring, scores: &[i32], place: usize) -> i32
+/// What the score at an index gains against the others.
+fn gain_at(scoring: Scoring, scores: &[i32], index: usize) -> i32
     requires count { length scores.now ≤ 144 }
     requires scores { All IsScore scores.now }
-    requires place { place < length scores.now }
-    ensures value { result ≡ gain_at scoring scores.now place }
+    requires index { index < length scores.now }
+    ensures value { result ≡ gain_at scoring scores.now index }
     ensures within { IsGainWithin scoring result (available_of scores.now) }
 {
     match scoring {
-        Scoring::MatchPoints => i32::from(matchpoints(scores, place)),
-        Scoring::Imps => cross_imps(scores, place),
+        Scoring::MatchPoints => i32::from(matchpoints(scores, index)),
+        Scoring::Imps => cross_imps(scores, index),
     }
 }
 
@@ -52,8 +52,8 @@ fn gain_of(scoring: Scoring, scores: &[i32], own: i32) -> i32
     ensures value { result ≡ gain_of scoring scores.now own }
     ensures within { IsGainWithin scoring result (available_of scores.now) }
 {
-    match place_of_score(scores, own) {
-        Some(place) => gain_at(scoring, scores, place),
+    match index_of_score(scores, own) {
+        Some(index) => gain_at(scoring, scores, index),
         None => 0,
     }
 }

@@ -101,9 +101,9 @@ pub fn games_of(rows: &[Row], tables: &[Vec<Record>]) -> ArrayVec<Game, 432>
     ensures most { length result.items ≤ 432 }
 {
     let mut games = ArrayVec::new();
-    for place in 0..rows.len() {
-        let table = &tables[place];
-        let played = games_in(rows[place], table.as_slice());
+    for index in 0..rows.len() {
+        let table = &tables[index];
+        let played = games_in(rows[index], table.as_slice());
         games.try_extend_from_slice(&played).unwrap();
     }
     games

@@ -117,20 +117,20 @@ fn read_heading(part: &[u8]) -> Option<Heading>
     })
 }
 
-/// The row of a place, whose pairs and set stand there.
-fn row_at(shape: Shape, part: &[u8], place: usize) -> Row
+/// The row of an index, whose pairs and set stand there.
+fn row_at(shape: Shape, part: &[u8], index: usize) -> Row
     requires shape { IsShape shape }
-    requires within { place < row_count shape }
+    requires within { index < row_count shape }
     requires bytes { length part.now ≡ row_count shape * 3 }
-    ensures { result ≡ row_in shape.tables part.now place }
+    ensures { result ≡ row_in shape.tables part.now index }
 {
     let tables = usize::from(shape.tables);
     Row {
-        round: (place / tables) as u8 + 1,
-        table: (place % tables) as u8 + 1,
-        ns: part[place * 3],
-        ew: part[place * 3 + 1],
-        set: part[place * 3 + 2],
+        round: (index / tables) as u8 + 1,
+        table: (index % tables) as u8 + 1,
+        ns: part[index * 3],
+        ew: part[index * 3 + 1],
+        set: part[index * 3 + 2],
     }
 }
 
@@ -145,8 +145,8 @@ fn read_rows(shape: Shape, part: &[u8]) -> Option<ArrayVec<Row, MOST_ROWS>>
         return None;
     }
     let mut rows = ArrayVec::new();
-    for place in 0..count {
-        rows.push(row_at(shape, part, place));
+    for index in 0..count {
+        rows.push(row_at(shape, part, index));
     }
     Some(rows)
 }
@@ -275,8 +275,8 @@ fn have_pairs(pairs: &[PairFields], parts: &[ArrayVec<u8, 480>]) -> bool
     if parts.len() < pairs.len() {
         return false;
     }
-    for (place, pair) in pairs.iter().enumerate() {
-        if !is_part_of(pair, parts[place].as_slice()) {
+    for (index, pair) in pairs.iter().enumerate() {
+        if !is_part_of(pair, parts[index].as_slice()) {
             return false;
         }
     }

@@ -66,17 +66,17 @@ impl<'a> ScoredGames<'a> {
     }
 }
 
-/// The list at the place of a board.
+/// The list at the index of a board.
 fn scores_at(lists: &[ArrayVec<i32, 144>], board: u8) -> &[i32]
     requires count { length lists.now ≡ 36 }
     requires board { IsBoard board }
-    ensures place { slice_get (map (λ scores. scores.items) lists.now) (board - 1) ≡ Some result.now }
+    ensures index { slice_get (map (λ scores. scores.items) lists.now) (board - 1) ≡ Some result.now }
     ensures most { length result.now ≤ 144 }
 {
     lists[usize::from(board - 1)].as_slice()
 }
 
-/// Adds a score to the list at the place of its board.
+/// Adds a score to the list at the index of its board.
 fn add_score(lists: &mut [ArrayVec<i32, 144>], board: u8, score: i32)
     requires count { length lists.old ≡ 36 }
     requires board { IsBoard board }

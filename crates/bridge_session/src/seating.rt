@@ -3,7 +3,7 @@ ghost use Rattle.std.specs.Prelude.{◌≡◌, ◌==◌, ◌<◌, ◌≤◌, sli
 ghost use Rattle.bridge_config.specs.ConfigValue.{pair_of};
 ghost use Rattle.bridge_config.specs.declared.fields.PairFields.{PairFields as PairType};
 ghost use Rattle.bridge_movement.specs.Shape.{row_count};
-ghost use Rattle.bridge_session.specs.State.{has_key, player_in, player_of, acting_player, director_answer, seat_on, is_closed, seating_of, is_of_set, row_place};
+ghost use Rattle.bridge_session.specs.State.{has_key, player_in, player_of, acting_player, director_answer, seat_on, is_closed, seating_of, is_of_set, index_of_row};
 ghost use Rattle.bridge_session.specs.Numbers.{IsTableNumber};
 ghost use Rattle.bridge_session.specs.Ranking.{ranking_asker};
 ghost use Rattle.bridge_session.specs.Step.{is_row_within};
@@ -25,8 +25,8 @@ pub struct Player {
 /// Where a player sits in a round.
 #[derive(Clone, Copy)]
 pub struct Seating {
-    /// The place of the table's row among the rows of the movement, from 0.
-    pub place: usize,
+    /// The index of the table's row among the rows of the movement, from 0.
+    pub row: usize,
     /// The table's number.
     pub table: u8,
     pub seat: Seat,
@@ -34,16 +34,16 @@ pub struct Seating {
     pub set: u8,
 }
 
-/// Whether the key is that of the pair's player at that place, from 0.
-fn is_key_of(pair: &PairFields, place: usize, key: Key) -> bool
-    requires { place < 2 }
-    ensures { result ≡ (slice_index (pair_of pair.now).keys place == key.0) }
+/// Whether the key is that of the pair's player at that index, from 0.
+fn is_key_of(pair: &PairFields, index: usize, key: Key) -> bool
+    requires { index < 2 }
+    ensures { result ≡ (slice_index (pair_of pair.now).keys index == key.0) }
 {
-    pair.keys[place].0 == key.0
+    pair.keys[index].0 == key.0
 }
 
-/// The place of the pair whose player's key it is.
-fn place_of_key(pairs: &[PairFields], key: Key) -> Option<usize>
+/// The index of the pair whose player's key it is.
+fn index_of_key(pairs: &[PairFields], key: Key) -> Option<usize>
     ensures { result ≡ position (λ (pair : PairType). has_key key.0 (pair_of pair)) pairs.now }
 {
     pairs
@@ -56,10 +56,10 @@ fn player_in(pairs: &[PairFields], key: Key) -> Option<Player>
     requires { length pairs.now ≤ 24 }
     ensures { result ≡ player_in (map pair_of pairs.now) key.0 }
 {
-    let place = place_of_key(pairs, key)?;
+    let index = index_of_key(pairs, key)?;
     Some(Player {
-        pair: place as u8 + 1,
-        first: is_key_of(&pairs[place], 0, key),
+        pair: index as u8 + 1,
+        first: is_key_of(&pairs[index], 0, key),
     })
 }
 
@@ -126,10 +126,10 @@ pub fn is_closed(config: &Config, round: u8) -> bool
     round > config.fields().movement.shape().rounds
 }
 
-/// Where the player of the key sits in the round: `NoKey`, `NotAllowed`, `Closed` or `SitsOut` where there is no place.
+/// Where the player of the key sits in the round: `NoKey`, `NotAllowed`, `Closed` or `SitsOut` where there is no seat.
 pub fn seat_by(config: &Config, round: u8, key: Key) -> Result<Seating, Refused>
     ensures seating { result ≡ seating_of config.now round key.0 }
-    ensures within { IfOk result (λ seating. seating.place < row_count config.now.movement.shape) }
+    ensures within { IfOk result (λ seating. seating.row < row_count config.now.movement.shape) }
     ensures table { IfOk result (λ seating. IsTableNumber seating.table) }
     ensures round { IfOk result (λ seating. round ≤ 12) }
 {
@@ -141,7 +141,7 @@ pub fn seat_by(config: &Config, round: u8, key: Key) -> Result<Seating, Refused>
     let place = movement.place(round, player.pair).ok_or(Refused::SitsOut)?;
     let before = usize::from(round.saturating_sub(1)) * usize::from(movement.shape().tables);
     Ok(Seating {
-        place: before + usize::from(place.table - 1),
+        row: before + usize::from(place.table - 1),
         table: place.table,
         seat: seat_on(place.side, player.first),
         set: place.set,
@@ -157,10 +157,10 @@ pub fn is_of_set(config: &Config, set: u8, board: BoardNumber) -> bool
     u16::from(set.saturating_sub(1)) * boards < board && board <= u16::from(set) * boards
 }
 
-/// The place of a table's row of a round among the rows of the movement, if it has that round and table.
+/// The index of a table's row of a round among the rows of the movement, if it has that round and table.
 pub fn row_of(config: &Config, round: RoundNumber, table: TableNumber) -> Option<usize>
-    ensures row { result ≡ (if is_row_within config.now.movement.shape round table then Some (row_place config.now.movement.shape round table) else None) }
-    ensures within { IfSome result (λ place. place < row_count config.now.movement.shape) }
+    ensures row { result ≡ (if is_row_within config.now.movement.shape round table then Some (index_of_row config.now.movement.shape round table) else None) }
+    ensures within { IfSome result (λ index. index < row_count config.now.movement.shape) }
     ensures counted { (1 ≤ round) × (1 ≤ table) }
 {
     let shape = config.fields().movement.shape();

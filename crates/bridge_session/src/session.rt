@@ -115,8 +115,8 @@ impl Session {
         ensures record { option_map plain_of (option_copied result) ≡ record_of self.now play }
         ensures tied { IfSome (option_copied result) (IsTiedIn self.now.deals) }
     {
-        let place = row_of(&self.config, play.round, play.table)?;
-        let table = &self.tables[place];
+        let index = row_of(&self.config, play.round, play.table)?;
+        let table = &self.tables[index];
         record_at(table.as_slice(), usize::from(play.index.number() - 1))
     }
 
@@ -142,7 +142,7 @@ impl Session {
         let seating = seat_by(&self.config, self.round, key)?;
         let round = RoundNumber::new(self.round).unwrap();
         let number = TableNumber::new(seating.table).unwrap();
-        let table = &self.tables[seating.place];
+        let table = &self.tables[seating.row];
         view_among(
             table.as_slice(),
             self.deals.as_slice(),

@@ -2,7 +2,7 @@
 ghost use Rattle.std.specs.Prelude.{◌≡◌, ◌<◌, length, map, position, unwrap_or, None, slice_get, All, OnOk, OnErr};
 ghost use Rattle.std.specs.List.{list_any};
 ghost use Rattle.std.specs.Option.{option_copied};
-ghost use Rattle.bridge_session.specs.State.{deal_on, current_place, changed_at};
+ghost use Rattle.bridge_session.specs.State.{deal_on, current_index, changed_at};
 ghost use Rattle.bridge_session.specs.Step.{answer_among, acted_among};
 ghost use Rattle.bridge_session.specs.Valid.{IsDeed};
 ghost use Rattle.bridge_session.specs.StateRange.{IsCorrectionInRange};
@@ -15,7 +15,7 @@ use crate::record::Record;
 use crate::refused::Refused;
 use bridge_cards::{BoardNumber, Deal, Seat};
 
-/// The place of the current play: the first that is neither finished nor void.
+/// The index of the current play: the first that is neither finished nor void.
 pub fn current(table: &[Record]) -> Option<usize>
     ensures { result ≡ position is_kept_open table.now }
 {
@@ -32,11 +32,11 @@ pub fn deal_on(deals: &[Option<Deal>], board: BoardNumber) -> Option<Deal>
     }
 }
 
-/// The record of that place, from 0, if there is one.
-pub fn record_at(table: &[Record], place: usize) -> Option<&Record>
-    ensures { option_copied result ≡ slice_get table.now place }
+/// The record of that index, from 0, if there is one.
+pub fn record_at(table: &[Record], index: usize) -> Option<&Record>
+    ensures { option_copied result ≡ slice_get table.now index }
 {
-    table.get(place)
+    table.get(index)
 }
 
 /// What a player does in the current play of the table.
@@ -55,38 +55,38 @@ pub fn act_among(
     ensures known { OnOk result (IsDeed deed) }
     ensures refused { OnErr result (table.new ≡ table.old) }
 {
-    let Some(place) = current(table) else {
+    let Some(index) = current(table) else {
         return Err(Refused::NotCurrent);
     };
-    if table[place].board != board {
+    if table[index].board != board {
         return Err(Refused::NotCurrent);
     }
     let Some(deal) = deal_on(deals, board) else {
         return Err(Refused::NotDealt);
     };
-    table[place].act(seat, at, deed, &deal)
+    table[index].act(seat, at, deed, &deal)
 }
 
-/// The answer to a ruling on the play of that place, from 0, in a round, and the ruling.
+/// The answer to a ruling on the play of that index, from 0, in a round, and the ruling.
 pub fn rule_among(
     table: &mut [Record],
-    place: usize,
+    index: usize,
     now: u8,
     round: u8,
     correction: Correction,
 ) -> Result<(), Refused>
-    ensures answer { result ≡ kept_rule_answer now round correction (slice_get table.old place) }
-    ensures taken { OnOk result (table.new ≡ changed_at (with_kept_ruling correction) table.old place) }
+    ensures answer { result ≡ kept_rule_answer now round correction (slice_get table.old index) }
+    ensures taken { OnOk result (table.new ≡ changed_at (with_kept_ruling correction) table.old index) }
     ensures range { OnOk result (IsCorrectionInRange correction) }
     ensures refused { OnErr result (table.new ≡ table.old) }
 {
-    if place >= table.len() {
+    if index >= table.len() {
         return Err(Refused::NoSuchPlay);
     }
     if now < round {
         return Err(Refused::NotYet);
     }
-    table[place].rule(correction, round < now)
+    table[index].rule(correction, round < now)
 }
 
 /// Whether a play of the table is neither finished nor void.

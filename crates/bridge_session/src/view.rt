@@ -218,18 +218,17 @@ pub fn view_among<'a>(
     requires few { length table.now ≤ 3 }
     ensures { MatchResult result (IsViewAmong deals.now (map plain_of table.now) round number seat) (λ refused. shown_among deals.now seat (map plain_of table.now) ≡ Err refused) }
 {
-    let Some(place) = current(table) else {
+    let Some(index) = current(table) else {
         return Err(Refused::NotCurrent);
     };
-    let kept = &table[place];
+    let kept = &table[index];
     let Some(deal) = deal_on(deals, kept.board) else {
         return Err(Refused::NotDealt);
     };
-    let index = BoardIndex::new(place as u8 + 1).unwrap();
     let id = PlayId {
         round,
         table: number,
-        index,
+        index: BoardIndex::new(index as u8 + 1).unwrap(),
     };
     Ok(view_of(kept, id, seat, &deal))
 }

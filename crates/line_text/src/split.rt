@@ -8,6 +8,6 @@ pub fn split_once(text: &[u8], separator: u8) -> Option<(&[u8], &[u8])>
     ensures first { IfSome result (λ parts. All (λ byte. byte ≢ separator) parts.0.now) }
     ensures none { IfNone result (All (λ byte. byte ≢ separator) text.now) }
 {
-    let place = text.iter().position(|byte| *byte == separator)?;
-    Some((&text[..place], &text[place + 1..]))
+    let index = text.iter().position(|byte| *byte == separator)?;
+    Some((&text[..index], &text[index + 1..]))
 }

@@ -46,7 +46,7 @@ settled h = record { first = h.first; synced = newest h; since = [] }
 abbrev pub cut_to : List ℕ → SectorValue
 cut_to v = record { first = v; synced = v; since = [] }
 
--- the value that a pick means: that place of the list, modulo its length
+-- the value that a pick means: that index of the list, modulo its length
 abbrev pub picked : SectorValue → ℕ → List ℕ
 picked h pick = slice_index_or (possible h) (pick % length (possible h)) []
 

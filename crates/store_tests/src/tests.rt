@@ -33,7 +33,7 @@ pub fn sector_of(mark: &[u8; 4], epoch: u64, number: u32, payload: &[u8]) -> [u8
     let _ = written.try_extend_from_slice(&number.to_be_bytes());
     let _ = written.try_extend_from_slice(&length.to_be_bytes());
     let _ = written.try_extend_from_slice(payload);
-    array::from_fn(|place| written.get(place).copied().unwrap_or(0))
+    array::from_fn(|index| written.get(index).copied().unwrap_or(0))
 }
 
 /// A sector that a test writes.
@@ -46,7 +46,7 @@ pub struct Sector {
     payload: &'static [u8],
 }
 
-/// The sector at this place, with this mark, epoch, number and payload.
+/// The sector of this number, with this mark, epoch, number and payload.
 pub fn written(
     at: u32,
     mark: &'static [u8; 4],
@@ -74,13 +74,13 @@ pub fn put(disk: &mut MemoryDisk, s: Sector) -> Result<(), DiskFault> {
 /// Writes a snapshot of 9 parts with this total.
 pub fn put_snapshot(
     disk: &mut MemoryDisk,
-    place: u32,
+    index: u32,
     epoch: u64,
     total: u16,
 ) -> Result<(), DiskFault> {
-    put(disk, written(place, b"BD1H", epoch, 9, &[]))?;
+    put(disk, written(index, b"BD1H", epoch, 9, &[]))?;
     for i in 0..9 {
-        let at = place.saturating_add(1 + i);
+        let at = index.saturating_add(1 + i);
         if at < disk.count() {
             disk.write(at, &sector_of(b"BD1P", epoch, i, &total.to_be_bytes()))?;
         }

@@ -19,7 +19,7 @@ rank_once : (a b : ℕ) → IsRank a → IsRank b → rank_letter a ≡ rank_let
 unfolding rank_letter
 rank_once a b p q e = grind (arith, nat_tests)
 
--- two places have two letters
+-- two indexes have two letters
 suit_once : (a b : ℕ) → a < 4 → b < 4 → suit_letter (suit_at a) ≡ suit_letter (suit_at b) → a ≡ b
 suit_once a b p q e = grind (arith, nat_tests)
 
@@ -38,7 +38,7 @@ has_text word card = bytes_eq (card_text card) word
 true_not_false : true ≡ false → ⊥
 true_not_false e = cc
 
--- the test at a place of the deck is that of the card of that number
+-- the test at an index of the deck is that of the card of that number
 test_at : (word : List ℕ) (card : ℕ) → card < 52 → has_text word (get_or (range_with_len 0 52) card 0) ≡ has_text word card
 test_at word card inside = ap (has_text word) (get_or-range_with_len 0 52 card 0 inside ∙ zero-add card)
 

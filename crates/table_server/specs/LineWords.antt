@@ -70,9 +70,9 @@ is_lower_hex digit = is_ascii_digit digit || (nat_le 97 digit && nat_le digit 10
 abbrev pub hex_value : ℕ → ℕ
 hex_value digit = if is_ascii_digit digit then digit - 48 else digit - 87
 
--- the byte of the pair of digits at a place, the pairs counted from 0
+-- the byte of the pair of digits at an index, the pairs counted from 0
 abbrev pub hex_byte : List ℕ → ℕ → ℕ
-hex_byte word place = 16 * hex_value (slice_index word (2 * place)) + hex_value (slice_index word (2 * place + 1))
+hex_byte word index = 16 * hex_value (slice_index word (2 * index)) + hex_value (slice_index word (2 * index + 1))
 
 -- the 32 bytes that 64 digits state
 abbrev pub seed_of : List ℕ → Option (List ℕ)

@@ -134,13 +134,13 @@ fn hex_value(digit: u8) -> u8
     }
 }
 
-/// The byte of the pair of digits at that place, the pairs counted from 0.
-fn hex_byte(word: &[u8], place: usize) -> u8
+/// The byte of the pair of digits at that index, the pairs counted from 0.
+fn hex_byte(word: &[u8], index: usize) -> u8
     requires digits { list_all is_lower_hex word.now ≡ true }
-    requires within { 2 * place + 1 < length word.now }
-    ensures { result ≡ hex_byte word.now place }
+    requires within { 2 * index + 1 < length word.now }
+    ensures { result ≡ hex_byte word.now index }
 {
-    16 * hex_value(word[2 * place]) + hex_value(word[2 * place + 1])
+    16 * hex_value(word[2 * index]) + hex_value(word[2 * index + 1])
 }
 
 /// The bytes of 64 digits.
@@ -150,8 +150,8 @@ fn seed_bytes(word: &[u8]) -> [u8; 32]
     ensures { result ≡ map (hex_byte word.now) (range_with_len 0 32) }
 {
     let mut seed = [0; 32];
-    for place in 0..32 {
-        seed[place] = hex_byte(word, place);
+    for index in 0..32 {
+        seed[index] = hex_byte(word, index);
     }
     seed
 }

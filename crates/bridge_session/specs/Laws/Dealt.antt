@@ -40,7 +40,7 @@ tied_dealt deals board hands kept none tied =
     let after = slice_set deals (board - 1) (Some hands) in
     elim (cases_eq (kept.board - 1) (board - 1)) [
       | inl same ↦
-          let was : deal_on deals kept.board ≡ None = ap (λ place. unwrap_or (slice_get deals place) None) same ∙ none in
+          let was : deal_on deals kept.board ≡ None = ap (λ index. unwrap_or (slice_get deals index) None) same ∙ none in
           let calls = tied.undealt was in
           record { tied = without_calls (hands_on deals kept.board) (hands_on after kept.board) kept tied.tied calls; undealt = λ still. calls }
       | inr apart ↦
@@ -67,12 +67,12 @@ not_some : (deal : Option (List ℕ)) → is_some deal ≡ false → deal ≡ No
 not_some None e = refl
 not_some (Some hands) e = absurd cc
 
--- a place without a deal
-pub was_none : (deals : List (Option (List ℕ))) (place board : ℕ) (deal : Option (List ℕ)) → place ≡ board - 1 → place < length deals → deal ≡ slice_index_or deals place deal → is_some deal ≡ false → deal_on deals board ≡ None
-was_none deals place board deal is within found none =
+-- an index without a deal
+pub was_none : (deals : List (Option (List ℕ))) (index board : ℕ) (deal : Option (List ℕ)) → index ≡ board - 1 → index < length deals → deal ≡ slice_index_or deals index deal → is_some deal ≡ false → deal_on deals board ≡ None
+was_none deals index board deal is within found none =
     ap (λ p. unwrap_or (slice_get deals p) None) (sym is)
-    ∙ unwrap_or-slice_get deals place None
-    ∙ get_or_default deals place None deal within
+    ∙ unwrap_or-slice_get deals index None
+    ∙ get_or_default deals index None deal within
     ∙ sym found
     ∙ not_some deal none
 

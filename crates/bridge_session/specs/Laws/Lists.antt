@@ -8,7 +8,7 @@ use Rattle.std.proofs.lemmas.List.{length-map, set-get_or}
 use Rattle.std.proofs.lemmas.Option.{slice_get_past, get_or_from_slice_get}
 use Rattle.bridge_session.specs.State.{changed_at}
 
--- the first place that passes a test is where the first of the things seen passes
+-- the first index that passes a test is where the first of the things seen passes
 pub position_or_len-map : {X Y : Type 0} (p : Y → Bool) (q : X → Bool) (f : X → Y) (xs : List X) → All (λ x. p (f x) ≡ q x) xs → position_or_len p (map f xs) ≡ position_or_len q xs
 position_or_len-map p q f [] same = refl
 position_or_len-map {X} {Y} p q f (x ∷ xs) same =
@@ -18,29 +18,29 @@ position_or_len-map {X} {Y} p q f (x ∷ xs) same =
 
 pub position-map : {X Y : Type 0} (p : Y → Bool) (q : X → Bool) (f : X → Y) (xs : List X) → All (λ x. p (f x) ≡ q x) xs → position p (map f xs) ≡ position q xs
 position-map p q f xs same =
-    let place = position_or_len-map p q f xs same in
-    ap (λ n. cond (nat_lt n (length (map f xs))) (Some n) None) place
+    let index = position_or_len-map p q f xs same in
+    ap (λ n. cond (nat_lt n (length (map f xs))) (Some n) None) index
     ∙ ap (λ n. cond (nat_lt (position_or_len q xs) n) (Some (position_or_len q xs)) None) (length-map xs f)
 
--- the place that is found is the first that passes
-found_place : (b : Bool) (n i : ℕ) → ◌≡◌ {A = Option ℕ} (cond b (Some n) None) (Some i) → i ≡ n
-found_place true n i e = cc
-found_place false n i e = absurd cc
+-- the index that is found is the first that passes
+found_index : (b : Bool) (n i : ℕ) → ◌≡◌ {A = Option ℕ} (cond b (Some n) None) (Some i) → i ≡ n
+found_index true n i e = cc
+found_index false n i e = absurd cc
 
 none_found : (b : Bool) (n : ℕ) → ◌≡◌ {A = Option ℕ} (cond b (Some n) None) None → b ≡ false
 none_found true n e = absurd cc
 none_found false n e = refl
 
 pub position_is : {X : Type 0} (p : X → Bool) (xs : List X) (i : ℕ) → position p xs ≡ Some i → i ≡ position_or_len p xs
-position_is p xs i e = found_place (nat_lt (position_or_len p xs) (length xs)) (position_or_len p xs) i e
+position_is p xs i e = found_index (nat_lt (position_or_len p xs) (length xs)) (position_or_len p xs) i e
 
--- where none passes there is nothing at the place
+-- where none passes there is nothing at the index
 pub position_none : {X : Type 0} (p : X → Bool) (xs : List X) → position p xs ≡ None → slice_get xs (position_or_len p xs) ≡ None
 position_none p xs e =
     let over = none_found (nat_lt (position_or_len p xs) (length xs)) (position_or_len p xs) e in
     slice_get_past xs (position_or_len p xs) (ltb-false (position_or_len p xs) (length xs) over)
 
--- a change at a place that the list has
+-- a change at an index that the list has
 pub changed_at-Some : {A : Type 0} (f : A → A) (xs : List A) (i : ℕ) (x : A) → slice_get xs i ≡ Some x → changed_at f xs i ≡ slice_set xs i (f x)
 changed_at-Some f xs i x e = ap (λ found. option_map_or (λ y. slice_set xs i (f y)) found xs) e
 

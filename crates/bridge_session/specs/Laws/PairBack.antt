@@ -13,7 +13,7 @@ use Rattle.bridge_session.specs.Parts.{text_bytes, four_bytes, eight_bytes, row_
 use Rattle.bridge_session.specs.PartsRead.{text_in, after_text, key_in, second_player, pair_in, row_in, rows_in, deal_of}
 use Rattle.bridge_session.specs.StateRange.{AreHands, AreHandsOrNone}
 use Rattle.bridge_session.specs.Laws.BytesBack.{text_back, after_back, key_back, hand_back}
-use Rattle.bridge_session.specs.Laws.PartLemmas.{flat_fixed_place}
+use Rattle.bridge_session.specs.Laws.PartLemmas.{flat_fixed_index}
 
 -- a pair
 
@@ -47,25 +47,25 @@ pair_back pair is small = of pair.names pair.keys is.two_names is.two_keys small
 
 -- rows that are complete
 
-byte_of_row : (rows : List Row) (place k : ℕ) (row : Row) → place < length rows → k < 3
-    → get_or (movement_part rows) (place * 3 + k) 0 ≡ get_or (row_bytes (get_or rows place row)) k 0
-byte_of_row rows place k row within small =
-    let quotient : (place * 3 + k) / 3 ≡ place = omega arith in
-    let remainder : (place * 3 + k) % 3 ≡ k = omega arith in
-    flat_fixed_place row_bytes 3 (λ r. refl) rows (place * 3 + k) row 0 (omega arith) (omega arith)
-    ∙ ap (λ q. get_or (row_bytes (get_or rows q row)) ((place * 3 + k) % 3) 0) quotient
-    ∙ ap (λ r. get_or (row_bytes (get_or rows place row)) r 0) remainder
+byte_of_row : (rows : List Row) (index k : ℕ) (row : Row) → index < length rows → k < 3
+    → get_or (movement_part rows) (index * 3 + k) 0 ≡ get_or (row_bytes (get_or rows index row)) k 0
+byte_of_row rows index k row within small =
+    let quotient : (index * 3 + k) / 3 ≡ index = omega arith in
+    let remainder : (index * 3 + k) % 3 ≡ k = omega arith in
+    flat_fixed_index row_bytes 3 (λ r. refl) rows (index * 3 + k) row 0 (omega arith) (omega arith)
+    ∙ ap (λ q. get_or (row_bytes (get_or rows q row)) ((index * 3 + k) % 3) 0) quotient
+    ∙ ap (λ r. get_or (row_bytes (get_or rows index row)) r 0) remainder
 
-row_back : (shape : Shape) (rows : List Row) (place : ℕ) (d : Row) → IsComplete shape rows → place < length rows
-    → row_in shape.tables (movement_part rows) place ≡ get_or rows place d
-row_back shape rows place d complete within =
-    let row : Row = get_or rows place d in
-    let due = (complete.order place within).1 d in
-    let bytes = byte_of_row rows place in
-    let ns : get_or (movement_part rows) (place * 3) 0 ≡ row.ns
-    = ap (λ n. get_or (movement_part rows) n 0) (let e : place * 3 ≡ place * 3 + 0 = omega arith in e) ∙ bytes 0 d within (omega arith) in
-    let ew : get_or (movement_part rows) (place * 3 + 1) 0 ≡ row.ew = bytes 1 d within (omega arith) in
-    let set : get_or (movement_part rows) (place * 3 + 2) 0 ≡ row.set = bytes 2 d within (omega arith) in
+row_back : (shape : Shape) (rows : List Row) (index : ℕ) (d : Row) → IsComplete shape rows → index < length rows
+    → row_in shape.tables (movement_part rows) index ≡ get_or rows index d
+row_back shape rows index d complete within =
+    let row : Row = get_or rows index d in
+    let due = (complete.order index within).1 d in
+    let bytes = byte_of_row rows index in
+    let ns : get_or (movement_part rows) (index * 3) 0 ≡ row.ns
+    = ap (λ n. get_or (movement_part rows) n 0) (let e : index * 3 ≡ index * 3 + 0 = omega arith in e) ∙ bytes 0 d within (omega arith) in
+    let ew : get_or (movement_part rows) (index * 3 + 1) 0 ≡ row.ew = bytes 1 d within (omega arith) in
+    let set : get_or (movement_part rows) (index * 3 + 2) 0 ≡ row.set = bytes 2 d within (omega arith) in
     λ i. record { round = sym due.1 i; table = sym due.2 i; ns = ns i; ew = ew i; set = set i }
 
 pub rows_back : (shape : Shape) (rows : List Row) → IsComplete shape rows → rows_in shape (movement_part rows) ≡ rows
@@ -75,9 +75,9 @@ rows_back shape rows complete =
     let long : length (map read (range_with_len 0 n)) ≡ length rows = length-map-range_with_len read 0 n ∙ sym complete.count in
     let nobody : Row = record { round = 0; table = 0; ns = 0; ew = 0; set = 0 } in
     ext_get_or nobody (map read (range_with_len 0 n)) rows long
-    (λ place within.
-    get_or-map-range_with_len read 0 n place place nobody (omega (arith, within, long, complete.count)) (omega arith)
-    ∙ row_back shape rows place nobody complete (omega (arith, within, long)))
+    (λ index within.
+    get_or-map-range_with_len read 0 n index index nobody (omega (arith, within, long, complete.count)) (omega arith)
+    ∙ row_back shape rows index nobody complete (omega (arith, within, long)))
 
 -- a deal
 

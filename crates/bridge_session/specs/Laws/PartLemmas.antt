@@ -1,4 +1,4 @@
--- Lists that are written element by element, and the places of parts.
+-- Lists that are written element by element, and the indexes of parts.
 use Rattle.std.proofs.Common.{◌≡◌, ◌+◌, ◌*◌, ◌/◌, ◌%◌, ◌<◌, ℕ, List, [], ◌∷◌, ◌++◌, length, take, get_or, map, sym, ap, ◌∙◌, arith, add-one, length-append}
 use Rattle.std.specs.Prelude.{flat_map}
 use Rattle.std.proofs.Math.Seq.{take-suc}
@@ -21,13 +21,13 @@ module _ {X : Type 0} where
         let rest = length-flat_fixed xs in
         omega (arith, length-append (f x) (flat_map f xs), fixed x, rest)
 
-    pub flat_fixed_place : (xs : List X) (place : ℕ) (e : X) (d : Y) → 0 < n → place < length xs * n → get_or (flat_map f xs) place d ≡ get_or (f (get_or xs (place / n) e)) (place % n) d
-    flat_fixed_place xs place e d some within =
-        let q : ℕ = place / n in
-        let r : ℕ = place % n in
+    pub flat_fixed_index : (xs : List X) (row_index : ℕ) (e : X) (d : Y) → 0 < n → row_index < length xs * n → get_or (flat_map f xs) row_index d ≡ get_or (f (get_or xs (row_index / n) e)) (row_index % n) d
+    flat_fixed_index xs row_index e d some within =
+        let q : ℕ = row_index / n in
+        let r : ℕ = row_index % n in
         let inside : q < length xs = (div-lt_iff_lt-mul some).1 within in
         let before : length (flat_map f (take q xs)) ≡ q * n
         = length-flat_fixed (take q xs) ∙ ap (λ k. k * n) (length-take-le q xs (omega (arith, inside))) in
-        let here : place ≡ length (flat_map f (take q xs)) + r = sym (div-add-mod' place n) ∙ ap (λ k. k + r) (sym before) in
-        let rest : r < n = mod-lt place some in
+        let here : row_index ≡ length (flat_map f (take q xs)) + r = sym (div-add-mod' row_index n) ∙ ap (λ k. k + r) (sym before) in
+        let rest : r < n = mod-lt row_index some in
         ap (λ k. get_or (flat_map f xs) k d) here ∙ get_or-flat_map f xs q r e d inside (omega (arith, rest, fixed (get_or xs q e)))

@@ -27,7 +27,7 @@ use Rattle.bridge_session.specs.StateRange.{AreHands, AreHandsOrNone, IsSession}
 use Rattle.bridge_session.specs.Valid.{IsDealtOut, IsDealOrNone, board_of, IsValidRecord}
 use Rattle.bridge_session.specs.Laws.DealtOut.{dealt_is_deal}
 use Rattle.bridge_session.specs.Laws.PartLemmas.{length-flat_fixed}
-use Rattle.bridge_session.specs.Laws.PartPlaces.{count_parts}
+use Rattle.bridge_session.specs.Laws.PartIndexes.{count_parts}
 use Rattle.bridge_session.specs.Laws.SessionRecords.{each_record}
 
 -- the bytes fit into a part
@@ -50,10 +50,10 @@ heading_fits c round is =
 movement_fits : (rows : List Row) → length rows ≤ 144 → Fits (movement_part rows)
 movement_fits rows few = let long = length-flat_fixed row_bytes 3 (λ row. refl) rows in omega (arith, long, few)
 
-player_fits : (pair : Pair) (place : ℕ) → IsPair pair → place < 2 → length (player_bytes pair place) ≤ 29
-player_fits pair place is second =
+player_fits : (pair : Pair) (row_index : ℕ) → IsPair pair → row_index < 2 → length (player_bytes pair row_index) ≤ 29
+player_fits pair row_index is second =
     let nothing : List ℕ = [] in
-    let name = name_few (get_or pair.names place nothing) (AllPass-from_list_all is_name pair.names is.names place nothing (omega (arith, is.two_names, second))) in
+    let name = name_few (get_or pair.names row_index nothing) (AllPass-from_list_all is_name pair.names is.names row_index nothing (omega (arith, is.two_names, second))) in
     simp length-append (omega (arith, name))
 
 pair_fits : (pair : Pair) → IsPair pair → Fits (pair_part pair)
@@ -155,9 +155,9 @@ module _ (s : SessionValue) (is : IsSession s) where
       omega (arith, long, rows_few)
 
   plays_fit : All (λ records. All (λ plain. Fits (record_part plain)) records) s.records
-  plays_fit place d within index e inside =
-      let known = each_record s is.valid place d within index e inside in
-      plain_fits s is (get_or (get_or s.records place d) index e) known.0 known.1
+  plays_fit row_index d within index e inside =
+      let known = each_record s is.valid row_index d within index e inside in
+      plain_fits s is (get_or (get_or s.records row_index d) index e) known.0 known.1
 
   pub parts_fit : All (λ part. length part ≤ 480) (parts_of s)
   parts_fit =

@@ -23,7 +23,7 @@ use Rattle.bridge_session.specs.Laws.BytesBack.{take_front, drop_front, all_back
 calls_back : (calls : List Call) → All IsCall calls → map call_or_pass (map call_number calls) ≡ calls
 calls_back calls known =
     all_back call_number call_or_pass calls
-    (λ place call within. ap (λ found. unwrap_or found Pass) (call_at-call_number (get_or calls place call) (known place call within)))
+    (λ index call within. ap (λ found. unwrap_or found Pass) (call_at-call_number (get_or calls index call) (known index call within)))
 
 -- a claim
 pub agreed_back : (north east south west : Bool) → agreed_in (value_if north 1 + value_if east 2 + value_if south 4 + value_if west 8) ≡ north ∷ east ∷ south ∷ west ∷ []

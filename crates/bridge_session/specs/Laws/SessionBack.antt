@@ -37,12 +37,12 @@ scoring_back Imps = refl
 
 -- the keys of each pair are among all keys
 all_front : (xs ys : List ℕ) → All IsKeyNumber (xs ++ ys) → All IsKeyNumber xs
-all_front xs ys all place d within =
-    subst IsKeyNumber (get_or_append_left xs ys d place within) (all place d (omega (arith, within, length-append xs ys)))
+all_front xs ys all index d within =
+    subst IsKeyNumber (get_or_append_left xs ys d index within) (all index d (omega (arith, within, length-append xs ys)))
 
 all_back_half : (xs ys : List ℕ) → All IsKeyNumber (xs ++ ys) → All IsKeyNumber ys
-all_back_half xs ys all place d within =
-    subst IsKeyNumber (get_or-append-add xs ys place d) (all (length xs + place) d (omega (arith, within, length-append xs ys)))
+all_back_half xs ys all index d within =
+    subst IsKeyNumber (get_or-append-add xs ys index d) (all (length xs + index) d (omega (arith, within, length-append xs ys)))
 
 keys_of_each : (pairs : List Pair) → All IsKeyNumber (keys_in pairs) → All (λ (pair : Pair). All IsKeyNumber pair.keys) pairs
 keys_of_each [] all = All-nil (λ (pair : Pair). All IsKeyNumber pair.keys)

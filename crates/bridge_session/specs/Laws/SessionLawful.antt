@@ -12,7 +12,7 @@ use Rattle.bridge_session.specs.Step.{step_answer, changed}
 use Rattle.bridge_session.specs.Laws.ActionInRange.{read_in_range, action_fits}
 use Rattle.bridge_session.specs.Laws.ActionLaws.{read_back}
 use Rattle.bridge_session.specs.Laws.PartLengths.{parts_fit, few_parts}
-use Rattle.bridge_session.specs.Laws.PartPlaces.{count_parts}
+use Rattle.bridge_session.specs.Laws.PartIndexes.{count_parts}
 use Rattle.bridge_session.specs.Laws.SessionOf.{session_of_is, has_parts}
 use Rattle.bridge_session.specs.Laws.SessionStays.{step_session}
 

@@ -21,19 +21,19 @@ use Rattle.bridge_session.specs.declared.seating.Seating.{Seating}
 use Rattle.bridge_session.specs.ActionRange.{IsInRange}
 use Rattle.bridge_session.specs.Deed.{with_deed}
 use Rattle.bridge_session.specs.Record.{PlainRecord, empty_record}
-use Rattle.bridge_session.specs.State.{SessionValue, opening, opening_row, row_boards, row_place, seating_of, changed_at, current_place}
+use Rattle.bridge_session.specs.State.{SessionValue, opening, opening_row, row_boards, index_of_row, seating_of, changed_at, current_index}
 use Rattle.bridge_session.specs.StateRange.{IsCorrectionInRange, AreHandsOrNone, IsOfFourSeats, IsRecordInRange, IsStateInRange}
 use Rattle.bridge_session.specs.Step.{acted_among, acted_at, with_ruling, ruled, changed}
 
 -- one element is changed
-all_changed : {X : Type 0} (P : X → Type 0) (f : X → X) (xs : List X) (place : ℕ) → ((x : X) → P x → P (f x)) → All P xs → All P (changed_at f xs place)
-all_changed {X} P f xs place stays all = of (slice_get xs place) refl
+all_changed : {X : Type 0} (P : X → Type 0) (f : X → X) (xs : List X) (index : ℕ) → ((x : X) → P x → P (f x)) → All P xs → All P (changed_at f xs index)
+all_changed {X} P f xs index stays all = of (slice_get xs index) refl
   where
-    of : (found : Option X) → found ≡ slice_get xs place → All P (option_map_or (λ x. slice_set xs place (f x)) found xs)
+    of : (found : Option X) → found ≡ slice_get xs index → All P (option_map_or (λ x. slice_set xs index (f x)) found xs)
     of None is = all
     of (Some x) is =
-        let here : P x = subst P (get_or_from_slice_get xs place x x (sym is)) (all place x (slice_get_within xs place x (sym is))) in
-        All-set P xs place (f x) (stays x here) all
+        let here : P x = subst P (get_or_from_slice_get xs index x x (sym is)) (all index x (slice_get_within xs index x (sym is))) in
+        All-set P xs index (f x) (stays x here) all
 
 -- what a player did
 agreed_in_range : (seat : Seat) (claim : Option Claim) → IfSome claim IsOfFourSeats → IfSome (option_map (with_agreed seat) claim) IsOfFourSeats
@@ -51,8 +51,8 @@ pub acted_in_range : (s : SessionValue) (done : Deed) (at : Result Seating Refus
 acted_in_range s done (Err refused) is = is
 acted_in_range s done (Ok seating) is = record {
   deals = is.deals;
-  records = all_changed (All IsRecordInRange) (acted_among seating.seat done) s.records seating.place
-      (λ records all. all_changed IsRecordInRange (with_deed seating.seat done) records (current_place records) (deed_in_range seating.seat done) all)
+  records = all_changed (All IsRecordInRange) (acted_among seating.seat done) s.records seating.row
+      (λ records all. all_changed IsRecordInRange (with_deed seating.seat done) records (current_index records) (deed_in_range seating.seat done) all)
       is.records;
 }
 
@@ -66,7 +66,7 @@ pub ruled_in_range : (s : SessionValue) (play : PlayId) (made : Correction) → 
 ruled_in_range s play made few is = record {
   deals = is.deals;
   records = all_changed (All IsRecordInRange) (λ records. changed_at (with_ruling made) records (play.index - 1)) s.records
-      (row_place s.configuration.movement.shape play.round play.table)
+      (index_of_row s.configuration.movement.shape play.round play.table)
       (λ records all. all_changed IsRecordInRange (with_ruling made) records (play.index - 1) (λ plain. ruling_in_range made plain few) all)
       is.records;
 }
@@ -92,5 +92,5 @@ pub opening_in_range : (configuration : ConfigValue) → IsStateInRange (opening
 opening_in_range configuration = record {
   deals = All-replicate AreHandsOrNone (configuration.movement.shape.sets * configuration.boards) None tt;
   records = All-map (All IsRecordInRange) (opening_row configuration.boards) configuration.movement.rows
-      (λ place row within. All-map IsRecordInRange empty_record (row_boards configuration.boards (get_or configuration.movement.rows place row)) (λ k board below. record { claim = tt; ruling = tt }));
+      (λ index row within. All-map IsRecordInRange empty_record (row_boards configuration.boards (get_or configuration.movement.rows index row)) (λ k board below. record { claim = tt; ruling = tt }));
 }

@@ -33,7 +33,7 @@ none_of {A} i x is = let within = slice_get_within {A = A} [] i x is in absurd (
 -- nothing has happened in a new record of the current round or a later one
 empty_valid : (deals : List (Option (List ℕ))) (round board : ℕ) → 1 ≤ round → IsValidRecord deals 1 round (empty_record board)
 empty_valid deals round board least = record {
-  calls = λ place call is. absurd (none_of place call is);
+  calls = λ row_index call is. absurd (none_of row_index call is);
   dealt = λ none. refl;
   unplayed = λ none. record { cards = refl; claims = refl; claim = refl };
   play = tt;
@@ -42,9 +42,9 @@ empty_valid deals round board least = record {
   earlier = λ less. absurd (omega arith);
 }
 
-row_of_empty : (boards : ℕ) (rows : List Row) (place : ℕ) (row : Row) → slice_get rows place ≡ Some row → row_at (map (opening_row boards) rows) place ≡ opening_row boards row
-row_of_empty boards rows place row is =
-    ap (λ o. unwrap_or o []) (slice_get-map (opening_row boards) rows place ∙ ap (option_map (opening_row boards)) is)
+row_of_empty : (boards : ℕ) (rows : List Row) (row_index : ℕ) (row : Row) → slice_get rows row_index ≡ Some row → row_at (map (opening_row boards) rows) row_index ≡ opening_row boards row
+row_of_empty boards rows row_index row is =
+    ap (λ o. unwrap_or o []) (slice_get-map (opening_row boards) rows row_index ∙ ap (option_map (opening_row boards)) is)
 
 boards_of_empty : (boards : List ℕ) → map board_of (map empty_record boards) ≡ boards
 boards_of_empty [] = refl
@@ -62,11 +62,11 @@ undealt_all n =
     λ k d within. subst IsDealOrNone (sym (get_or-replicate n k none d (omega (arith, within, length-replicate n none)))) tt
 
 -- a row is of a round
-pub round_due : (configuration : ConfigValue) (place : ℕ) (row : Row) → IsConfiguration configuration → slice_get configuration.movement.rows place ≡ Some row → row.round ≡ place / configuration.movement.shape.tables + 1
-round_due configuration place row limits is =
+pub round_due : (configuration : ConfigValue) (row_index : ℕ) (row : Row) → IsConfiguration configuration → slice_get configuration.movement.rows row_index ≡ Some row → row.round ≡ row_index / configuration.movement.shape.tables + 1
+round_due configuration row_index row limits is =
     let rows = configuration.movement.rows in
-    let due = (limits.movement.complete.order place (slice_get_within rows place row is)).1 row in
-    ap (λ (r : Row). r.round) (sym (get_or_from_slice_get rows place row row is)) ∙ due.1
+    let due = (limits.movement.complete.order row_index (slice_get_within rows row_index row is)).1 row in
+    ap (λ (r : Row). r.round) (sym (get_or_from_slice_get rows row_index row row is)) ∙ due.1
 
 pub opening_valid : (configuration : ConfigValue) → IsConfiguration configuration → IsValid (opening configuration)
 opening_valid configuration limits = record {
@@ -76,10 +76,10 @@ opening_valid configuration limits = record {
   boards = length-replicate (configuration.movement.shape.sets * configuration.boards) None;
   deals = undealt_all (configuration.movement.shape.sets * configuration.boards);
   of_boards = opening_boards configuration.boards configuration.movement.rows;
-  plays = λ place index row plain is found.
+  plays = λ row_index index row plain is found.
       let from = mapped_from empty_record (row_boards configuration.boards row) index plain
-      (ap (λ records. slice_get records index) (sym (row_of_empty configuration.boards configuration.movement.rows place row is)) ∙ found) in
-      let due = round_due configuration place row limits is in
+      (ap (λ records. slice_get records index) (sym (row_of_empty configuration.boards configuration.movement.rows row_index row is)) ∙ found) in
+      let due = round_due configuration row_index row limits is in
       subst (IsValidRecord (opening configuration).deals 1 row.round) from.2
       (empty_valid (opening configuration).deals row.round from.0 (omega (arith, due)));
 }
@@ -114,26 +114,26 @@ changed_from {A} f xs i j y is =
     ]
 
 -- the same of the records of all rows
-pub row_found : (records : List (List PlainRecord)) (place index : ℕ) (plain : PlainRecord) → slice_get (row_at records place) index ≡ Some plain → (row : List PlainRecord) × (slice_get records place ≡ Some row) × (row_at records place ≡ row)
-row_found records place index plain is =
-    elim (slice_get_cases records place).1 [
+pub row_found : (records : List (List PlainRecord)) (row_index index : ℕ) (plain : PlainRecord) → slice_get (row_at records row_index) index ≡ Some plain → (row : List PlainRecord) × (slice_get records row_index ≡ Some row) × (row_at records row_index ≡ row)
+row_found records row_index index plain is =
+    elim (slice_get_cases records row_index).1 [
       | inl (row, within, found, read) ↦ (row, found, ap (λ o. unwrap_or o []) found)
       | inr (past, none) ↦
           let wrong : slice_get [] index ≡ Some plain = ap (λ o. slice_get (unwrap_or o []) index) (sym none) ∙ is in absurd (none_of index plain wrong)
     ]
 
 abbrev ChangedHere : (PlainRecord → PlainRecord) → (List PlainRecord → ℕ) → List (List PlainRecord) → ℕ → ℕ → PlainRecord → Type 0
-ChangedHere f at records place other after =
-    (other ≡ place) × ((before : PlainRecord) × (slice_get (row_at records place) (at (row_at records place)) ≡ Some before) × (f before ≡ after))
+ChangedHere f at records row_index other after =
+    (other ≡ row_index) × ((before : PlainRecord) × (slice_get (row_at records row_index) (at (row_at records row_index)) ≡ Some before) × (f before ≡ after))
 
-record_from : (f : PlainRecord → PlainRecord) (at : List PlainRecord → ℕ) (records : List (List PlainRecord)) (place other index : ℕ) (after : PlainRecord) → slice_get (row_at (changed_at (λ rs. changed_at f rs (at rs)) records place) other) index ≡ Some after → ChangedHere f at records place other after ⊎ (slice_get (row_at records other) index ≡ Some after)
-record_from f at records place other index after is =
+record_from : (f : PlainRecord → PlainRecord) (at : List PlainRecord → ℕ) (records : List (List PlainRecord)) (row_index other index : ℕ) (after : PlainRecord) → slice_get (row_at (changed_at (λ rs. changed_at f rs (at rs)) records row_index) other) index ≡ Some after → ChangedHere f at records row_index other after ⊎ (slice_get (row_at records other) index ≡ Some after)
+record_from f at records row_index other index after is =
     let g : List PlainRecord → List PlainRecord = λ rs. changed_at f rs (at rs) in
-    let row = row_found (changed_at g records place) other index after is in
+    let row = row_found (changed_at g records row_index) other index after is in
     let there : slice_get row.0 index ≡ Some after = ap (λ rs. slice_get rs index) (sym row.2) ∙ is in
-    elim (changed_from g records place other row.0 row.1) [
+    elim (changed_from g records row_index other row.0 row.1) [
       | inl (same, (before, found, made)) ↦
-          let own : row_at records place ≡ before = ap (λ o. unwrap_or o []) found in
+          let own : row_at records row_index ≡ before = ap (λ o. unwrap_or o []) found in
           elim (changed_from f before (at before) index after (ap (λ rs. slice_get rs index) made ∙ there)) [
             | inl (here, (x, at_x, become)) ↦ inl (same, (x, ap (λ rs. slice_get rs (at rs)) own ∙ at_x, become))
             | inr elsewhere ↦ inr (ap (λ rs. slice_get rs index) (ap (row_at records) same ∙ own) ∙ elsewhere)
@@ -142,19 +142,19 @@ record_from f at records place other index after is =
     ]
 
 -- a session in which one record became another that is valid
-pub valid_change : (s : SessionValue) (place : ℕ) (f : PlainRecord → PlainRecord) (at : List PlainRecord → ℕ) → IsValid s → ((x : PlainRecord) → (f x).board ≡ x.board) → ((row : Row) (x : PlainRecord) → slice_get s.configuration.movement.rows place ≡ Some row → slice_get (row_at s.records place) (at (row_at s.records place)) ≡ Some x → IsValidRecord s.deals s.round row.round x → IsValidRecord s.deals s.round row.round (f x)) → IsValid (record s { records = changed_at (λ rs. changed_at f rs (at rs)) s.records place })
-valid_change s place f at valid boards stays = record {
+pub valid_change : (s : SessionValue) (row_index : ℕ) (f : PlainRecord → PlainRecord) (at : List PlainRecord → ℕ) → IsValid s → ((x : PlainRecord) → (f x).board ≡ x.board) → ((row : Row) (x : PlainRecord) → slice_get s.configuration.movement.rows row_index ≡ Some row → slice_get (row_at s.records row_index) (at (row_at s.records row_index)) ≡ Some x → IsValidRecord s.deals s.round row.round x → IsValidRecord s.deals s.round row.round (f x)) → IsValid (record s { records = changed_at (λ rs. changed_at f rs (at rs)) s.records row_index })
+valid_change s row_index f at valid boards stays = record {
   configured = valid.configured;
   begun = valid.begun;
   ends = valid.ends;
   boards = valid.boards;
   deals = valid.deals;
-  of_boards = map-changed_at (map board_of) (λ rs. changed_at f rs (at rs)) s.records place (λ rs. map-changed_at board_of f rs (at rs) boards) ∙ valid.of_boards;
+  of_boards = map-changed_at (map board_of) (λ rs. changed_at f rs (at rs)) s.records row_index (λ rs. map-changed_at board_of f rs (at rs) boards) ∙ valid.of_boards;
   plays = λ other index row after is found.
-      elim (record_from f at s.records place other index after found) [
+      elim (record_from f at s.records row_index other index after found) [
         | inl (same, (before, was, become)) ↦
-            let here : slice_get s.configuration.movement.rows place ≡ Some row = ap (slice_get s.configuration.movement.rows) (sym same) ∙ is in
-            subst (IsValidRecord s.deals s.round row.round) become (stays row before here was (valid.plays place (at (row_at s.records place)) row before here was))
+            let here : slice_get s.configuration.movement.rows row_index ≡ Some row = ap (slice_get s.configuration.movement.rows) (sym same) ∙ is in
+            subst (IsValidRecord s.deals s.round row.round) become (stays row before here was (valid.plays row_index (at (row_at s.records row_index)) row before here was))
         | inr kept ↦ valid.plays other index row after is kept
       ];
 }

@@ -24,10 +24,10 @@ full_parts boards records full =
     let longs : length (map record_part records) ≡ boards = length-map records record_part ∙ full in
     let nothing : List ℕ = [] in
     ext_get_or nothing (row_parts boards records) (map record_part records) (long ∙ sym longs)
-    (λ place within.
-    get_or-map-range_with_len part 0 boards place place nothing (omega (arith, within, long)) (omega arith)
-    ∙ ap record_part (unwrap_or-slice_get records place (empty_record 0))
-    ∙ sym (get_or-map record_part records place (empty_record 0) nothing (omega (arith, within, long, full))))
+    (λ row_index within.
+    get_or-map-range_with_len part 0 boards row_index row_index nothing (omega (arith, within, long)) (omega arith)
+    ∙ ap record_part (unwrap_or-slice_get records row_index (empty_record 0))
+    ∙ sym (get_or-map record_part records row_index (empty_record 0) nothing (omega (arith, within, long, full))))
 
 row_back : (records : List PlainRecord) (more : List (List ℕ)) → All IsWritten records → records_in (map board_of records) (map record_part records ++ more) ≡ records
 row_back [] more written = refl

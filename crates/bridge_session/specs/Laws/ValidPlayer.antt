@@ -19,7 +19,7 @@ use Rattle.bridge_session.specs.declared.seating.Player.{Player}
 use Rattle.bridge_session.specs.declared.seating.Seating.{Seating}
 use Rattle.bridge_session.specs.Deed.{deed_answer, with_deed}
 use Rattle.bridge_session.specs.Record.{PlainRecord, bidding_of, play_of, is_open}
-use Rattle.bridge_session.specs.State.{SessionValue, deal_on, row_at, row_place, current_place, acting_player, is_closed, seating_at, seated, seating_of, is_of_set}
+use Rattle.bridge_session.specs.State.{SessionValue, deal_on, row_at, index_of_row, current_index, acting_player, is_closed, seating_at, seated, seating_of, is_of_set}
 use Rattle.bridge_session.specs.Step.{seen_by, seen_deal, seen_records, answer_dealt, answer_current, answer_among, answer_seated, player_answer, acted_at, acted}
 use Rattle.bridge_session.specs.Valid.{IsDeed, IsValid}
 use Rattle.bridge_session.specs.Laws.StaysValid.{none_of, valid_change}
@@ -92,7 +92,7 @@ pub record IsSeatedAt (configuration : ConfigValue) (round : ℕ) (seating : Sea
   pub table : ℕ
   pub first : 1 ≤ table
   pub within : table ≤ configuration.movement.shape.tables
-  pub place : seating.place ≡ row_place configuration.movement.shape round table
+  pub row : seating.row ≡ index_of_row configuration.movement.shape round table
 
 placed_at : (configuration : ConfigValue) (round : ℕ) (player : Player) (seating : Seating) (found : Option Place) → IsConfiguration configuration → place_of configuration.movement.rows round player.pair ≡ found → ok_or (option_map (seating_at configuration round player.first) found) SitsOut ≡ Ok seating → IsSeatedAt configuration round seating
 placed_at configuration round player seating None limits is sits = absurd cc
@@ -110,7 +110,7 @@ placed_at configuration round player seating (Some place) limits is sits =
       table = place.table;
       first = omega arith;
       within = omega arith;
-      place = ap (λ (s : Seating). s.place) (sym own);
+      row = ap (λ (s : Seating). s.row) (sym own);
     }
 
 open_session : (b : Bool) (r : Result Seating Refused) (seating : Seating) → cond b (Err Closed) r ≡ Ok seating → r ≡ Ok seating
@@ -132,14 +132,14 @@ acted_valid : (s : SessionValue) (key board at : ℕ) (done : Deed) (sits : Resu
 acted_valid s key board at done (Err refused) valid known is ok = absurd cc
 acted_valid s key board at done (Ok seating) valid known is ok =
     let mine = is_of_set s.configuration seating.set board in
-    let records = row_at s.records seating.place in
+    let records = row_at s.records seating.row in
     let of_set = passed mine NotCurrent (answer_among records (cond mine (deal_on s.deals board) None) board seating.seat at done) ok in
-    let on = acted_on (cond mine (deal_on s.deals board) None) board seating.seat at done (slice_get records (current_place records)) of_set.1 in
+    let on = acted_on (cond mine (deal_on s.deals board) None) board seating.seat at done (slice_get records (current_index records)) of_set.1 in
     let sits = seated_at s.configuration s.round (acting_player s.configuration key) seating valid.configured is in
-    valid_change s seating.place (with_deed seating.seat done) current_place valid (deed_board seating.seat done)
+    valid_change s seating.row (with_deed seating.seat done) current_index valid (deed_board seating.seat done)
     (λ row x there was good.
     let same : on.plain ≡ x = let both : Some on.plain ≡ Some x = sym on.is ∙ was in cc in
-    let round : row.round ≡ s.round = row_round s.configuration s.round sits.table row valid.configured valid.begun sits.first sits.within (ap (slice_get s.configuration.movement.rows) (sym sits.place) ∙ there) in
+    let round : row.round ≡ s.round = row_round s.configuration s.round sits.table row valid.configured valid.begun sits.first sits.within (ap (slice_get s.configuration.movement.rows) (sym sits.row) ∙ there) in
     let board_is : x.board ≡ board = ap (λ (p : PlainRecord). p.board) (sym same) ∙ on.same in
     let dealt : deal_on s.deals x.board ≡ Some on.hands = ap (deal_on s.deals) board_is ∙ ap (λ b. cond b (deal_on s.deals board) None) (sym of_set.0) ∙ on.dealt in
     let answered : deed_answer (bidding_of x) (play_of on.hands x) seating.seat at done ≡ Ok tt =

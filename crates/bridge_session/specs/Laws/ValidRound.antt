@@ -60,15 +60,15 @@ div_mod_is : (n t d : ℕ) → 0 < t → n / t ≡ d → n ≡ d * t + n % t
 div_mod_is n t d some is = sym (div-add-mod n t) ∙ ap (λ q. t * q + n % t) is ∙ ap (λ m. m + n % t) (mul_comm t d)
 
 -- the records of a row of the round
-of_round : (s : SessionValue) (place : ℕ) (row : Row) (records : List PlainRecord) → IsValid s → slice_get s.configuration.movement.rows place ≡ Some row → row.round ≡ s.round → slice_get s.records place ≡ Some records → slice_get (records_of_round s) (place % s.configuration.movement.shape.tables) ≡ Some records
-of_round s place row records valid is round there =
+of_round : (s : SessionValue) (row_index : ℕ) (row : Row) (records : List PlainRecord) → IsValid s → slice_get s.configuration.movement.rows row_index ≡ Some row → row.round ≡ s.round → slice_get s.records row_index ≡ Some records → slice_get (records_of_round s) (row_index % s.configuration.movement.shape.tables) ≡ Some records
+of_round s row_index row records valid is round there =
     let tables : ℕ = s.configuration.movement.shape.tables in
-    let due = round_due s.configuration place row valid.configured is in
+    let due = round_due s.configuration row_index row valid.configured is in
     let some : 2 ≤ tables = valid.configured.shape.tables.0 in
-    let before : place / tables ≡ s.round - 1 = omega (arith, due, round) in
-    let place_is : place ≡ (s.round - 1) * tables + place % tables = div_mod_is place tables (s.round - 1) (omega arith) before in
-    taken tables (place % tables) (drop ((s.round - 1) * tables) s.records) records (mod_less place tables (omega arith))
-    (dropped ((s.round - 1) * tables) (place % tables) place s.records records place_is there)
+    let before : row_index / tables ≡ s.round - 1 = omega (arith, due, round) in
+    let index_is : row_index ≡ (s.round - 1) * tables + row_index % tables = div_mod_is row_index tables (s.round - 1) (omega arith) before in
+    taken tables (row_index % tables) (drop ((s.round - 1) * tables) s.records) records (mod_less row_index tables (omega arith))
+    (dropped ((s.round - 1) * tables) (row_index % tables) row_index s.records records index_is there)
 
 pub next_valid : (s : SessionValue) (round : ℕ) → IsValid s → next_answer s round ≡ Ok tt → IsValid (record s { round = s.round + 1 })
 next_valid s round valid ok =
@@ -84,8 +84,8 @@ next_valid s round valid ok =
       boards = valid.boards;
       deals = valid.deals;
       of_boards = valid.of_boards;
-      plays = λ place index row plain is found.
-          let good = valid.plays place index row plain is found in
+      plays = λ row_index index row plain is found.
+          let good = valid.plays row_index index row plain is found in
           record {
             calls = good.calls;
             dealt = good.dealt;
@@ -98,8 +98,8 @@ next_valid s round valid ok =
                   | inl before ↦ good.earlier before
                   | inr from ↦
                       let now : row.round ≡ s.round = omega (arith, less, from) in
-                      let own = row_found s.records place index plain found in
-                      let table = of_round s place row own.0 valid is now own.1 in
+                      let own = row_found s.records row_index index plain found in
+                      let table = of_round s row_index row own.0 valid is now own.1 in
                       none_passes is_open own.0 index plain (none_passes (list_any is_open) (records_of_round s) _ own.0 none_open table) (ap (λ rs. slice_get rs index) (sym own.2) ∙ found)
                 ];
           };
@@ -116,7 +116,7 @@ record_dealt deals now round board hands x none valid =
     let after = slice_set deals (board - 1) (Some hands) in
     elim (cases_eq (x.board - 1) (board - 1)) [
       | inl same ↦
-          let was : deal_on deals x.board ≡ None = ap (λ place. unwrap_or (slice_get deals place) None) same ∙ none in
+          let was : deal_on deals x.board ≡ None = ap (λ row_index. unwrap_or (slice_get deals row_index) None) same ∙ none in
           record {
             calls = valid.calls;
             dealt = λ still. valid.dealt was;
@@ -157,5 +157,5 @@ deal_valid s board hands valid ok =
       boards = length-set s.deals (board - 1) (Some hands) ∙ valid.boards;
       deals = All-set IsDealOrNone s.deals (board - 1) (Some hands) dealt valid.deals;
       of_boards = valid.of_boards;
-      plays = λ place index row plain is found. record_dealt s.deals s.round row.round board hands plain none (valid.plays place index row plain is found);
+      plays = λ row_index index row plain is found. record_dealt s.deals s.round row.round board hands plain none (valid.plays row_index index row plain is found);
     }

@@ -15,7 +15,7 @@ use Rattle.bridge_session.specs.declared.refused.Refused.{Refused}
 use Rattle.bridge_session.specs.declared.refused.Refused.TheVariants.{NotFinished, NotYet}
 use Rattle.bridge_session.specs.Correction.{tricks_answer, ruling_answer}
 use Rattle.bridge_session.specs.Record.{PlainRecord, play_of, is_done, is_open}
-use Rattle.bridge_session.specs.State.{SessionValue, row_at, row_place}
+use Rattle.bridge_session.specs.State.{SessionValue, row_at, index_of_row}
 use Rattle.bridge_session.specs.Step.{if_allowed, is_row_within, record_of, rule_answer, with_ruling, ruled}
 use Rattle.bridge_session.specs.Valid.{IsPlayId, IsValidRecord, IsValid}
 use Rattle.bridge_session.specs.Laws.StaysValid.{round_due, valid_change}
@@ -97,21 +97,21 @@ found_within true o x is = (refl, is)
 found_within false o x is = absurd cc
 
 -- the row of a play is of its round
-pub row_round : (configuration : ConfigValue) (round table : ℕ) (row : Row) → IsConfiguration configuration → 1 ≤ round → 1 ≤ table → table ≤ configuration.movement.shape.tables → slice_get configuration.movement.rows (row_place configuration.movement.shape round table) ≡ Some row → row.round ≡ round
+pub row_round : (configuration : ConfigValue) (round table : ℕ) (row : Row) → IsConfiguration configuration → 1 ≤ round → 1 ≤ table → table ≤ configuration.movement.shape.tables → slice_get configuration.movement.rows (index_of_row configuration.movement.shape round table) ≡ Some row → row.round ≡ round
 row_round configuration round table row limits least first within is =
     let tables : ℕ = configuration.movement.shape.tables in
-    let due = round_due configuration (row_place configuration.movement.shape round table) row limits is in
+    let due = round_due configuration (index_of_row configuration.movement.shape round table) row limits is in
     let whole : ((round - 1) * tables + (table - 1)) / tables ≡ round - 1 = div-mul-add (round - 1) tables (table - 1) (omega arith) in
     omega (arith, due, whole)
 
 pub rule_valid : (s : SessionValue) (play : PlayId) (made : Correction) → IsValid s → IsPlayId play → rule_answer s.round play.round made (record_of s play) ≡ Ok tt → IsValid (ruled s play made)
 rule_valid s play made valid ranges ok =
     let shape = s.configuration.movement.shape in
-    let place = row_place shape play.round play.table in
+    let index = index_of_row shape play.round play.table in
     let on = ruled_on s.round play.round made (record_of s play) ok in
-    let found = found_within (is_row_within shape play.round play.table) (slice_get (row_at s.records place) (play.index - 1)) on.plain on.is in
+    let found = found_within (is_row_within shape play.round play.table) (slice_get (row_at s.records index) (play.index - 1)) on.plain on.is in
     let within = leb-true play.table shape.tables (and_parts _ _ found.0).1 in
-    valid_change s place (with_ruling made) (λ records. play.index - 1) valid (λ x. refl)
+    valid_change s index (with_ruling made) (λ records. play.index - 1) valid (λ x. refl)
     (λ row x is was good.
     let round : row.round ≡ play.round = row_round s.configuration play.round play.table row valid.configured ranges.0 ranges.1 within is in
     let same : on.plain ≡ x = let both : Some on.plain ≡ Some x = sym found.1 ∙ was in cc in

@@ -29,54 +29,54 @@ impl Session {
         (2 + fields.pairs.len() + self.deals.len() + plays) as u32
     }
 
-    /// The record of a play by its place among the plays, if its row is live.
-    fn play_at(&self, place: usize) -> Option<&Record>
-        requires { place < length (play_parts self.now) }
-        ensures part { record_part (unwrap_or (option_map plain_of (option_copied result)) (empty_record 0)) ≡ slice_index_or (play_parts self.now) place [] }
+    /// The record of a play by its index among the plays, if its row is live.
+    fn play_at(&self, index: usize) -> Option<&Record>
+        requires { index < length (play_parts self.now) }
+        ensures part { record_part (unwrap_or (option_map plain_of (option_copied result)) (empty_record 0)) ≡ slice_index_or (play_parts self.now) index [] }
         ensures dealer { IfSome (option_copied result) (λ kept. kept.auction.dealer ≡ dealer_of kept.board) }
     {
         let boards = usize::from(self.config.fields().boards);
-        let table = &self.tables[place / boards];
-        record_at(table.as_slice(), place % boards)
+        let table = &self.tables[index / boards];
+        record_at(table.as_slice(), index % boards)
     }
 
-    /// Writes the part of a play by its place among the plays into an empty list.
-    fn write_play(&self, place: usize, part: &mut ArrayVec<u8, 480>)
-        requires within { place < length (play_parts self.now) }
+    /// Writes the part of a play by its index among the plays into an empty list.
+    fn write_play(&self, index: usize, part: &mut ArrayVec<u8, 480>)
+        requires within { index < length (play_parts self.now) }
         requires empty { part.old.items ≡ [] }
-        ensures { part.new.items ≡ slice_index_or (play_parts self.now) place [] }
+        ensures { part.new.items ≡ slice_index_or (play_parts self.now) index [] }
     {
-        match self.play_at(place) {
+        match self.play_at(index) {
             Some(kept) => write_record(kept, part),
             None => write_empty(part),
         }
     }
 
-    /// Writes the part of a board or a play by its place among these into an empty list.
-    fn write_from_boards(&self, place: usize, part: &mut ArrayVec<u8, 480>)
-        requires within { place < length (board_parts self.now) }
+    /// Writes the part of a board or a play by its index among these into an empty list.
+    fn write_from_boards(&self, index: usize, part: &mut ArrayVec<u8, 480>)
+        requires within { index < length (board_parts self.now) }
         requires empty { part.old.items ≡ [] }
-        ensures { part.new.items ≡ slice_index_or (board_parts self.now) place [] }
+        ensures { part.new.items ≡ slice_index_or (board_parts self.now) index [] }
     {
         let boards = self.deals.len();
-        if place < boards {
-            write_deal(&self.deals[place], part);
+        if index < boards {
+            write_deal(&self.deals[index], part);
         } else {
-            self.write_play(place - boards, part);
+            self.write_play(index - boards, part);
         }
     }
 
-    /// Writes the part of a pair, a board or a play by its place among these into an empty list.
-    fn write_from_pairs(&self, place: usize, part: &mut ArrayVec<u8, 480>)
-        requires within { place < length (pair_parts self.now) }
+    /// Writes the part of a pair, a board or a play by its index among these into an empty list.
+    fn write_from_pairs(&self, index: usize, part: &mut ArrayVec<u8, 480>)
+        requires within { index < length (pair_parts self.now) }
         requires empty { part.old.items ≡ [] }
-        ensures { part.new.items ≡ slice_index_or (pair_parts self.now) place [] }
+        ensures { part.new.items ≡ slice_index_or (pair_parts self.now) index [] }
     {
         let pairs = self.config.fields().pairs.as_slice();
-        if place < pairs.len() {
-            write_pair(&pairs[place], part);
+        if index < pairs.len() {
+            write_pair(&pairs[index], part);
         } else {
-            self.write_from_boards(place - pairs.len(), part);
+            self.write_from_boards(index - pairs.len(), part);
         }
     }
 

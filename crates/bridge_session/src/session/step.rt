@@ -5,7 +5,7 @@ ghost use Rattle.bridge_movement.specs.Shape.{row_count};
 ghost use Rattle.bridge_session.specs.declared.correction.Correction.TheVariants as correction;
 ghost use Rattle.bridge_session.specs.declared.deed.Deed.TheVariants as deed;
 ghost use Rattle.bridge_session.specs.Record.{is_open};
-ghost use Rattle.bridge_session.specs.State.{director_answer, row_place};
+ghost use Rattle.bridge_session.specs.State.{director_answer, index_of_row};
 ghost use Rattle.bridge_session.specs.Step.{seen_by, player_answer, acted, if_allowed, deal_answer, next_answer, records_of_round, is_row_within, rule_answer, record_of, ruled, step_answer, changed};
 ghost use Rattle.bridge_session.specs.Kept.{is_kept_open};
 
@@ -21,7 +21,7 @@ use crate::table::{act_among, has_open, rule_among};
 use bridge_cards::{BoardNumber, CardSet, Deal};
 use bridge_config::Key;
 
-/// Whether one of so many tables from a place on has a play that is neither finished nor void.
+/// Whether one of so many tables from an index on has a play that is neither finished nor void.
 fn have_open(tables: &[Vec<Record>], start: usize, count: usize) -> bool
     ensures { result ≡ list_any (λ table. list_any is_kept_open table.items) (take count (drop start tables.now)) }
 {
@@ -50,7 +50,7 @@ impl Session {
             return Err(Refused::NotCurrent);
         }
         let deals = self.deals.as_slice();
-        let table = &mut self.tables[seating.place];
+        let table = &mut self.tables[seating.row];
         act_among(table.as_mut_slice(), deals, board, seating.seat, at, deed)
     }
 
@@ -69,17 +69,17 @@ impl Session {
         if is_closed(&self.config, self.round) {
             return Err(Refused::Closed);
         }
-        let place = usize::from(board.number() - 1);
-        if place >= self.deals.len() {
+        let index = usize::from(board.number() - 1);
+        if index >= self.deals.len() {
             return Err(Refused::NoSuchPlay);
         }
-        if self.deals[place].is_some() {
+        if self.deals[index].is_some() {
             return Err(Refused::AlreadyDealt);
         }
         let Ok(deal) = Deal::from_hands(hands) else {
             return Err(Refused::BadDeal);
         };
-        self.deals[place] = Some(deal);
+        self.deals[index] = Some(deal);
         Ok(())
     }
 
@@ -126,11 +126,11 @@ impl Session {
         let of_round = round.number();
         let at = usize::from(index.number() - 1);
         check_director(&self.config, key)?;
-        let Some(place) = row_of(&self.config, round, table) else {
+        let Some(index) = row_of(&self.config, round, table) else {
             return Err(Refused::NoSuchPlay);
         };
         let now = self.round;
-        let records = &mut self.tables[place];
+        let records = &mut self.tables[index];
         rule_among(records.as_mut_slice(), at, now, of_round, correction)
     }
 

@@ -24,7 +24,7 @@ const TWO_TABLES: Shape = Shape {
     split: 2,
 };
 
-/// What takes the place of rows of the good movement, counted from 0, and why the rows are then refused.
+/// What stands for rows of the good movement, counted from 0, and why the rows are then refused.
 const REFUSED: [(&[(usize, [u8; 5])], MovementRefused); 11] = [
     (&[(1, [2, 1, 2, 4, 2])], MovementRefused::MissingRow(2)),
     (&[(3, [2, 2, 2, 255, 4])], MovementRefused::BadPair(4)),
@@ -87,8 +87,8 @@ fn row(numbers: [u8; 5]) -> Row {
 /// The good movement with some rows changed.
 fn changed(changes: &[(usize, [u8; 5])]) -> [Row; 4] {
     let mut rows = GOOD.map(row);
-    for (place, numbers) in changes {
-        if let Some(changed) = rows.get_mut(*place) {
+    for (index, numbers) in changes {
+        if let Some(changed) = rows.get_mut(*index) {
             *changed = row(*numbers);
         }
     }
@@ -149,7 +149,7 @@ fn rows_lacking_or_left_over_are_refused(rt: HostRuntime) {
         let refused = MovementRefused::MissingRow(count as u16 + 1);
         let found = refusal(TWO_TABLES, &rows[..count]);
         expect_eq(&rt, found, Some(refused), count);
-        expect_eq(&rt, usize::from(refused.place()), count + 1, count);
+        expect_eq(&rt, usize::from(refused.row_number()), count + 1, count);
     }
     expect_eq(&rt, refusal(TWO_TABLES, &rows), None, "all rows");
     let more = [rows[0], rows[1], rows[2], rows[3], rows[3]];

@@ -27,13 +27,13 @@ fn a_file_keeps_sectors_at_their_places(rt: HostRuntime) -> Result<(), Fail> {
 
     let bytes = fs::read(&rt, name)?;
     expect_eq(&rt, bytes.len(), 1_048_576, "bytes of the file");
-    for (place, byte) in bytes.iter().enumerate() {
-        let due = match place {
+    for (index, byte) in bytes.iter().enumerate() {
+        let due = match index {
             512..=1023 => 3,
             1_048_064..=1_048_575 => 5,
             _ => 0,
         };
-        expect_eq(&rt, *byte, due, place);
+        expect_eq(&rt, *byte, due, index);
     }
     fs::remove_file(&rt, name)?;
     let missing = FileDisk::create(&rt, "missing_folder/disk").err();

@@ -67,9 +67,9 @@ impl Sector {
     pub(crate) fn lose_power(&mut self, pick: u32)
         ensures { self.new ≡ cut_to (picked self.old pick) }
     {
-        let place = pick as usize % (self.since.len() + 1);
-        if place > 0 {
-            self.synced = self.since[place - 1];
+        let index = pick as usize % (self.since.len() + 1);
+        if index > 0 {
+            self.synced = self.since[index - 1];
         }
         self.first = self.synced;
         self.since.clear();

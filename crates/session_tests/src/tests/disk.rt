@@ -210,8 +210,8 @@ fn changed(
         let mut bytes = [0; 512];
         if at < disk.count() {
             disk.read(at, &mut bytes)?;
-            for (place, byte) in bytes.iter_mut().enumerate() {
-                if from <= place && place < end {
+            for (index, byte) in bytes.iter_mut().enumerate() {
+                if from <= index && index < end {
                     *byte = value;
                 }
             }

@@ -137,11 +137,11 @@ fn expect_prefix(
     prefixes: &[Parts],
 ) -> Result<(), Fail> {
     let found = written(alloc, session)?;
-    let place = prefixes
+    let index = prefixes
         .iter()
         .position(|due| due.as_slice() == found.as_slice());
-    let is_due = place.is_some_and(|at| tally.confirmed <= at && at <= tally.accepted);
-    expect_eq(rt, is_due, true, (place, tally.confirmed, tally.accepted));
+    let is_due = index.is_some_and(|at| tally.confirmed <= at && at <= tally.accepted);
+    expect_eq(rt, is_due, true, (index, tally.confirmed, tally.accepted));
     Ok(())
 }
 

@@ -6,14 +6,14 @@ use bridge_session::Session;
 use std::process::Abort;
 use std::test::Fail;
 
-/// Fails where the part of that place has other bytes.
-fn expect_part(rt: &impl Abort, session: &Session, place: u32, bytes: &[u8]) -> Result<(), Fail> {
-    if place >= session.parts() {
+/// Fails where the part of that index has other bytes.
+fn expect_part(rt: &impl Abort, session: &Session, index: u32, bytes: &[u8]) -> Result<(), Fail> {
+    if index >= session.parts() {
         return Err(Fail::from("a part"));
     }
     let mut part = ArrayVec::new();
-    session.write_part(place, &mut part);
-    expect_eq(rt, part.as_slice(), bytes, place);
+    session.write_part(index, &mut part);
+    expect_eq(rt, part.as_slice(), bytes, index);
     Ok(())
 }
 
@@ -21,7 +21,7 @@ fn expect_part(rt: &impl Abort, session: &Session, place: u32, bytes: &[u8]) -> 
 fn parts_of_a_new_session(rt: HostRuntime) -> Result<(), Fail> {
     let session = session_of(rt.alloc(), CLUB)?;
     expect_eq(&rt, session.parts(), 9, "parts");
-    for (place, bytes) in [
+    for (index, bytes) in [
         (1, b"\x01\x03\x01\x02\x04\x01".as_slice()),
         (
             2,
@@ -35,7 +35,7 @@ fn parts_of_a_new_session(rt: HostRuntime) -> Result<(), Fail> {
         (7, b"\x00\x00\x00\x00\x00\x00".as_slice()),
         (8, b"\x00\x00\x00\x00\x00\x00".as_slice()),
     ] {
-        expect_part(&rt, &session, place, bytes)?;
+        expect_part(&rt, &session, index, bytes)?;
     }
     Ok(())
 }

@@ -146,7 +146,7 @@ fn any_deed(state: &mut u32) -> Option<Action> {
 
 /// The key of the player in a seat of a row.
 fn key_in(twin: &Twin, row: Row, seat: Seat) -> Option<Key> {
-    let (pair, place) = match seat {
+    let (pair, index) = match seat {
         Seat::North => (row.ns, 0),
         Seat::East => (row.ew, 0),
         Seat::South => (row.ns, 1),
@@ -154,14 +154,14 @@ fn key_in(twin: &Twin, row: Row, seat: Seat) -> Option<Key> {
     };
     let pairs = twin.config.fields().pairs.as_slice();
     let players = pairs.get(usize::from(pair).checked_sub(1)?)?;
-    players.keys.get(place).copied()
+    players.keys.get(index).copied()
 }
 
 /// A card of the set.
 fn pick(state: &mut u32, cards: CardSet) -> Option<Card> {
-    let place = usize::from(small(state, 13));
+    let index = usize::from(small(state, 13));
     let held = cards.cards();
-    held.as_slice().get(place.checked_rem(held.len())?).copied()
+    held.as_slice().get(index.checked_rem(held.len())?).copied()
 }
 
 /// An action at a table that the rules ask for there, most of the time.

@@ -52,15 +52,15 @@ fn sessions_near(
     rt: &impl Abort,
     alloc: Global,
     session: &Session,
-    place: usize,
+    part_index: usize,
 ) -> Result<u32, Fail> {
     let parts = written(alloc, session)?;
-    let part = parts.get(place).ok_or("a part")?;
+    let part = parts.get(part_index).ok_or("a part")?;
     let mut found: u32 = 0;
     for (index, byte) in part.as_slice().iter().enumerate() {
         for value in [0, 255, byte.wrapping_add(1)] {
             let mut changed = written(alloc, session)?;
-            if let Some(part) = changed.get_mut(place) {
+            if let Some(part) = changed.get_mut(part_index) {
                 change(part, index, value);
             }
             if value != *byte && are_of_session(rt, alloc, changed.as_slice())? {
@@ -78,9 +78,9 @@ fn expect_near(
     session: &Session,
     due: &[(usize, u32)],
 ) -> Result<(), Fail> {
-    for (place, sessions) in due {
-        let found = sessions_near(rt, alloc, session, *place)?;
-        expect_eq(rt, found, *sessions, *place);
+    for (part_index, sessions) in due {
+        let found = sessions_near(rt, alloc, session, *part_index)?;
+        expect_eq(rt, found, *sessions, *part_index);
     }
     Ok(())
 }
@@ -104,8 +104,8 @@ fn a_byte_changed_while_a_claim_stands(rt: HostRuntime) -> Result<(), Fail> {
 fn a_byte_changed_before_the_boards(rt: HostRuntime) -> Result<(), Fail> {
     for texts in [[A_SLAM, A_CLAIM, A_PASS, CLOSED].as_slice(), &STANDING] {
         let session = after(&rt, rt.alloc(), texts)?;
-        for place in 0..6 {
-            let _sessions = sessions_near(&rt, rt.alloc(), &session, place)?;
+        for part_index in 0..6 {
+            let _sessions = sessions_near(&rt, rt.alloc(), &session, part_index)?;
         }
     }
     Ok(())

@@ -110,9 +110,9 @@ pub fn play(round: &str, table: &str, index: &str) -> Result<PlayId, Fail> {
 /// The first eight words of a line.
 fn words_of(line: &str) -> [&str; 8] {
     let mut words = [""; 8];
-    for (place, word) in line.split(' ').enumerate() {
-        if place < 8 {
-            words[place] = word;
+    for (index, word) in line.split(' ').enumerate() {
+        if index < 8 {
+            words[index] = word;
         }
     }
     words
@@ -212,9 +212,9 @@ pub fn after(rt: &impl Abort, alloc: Global, texts: &[&str]) -> Result<Session, 
 /// The parts of a session.
 pub fn written(alloc: Global, session: &Session) -> Result<Vec<ArrayVec<u8, 480>>, Fail> {
     let mut parts = Vec::new(alloc);
-    for place in 0..session.parts() {
+    for index in 0..session.parts() {
         let mut part = ArrayVec::new();
-        session.write_part(place, &mut part);
+        session.write_part(index, &mut part);
         parts.push(part)?;
     }
     Ok(parts)

@@ -28,11 +28,11 @@ pub fn holder_of(config: &Config, key: Key) -> Holder {
     let mut pair = 0u8;
     for players in fields.pairs.as_slice() {
         pair = pair.saturating_add(1);
-        for (place, held) in players.keys.iter().enumerate() {
+        for (index, held) in players.keys.iter().enumerate() {
             if *held == key {
                 return Holder::Player {
                     pair,
-                    first: place == 0,
+                    first: index == 0,
                 };
             }
         }

@@ -12,7 +12,7 @@ const RECORD: &[u8; 4] = b"BD1R";
 
 const NONE: &[u8; 4] = b"\0\0\0\0";
 
-/// Its place, its mark, the epoch, its number and the payload.
+/// Its sector, its mark, the epoch, its number and the payload.
 type Written = (u32, &'static [u8; 4], u64, u32, &'static [u8]);
 
 /// A snapshot of epoch 1 with total 65,000 in which these sectors were written over, and what opening the disk answers: the

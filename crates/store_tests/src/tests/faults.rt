@@ -154,8 +154,8 @@ fn picks() -> [[u32; 2048]; 4] {
 /// The store that was opened has the confirmed actions, and of the others some of the first.
 fn expect_prefix(rt: &impl Abort, found: Result<(u16, u64), StoreFault>, twin: &Twin) {
     let total = found.map(|it| it.0);
-    let place = twin.totals.iter().position(|due| Ok(*due) == total);
-    assert!(rt; place.is_some_and(|at| twin.confirmed <= at), "{found:?}");
+    let index = twin.totals.iter().position(|due| Ok(*due) == total);
+    assert!(rt; index.is_some_and(|at| twin.confirmed <= at), "{found:?}");
 }
 
 // Whatever call fails, and whatever a power cut then leaves.

@@ -8,37 +8,37 @@ use Rattle.bridge_cards.specs.DealText.{suit_text}
 use Rattle.bridge_cards.proofs.PrintLemmas.{lowest_letters, lowest_letters-none, lowest_letters-all, printed_yes, printed_no, printed_room}
 use Rattle.bridge_cards.proofs.deal_text.print_suit.Goals as goal
 
-pub loop-place-init : goal.loop-place-init
-loop-place-init g c = ap (λ l. c.args.text.now.bytes ++ l) (lowest_letters-all c.args.hand c.args.suit)
+pub loop-index-init : goal.loop-index-init
+loop-index-init g c = ap (λ l. c.args.text.now.bytes ++ l) (lowest_letters-all c.args.hand c.args.suit)
 
 pub push-requires : goal.push-requires
 push-requires g c =
-    let place = c.loop-place.place in
-    let is_next : place ≡ suc (place - 1) = omega arith in
-    let has : has_card c.args.hand (card_of c.args.suit (place - 1 + 2)) ≡ true = cc in
-    let room = printed_room c.loop-place.text.bytes _ c.args.hand c.args.suit (place - 1) place is_next has c.loop-place.invariant in
+    let index = c.loop-index.index in
+    let is_next : index ≡ suc (index - 1) = omega arith in
+    let has : has_card c.args.hand (card_of c.args.suit (index - 1 + 2)) ≡ true = cc in
+    let room = printed_room c.loop-index.text.bytes _ c.args.hand c.args.suit (index - 1) index is_next has c.loop-index.invariant in
     let whole = length-append c.args.text.now.bytes (suit_text c.args.hand c.args.suit) in
     let one = ap length (encode_ascii c.from.result (omega arith)) in
     (search rules, omega (arith, c.requires, room, whole, one))
 
-pub loop-place-preserved-then-has : goal.loop-place-preserved-then-has
-loop-place-preserved-then-has g c =
-    let place = c.loop-place.place in
-    let is_next : place ≡ suc (place - 1) = omega arith in
-    let has : has_card c.args.hand (card_of c.args.suit (place - 1 + 2)) ≡ true = cc in
-    let step = printed_yes c.loop-place.text.bytes _ c.args.hand c.args.suit (place - 1) place is_next has c.loop-place.invariant in
-    let pushed : c.push.new.self.bytes ≡ c.loop-place.text.bytes ++ rank_letter (place - 1 + 2) ∷ []
-    = c.push.ensures.ascii (omega arith) ∙ ap (λ l. c.loop-place.text.bytes ++ l ∷ []) (c.from.ensures ∙ c.letter.ensures.letter ∙ ap rank_letter c.of_place-rank.ensures) in
-    ap (λ l. l ++ lowest_letters c.args.hand c.args.suit (place - 1)) pushed ∙ step
+pub loop-index-preserved-then-has : goal.loop-index-preserved-then-has
+loop-index-preserved-then-has g c =
+    let index = c.loop-index.index in
+    let is_next : index ≡ suc (index - 1) = omega arith in
+    let has : has_card c.args.hand (card_of c.args.suit (index - 1 + 2)) ≡ true = cc in
+    let step = printed_yes c.loop-index.text.bytes _ c.args.hand c.args.suit (index - 1) index is_next has c.loop-index.invariant in
+    let pushed : c.push.new.self.bytes ≡ c.loop-index.text.bytes ++ rank_letter (index - 1 + 2) ∷ []
+    = c.push.ensures.ascii (omega arith) ∙ ap (λ l. c.loop-index.text.bytes ++ l ∷ []) (c.from.ensures ∙ c.letter.ensures.letter ∙ ap rank_letter c.of_index-rank.ensures) in
+    ap (λ l. l ++ lowest_letters c.args.hand c.args.suit (index - 1)) pushed ∙ step
 
-pub loop-place-preserved : goal.loop-place-preserved
-loop-place-preserved g c =
-    let place = c.loop-place.place in
-    printed_no c.loop-place.text.bytes _ c.args.hand c.args.suit (place - 1) place (omega arith) (cc) c.loop-place.invariant
+pub loop-index-preserved : goal.loop-index-preserved
+loop-index-preserved g c =
+    let index = c.loop-index.index in
+    printed_no c.loop-index.text.bytes _ c.args.hand c.args.suit (index - 1) index (omega arith) (cc) c.loop-index.invariant
 
 pub returns : goal.returns
 returns g c =
-    let done : c.loop-place.place ≡ 0 = omega arith in
-    sym (append-nil c.loop-place.text.bytes)
-    ∙ ap (λ l. c.loop-place.text.bytes ++ l) (sym (ap (lowest_letters c.args.hand c.args.suit) done ∙ lowest_letters-none c.args.hand c.args.suit))
-    ∙ c.loop-place.invariant
+    let done : c.loop-index.index ≡ 0 = omega arith in
+    sym (append-nil c.loop-index.text.bytes)
+    ∙ ap (λ l. c.loop-index.text.bytes ++ l) (sym (ap (lowest_letters c.args.hand c.args.suit) done ∙ lowest_letters-none c.args.hand c.args.suit))
+    ∙ c.loop-index.invariant

@@ -7,17 +7,17 @@ use Rattle.bridge_config.proofs.limits.are_keys.Goals as goal
 
 pub returns-then-contains : goal.returns-then-contains
 returns-then-contains c =
-    let step = are_distinct-drop c.args.keys.now c.loop-place.place 0 c.loop-place-test.true in
+    let step = are_distinct-drop c.args.keys.now c.loop-index.index 0 c.loop-index-test.true in
     let twice = rw c.split_at.ensures.back at (sym c.if-contains.ensures.value) in
-    keys_told c.args.keys.now false (sym (c.loop-place.invariant ∙ step ∙ rw twice refl)) (are_numbers c.args.keys.now (λ place. Fits-lt-pow (c.type_inv.keys place)))
+    keys_told c.args.keys.now false (sym (c.loop-index.invariant ∙ step ∙ rw twice refl)) (are_numbers c.args.keys.now (λ index. Fits-lt-pow (c.type_inv.keys index)))
 
 pub returns : goal.returns
 returns c =
-    keys_told c.args.keys.now true (sym (c.loop-place.invariant ∙ ap are_distinct (drop_all c.loop-place.place c.args.keys.now c.loop-place-test.false)))
-    (are_numbers c.args.keys.now (λ place. Fits-lt-pow (c.type_inv.keys place)))
+    keys_told c.args.keys.now true (sym (c.loop-index.invariant ∙ ap are_distinct (drop_all c.loop-index.index c.args.keys.now c.loop-index-test.false)))
+    (are_numbers c.args.keys.now (λ index. Fits-lt-pow (c.type_inv.keys index)))
 
-pub loop-place-preserved : goal.loop-place-preserved
-loop-place-preserved c =
-    let step = are_distinct-drop c.args.keys.now c.loop-place.place 0 c.loop-place-test.true in
+pub loop-index-preserved : goal.loop-index-preserved
+loop-index-preserved c =
+    let step = are_distinct-drop c.args.keys.now c.loop-index.index 0 c.loop-index-test.true in
     let once = rw c.split_at.ensures.back at (sym c.if-contains.ensures.value) in
-    c.loop-place.invariant ∙ step ∙ rw once refl
+    c.loop-index.invariant ∙ step ∙ rw once refl

@@ -11,37 +11,37 @@ pub returns-in_err-line : goal.returns-in_err-line
 returns-in_err-line c =
     let p = err_from_is_err_and c.from_residual.result c.from_residual.ensures.1 in
     let total = pairs_in c.args.count c.args.number 1 (key_number c.args.director ∷ []) (lines c.args.text.now) in
-    rw (p.1, p.2) (pairs_miss_line c.in_err-line.field-0.0 (map pair_of c.loop-place.pairs.items) c.args.count c.loop-place.place (c.args.number + c.loop-place.place) (1 + c.loop-place.place) (map key_number c.loop-place.keys.items) (lines c.loop-place.rest.now) total
-    c.loop-place-test.true c.in_err-line.ensures.line c.loop-place.invariant.read)
+    rw (p.1, p.2) (pairs_miss_line c.in_err-line.field-0.0 (map pair_of c.loop-index.pairs.items) c.args.count c.loop-index.index (c.args.number + c.loop-index.index) (1 + c.loop-index.index) (map key_number c.loop-index.keys.items) (lines c.loop-index.rest.now) total
+    c.loop-index-test.true c.in_err-line.ensures.line c.loop-index.invariant.read)
 
 pub returns-in_err-pair : goal.returns-in_err-pair
 returns-in_err-pair c =
     let p = err_from_is_err_and c.from_residual-in_err-pair.result c.from_residual-in_err-pair.ensures.1 in
     let is = rw (c.in_ok-line.ensures.number, c.as_slice.ensures.value) at c.in_err-pair.ensures in
     let total = pairs_in c.args.count c.args.number 1 (key_number c.args.director ∷ []) (lines c.args.text.now) in
-    rw (p.1, p.2) (pairs_end_at c.in_err-pair.field-0.0 (map pair_of c.loop-place.pairs.items) c.args.count c.loop-place.place (c.args.number + c.loop-place.place) (1 + c.loop-place.place) (map key_number c.loop-place.keys.items) (lines c.loop-place.rest.now) c.in_ok-line.line.text.now (lines c.in_ok-line.after.now) total
-    c.loop-place-test.true c.in_ok-line.ensures.line is c.loop-place.invariant.read)
+    rw (p.1, p.2) (pairs_end_at c.in_err-pair.field-0.0 (map pair_of c.loop-index.pairs.items) c.args.count c.loop-index.index (c.args.number + c.loop-index.index) (1 + c.loop-index.index) (map key_number c.loop-index.keys.items) (lines c.loop-index.rest.now) c.in_ok-line.line.text.now (lines c.in_ok-line.after.now) total
+    c.loop-index-test.true c.in_ok-line.ensures.line is c.loop-index.invariant.read)
 
-pub loop-place-preserved : goal.loop-place-preserved
-loop-place-preserved c =
+pub loop-index-preserved : goal.loop-index-preserved
+loop-index-preserved c =
     let is = rw (c.in_ok-line.ensures.number, c.as_slice.ensures.value) at c.in_ok-pair.ensures in
-    let next : c.args.number + (c.loop-place.place + 1) ≡ c.args.number + c.loop-place.place + 1 = omega arith in
-    let index : 1 + (c.loop-place.place + 1) ≡ 1 + c.loop-place.place + 1 = omega arith in
+    let next : c.args.number + (c.loop-index.index + 1) ≡ c.args.number + c.loop-index.index + 1 = omega arith in
+    let index : 1 + (c.loop-index.index + 1) ≡ 1 + c.loop-index.index + 1 = omega arith in
     let pair = c.in_ok-pair.pair in
-    let grown : c.try_extend_from_slice.new.self.items ≡ c.loop-place.keys.items ++ pair.keys = rw c.unwrap.ensures at c.try_extend_from_slice.ensures.ok in
-    let keys : map key_number c.try_extend_from_slice.new.self.items ≡ map key_number c.loop-place.keys.items ++ map key_number pair.keys =
-    ap (map key_number) grown ∙ map-append key_number c.loop-place.keys.items pair.keys in
-    let pairs : map pair_of c.push-in-loop-place.new.self.items ≡ map pair_of c.loop-place.pairs.items ++ pair_of pair ∷ [] =
-    ap (map pair_of) c.push-in-loop-place.ensures.items ∙ map_push pair_of c.loop-place.pairs.items pair in
+    let grown : c.try_extend_from_slice.new.self.items ≡ c.loop-index.keys.items ++ pair.keys = rw c.unwrap.ensures at c.try_extend_from_slice.ensures.ok in
+    let keys : map key_number c.try_extend_from_slice.new.self.items ≡ map key_number c.loop-index.keys.items ++ map key_number pair.keys =
+    ap (map key_number) grown ∙ map-append key_number c.loop-index.keys.items pair.keys in
+    let pairs : map pair_of c.push-in-loop-index.new.self.items ≡ map pair_of c.loop-index.pairs.items ++ pair_of pair ∷ [] =
+    ap (map pair_of) c.push-in-loop-index.ensures.items ∙ map_push pair_of c.loop-index.pairs.items pair in
     let total = pairs_in c.args.count c.args.number 1 (key_number c.args.director ∷ []) (lines c.args.text.now) in
     record {
-      read = rw (pairs, keys, next, index) (pairs_go_on (map pair_of c.loop-place.pairs.items) c.args.count c.loop-place.place (c.args.number + c.loop-place.place) (1 + c.loop-place.place) (map key_number c.loop-place.keys.items) (lines c.loop-place.rest.now) c.in_ok-line.line.text.now (pair_of pair) (lines c.in_ok-line.after.now) total
-          c.loop-place-test.true c.in_ok-line.ensures.line is c.loop-place.invariant.read);
-      count = omega (arith, c.push-in-loop-place.ensures.len, c.loop-place.invariant.count);
-      keys = let len = rw c.unwrap.ensures at c.try_extend_from_slice.ensures.len in omega (arith, len, c.loop-place.invariant.keys);
+      read = rw (pairs, keys, next, index) (pairs_go_on (map pair_of c.loop-index.pairs.items) c.args.count c.loop-index.index (c.args.number + c.loop-index.index) (1 + c.loop-index.index) (map key_number c.loop-index.keys.items) (lines c.loop-index.rest.now) c.in_ok-line.line.text.now (pair_of pair) (lines c.in_ok-line.after.now) total
+          c.loop-index-test.true c.in_ok-line.ensures.line is c.loop-index.invariant.read);
+      count = omega (arith, c.push-in-loop-index.ensures.len, c.loop-index.invariant.count);
+      keys = let len = rw c.unwrap.ensures at c.try_extend_from_slice.ensures.len in omega (arith, len, c.loop-index.invariant.keys);
     }
 
 pub returns : goal.returns
 returns c =
     let total = pairs_in c.args.count c.args.number 1 (key_number c.args.director ∷ []) (lines c.args.text.now) in
-    pairs_are_done (map pair_of c.loop-place.pairs.items) c.args.count c.loop-place.place (c.args.number + c.loop-place.place) (1 + c.loop-place.place) (map key_number c.loop-place.keys.items) (lines c.loop-place.rest.now) total (omega arith) c.loop-place.invariant.read
+    pairs_are_done (map pair_of c.loop-index.pairs.items) c.args.count c.loop-index.index (c.args.number + c.loop-index.index) (1 + c.loop-index.index) (map key_number c.loop-index.keys.items) (lines c.loop-index.rest.now) total (omega arith) c.loop-index.invariant.read

@@ -3,8 +3,8 @@ use Rattle.bridge_pbn.specs.Lines.{spaced}
 use Rattle.bridge_pbn.specs.Sections.{call_text}
 use Rattle.bridge_pbn.proofs.auction_section.push_calls.Given as goal
 
-abbrev pub invariant-loop-place : goal.invariant-loop-place
-invariant-loop-place l = record {
-  text : l.text.bytes ≡ l.fn.text.bytes ++ spaced (map call_text (take l.place l.calls));
-  room : length l.text.bytes ≤ length l.fn.text.bytes + 5 * l.place;
+abbrev pub invariant-loop-index : goal.invariant-loop-index
+invariant-loop-index l = record {
+  text : l.text.bytes ≡ l.fn.text.bytes ++ spaced (map call_text (take l.index l.calls));
+  room : length l.text.bytes ≤ length l.fn.text.bytes + 5 * l.index;
 }

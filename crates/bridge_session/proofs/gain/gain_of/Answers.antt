@@ -9,5 +9,5 @@ use Rattle.bridge_session.proofs.gain.gain_of.Goals as goal
 pub returns-in-None-clause-value : goal.returns-in-None-clause-value
 returns-in-None-clause-value c =
     let fits : SFits w32 c.args.own = search rules in
-    ap (λ place. option_map_or (gain_at c.args.scoring c.args.scores.now) place (pos 0)) (sym c.in-None.is ∙ c.place_of_score.ensures)
+    ap (λ index. option_map_or (gain_at c.args.scoring c.args.scores.now) index (pos 0)) (sym c.in-None.is ∙ c.index_of_score.ensures)
     ∙ ap (λ (own : ℤ). gain_of c.args.scoring c.args.scores.now own) (to_z-of_z w32 c.args.own fits)

@@ -14,29 +14,29 @@ use Rattle.bridge_session.proofs.game.games_of.Goals as goal
 abbrev none : Row
 none = record { round = 0; table = 0; ns = 0; ew = 0; set = 0 }
 
-pub loop-place-preserved : goal.loop-place-preserved
-loop-place-preserved c =
+pub loop-index-preserved : goal.loop-index-preserved
+loop-index-preserved c =
     let rows = c.args.rows.now in
     let lists = lists_in c.args.tables.now in
-    let place = c.loop-place.place in
-    let games = c.loop-place.games.items in
+    let index = c.loop-index.index in
+    let games = c.loop-index.games.items in
     let table = c.as_slice.result.now in
-    let inside : place < length lists = omega (arith, length-map c.args.tables.now (λ t. t.items), c.requires.count, c.loop-place-test.true) in
-    let there : slice_get lists place ≡ Some table = list_there c.args.tables.now place c.index-tables-place.result inside c.index-tables-place.is ∙ ap Some (sym c.as_slice.ensures.value) in
+    let inside : index < length lists = omega (arith, length-map c.args.tables.now (λ t. t.items), c.requires.count, c.loop-index-test.true) in
+    let there : slice_get lists index ≡ Some table = list_there c.args.tables.now index c.index-tables-index.result inside c.index-tables-index.is ∙ ap Some (sym c.as_slice.ensures.value) in
     let played = c.deref.ensures.0 ∙ c.games_in-played.ensures.games in
     let grown : c.try_extend_from_slice.new.self.items ≡ games ++ c.deref.result.now = rw c.unwrap.ensures at c.try_extend_from_slice.ensures.ok in
     let len = rw c.unwrap.ensures at c.try_extend_from_slice.ensures.len in
     record {
-      games = grown_games rows lists place none table games c.try_extend_from_slice.new.self.items c.loop-place-test.true inside (get_or_from_slice_get lists place table table there) c.loop-place.invariant.games
+      games = grown_games rows lists index none table games c.try_extend_from_slice.new.self.items c.loop-index-test.true inside (get_or_from_slice_get lists index table table there) c.loop-index.invariant.games
           (grown ∙ ap (λ gs. games ++ gs) played);
       each = subst (All IsGame) (sym grown)
-          (All-append IsGame games c.deref.result.now c.loop-place.invariant.each (subst (All IsGame) (sym c.deref.ensures.0) c.games_in-played.ensures.each));
-      few = omega (arith, len, c.deref.ensures.1, c.loop-place.invariant.few);
+          (All-append IsGame games c.deref.result.now c.loop-index.invariant.each (subst (All IsGame) (sym c.deref.ensures.0) c.games_in-played.ensures.each));
+      few = omega (arith, len, c.deref.ensures.1, c.loop-index.invariant.few);
     }
 
 pub returns-clause-games : goal.returns-clause-games
 returns-clause-games c =
     let rows = c.args.rows.now in
     let lists = lists_in c.args.tables.now in
-    c.loop-place.invariant.games
-    ∙ ap (flat_map kept_games_in) (take_all c.loop-place.place (zip rows lists) (omega (arith, length-zip rows lists, c.loop-place-test.false)))
+    c.loop-index.invariant.games
+    ∙ ap (flat_map kept_games_in) (take_all c.loop-index.index (zip rows lists) (omega (arith, length-zip rows lists, c.loop-index-test.false)))

@@ -4,9 +4,9 @@ use Rattle.bridge_session.specs.Kept.{kept_games_in, IsGame}
 use Rattle.bridge_session.proofs.Acted.{lists_in}
 use Rattle.bridge_session.proofs.game.games_of.Given as goal
 
-abbrev pub invariant-loop-place : goal.invariant-loop-place
-invariant-loop-place l = record {
-  games : l.games.items ≡ flat_map kept_games_in (take l.place (zip l.rows (lists_in l.tables)));
+abbrev pub invariant-loop-index : goal.invariant-loop-index
+invariant-loop-index l = record {
+  games : l.games.items ≡ flat_map kept_games_in (take l.index (zip l.rows (lists_in l.tables)));
   each : All IsGame l.games.items;
-  few : length l.games.items ≤ 3 * l.place;
+  few : length l.games.items ≤ 3 * l.index;
 }

@@ -5,5 +5,5 @@ use Rattle.bridge_session.specs.Reading.{items_of}
 use Rattle.bridge_session.proofs.head.have_pairs.Given as goal
 
 -- the parts so far are those of the pairs
-abbrev pub invariant-loop-place : goal.invariant-loop-place
-invariant-loop-place l = map (λ pair. pair_part (pair_of pair)) (take l.place l.pairs) ≡ take l.place (map items_of l.parts)
+abbrev pub invariant-loop-index : goal.invariant-loop-index
+invariant-loop-index l = map (λ pair. pair_part (pair_of pair)) (take l.index l.pairs) ≡ take l.index (map items_of l.parts)

@@ -3,9 +3,9 @@ use Rattle.std.specs.List.{range_with_len}
 use Rattle.bridge_session.specs.PartsRead.{row_in}
 use Rattle.bridge_session.proofs.head.read_rows.Given as goal
 
--- the rows of the places so far
-abbrev pub invariant-loop-place : goal.invariant-loop-place
-invariant-loop-place l = record {
-  rows : l.rows.items ≡ map (row_in l.shape.tables l.part) (range_with_len 0 l.place);
-  count : length l.rows.items ≡ l.place;
+-- the rows of the indexes so far
+abbrev pub invariant-loop-index : goal.invariant-loop-index
+invariant-loop-index l = record {
+  rows : l.rows.items ≡ map (row_in l.shape.tables l.part) (range_with_len 0 l.index);
+  count : length l.rows.items ≡ l.index;
 }

@@ -12,7 +12,7 @@ items scores = scores.items
 pub returns : goal.returns
 returns c =
     let lists = c.args.lists.now in
-    let place = c.args.board - 1 in
+    let index = c.args.board - 1 in
     let score : ℤ = c.args.score in
     let given : ℤ = to_z w32 (of_z w32 score) in
     let there = c.from.ensures in
@@ -20,10 +20,10 @@ returns c =
     ∙ ap (λ i. get_or (map items lists) i []) there in
     let added = c.push.ensures.items
     ∙ ap (λ scores. scores ++ given ∷ []) had
-    ∙ ap (λ (z : ℤ). get_or (map items lists) place [] ++ z ∷ []) (to_z-of_z w32 score c.ranges.score) in
+    ∙ ap (λ (z : ℤ). get_or (map items lists) index [] ++ z ∷ []) (to_z-of_z w32 score c.ranges.score) in
     record {
       lists =
           map-set items lists c.from.result c.push.new.self
           ∙ ap (λ i. set (map items lists) i c.push.new.self.items) there
-          ∙ ap (λ scores. set (map items lists) place scores) added;
+          ∙ ap (λ scores. set (map items lists) index scores) added;
     }

@@ -10,32 +10,32 @@ use Rattle.bridge_session.specs.State.{has_key, is_first_key}
 use Rattle.bridge_session.proofs.Lists.{position-map}
 use Rattle.bridge_session.proofs.seating.player_in.Goals as goal
 
--- the place that is found is that of the pair
+-- the index that is found is that of the pair
 found : (key : ℕ) (pairs : List PairFields) → position (has_key key) (map pair_of pairs) ≡ position (λ pair. has_key key (pair_of pair)) pairs
 found key pairs = position-map (has_key key) (λ pair. has_key key (pair_of pair)) pair_of pairs (λ k d within. refl)
 
--- the player of the pair at a place
+-- the player of the pair at an index
 abbrev player_at : List Pair → ℕ → ℕ → Player
-player_at pairs key place = record { pair = place + 1; first = is_first_key pairs key place }
+player_at pairs key index = record { pair = index + 1; first = is_first_key pairs key index }
 
-first_key : (pairs : List PairFields) (key place : ℕ) (pair : PairFields) → slice_get pairs place ≡ Some pair → is_first_key (map pair_of pairs) key place ≡ (slice_index (pair_of pair).keys 0 == key)
-first_key pairs key place pair is =
-    ap (λ found. option_map_or (λ (p : Pair). slice_index p.keys 0 == key) found false) (slice_get-map pair_of pairs place ∙ ap (option_map pair_of) is)
+first_key : (pairs : List PairFields) (key index : ℕ) (pair : PairFields) → slice_get pairs index ≡ Some pair → is_first_key (map pair_of pairs) key index ≡ (slice_index (pair_of pair).keys 0 == key)
+first_key pairs key index pair is =
+    ap (λ found. option_map_or (λ (p : Pair). slice_index p.keys 0 == key) found false) (slice_get-map pair_of pairs index ∙ ap (option_map pair_of) is)
 
-pub returns-in_err-place : goal.returns-in_err-place
-returns-in_err-place c =
+pub returns-in_err-index : goal.returns-in_err-index
+returns-in_err-index c =
     let pairs = map pair_of c.args.pairs.now in
-    c.from_residual.ensures ∙ ap (option_map (player_at pairs c.args.key.0)) (c.in_err-place.ensures ∙ sym (found c.args.key.0 c.args.pairs.now))
+    c.from_residual.ensures ∙ ap (option_map (player_at pairs c.args.key.0)) (c.in_err-index.ensures ∙ sym (found c.args.key.0 c.args.pairs.now))
 
 pub returns : goal.returns
 returns c =
     let pairs = c.args.pairs.now in
     let key = c.args.key.0 in
-    let place = c.in_ok-place.place in
-    let pair = c.index-pairs-place.result in
-    let is_found : position (λ p. has_key key (pair_of p)) pairs ≡ Some place = sym c.in_ok-place.ensures in
-    let inside : place < length pairs = (position-Some (λ p. has_key key (pair_of p)) pairs place pair is_found).0 in
-    let is : slice_get pairs place ≡ Some pair = slice_get_read pairs (length pairs) place pair refl inside c.index-pairs-place.is in
-    let made : Bool → Option Player = λ first. Some (record { pair = place + 1; first = first }) in
-    ap made (c.is_key_of.ensures ∙ sym (first_key pairs key place pair is))
-    ∙ ap (option_map (player_at (map pair_of pairs) key)) (c.in_ok-place.ensures ∙ sym (found key pairs))
+    let index = c.in_ok-index.index in
+    let pair = c.index-pairs-index.result in
+    let is_found : position (λ p. has_key key (pair_of p)) pairs ≡ Some index = sym c.in_ok-index.ensures in
+    let inside : index < length pairs = (position-Some (λ p. has_key key (pair_of p)) pairs index pair is_found).0 in
+    let is : slice_get pairs index ≡ Some pair = slice_get_read pairs (length pairs) index pair refl inside c.index-pairs-index.is in
+    let made : Bool → Option Player = λ first. Some (record { pair = index + 1; first = first }) in
+    ap made (c.is_key_of.ensures ∙ sym (first_key pairs key index pair is))
+    ∙ ap (option_map (player_at (map pair_of pairs) key)) (c.in_ok-index.ensures ∙ sym (found key pairs))

@@ -16,32 +16,32 @@ use Rattle.bridge_session.proofs.tables_read.read_records.Goals as goal
 
 pub returns-in-None-clause-other : goal.returns-in-None-clause-other
 returns-in-None-clause-other c = λ records are is.
-    let place = c.loop-part.part-index in
-    let found = mapped_at record_part items_of records c.args.parts.now place c.part-item.result is c.loop-part-test.true c.part-item.is in
+    let index = c.loop-part.part-index in
+    let found = mapped_at record_part items_of records c.args.parts.now index c.part-item.result is c.loop-part-test.true c.part-item.is in
     let number : c.unwrap-board.result ≡ c.loop-part.number = subst (λ o. IfSome o (λ b. b ≡ c.loop-part.number)) c.unwrap-board.ensures c.new.ensures.value in
-    let board = board_there c.args.first _ place records found.0 are.boards_are found.1 in
+    let board = board_there c.args.first _ index records found.0 are.boards_are found.1 in
     c.in-None.ensures.none found.0 (board ∙ sym (number ∙ c.loop-part.invariant.next))
-    (all_there (IsValidRecord c.args.deals.now c.args.now c.args.round) records place found.0 are.valid found.1)
-    (all_there IsRecordInRange records place found.0 are.in_range found.1) (found.2 ∙ sym c.as_slice.ensures.value)
+    (all_there (IsValidRecord c.args.deals.now c.args.now c.args.round) records index found.0 are.valid found.1)
+    (all_there IsRecordInRange records index found.0 are.in_range found.1) (found.2 ∙ sym c.as_slice.ensures.value)
 
 pub loop-part-preserved : goal.loop-part-preserved
 loop-part-preserved c =
     let deals = c.args.deals.now in
-    let place = c.loop-part.part-index in
+    let index = c.loop-part.part-index in
     let table = c.loop-part.table.items in
     let kept = c.in-Some.kept in
     let read = c.in-Some.ensures.read in
     let number : c.unwrap-board.result ≡ c.loop-part.number = subst (λ o. IfSome o (λ b. b ≡ c.loop-part.number)) c.unwrap-board.ensures c.new.ensures.value in
     let longer : c.push.new.self.items ≡ table ++ kept ∷ [] = c.in_ok-push-in-Some.ensures.items in
-    let next = next_taken c.args.parts.now place c.part-item.result c.loop-part-test.true c.part-item.is in
+    let next = next_taken c.args.parts.now index c.part-item.result c.loop-part-test.true c.part-item.is in
     record {
       next = omega (arith, c.loop-part.invariant.next);
       so_far = ap (map part_kept) longer ∙ map-append part_kept table (kept ∷ [])
           ∙ ap (λ xs. xs ++ part_kept kept ∷ []) c.loop-part.invariant.so_far
-          ∙ ap (λ x. map items_of (take place c.args.parts.now) ++ x ∷ []) (read.bytes ∙ c.as_slice.ensures.value)
-          ∙ sym (ap (map items_of) next ∙ map-append items_of (take place c.args.parts.now) (c.part-item.result ∷ []));
-      records = subst (λ (kepts : List Record). AreRecords deals c.args.now c.args.round (range_with_len c.args.first (place + 1)) (map plain_of kepts)) (sym longer)
-          (records_push deals c.args.now c.args.round c.args.first place c.unwrap-board.result c.as_slice.result.now table kept
+          ∙ ap (λ x. map items_of (take index c.args.parts.now) ++ x ∷ []) (read.bytes ∙ c.as_slice.ensures.value)
+          ∙ sym (ap (map items_of) next ∙ map-append items_of (take index c.args.parts.now) (c.part-item.result ∷ []));
+      records = subst (λ (kepts : List Record). AreRecords deals c.args.now c.args.round (range_with_len c.args.first (index + 1)) (map plain_of kepts)) (sym longer)
+          (records_push deals c.args.now c.args.round c.args.first index c.unwrap-board.result c.as_slice.result.now table kept
           (number ∙ c.loop-part.invariant.next) c.loop-part.invariant.records read);
       tied = subst (All (IsTiedIn deals)) (sym longer) (All-push (IsTiedIn deals) table kept c.loop-part.invariant.tied read.tied);
     }

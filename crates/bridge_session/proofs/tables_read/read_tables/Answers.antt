@@ -15,11 +15,11 @@ use Rattle.bridge_session.proofs.tables_read.read_tables.Goals as goal
 pub returns-in-None-clause-other : goal.returns-in-None-clause-other
 returns-in-None-clause-other c = λ records are is.
     let boards = c.args.boards in
-    let place = c.loop-row.row-index in
+    let index = c.loop-row.row-index in
     let front = map plains_of c.loop-row.tables.items in
-    let before : length front ≡ place = omega (arith, c.loop-row.invariant.rows.count, length-take place c.args.rows.now, c.loop-row-test.true) in
-    let own = row_there c.args.deals.now c.args.now boards c.args.rows.now records front (map items_of c.loop-row.rest.now) place _ are
-    (c.loop-row.invariant.so_far ∙ sym is) before c.loop-row-test.true (slice_get-get_or c.args.rows.now place _ c.loop-row-test.true) in
+    let before : length front ≡ index = omega (arith, c.loop-row.invariant.rows.count, length-take index c.args.rows.now, c.loop-row-test.true) in
+    let own = row_there c.args.deals.now c.args.now boards c.args.rows.now records front (map items_of c.loop-row.rest.now) index _ are
+    (c.loop-row.invariant.so_far ∙ sym is) before c.loop-row-test.true (slice_get-get_or c.args.rows.now index _ c.loop-row-test.true) in
     when_none _ c.in_ok-table.field-0 c.in_ok-table.ensures.other c.in-None.is own.0 own.1 (own.2 ∙ take-map items_of boards c.loop-row.rest.now
     ∙ ap (λ n. map items_of (take n c.loop-row.rest.now)) (sym c.from.ensures) ∙ ap (map items_of) (sym c.split_at.ensures.front))
 
@@ -28,7 +28,7 @@ loop-row-preserved c =
     let boards = c.args.boards in
     let deals = c.args.deals.now in
     let rows = c.args.rows.now in
-    let place = c.loop-row.row-index in
+    let index = c.loop-row.row-index in
     let tables = c.loop-row.tables.items in
     let table = c.in-Some.table in
     let rest = c.loop-row.rest.now in
@@ -49,9 +49,9 @@ loop-row-preserved c =
           ∙ ap (λ xs. flat_map (row_parts boards) (map plains_of tables) ++ (xs ++ map items_of c.split_at.result.1.now)) (append-nil (row_parts boards (plains_of table)) ∙ written)
           ∙ ap (λ xs. flat_map (row_parts boards) (map plains_of tables) ++ xs) whole
           ∙ c.loop-row.invariant.so_far;
-      left = omega (arith, c.from.ensures, c.split_at.ensures.back_len, c.loop-row.invariant.left, suc_row (length rows) place boards c.loop-row-test.true);
-      rows = subst (λ (ts : List (Vec Record Global)). AreRows deals c.args.now boards (take (place + 1) rows) (map plains_of ts)) (sym longer)
-          (rows_push deals c.args.now boards rows place _ tables table c.loop-row-test.true (slice_get-get_or rows place _ c.loop-row-test.true) c.loop-row.invariant.rows
+      left = omega (arith, c.from.ensures, c.split_at.ensures.back_len, c.loop-row.invariant.left, suc_row (length rows) index boards c.loop-row-test.true);
+      rows = subst (λ (ts : List (Vec Record Global)). AreRows deals c.args.now boards (take (index + 1) rows) (map plains_of ts)) (sym longer)
+          (rows_push deals c.args.now boards rows index _ tables table c.loop-row-test.true (slice_get-get_or rows index _ c.loop-row-test.true) c.loop-row.invariant.rows
           (when_some _ c.in_ok-table.field-0 table c.in_ok-table.ensures.row c.in-Some.is));
       tied = subst (All (λ (t : Vec Record Global). All (IsTiedIn deals) t.items)) (sym longer)
           (All-push (λ (t : Vec Record Global). All (IsTiedIn deals) t.items) tables table c.loop-row.invariant.tied tied);

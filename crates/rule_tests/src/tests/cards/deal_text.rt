@@ -44,16 +44,16 @@ fn hands_of(text: &[u8]) -> Option<[u64; 4]> {
     (lowest == 1 && done == 3).then_some(hands)
 }
 
-/// The text with these bytes in place of the one at that place.
+/// The text with these bytes in place of the one at that index.
 fn with_bytes(
     alloc: Global,
     text: &[u8],
-    place: usize,
+    index: usize,
     bytes: &[u8],
 ) -> Result<Vec<u8>, AllocError> {
     let mut made = Vec::new(alloc);
     for (at, byte) in text.iter().enumerate() {
-        if at == place {
+        if at == index {
             made.extend_from_slice(bytes)?;
         } else {
             made.push(*byte)?;
@@ -71,14 +71,14 @@ fn bits_read(text: &[u8]) -> Option<[u64; 4]> {
 #[test]
 fn texts_are_read_where_they_are_in_form(rt: HostRuntime) -> Result<(), Fail> {
     for deal in DEALS {
-        for (place, old) in deal.iter().enumerate() {
+        for (index, old) in deal.iter().enumerate() {
             for new in 0..=255 {
-                let text = with_bytes(rt.alloc(), deal, place, &[new])?;
-                expect_eq(&rt, bits_read(&text), hands_of(&text), (new, place));
+                let text = with_bytes(rt.alloc(), deal, index, &[new])?;
+                expect_eq(&rt, bits_read(&text), hands_of(&text), (new, index));
             }
             for bytes in [[].as_slice(), &[*old, *old]] {
-                let text = with_bytes(rt.alloc(), deal, place, bytes)?;
-                expect_eq(&rt, bits_read(&text), hands_of(&text), (bytes, place));
+                let text = with_bytes(rt.alloc(), deal, index, bytes)?;
+                expect_eq(&rt, bits_read(&text), hands_of(&text), (bytes, index));
             }
         }
     }

@@ -27,26 +27,26 @@ fn first_state(key: &[u8; 32], last: [u32; 4]) -> [u32; 16] {
     state[1] = 0x3320_646e;
     state[2] = 0x7962_2d32;
     state[3] = 0x6b20_6574;
-    for place in 0..8 {
-        state[4 + place] = u32::from_le_bytes([
-            key[4 * place],
-            key[4 * place + 1],
-            key[4 * place + 2],
-            key[4 * place + 3],
+    for index in 0..8 {
+        state[4 + index] = u32::from_le_bytes([
+            key[4 * index],
+            key[4 * index + 1],
+            key[4 * index + 2],
+            key[4 * index + 3],
         ]);
     }
-    for place in 0..4 {
-        state[12 + place] = last[place];
+    for index in 0..4 {
+        state[12 + index] = last[index];
     }
     state
 }
 
-/// The quarter round on the words of the state at these places (RFC 8439, sections 2.1 and 2.2).
-fn quarter_round(state: &mut [u32; 16], places: [usize; 4]) {
-    let mut a = state[places[0] % 16];
-    let mut b = state[places[1] % 16];
-    let mut c = state[places[2] % 16];
-    let mut d = state[places[3] % 16];
+/// The quarter round on the words of the state at these indexes (RFC 8439, sections 2.1 and 2.2).
+fn quarter_round(state: &mut [u32; 16], indexes: [usize; 4]) {
+    let mut a = state[indexes[0] % 16];
+    let mut b = state[indexes[1] % 16];
+    let mut c = state[indexes[2] % 16];
+    let mut d = state[indexes[3] % 16];
     a = a.wrapping_add(b);
     d = (d ^ a).rotate_left(16);
     c = c.wrapping_add(d);
@@ -55,17 +55,17 @@ fn quarter_round(state: &mut [u32; 16], places: [usize; 4]) {
     d = (d ^ a).rotate_left(8);
     c = c.wrapping_add(d);
     b = (b ^ c).rotate_left(7);
-    state[places[0] % 16] = a;
-    state[places[1] % 16] = b;
-    state[places[2] % 16] = c;
-    state[places[3] % 16] = d;
+    state[indexes[0] % 16] = a;
+    state[indexes[1] % 16] = b;
+    state[indexes[2] % 16] = c;
+    state[indexes[3] % 16] = d;
 }
 
 /// The block of that state (RFC 8439, section 2.3): ten double rounds, and the state added to them.
 fn block(first: [u32; 16]) -> [u32; 16] {
     let mut state = first;
     for _ in 0..10 {
-        for places in [
+        for indexes in [
             [0, 4, 8, 12],
             [1, 5, 9, 13],
             [2, 6, 10, 14],
@@ -75,11 +75,11 @@ fn block(first: [u32; 16]) -> [u32; 16] {
             [2, 7, 8, 13],
             [3, 4, 9, 14],
         ] {
-            quarter_round(&mut state, places);
+            quarter_round(&mut state, indexes);
         }
     }
-    for place in 0..16 {
-        state[place] = state[place].wrapping_add(first[place]);
+    for index in 0..16 {
+        state[index] = state[index].wrapping_add(first[index]);
     }
     state
 }
@@ -114,7 +114,7 @@ fn chunk_from(first: u8) -> (u32, u32) {
 }
 
 /// The deck after the shuffle of `rand` 0.10. Each card from the second on changes places with the
-/// one at a place up to its own. A draw below the product of their numbers of places serves several
+/// one at an index up to its own. A draw below the product of their numbers of places serves several
 /// cards: each takes the remainder by its number of places, and the last what is left.
 fn shuffled(words: &mut Words) -> Option<[u8; 52]> {
     let mut deck = [0; 52];
@@ -123,10 +123,10 @@ fn shuffled(words: &mut Words) -> Option<[u8; 52]> {
     }
     let mut draw = 0;
     let mut served: u32 = 0;
-    for place in 1..52u8 {
-        let places = u32::from(place) + 1;
+    for index in 1..52u8 {
+        let places = u32::from(index) + 1;
         if served == 0 {
-            let (range, count) = chunk_from(place + 1);
+            let (range, count) = chunk_from(index + 1);
             draw = below(range, words);
             served = count;
         }
@@ -136,7 +136,7 @@ fn shuffled(words: &mut Words) -> Option<[u8; 52]> {
         if chosen >= places {
             return None;
         }
-        deck.swap(usize::from(place), chosen as usize);
+        deck.swap(usize::from(index), chosen as usize);
     }
     Some(deck)
 }
@@ -149,8 +149,8 @@ fn expected_hands(seed: &[u8; 32], board: u8) -> Option<[u64; 4]> {
         taken: 0,
     };
     let mut hands = [0; 4];
-    for (place, card) in shuffled(&mut words)?.iter().enumerate() {
-        hands[place / 13] |= 1u64.checked_shl(u32::from(*card))?;
+    for (index, card) in shuffled(&mut words)?.iter().enumerate() {
+        hands[index / 13] |= 1u64.checked_shl(u32::from(*card))?;
     }
     Some(hands)
 }

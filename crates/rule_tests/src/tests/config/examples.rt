@@ -68,15 +68,15 @@ fn players_of_the_club_night(rt: HostRuntime) -> Result<(), Fail> {
     let config = read_config(CLUB.as_bytes())?;
     let pairs = &config.fields().pairs;
     expect_eq(&rt, pairs.len(), 10, "pairs");
-    for (place, names, keys) in [
+    for (index, names, keys) in [
         (0usize, ["A.Berger", "M.Okafor"], [40213, 71850]),
         (4, ["H.Lindqvist", "P.Quinn"], [59402, 16273]),
         (9, ["I.McKay", "O.Jensen"], [57138, 12894]),
     ] {
-        let pair = pairs.get(place).copied().unwrap_or_default();
-        expect_eq(&rt, pair.names[0].as_str(), names[0], place);
-        expect_eq(&rt, pair.names[1].as_str(), names[1], place);
-        expect_eq(&rt, pair.keys, keys.map(Key), place);
+        let pair = pairs.get(index).copied().unwrap_or_default();
+        expect_eq(&rt, pair.names[0].as_str(), names[0], index);
+        expect_eq(&rt, pair.names[1].as_str(), names[1], index);
+        expect_eq(&rt, pair.keys, keys.map(Key), index);
     }
     Ok(())
 }

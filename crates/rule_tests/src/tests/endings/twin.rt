@@ -21,11 +21,11 @@ impl Played {
 
     /// How high the card is: a trump above all others, then the suit led (Law 44).
     fn height(&self, card: Card) -> u8 {
-        let place = card.number() % 13;
+        let index = card.number() % 13;
         if Some(card.suit()) == self.trump {
-            27 + place
+            27 + index
         } else if Some(card.suit()) == self.cards[0].map(|led| led.suit()) {
-            14 + place
+            14 + index
         } else {
             0
         }
@@ -35,11 +35,11 @@ impl Played {
     fn winner(&self) -> Seat {
         let mut winner = self.leader;
         let mut highest = 0;
-        for (place, card) in self.cards.iter().enumerate() {
+        for (index, card) in self.cards.iter().enumerate() {
             let height = card.map_or(0, |card| self.height(card));
             if height > highest {
                 highest = height;
-                winner = self.leader.clockwise(place);
+                winner = self.leader.clockwise(index);
             }
         }
         winner
@@ -48,24 +48,24 @@ impl Played {
 
 /// The tricks of North and South of the cards left, of which there are so many in all.
 pub fn worth(cards_left: u8, hands: [CardSet; 4], trick: Played) -> u8 {
-    let Some(place) = trick.cards.iter().position(|card| card.is_none()) else {
+    let Some(index) = trick.cards.iter().position(|card| card.is_none()) else {
         return 0;
     };
     if cards_left == 0 {
         return 0;
     }
-    let seat = trick.leader.clockwise(place);
+    let seat = trick.leader.clockwise(index);
     let hand = hands[usize::from(seat.number())];
     let mut best = None;
     for card in hand.cards().as_slice() {
         let mut after = trick;
-        after.cards[place] = Some(*card);
+        after.cards[index] = Some(*card);
         if !may_follow(hand, after.cards[0], *card) {
             continue;
         }
         let left = hands.map(|hand| hand.without(*card));
         let mut tricks = 0;
-        if place == 3 {
+        if index == 3 {
             let winner = after.winner();
             if winner.side() == Side::NorthSouth {
                 tricks = 1;

@@ -234,8 +234,8 @@ fn is_play(claims: u8, claim: Option<Claim>) -> Result<bool, Fail> {
     let deal = deal_of(CARDS_IN_A_ROW)?;
     let contract = contract_of(1, Denomination::Spades, Seat::North)?;
     let mut cards = [Card::default(); 4];
-    for (place, text) in cards.iter_mut().zip(["H7", "H2", "HA", "H8"]) {
-        *place = read_card(text.as_bytes()).ok_or("a card")?;
+    for (card, text) in cards.iter_mut().zip(["H7", "H2", "HA", "H8"]) {
+        *card = read_card(text.as_bytes()).ok_or("a card")?;
     }
     Ok(Play::from_parts(&deal, contract, &cards, claims, claim).is_some())
 }

@@ -51,8 +51,8 @@ fn down_doubled(undertricks: u8, vulnerable: bool) -> i32 {
             100, 300, 500, 800, 1100, 1400, 1700, 2000, 2300, 2600, 2900, 3200, 3500,
         ]
     };
-    let place = usize::from(undertricks).saturating_sub(1);
-    penalties.get(place).copied().unwrap_or(0)
+    let index = usize::from(undertricks).saturating_sub(1);
+    penalties.get(index).copied().unwrap_or(0)
 }
 
 /// What the other side scores for 1 to 13 undertricks.

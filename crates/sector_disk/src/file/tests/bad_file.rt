@@ -23,13 +23,13 @@ pub struct BadFile<'a> {
 }
 
 impl BadFile<'_> {
-    fn note(&self, call: char, place: Option<(u64, usize)>, value: Option<u8>) -> io::Result<()> {
+    fn note(&self, call: char, index: Option<(u64, usize)>, value: Option<u8>) -> io::Result<()> {
         let Ok(mut calls) = self.calls.try_borrow_mut() else {
             return Err(Error::from(ErrorKind::ResourceBusy));
         };
         let number = calls.as_str().split_whitespace().count();
         calls.push(call)?;
-        if let Some((offset, length)) = place {
+        if let Some((offset, length)) = index {
             let _ = write!(calls, "{offset}+{length}");
         }
         if let Some(value) = value {

@@ -17,7 +17,7 @@ found-in-NorthSouth : (c : goal.After-scores_at) → c.scores_at.result.now ≡ 
 found-in-NorthSouth c =
     let inside = c.self.inside in
     let lists = ap (map items) c.deref.ensures.0 ∙ c.self.invariant.ns in
-    scores_there inside.games.now NorthSouth (map items c.deref.result.now) c.args.board c.scores_at.result.now lists c.scores_at.ensures.place c.requires.board
+    scores_there inside.games.now NorthSouth (map items c.deref.result.now) c.args.board c.scores_at.result.now lists c.scores_at.ensures.index c.requires.board
     ∙ ap (λ (games : List Game). scores_on games NorthSouth c.args.board) c.self.view_is
     ∙ ap (λ side. scores_on c.args.self.now side c.args.board) (sym c.in-NorthSouth.is)
 
@@ -34,7 +34,7 @@ found-in-EastWest : (c : goal.After-scores_at-in-EastWest) → c.scores_at-in-Ea
 found-in-EastWest c =
     let inside = c.self.inside in
     let lists = ap (map items) c.deref-in-EastWest.ensures.0 ∙ c.self.invariant.ew in
-    scores_there inside.games.now EastWest (map items c.deref-in-EastWest.result.now) c.args.board c.scores_at-in-EastWest.result.now lists c.scores_at-in-EastWest.ensures.place c.requires.board
+    scores_there inside.games.now EastWest (map items c.deref-in-EastWest.result.now) c.args.board c.scores_at-in-EastWest.result.now lists c.scores_at-in-EastWest.ensures.index c.requires.board
     ∙ ap (λ (games : List Game). scores_on games EastWest c.args.board) c.self.view_is
     ∙ ap (λ side. scores_on c.args.self.now side c.args.board) (sym c.in-EastWest.is)
 

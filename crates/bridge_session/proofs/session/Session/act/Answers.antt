@@ -18,28 +18,28 @@ use Rattle.bridge_session.proofs.session.Session.act.Goals.{After-as_mut_slice, 
 pub act_among-requires : goal.act_among-requires
 act_among-requires c =
     let s = c.self.inside in
-    let place = c.in_ok-seating.seating.place in
+    let index = c.in_ok-seating.seating.row in
     let vector = c.index_mut-table.result.now in
-    let within : place < length (lists_in s.tables.items) = omega (arith, c.in_ok-seating.ensures.within, c.self.invariant.rows) in
-    let there = list_there s.tables.items place vector within c.index_mut-table.ensures.value in
-    let tied = tied_row s.deals.items (lists_in s.tables.items) place vector.items c.self.invariant.tied there in
+    let within : index < length (lists_in s.tables.items) = omega (arith, c.in_ok-seating.ensures.within, c.self.invariant.rows) in
+    let there = list_there s.tables.items index vector within c.index_mut-table.ensures.value in
+    let tied = tied_row s.deals.items (lists_in s.tables.items) index vector.items c.self.invariant.tied there in
     subst (λ deals. All (IsTiedIn deals) c.as_mut_slice.result.now) (sym c.as_slice-deals.ensures.value)
     (subst (All (IsTiedIn s.deals.items)) (sym c.as_mut_slice.ensures.value) tied)
 
 -- what was found in the table, and what was left there
 pub record IsChanged (c : After-self-1) : Type 0 where
-  pub row : slice_get (lists_in c.self.inside.tables.items) c.in_ok-seating.seating.place ≡ Some c.as_mut_slice.result.now
-  pub left : lists_in (slice_set c.self.inside.tables.items c.in_ok-seating.seating.place (with_items c.index_mut-table.result.now c.act_among.new.table)) ≡ slice_set (lists_in c.self.inside.tables.items) c.in_ok-seating.seating.place c.act_among.new.table
+  pub row : slice_get (lists_in c.self.inside.tables.items) c.in_ok-seating.seating.row ≡ Some c.as_mut_slice.result.now
+  pub left : lists_in (slice_set c.self.inside.tables.items c.in_ok-seating.seating.row (with_items c.index_mut-table.result.now c.act_among.new.table)) ≡ slice_set (lists_in c.self.inside.tables.items) c.in_ok-seating.seating.row c.act_among.new.table
 
 is_changed : (c : After-self-1) → IsChanged c
 is_changed c =
     let s = c.self.inside in
-    let place = c.in_ok-seating.seating.place in
+    let index = c.in_ok-seating.seating.row in
     let vector = c.index_mut-table.result.now in
-    let within : place < length (lists_in s.tables.items) = omega (arith, c.in_ok-seating.ensures.within, c.self.invariant.rows) in
+    let within : index < length (lists_in s.tables.items) = omega (arith, c.in_ok-seating.ensures.within, c.self.invariant.rows) in
     record {
-      row = list_there s.tables.items place vector within c.index_mut-table.ensures.value ∙ ap Some (sym c.as_mut_slice.ensures.value);
-      left = list_changed s.tables.items place vector c.act_among.new.table (omega arith);
+      row = list_there s.tables.items index vector within c.index_mut-table.ensures.value ∙ ap Some (sym c.as_mut_slice.ensures.value);
+      left = list_changed s.tables.items index vector c.act_among.new.table (omega arith);
     }
 
 -- the session before
@@ -59,18 +59,18 @@ answered c =
     λ table deals. answer_among (map plain_of table) (deal_on deals c.args.board) c.args.board seating.seat c.args.at c.args.deed in
     let among : c.act_among.result ≡ answer c.as_mut_slice.result.now s.deals.items =
     c.act_among.ensures.answer ∙ ap (answer c.as_mut_slice.result.now) c.as_slice-deals.ensures.value in
-    let row = row_at_is (lists_in s.tables.items) seating.place c.as_mut_slice.result.now (is_changed c).row in
+    let row = row_at_is (lists_in s.tables.items) seating.row c.as_mut_slice.result.now (is_changed c).row in
     among
     ∙ ap (λ records. answer_among records (deal_on s.deals.items c.args.board) c.args.board seating.seat c.args.at c.args.deed) (sym row)
     ∙ sym (seated_answer (before c) c.args.key.0 c.args.board c.args.at c.args.deed seating (sym c.in_ok-seating.ensures.seating) (sym c.if-not-is_of_set.ensures))
 
 -- with what was left in the table it is one
-session_after : (c : After-self-1) → IsSession (state_of c.self.inside.config c.self.inside.round c.self.inside.deals.items (slice_set (lists_in c.self.inside.tables.items) c.in_ok-seating.seating.place c.act_among.new.table))
+session_after : (c : After-self-1) → IsSession (state_of c.self.inside.config c.self.inside.round c.self.inside.deals.items (slice_set (lists_in c.self.inside.tables.items) c.in_ok-seating.seating.row c.act_among.new.table))
 session_after c =
     let s = c.self.inside in
     let lists = lists_in s.tables.items in
-    let place = c.in_ok-seating.seating.place in
-    at_result _ _ (IsSession (state_of s.config s.round s.deals.items (slice_set lists place c.act_among.new.table)))
+    let index = c.in_ok-seating.seating.row in
+    at_result _ _ (IsSession (state_of s.config s.round s.deals.items (slice_set lists index c.act_among.new.table)))
     c.act_among.result c.act_among.ensures.taken c.act_among.ensures.refused
     (λ ok taken.
     subst IsSession (sym (acted_state s.config s.round s.deals.items lists c.args.key.0 c.args.deed c.in_ok-seating.seating c.as_mut_slice.result.now c.act_among.new.table (sym c.in_ok-seating.ensures.seating) (is_changed c).row taken))
@@ -81,14 +81,14 @@ session_after c =
     }))
     (λ same.
     subst (λ (tables : List (List Record)). IsSession (state_of s.config s.round s.deals.items tables))
-    (sym (ap (slice_set lists place) same ∙ set_there lists place c.as_mut_slice.result.now (is_changed c).row)) (session_before c))
+    (sym (ap (slice_set lists index) same ∙ set_there lists index c.as_mut_slice.result.now (is_changed c).row)) (session_before c))
 
 pub invariant_of-self : goal.invariant_of-self
 invariant_of-self c =
     let s = c.self.inside in
     let tied = subst (λ deals. All (IsTiedIn deals) c.act_among.new.table) c.as_slice-deals.ensures.value c.act_among.ensures.tied in
     subst (IsKept s.config s.round s.deals.items) (sym (is_changed c).left)
-    (kept_with s.config s.round s.deals.items (lists_in s.tables.items) c.in_ok-seating.seating.place c.as_mut_slice.result.now c.act_among.new.table c.self.invariant (is_changed c).row
+    (kept_with s.config s.round s.deals.items (lists_in s.tables.items) c.in_ok-seating.seating.row c.as_mut_slice.result.now c.act_among.new.table c.self.invariant (is_changed c).row
     (boards_same c.in_ok-seating.seating.seat c.args.deed c.act_among.result c.as_mut_slice.result.now c.act_among.new.table c.act_among.ensures.taken c.act_among.ensures.refused) tied (session_after c))
 
 pub returns-clause-answer : goal.returns-clause-answer
@@ -108,9 +108,9 @@ returns-clause-taken c =
 pub returns-clause-refused : goal.returns-clause-refused
 returns-clause-refused c =
     let s = c.self.inside in
-    let place = c.in_ok-seating.seating.place in
+    let index = c.in_ok-seating.seating.row in
     let lists = lists_in s.tables.items in
     map_err _ _ c.act_among.result c.act_among.ensures.refused
     (λ same.
-    ap (state_of s.config s.round s.deals.items) ((is_changed c).left ∙ ap (slice_set lists place) same ∙ set_there lists place c.as_mut_slice.result.now (is_changed c).row)
+    ap (state_of s.config s.round s.deals.items) ((is_changed c).left ∙ ap (slice_set lists index) same ∙ set_there lists index c.as_mut_slice.result.now (is_changed c).row)
     ∙ c.self.view_is)

@@ -11,16 +11,16 @@ use Rattle.bridge_session.proofs.Dealt.{was_none, kept_dealt, deal_accepted}
 use Rattle.bridge_session.proofs.session.Session.deal_board.Goals as goal
 use Rattle.bridge_session.proofs.session.Session.deal_board.Goals.{After-self-1}
 
--- the place of the board
-place_is : (c : After-self-1) → c.from-place.result ≡ c.args.board - 1
-place_is c = c.from-place.ensures ∙ ap (λ n. n - 1) c.number.ensures.number
+-- the index of the board
+index_is : (c : After-self-1) → c.from-index.result ≡ c.args.board - 1
+index_is c = c.from-index.ensures ∙ ap (λ n. n - 1) c.number.ensures.number
 
 -- the board was not dealt
 none_there : (c : After-self-1) → deal_on c.self.inside.deals.items c.args.board ≡ None
 none_there c =
     let deals = c.self.inside.deals.items in
-    let within : c.from-place.result < length deals = omega arith in
-    was_none deals c.from-place.result c.args.board c.index.result.now (place_is c) within c.index.ensures (sym c.is_some.ensures ∙ c.if-is_some.false)
+    let within : c.from-index.result < length deals = omega arith in
+    was_none deals c.from-index.result c.args.board c.index.result.now (index_is c) within c.index.ensures (sym c.is_some.ensures ∙ c.if-is_some.false)
 
 -- the session before
 abbrev before : After-self-1 → SessionValue
@@ -33,14 +33,14 @@ session_before c = kept_session c.self.inside.config c.self.inside.round c.self.
 accepted : (c : After-self-1) → deal_answer (before c) c.args.board c.args.hands ≡ Ok tt
 accepted c =
     let s = c.self.inside in
-    let within : c.args.board ≤ s.config.movement.shape.sets * s.config.boards = omega (arith, place_is c, c.self.invariant.boards) in
+    let within : c.args.board ≤ s.config.movement.shape.sets * s.config.boards = omega (arith, index_is c, c.self.invariant.boards) in
     deal_accepted (before c) c.args.board c.args.hands (sym c.if-is_closed.ensures) within (none_there c) (sym c.in-Ok.ensures.test)
 
 pub invariant_of-self : goal.invariant_of-self
 invariant_of-self c =
     let s = c.self.inside in
     let lists = lists_in s.tables.items in
-    let dealt : AreHands c.in-Ok.deal = (c.in-Ok.ensures.deal.four, λ place d within. (c.in-Ok.ensures.deal.each place d within).set) in
+    let dealt : AreHands c.in-Ok.deal = (c.in-Ok.ensures.deal.four, λ index d within. (c.in-Ok.ensures.deal.each index d within).set) in
     let hands = subst AreHands c.in-Ok.ensures.hands dealt in
     let is : IsSession (state_of s.config s.round (slice_set s.deals.items (c.args.board - 1) (Some c.args.hands)) lists) = record {
       valid = deal_valid (before c) c.args.board c.args.hands (session_before c).valid (accepted c);
@@ -50,7 +50,7 @@ invariant_of-self c =
       };
     } in
     let session = subst (λ hands. IsSession (state_of s.config s.round (slice_set s.deals.items (c.args.board - 1) (Some hands)) lists)) (sym c.in-Ok.ensures.hands) is in
-    subst (λ place. IsKept s.config s.round (slice_set s.deals.items place (Some c.in-Ok.deal)) lists) (sym (place_is c))
+    subst (λ index. IsKept s.config s.round (slice_set s.deals.items index (Some c.in-Ok.deal)) lists) (sym (index_is c))
     (kept_dealt s.config s.round s.deals.items lists c.args.board c.in-Ok.deal (none_there c) session c.self.invariant)
 
 pub returns-clause-answer : goal.returns-clause-answer

@@ -11,7 +11,7 @@ use Rattle.bridge_session.specs.Kept.{IsTiedIn}
 use Rattle.bridge_session.specs.Parts.{record_part}
 use Rattle.bridge_session.proofs.Acted.{tied_row, lists_in, list_there}
 use Rattle.bridge_session.proofs.Entries.{all_at}
-use Rattle.bridge_session.proofs.PlayPlaces.{row_within, play_part_is, found_or_empty}
+use Rattle.bridge_session.proofs.PlayIndexes.{row_within, play_part_is, found_or_empty}
 use Rattle.bridge_session.proofs.session.Session.play_at.Goals as goal
 use Rattle.bridge_session.proofs.session.Session.play_at.Goals.{After-from-boards, After-record_at}
 
@@ -26,28 +26,28 @@ index-table-requires c =
     let s = c.self.inside in
     let configured : c.from-boards.result ≡ s.config.boards = c.from-boards.ensures ∙ ap (λ (k : ConfigValue). k.boards) c.fields.ensures.fields in
     let least = leb-true 1 s.config.boards (and_parts (nat_le 1 s.config.boards) (nat_le s.config.boards 3) c.fields.ensures.limits.boards).0 in
-    let within = row_within c.args.self.now (lists_in s.tables.items) c.from-boards.result c.args.place (ap (λ (t : SessionValue). t.records) c.self.view_is)
+    let within = row_within c.args.self.now (lists_in s.tables.items) c.from-boards.result c.args.index (ap (λ (t : SessionValue). t.records) c.self.view_is)
     (configured ∙ ap (λ (t : SessionValue). t.configuration.boards) c.self.view_is) (omega (arith, least, configured)) c.requires in
     omega (arith, within, length-map s.tables.items (λ (table : Vec Record Global). table.items))
 
-row_there : (c : After-record_at) → slice_get (lists_in c.self.inside.tables.items) (c.args.place / c.from-boards.result) ≡ Some c.as_slice.result.now
+row_there : (c : After-record_at) → slice_get (lists_in c.self.inside.tables.items) (c.args.index / c.from-boards.result) ≡ Some c.as_slice.result.now
 row_there c =
     let s = c.self.inside in
-    let place = c.args.place / c.from-boards.result in
+    let index = c.args.index / c.from-boards.result in
     let configured : c.from-boards.result ≡ s.config.boards = c.from-boards.ensures ∙ ap (λ (k : ConfigValue). k.boards) c.fields.ensures.fields in
     let least = leb-true 1 s.config.boards (and_parts (nat_le 1 s.config.boards) (nat_le s.config.boards 3) c.fields.ensures.limits.boards).0 in
-    let within = row_within c.args.self.now (lists_in s.tables.items) c.from-boards.result c.args.place (ap (λ (t : SessionValue). t.records) c.self.view_is)
+    let within = row_within c.args.self.now (lists_in s.tables.items) c.from-boards.result c.args.index (ap (λ (t : SessionValue). t.records) c.self.view_is)
     (configured ∙ ap (λ (t : SessionValue). t.configuration.boards) c.self.view_is) (omega (arith, least, configured)) c.requires in
-    list_there s.tables.items place c.index-table.result.now within c.index-table.ensures ∙ ap Some (sym c.as_slice.ensures.value)
+    list_there s.tables.items index c.index-table.result.now within c.index-table.ensures ∙ ap Some (sym c.as_slice.ensures.value)
 
 pub returns-clause-part : goal.returns-clause-part
 returns-clause-part c =
     let s = c.self.inside in
     let table = c.as_slice.result.now in
-    let index = c.args.place % c.from-boards.result in
+    let index = c.args.index % c.from-boards.result in
     let configured : c.from-boards.result ≡ s.config.boards = c.from-boards.ensures ∙ ap (λ (k : ConfigValue). k.boards) c.fields.ensures.fields in
     let least = leb-true 1 s.config.boards (and_parts (nat_le 1 s.config.boards) (nat_le s.config.boards 3) c.fields.ensures.limits.boards).0 in
-    let part_is = play_part_is c.args.self.now (lists_in s.tables.items) c.from-boards.result c.args.place (ap (λ (t : SessionValue). t.records) c.self.view_is)
+    let part_is = play_part_is c.args.self.now (lists_in s.tables.items) c.from-boards.result c.args.index (ap (λ (t : SessionValue). t.records) c.self.view_is)
     (configured ∙ ap (λ (t : SessionValue). t.configuration.boards) c.self.view_is) (omega (arith, least, configured)) c.requires table (row_there c) in
     ap record_part (sym (found_or_empty table index (option_copied c.record_at.result) c.record_at.ensures)) ∙ sym part_is
 
@@ -55,7 +55,7 @@ pub returns-clause-dealer : goal.returns-clause-dealer
 returns-clause-dealer c =
     let s = c.self.inside in
     let table = c.as_slice.result.now in
-    let index = c.args.place % c.from-boards.result in
-    let tied = tied_row s.deals.items (lists_in s.tables.items) (c.args.place / c.from-boards.result) table c.self.invariant.tied (row_there c) in
+    let index = c.args.index % c.from-boards.result in
+    let tied = tied_row s.deals.items (lists_in s.tables.items) (c.args.index / c.from-boards.result) table c.self.invariant.tied (row_there c) in
     if_some (IsTiedIn s.deals.items) (λ kept. kept.auction.dealer ≡ dealer_of kept.board) (option_copied c.record_at.result) (λ kept is. is.tied.dealer)
     (subst (λ o. IfSome o (IsTiedIn s.deals.items)) (sym c.record_at.ensures) (all_at (IsTiedIn s.deals.items) table index tied))

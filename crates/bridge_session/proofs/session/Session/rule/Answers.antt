@@ -4,7 +4,7 @@ use Rattle.std.specs.Vec.{with_items}
 use Rattle.bridge_session.specs.declared.record.Record.{Record}
 use Rattle.bridge_session.specs.declared.refused.Refused.{Refused}
 use Rattle.bridge_session.specs.Record.{PlainRecord}
-use Rattle.bridge_session.specs.State.{SessionValue, director_answer, row_place, changed_at}
+use Rattle.bridge_session.specs.State.{SessionValue, director_answer, index_of_row, changed_at}
 use Rattle.bridge_session.specs.Step.{if_allowed, is_row_within, rule_answer, record_of, ruled, with_ruling}
 use Rattle.bridge_session.specs.StateRange.{IsCorrectionInRange, IsSession}
 use Rattle.bridge_session.specs.Kept.{plain_of, board_kept, state_of, with_kept_ruling, kept_rule_answer, IsTiedIn, IsKept}
@@ -19,36 +19,36 @@ use Rattle.bridge_session.proofs.session.Session.rule.Goals.{After-self-1}
 
 -- the table that was found, and what was left there
 pub record IsChanged (c : After-self-1) : Type 0 where
-  pub row : slice_get (lists_in c.self.inside.tables.items) c.in-Some.place ≡ Some c.as_mut_slice.result.now
-  pub left : lists_in (slice_set c.self.inside.tables.items c.in-Some.place (with_items c.index_mut-records.result.now c.rule_among.new.table)) ≡ slice_set (lists_in c.self.inside.tables.items) c.in-Some.place c.rule_among.new.table
+  pub row : slice_get (lists_in c.self.inside.tables.items) c.in-Some.index ≡ Some c.as_mut_slice.result.now
+  pub left : lists_in (slice_set c.self.inside.tables.items c.in-Some.index (with_items c.index_mut-records.result.now c.rule_among.new.table)) ≡ slice_set (lists_in c.self.inside.tables.items) c.in-Some.index c.rule_among.new.table
   pub index : c.from-at.result ≡ c.args.play.index - 1
-  pub place : (is_row_within c.self.inside.config.movement.shape c.args.play.round c.args.play.table ≡ true) × (row_place c.self.inside.config.movement.shape c.args.play.round c.args.play.table ≡ c.in-Some.place)
+  pub index : (is_row_within c.self.inside.config.movement.shape c.args.play.round c.args.play.table ≡ true) × (index_of_row c.self.inside.config.movement.shape c.args.play.round c.args.play.table ≡ c.in-Some.index)
 
 is_changed : (c : After-self-1) → IsChanged c
 is_changed c =
     let s = c.self.inside in
-    let place = c.in-Some.place in
+    let index = c.in-Some.index in
     let vector = c.index_mut-records.result.now in
-    let within : place < length (lists_in s.tables.items) = omega (arith, c.in-Some.ensures.within, c.self.invariant.rows) in
+    let within : index < length (lists_in s.tables.items) = omega (arith, c.in-Some.ensures.within, c.self.invariant.rows) in
     record {
-      row = list_there s.tables.items place vector within c.index_mut-records.ensures.value ∙ ap Some (sym c.as_mut_slice.ensures.value);
-      left = list_changed s.tables.items place vector c.rule_among.new.table (omega arith);
+      row = list_there s.tables.items index vector within c.index_mut-records.ensures.value ∙ ap Some (sym c.as_mut_slice.ensures.value);
+      left = list_changed s.tables.items index vector c.rule_among.new.table (omega arith);
       index = c.from-at.ensures ∙ ap (λ n. n - 1) c.number.ensures.number;
-      place = some_if (is_row_within s.config.movement.shape c.args.play.round c.args.play.table) _ place (sym c.in-Some.ensures.row);
+      index = some_if (is_row_within s.config.movement.shape c.args.play.round c.args.play.table) _ index (sym c.in-Some.ensures.row);
     }
 
 -- the records of the table are tied
 tied_there : (c : After-self-1) → All (IsTiedIn c.self.inside.deals.items) c.as_mut_slice.result.now
 tied_there c =
     let s = c.self.inside in
-    tied_row s.deals.items (lists_in s.tables.items) c.in-Some.place c.as_mut_slice.result.now c.self.invariant.tied (is_changed c).row
+    tied_row s.deals.items (lists_in s.tables.items) c.in-Some.index c.as_mut_slice.result.now c.self.invariant.tied (is_changed c).row
 
 -- the record of the play
 record_is : (c : After-self-1) → record_of (state_of c.self.inside.config c.self.inside.round c.self.inside.deals.items (lists_in c.self.inside.tables.items)) c.args.play ≡ slice_get (map plain_of c.as_mut_slice.result.now) c.from-at.result
 record_is c =
     let s = c.self.inside in
     let changed = is_changed c in
-    record_found s.config s.round s.deals.items (lists_in s.tables.items) c.args.play c.in-Some.place c.from-at.result c.as_mut_slice.result.now changed.place.0 changed.place.1 changed.index changed.row
+    record_found s.config s.round s.deals.items (lists_in s.tables.items) c.args.play c.in-Some.index c.from-at.result c.as_mut_slice.result.now changed.index.0 changed.index.1 changed.index changed.row
 
 -- the session before
 abbrev before : After-self-1 → SessionValue
@@ -71,7 +71,7 @@ answered c =
 
 -- the session with what was left in the table
 ruled_is : (c : After-self-1) → c.rule_among.new.table ≡ changed_at (with_kept_ruling c.args.correction) c.as_mut_slice.result.now c.from-at.result →
-    state_of c.self.inside.config c.self.inside.round c.self.inside.deals.items (slice_set (lists_in c.self.inside.tables.items) c.in-Some.place c.rule_among.new.table) ≡ ruled (before c) c.args.play c.args.correction
+    state_of c.self.inside.config c.self.inside.round c.self.inside.deals.items (slice_set (lists_in c.self.inside.tables.items) c.in-Some.index c.rule_among.new.table) ≡ ruled (before c) c.args.play c.args.correction
 ruled_is c taken =
     let s = c.self.inside in
     let made = c.args.correction in
@@ -80,17 +80,17 @@ ruled_is c taken =
     let after : List (List PlainRecord) → SessionValue = λ records. record { configuration = s.config; round = s.round; deals = s.deals.items; records = records } in
     let change : ℕ → List PlainRecord → List PlainRecord = λ index records. changed_at (with_ruling made) records index in
     let seen = ap (map plain_of) taken ∙ changed_at-map plain_of (with_kept_ruling made) (with_ruling made) c.as_mut_slice.result.now c.from-at.result (λ kept. refl) in
-    ap after (changed_row lists c.in-Some.place c.as_mut_slice.result.now c.rule_among.new.table (change c.from-at.result) changed.row seen)
-    ∙ ap (λ index. after (changed_at (change index) (map (map plain_of) lists) c.in-Some.place)) changed.index
-    ∙ ap (λ place. after (changed_at (change (c.args.play.index - 1)) (map (map plain_of) lists) place)) (sym changed.place.1)
+    ap after (changed_row lists c.in-Some.index c.as_mut_slice.result.now c.rule_among.new.table (change c.from-at.result) changed.row seen)
+    ∙ ap (λ index. after (changed_at (change index) (map (map plain_of) lists) c.in-Some.index)) changed.index
+    ∙ ap (λ index. after (changed_at (change (c.args.play.index - 1)) (map (map plain_of) lists) index)) (sym changed.index.1)
 
 -- it is one
-session_after : (c : After-self-1) → IsSession (state_of c.self.inside.config c.self.inside.round c.self.inside.deals.items (slice_set (lists_in c.self.inside.tables.items) c.in-Some.place c.rule_among.new.table))
+session_after : (c : After-self-1) → IsSession (state_of c.self.inside.config c.self.inside.round c.self.inside.deals.items (slice_set (lists_in c.self.inside.tables.items) c.in-Some.index c.rule_among.new.table))
 session_after c =
     let s = c.self.inside in
     let lists = lists_in s.tables.items in
     let ranges = c.in-Some.ensures.counted in
-    at_result _ _ (IsSession (state_of s.config s.round s.deals.items (slice_set lists c.in-Some.place c.rule_among.new.table)))
+    at_result _ _ (IsSession (state_of s.config s.round s.deals.items (slice_set lists c.in-Some.index c.rule_among.new.table)))
     c.rule_among.result c.rule_among.ensures.taken c.rule_among.ensures.refused
     (λ ok taken.
     subst IsSession (sym (ruled_is c taken))
@@ -101,7 +101,7 @@ session_after c =
     }))
     (λ same.
     subst (λ (tables : List (List Record)). IsSession (state_of s.config s.round s.deals.items tables))
-    (sym (ap (slice_set lists c.in-Some.place) same ∙ set_there lists c.in-Some.place c.as_mut_slice.result.now (is_changed c).row)) (session_before c))
+    (sym (ap (slice_set lists c.in-Some.index) same ∙ set_there lists c.in-Some.index c.as_mut_slice.result.now (is_changed c).row)) (session_before c))
 
 pub invariant_of-self : goal.invariant_of-self
 invariant_of-self c =
@@ -118,7 +118,7 @@ invariant_of-self c =
     (λ ok taken. ap (map board_kept) taken ∙ map-changed_at board_kept (with_kept_ruling c.args.correction) c.as_mut_slice.result.now c.from-at.result (λ kept. refl))
     (λ same. ap (map board_kept) same) in
     subst (IsKept s.config s.round deals) (sym (is_changed c).left)
-    (kept_with s.config s.round deals (lists_in s.tables.items) c.in-Some.place c.as_mut_slice.result.now c.rule_among.new.table c.self.invariant (is_changed c).row boards tied (session_after c))
+    (kept_with s.config s.round deals (lists_in s.tables.items) c.in-Some.index c.as_mut_slice.result.now c.rule_among.new.table c.self.invariant (is_changed c).row boards tied (session_after c))
 
 pub returns-clause-answer : goal.returns-clause-answer
 returns-clause-answer c =
@@ -143,5 +143,5 @@ returns-clause-refused c =
     let lists = lists_in s.tables.items in
     map_err _ _ c.rule_among.result c.rule_among.ensures.refused
     (λ same.
-    ap (state_of s.config s.round s.deals.items) ((is_changed c).left ∙ ap (slice_set lists c.in-Some.place) same ∙ set_there lists c.in-Some.place c.as_mut_slice.result.now (is_changed c).row)
+    ap (state_of s.config s.round s.deals.items) ((is_changed c).left ∙ ap (slice_set lists c.in-Some.index) same ∙ set_there lists c.in-Some.index c.as_mut_slice.result.now (is_changed c).row)
     ∙ c.self.view_is)

@@ -1,4 +1,4 @@
--- How many parts a session has, and which stands at which place.
+-- How many parts a session has, and which stands at which index.
 use Rattle.std.proofs.Common.{◌≡◌, ◌+◌, ◌-◌, ◌*◌, ◌/◌, ◌%◌, ◌<◌, ◌≤◌, ℕ, List, [], length, map, ◌∙◌, arith, length-append}
 use Rattle.std.specs.Prelude.{Option, slice_index_or}
 use Rattle.std.proofs.Math.Nat.{mod-lt}
@@ -8,7 +8,7 @@ use Rattle.bridge_config.specs.ConfigValue.{Pair}
 use Rattle.bridge_session.specs.Record.{PlainRecord}
 use Rattle.bridge_session.specs.State.{SessionValue}
 use Rattle.bridge_session.specs.Parts.{deal_part, pair_part, record_part, record_or_empty, row_parts, play_parts, board_parts, pair_parts, parts_of}
-use Rattle.bridge_session.specs.Laws.PartLemmas.{length-flat_fixed, flat_fixed_place}
+use Rattle.bridge_session.specs.Laws.PartLemmas.{length-flat_fixed, flat_fixed_index}
 
 row_length : (boards : ℕ) (records : List PlainRecord) → length (row_parts boards records) ≡ boards
 row_length boards records = length-map-range_with_len (λ index. record_part (record_or_empty records index)) 0 boards
@@ -28,17 +28,17 @@ module _ (s : SessionValue) where
   count_parts = omega (arith, count_pairs)
 
   -- the part of a pair
-  pub place_of_pair : (place : ℕ) (pair : Pair) → place < length s.configuration.pairs → slice_index_or (pair_parts s) place [] ≡ pair_part (slice_index_or s.configuration.pairs place pair)
-  place_of_pair place pair within =
-      get_or_append_left (map pair_part s.configuration.pairs) (board_parts s) [] place (omega (arith, within, length-map s.configuration.pairs pair_part))
-      ∙ get_or-map pair_part s.configuration.pairs place pair [] within
+  pub index_of_pair : (row_index : ℕ) (pair : Pair) → row_index < length s.configuration.pairs → slice_index_or (pair_parts s) row_index [] ≡ pair_part (slice_index_or s.configuration.pairs row_index pair)
+  index_of_pair row_index pair within =
+      get_or_append_left (map pair_part s.configuration.pairs) (board_parts s) [] row_index (omega (arith, within, length-map s.configuration.pairs pair_part))
+      ∙ get_or-map pair_part s.configuration.pairs row_index pair [] within
 
   -- the part of a play
-  pub place_of_play : (place : ℕ) (row : List PlainRecord) → 0 < s.configuration.boards → place < length s.records * s.configuration.boards
-      → slice_index_or (play_parts s) place [] ≡ record_part (record_or_empty (slice_index_or s.records (place / s.configuration.boards) row) (place % s.configuration.boards))
-  place_of_play place row some within =
+  pub index_of_play : (row_index : ℕ) (row : List PlainRecord) → 0 < s.configuration.boards → row_index < length s.records * s.configuration.boards
+      → slice_index_or (play_parts s) row_index [] ≡ record_part (record_or_empty (slice_index_or s.records (row_index / s.configuration.boards) row) (row_index % s.configuration.boards))
+  index_of_play row_index row some within =
       let boards : ℕ = s.configuration.boards in
-      let records : List PlainRecord = slice_index_or s.records (place / boards) row in
-      flat_fixed_place (row_parts boards) boards (row_length boards) s.records place row [] some within
-      ∙ get_or-map-range_with_len (λ index. record_part (record_or_empty records index)) 0 boards (place % boards) (place % boards) []
-      (mod-lt place some) (omega arith)
+      let records : List PlainRecord = slice_index_or s.records (row_index / boards) row in
+      flat_fixed_index (row_parts boards) boards (row_length boards) s.records row_index row [] some within
+      ∙ get_or-map-range_with_len (λ index. record_part (record_or_empty records index)) 0 boards (row_index % boards) (row_index % boards) []
+      (mod-lt row_index some) (omega arith)
