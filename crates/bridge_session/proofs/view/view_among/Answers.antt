@@ -34,14 +34,14 @@ returns c =
     let tied = tied_there deals table c.in-Some.index kept c.requires.tied (sym c.in-Some.ensures) c.index-table-index.is in
     let dealt : deal_on deals kept.board ≡ Some hands = sym c.in-Some-deal_on.ensures in
     let play : kept.play ≡ play_of hands (plain_of kept) = tied.tied.play ∙ ap (λ o. play_of (unwrap_or o []) (plain_of kept)) dealt in
-    let number : c.unwrap-index.result ≡ c.in-Some.index + 1 =
-    subst (λ o. IfSome o (λ n. n ≡ c.in-Some.index + 1)) c.unwrap-index.ensures c.new.ensures.value in
-    let index = number ∙ ap (λ n. n + 1) (is_current deals table c.in-Some.index c.requires.tied (sym c.in-Some.ensures)) in
+    let number : c.unwrap.result ≡ c.in-Some.index + 1 =
+    subst (λ o. IfSome o (λ n. n ≡ c.in-Some.index + 1)) c.unwrap.ensures c.new.ensures.value in
+    let same = number ∙ ap (λ n. n + 1) (is_current deals table c.in-Some.index c.requires.tied (sym c.in-Some.ensures)) in
     let Q : ℕ → Option PlayValue → Type 0 = λ i p.
     IsViewOf c.args.round c.args.number seat (shown_with i seat hands kept.board kept.auction.calls p) c.view_of.result in
-    let seen : Q c.unwrap-index.result kept.play = c.view_of.ensures in
+    let seen : Q c.unwrap.result kept.play = c.view_of.ensures in
     record {
       shown = shown_of index seat hands (plain_of kept);
       allowed = ap (shown_current deals seat index) found ∙ ap (shown_dealt seat index (plain_of kept)) dealt;
-      fields = subst (λ i. Q i (play_of hands (plain_of kept))) index (subst (Q c.unwrap-index.result) play seen);
+      fields = subst (λ i. Q i (play_of hands (plain_of kept))) same (subst (Q c.unwrap.result) play seen);
     }

@@ -13,7 +13,7 @@ use Rattle.bridge_session.proofs.Acted.{kept_session, boards_same, seated_answer
 use Rattle.bridge_session.proofs.StateRanges.{acted_in_range}
 use Rattle.bridge_session.proofs.ValidPlayer.{player_valid}
 use Rattle.bridge_session.proofs.session.Session.act.Goals as goal
-use Rattle.bridge_session.proofs.session.Session.act.Goals.{After-as_mut_slice, After-self-1}
+use Rattle.bridge_session.proofs.session.Session.act.Goals.{After-self-1}
 
 pub act_among-requires : goal.act_among-requires
 act_among-requires c =

@@ -13,7 +13,7 @@ use Rattle.bridge_session.proofs.Acted.{tied_row, lists_in, list_there}
 use Rattle.bridge_session.proofs.Entries.{all_at}
 use Rattle.bridge_session.proofs.PlayIndexes.{row_within, play_part_is, found_or_empty}
 use Rattle.bridge_session.proofs.session.Session.play_at.Goals as goal
-use Rattle.bridge_session.proofs.session.Session.play_at.Goals.{After-from-boards, After-record_at}
+use Rattle.bridge_session.proofs.session.Session.play_at.Goals.{After-record_at}
 
 -- what is there has what follows from what it has
 if_some : (P Q : Record → Type 0) (o : Option Record) → ((kept : Record) → P kept → Q kept) → IfSome o P → IfSome o Q

@@ -7,7 +7,7 @@ use Rattle.bridge_session.specs.Kept.{plain_of, state_of, IsTiedIn}
 use Rattle.bridge_session.proofs.Lists.{match_map}
 use Rattle.bridge_session.proofs.Acted.{row_at_is, tied_row, few_row, lists_in, list_there}
 use Rattle.bridge_session.proofs.session.Session.see.Goals as goal
-use Rattle.bridge_session.proofs.session.Session.see.Goals.{After-as_slice-2, After-view_among}
+use Rattle.bridge_session.proofs.session.Session.see.Goals.{After-as_slice-2}
 
 -- the table where the player sits
 row_there : (c : After-as_slice-2) → slice_get (lists_in c.self.inside.tables.items) c.in_ok-seating.seating.row ≡ Some c.as_slice.result.now
