@@ -11,6 +11,9 @@ use std::marker::Model;
 /// How many cards the deck has (Law 1).
 pub const DECK: usize = 52;
 
+/// How many cards a suit has, one of each rank (Law 1).
+pub const SUIT_CARDS: u8 = 13;
+
 /// A card of the deck (Law 1). Cards are in order by suit, then by rank; the default is the lowest,
 /// the 2 of clubs.
 #[derive(Clone, Copy, Debug, Default, PartialEq, Eq, PartialOrd, Ord)]
@@ -52,7 +55,7 @@ impl Card {
         ensures { result ≡ card_of suit rank }
     {
         Card {
-            number: 13 * suit.number() + (rank.number() - 2),
+            number: SUIT_CARDS * suit.number() + (rank.number() - 2),
         }
     }
 
@@ -68,7 +71,7 @@ impl Card {
     pub fn suit(self) -> Suit
         ensures { result ≡ card_suit self }
     {
-        match self.number / 13 {
+        match self.number / SUIT_CARDS {
             0 => Suit::Clubs,
             1 => Suit::Diamonds,
             2 => Suit::Hearts,
@@ -81,7 +84,7 @@ impl Card {
         ensures rank { result ≡ card_rank self }
         ensures range { IsRank result }
     {
-        Rank::of_index(self.number % 13)
+        Rank::of_index(self.number % SUIT_CARDS)
     }
 
     /// The card's text, as `SK` or `HT`: its suit's letter, and its rank's.

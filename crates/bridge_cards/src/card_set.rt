@@ -2,7 +2,7 @@ ghost use Rattle.std.specs.Prelude.{◌≡◌, ℕ, ◌==◌, ◌&&◌, ◌||◌
 ghost use Rattle.bridge_cards.specs.Card.{IsCard};
 ghost use Rattle.bridge_cards.specs.CardSet.{IsCardSet, has_card, card_count, cards_of, is_of_suit};
 
-use crate::card::{Card, DECK};
+use crate::card::{Card, DECK, SUIT_CARDS};
 use crate::suit::Suit;
 use arrayvec::ArrayVec;
 use std::marker::Model;
@@ -114,7 +114,7 @@ impl CardSet {
         ensures { (card : ℕ) → has_card result card ≡ (has_card self card && is_of_suit suit card) }
     {
         CardSet {
-            bits: self.bits & (0x1fff << (13 * suit.number())),
+            bits: self.bits & (0x1fff << (SUIT_CARDS * suit.number())),
         }
     }
 

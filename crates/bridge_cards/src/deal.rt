@@ -8,6 +8,9 @@ use crate::seat::Seat;
 use std::marker::Model;
 use thiserror::Error;
 
+/// How many cards a hand has (Law 1).
+pub const HAND_CARDS: usize = 13;
+
 /// The four hands of a board (Law 1): the deck, 13 cards to each seat.
 #[derive(Clone, Copy, Debug, PartialEq, Eq)]
 pub struct Deal {
@@ -92,5 +95,5 @@ fn have_thirteen_each(hands: &[CardSet]) -> bool
     ensures cases { MatchBool result (All IsHand hands.now) (SomeNotThirteen hands.now) }
     ensures test { result ≡ list_all (λ hand. card_count hand == 13) hands.now }
 {
-    hands.iter().all(|hand| hand.len() == 13)
+    hands.iter().all(|hand| hand.len() == HAND_CARDS)
 }

@@ -5,7 +5,7 @@ ghost use Rattle.bridge_cards.specs.CardSet.{IsCardSet, has_card, is_of_suit};
 ghost use Rattle.bridge_cards.specs.Deal.{hand_at, IsDeal, SomeTwice, IsUneven};
 ghost use Rattle.bridge_cards.specs.DealText.{SpellsSuit, SpellsHand, SpellsFour, SpellsDeal, States, StatesNone, StatesOnly, suit_text, hand_text, deal_text};
 
-use crate::card::Card;
+use crate::card::{Card, SUIT_CARDS};
 use crate::card_set::CardSet;
 use crate::deal::{BadDeal, Deal};
 use crate::rank::Rank;
@@ -13,6 +13,9 @@ use crate::seat::Seat;
 use crate::suit::Suit;
 use arrayvec::ArrayString;
 use line_text::split_once;
+
+/// The bytes of the text of a deal.
+pub const DEAL_BYTES: usize = 69;
 
 /// The hands that the text states, North's first and then clockwise: as
 /// `E:AK.QJ.. .T9.8.7 2.3.. ..4.5`, a seat's letter, a colon, and the four hands clockwise from that
@@ -50,7 +53,7 @@ pub fn read_deal(text: &[u8]) -> Result<Deal, BadDeal>
 
 /// Writes the deal into the text in place of what stood there: in the form that `read_deal` reads,
 /// the hand of `first` first, and each suit's ranks from the highest down. It takes 69 bytes.
-pub fn print_deal(deal: &Deal, first: Seat, text: &mut ArrayString<69>)
+pub fn print_deal(deal: &Deal, first: Seat, text: &mut ArrayString<DEAL_BYTES>)
     ensures text { text.new.bytes ≡ deal_text deal.now first }
     ensures length { length text.new.bytes ≡ 69 }
 
@@ -162,7 +165,7 @@ fn print_suit<const N: usize>(hand: CardSet, suit: Suit, text: &mut ArrayString<
     requires { length text.old.bytes + length (suit_text hand suit) ≤ N }
     ensures { text.new.bytes ≡ text.old.bytes ++ suit_text hand suit }
 {
-    for index in (0..13).rev() {
+    for index in (0..SUIT_CARDS).rev() {
         let rank = Rank::of_index(index);
         if hand.has(Card::of(suit, rank)) {
             text.push(char::from(rank.letter()));

@@ -7,7 +7,7 @@ ghost use Rattle.bridge_cards.specs.Shuffle.{shuffled_deck, IsDealtFrom};
 use crate::board::BoardNumber;
 use crate::card::{Card, DECK};
 use crate::card_set::CardSet;
-use crate::deal::Deal;
+use crate::deal::{Deal, HAND_CARDS};
 use rand::seq::SliceRandom;
 use rand_chacha::ChaCha20Rng;
 use rand_core::SeedableRng;
@@ -31,10 +31,10 @@ fn deal_out(order: &[Card; DECK]) -> Deal
 {
     let cards = order.as_slice();
     let hands = [
-        set_of(&cards[..13]),
-        set_of(&cards[13..26]),
-        set_of(&cards[26..39]),
-        set_of(&cards[39..]),
+        set_of(&cards[..HAND_CARDS]),
+        set_of(&cards[HAND_CARDS..2 * HAND_CARDS]),
+        set_of(&cards[2 * HAND_CARDS..3 * HAND_CARDS]),
+        set_of(&cards[3 * HAND_CARDS..]),
     ];
     // The hands of a whole deck are disjoint, and each has 13 cards.
     Deal::from_hands(hands).unwrap()

@@ -3,7 +3,7 @@ ghost use Rattle.std.specs.List.{list_all};
 ghost use Rattle.bridge_config.specs.ConfigValue.{configuration_of, pair_of, keys_of, key_number};
 ghost use Rattle.bridge_config.specs.Limits.{IsConfiguration, IsPair, is_name};
 
-use crate::fields::{ConfigFields, Key, PairFields};
+use crate::fields::{ConfigFields, Key, MOST_KEYS, PairFields};
 use crate::limits::{are_keys, is_date_form, is_date_within, is_name};
 use arrayvec::ArrayVec;
 use std::marker::Model;
@@ -78,7 +78,7 @@ fn has_names(pair: &PairFields) -> bool
     is_name(pair.names[0].as_str().as_bytes()) && is_name(pair.names[1].as_str().as_bytes())
 }
 
-fn push_keys(more: &[Key], keys: &mut ArrayVec<u32, 49>)
+fn push_keys(more: &[Key], keys: &mut ArrayVec<u32, MOST_KEYS>)
     requires { length keys.old.items + length more.now ≤ 49 }
     ensures keys { keys.new.items ≡ keys.old.items ++ map key_number more.now }
     ensures count { length keys.new.items ≡ length keys.old.items + length more.now }
@@ -89,7 +89,7 @@ fn push_keys(more: &[Key], keys: &mut ArrayVec<u32, 49>)
 }
 
 /// The director's key and then the players', in order.
-fn keys(fields: &ConfigFields) -> ArrayVec<u32, 49>
+fn keys(fields: &ConfigFields) -> ArrayVec<u32, MOST_KEYS>
     ensures { result.items ≡ keys_of (configuration_of fields.now) }
 {
     let pairs = fields.pairs.as_slice();

@@ -6,6 +6,12 @@ use bridge_score::Scoring;
 /// The most bytes of a name.
 pub const NAME_BYTES: usize = 24;
 
+/// The bytes of a date.
+pub const DATE_BYTES: usize = 10;
+
+/// The most keys: the director's, and two of each of 24 pairs.
+pub const MOST_KEYS: usize = 49;
+
 /// The key of a player or of the director, any number: who names it acts for its owner.
 #[derive(Clone, Copy, Debug, Default, PartialEq, Eq)]
 pub struct Key(pub u32);
@@ -27,7 +33,7 @@ pub struct ConfigFields {
     /// The name of the site, likewise.
     pub site: ArrayString<NAME_BYTES>,
     /// The date, as `2026.03.14`: four digits of a year, the month from 01 to 12 and the day from 01 to 31.
-    pub date: ArrayString<10>,
+    pub date: ArrayString<DATE_BYTES>,
     /// How scores are compared.
     pub scoring: Scoring,
     /// The number of boards in a set, 1 to 3.

@@ -14,7 +14,7 @@ mod reading;
 pub mod refused;
 
 pub use config::Config;
-pub use fields::{ConfigFields, Key, NAME_BYTES, PairFields};
+pub use fields::{ConfigFields, DATE_BYTES, Key, NAME_BYTES, PairFields};
 pub use limits::{read_date, read_name};
 pub use reading::read_config;
 pub use refused::{ConfigFault, ConfigRefused};

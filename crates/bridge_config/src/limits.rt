@@ -5,7 +5,7 @@ ghost use Rattle.std.specs.List.{list_all};
 ghost use Rattle.bridge_config.specs.ConfigValue.{key_number};
 ghost use Rattle.bridge_config.specs.Limits.{is_name_byte, is_name, is_date_form, is_date_within, two_digits, stands_in, AreKeys};
 
-use crate::fields::{Key, NAME_BYTES};
+use crate::fields::{DATE_BYTES, Key, NAME_BYTES};
 use arrayvec::ArrayString;
 use line_text::{are_digits, inline};
 
@@ -40,7 +40,7 @@ pub fn read_name(text: &[u8]) -> Option<ArrayString<NAME_BYTES>>
 }
 
 /// The date that the bytes are by their form, whether there is such a day or not; `None` where they are none.
-pub fn read_date(text: &[u8]) -> Option<ArrayString<10>>
+pub fn read_date(text: &[u8]) -> Option<ArrayString<DATE_BYTES>>
     ensures { option_map (λ date. date.bytes) result ≡ (if is_date_form text.now then Some text.now else None) }
 {
     if is_date_form(text) {

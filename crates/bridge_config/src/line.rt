@@ -8,7 +8,7 @@ ghost use Rattle.line_text.specs.Words.{word_after, words_of};
 ghost use Rattle.line_text.specs.Numeral.{is_numeral};
 ghost use Rattle.bridge_config.specs.Reading.{due_line};
 
-use crate::fields::{Key, NAME_BYTES, PairFields};
+use crate::fields::{DATE_BYTES, Key, NAME_BYTES, PairFields};
 use crate::limits::{is_date_form, is_date_within, is_name, stands_in};
 use crate::refused::{ConfigFault, ConfigRefused};
 use arrayvec::ArrayString;
@@ -81,7 +81,7 @@ impl Line<'_> {
     }
 
     /// The date after `DATE`.
-    pub fn date(self) -> Result<ArrayString<10>, ConfigFault>
+    pub fn date(self) -> Result<ArrayString<DATE_BYTES>, ConfigFault>
         ensures { Gives (λ date. date.bytes) result (date_line self.entry.number self.entry.text.now) }
     {
         match word_after(b"DATE", self.text) {

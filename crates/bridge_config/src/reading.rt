@@ -10,7 +10,7 @@ ghost use Rattle.bridge_config.specs.Reading.{heading_in, rows_in, pairs_in, peo
 ghost use Rattle.bridge_config.specs.Parts.{view_of_heading, view_of_people, moved_of};
 
 use crate::config::Config;
-use crate::fields::{ConfigFields, Key, NAME_BYTES, PairFields};
+use crate::fields::{ConfigFields, DATE_BYTES, Key, MOST_KEYS, NAME_BYTES, PairFields};
 use crate::line::{due_line, has_line};
 use crate::refused::{ConfigFault, ConfigRefused};
 use arrayvec::{ArrayString, ArrayVec};
@@ -25,7 +25,7 @@ const TEXT_BYTES: usize = 16384;
 struct Heading {
     event: ArrayString<NAME_BYTES>,
     site: ArrayString<NAME_BYTES>,
-    date: ArrayString<10>,
+    date: ArrayString<DATE_BYTES>,
     scoring: Scoring,
     boards: u8,
 }
@@ -201,7 +201,7 @@ fn read_pairs(
         (pairs_in count number 1 (key_number director ∷ []) (lines text.now)) }
 {
     let mut pairs = ArrayVec::new();
-    let mut keys: ArrayVec<Key, 49> = ArrayVec::new();
+    let mut keys: ArrayVec<Key, MOST_KEYS> = ArrayVec::new();
     keys.push(director);
     let mut rest = text;
     for index in 0..count {

@@ -8,13 +8,13 @@ ghost use Rattle.bridge_pbn.specs.Sections.{places_from, card_by, column_text, t
 
 use crate::text::{GAME_BYTES, GameText, TAG_BYTES, push_tag};
 use bridge_cards::{Card, Seat, seat_text};
-use bridge_play::Play;
+use bridge_play::{Play, TRICKS};
 
 /// The most bytes of a trick's line.
 pub const TRICK_BYTES: usize = 12;
 
 /// The room for a Play section: that of its tag pair, of 13 tricks and of a star.
-pub const PLAY_BYTES: usize = TAG_BYTES + 13 * TRICK_BYTES + 2;
+pub const PLAY_BYTES: usize = TAG_BYTES + TRICKS * TRICK_BYTES + 2;
 
 /// How many places a seat is clockwise from another, 0 to 3.
 fn places_from(first: Seat, seat: Seat) -> usize
@@ -76,7 +76,7 @@ fn push_star(text: &mut GameText, tricks: usize)
     ensures lines { text.new.bytes ≡ text.old.bytes ++ lines_text (star_lines tricks) }
     ensures room { array_string_len text.new ≤ array_string_len text.old + 2 }
 {
-    if tricks < 13 {
+    if tricks < TRICKS {
         text.push_str("*\n");
     }
 }

@@ -13,7 +13,8 @@ use crate::text::{GAME_BYTES, GameText, TAG_BYTES, push_tag};
 use arrayvec::ArrayString;
 use bridge_auction::{Contract, doubling_text, print_bid};
 use bridge_cards::{
-    BoardNumber, Deal, dealer, print_deal, seat_text, vulnerability_of, vulnerability_text,
+    BoardNumber, DEAL_BYTES, Deal, dealer, print_deal, seat_text, vulnerability_of,
+    vulnerability_text,
 };
 use bridge_config::{Config, PairFields};
 use bridge_movement::Row;
@@ -63,7 +64,7 @@ pub fn push_board_tags(text: &mut GameText, board: BoardNumber, deal: &Deal, sco
     ensures room { array_string_len text.new ≤ array_string_len text.old + 4 * TAG_BYTES }
 {
     let first = dealer(board);
-    let mut hands = ArrayString::<69>::new();
+    let mut hands = ArrayString::<DEAL_BYTES>::new();
     print_deal(deal, first, &mut hands);
     push_tag(text, "Dealer", seat_text(first));
     push_tag(

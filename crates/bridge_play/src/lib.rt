@@ -15,5 +15,5 @@ pub mod refused;
 mod trick;
 
 pub use claim::Claim;
-pub use play::Play;
+pub use play::{Play, TRICKS};
 pub use refused::{CardRefused, ClaimRefused, ConsentRefused};

@@ -17,7 +17,7 @@ use bridge_cards::{Card, CardSet, DECK, Deal, Seat, Side};
 use std::marker::Model;
 
 /// The tricks of a board.
-const TRICKS: usize = 13;
+pub const TRICKS: usize = 13;
 
 /// The most claims of one play.
 const MOST_CLAIMS: u8 = 99;

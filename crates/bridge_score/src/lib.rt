@@ -19,5 +19,5 @@ pub use comparison::{cross_imps, matchpoints};
 pub use imp_scale::imps;
 pub use laws::{cross_imps_shared, matchpoints_shared};
 pub use percent::percent_hundredths;
-pub use ranking::{Line, Ranked, Scoring, rank};
+pub use ranking::{Line, MOST_LINES, Ranked, Scoring, rank};
 pub use scoring_table::score;

@@ -71,8 +71,8 @@ index_apart f at records row_index index x is apart =
     ∙ other_index f (row_at records row_index) (at (row_at records row_index)) index apart
     ∙ is
 
-index_apart : (g : List PlainRecord → List PlainRecord) (records : List (List PlainRecord)) (changed_index row_index : ℕ) → row_index ≢ changed_index → row_at (changed_at g records changed_index) row_index ≡ row_at records row_index
-index_apart g records changed_index row_index apart =
+row_apart : (g : List PlainRecord → List PlainRecord) (records : List (List PlainRecord)) (changed_index row_index : ℕ) → row_index ≢ changed_index → row_at (changed_at g records changed_index) row_index ≡ row_at records row_index
+row_apart g records changed_index row_index apart =
     elim (slice_get_cases records changed_index).1 [
       | inl (rs, within, found, read) ↦
           ap (λ o. unwrap_or o []) (ap (λ rows. slice_get rows row_index) (changed_at-Some g records changed_index rs found) ∙ set_other records changed_index row_index (g rs) apart)
@@ -130,7 +130,7 @@ ruled_by s play named made x false ranges ranges_named test within_named within 
     let g = changes (with_ruling made) at in
     record_at s (changed_at g s.records its) play x within
     (elim (cases_eq mine its) [
-      | inr apart ↦ ap (λ rs. slice_get rs (play.index - 1)) (index_apart g s.records its mine apart) ∙ is
+      | inr apart ↦ ap (λ rs. slice_get rs (play.index - 1)) (row_apart g s.records its mine apart) ∙ is
       | inl row_index ↦
           ap (λ p. slice_get (row_at (changed_at g s.records p) mine) (play.index - 1)) (sym row_index)
           ∙ index_apart (with_ruling made) at s.records mine (play.index - 1) x is
@@ -199,7 +199,7 @@ acted_by s play seat row_index done board named x current true false valid at_in
     eqb-false named board of_board name)
 acted_by s play seat row_index done board named x current false b valid at_index of_board own now on is =
     let mine = index_of_row s.configuration.movement.shape play.round play.table in
-    ap (λ rs. slice_get rs (play.index - 1)) (index_apart (changes (with_deed seat done) current_index) s.records row_index mine (λ same. eqb-false row_index mine at_index (sym same))) ∙ is
+    ap (λ rs. slice_get rs (play.index - 1)) (row_apart (changes (with_deed seat done) current_index) s.records row_index mine (λ same. eqb-false row_index mine at_index (sym same))) ∙ is
 
 player_by : (s : SessionValue) (play : PlayId) (board named at : ℕ) (done : Deed) (x : PlainRecord) (sits : Result Seating Refused) → IsValid s → answer_at s named at done sits ≡ Ok tt → record_of s play ≡ Some x → x.board ≡ board → record_of (acted_at s done sits) play ≡ Some (perhaps_done (done_by s.configuration play board named done sits) x)
 player_by s play board named at done x (Err refused) valid ok is own = absurd cc

@@ -101,7 +101,7 @@ current_same deals others seat row_index (Some a) (Some b) alike = dealt_same se
 among_same : (deals others : List (Option (List ℕ))) (seat : Seat) (records plays : List PlainRecord) → TablesLookAlike seat deals records others plays → shown_among deals seat records ≡ shown_among others seat plays
 among_same deals others seat records plays alike =
     current_same deals others seat (current_index records) (slice_get records (current_index records)) (slice_get plays (current_index plays)) alike.current
-    ∙ ap (λ row_index. shown_current others seat row_index (slice_get plays (current_index plays))) alike.row_index
+    ∙ ap (λ row_index. shown_current others seat row_index (slice_get plays (current_index plays))) alike.index
 
 seated_same : (key : ℕ) (s t : SessionValue) (sits : Result Seating Refused) → LookAlikeTo key s t → seating_of s.configuration s.round key ≡ sits → shown_seated s sits ≡ shown_seated t sits
 seated_same key s t (Err refused) alike is = refl

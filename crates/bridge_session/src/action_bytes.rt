@@ -10,9 +10,10 @@ use crate::numbers::MadeCount;
 use arrayvec::ArrayVec;
 use bridge_cards::{BoardNumber, CardSet};
 use bridge_config::Key;
+use session_store::PAYLOAD_BYTES;
 
 /// Clears `bytes`, and writes the action's into it: at most 38.
-pub fn write_action(action: &Action, bytes: &mut ArrayVec<u8, 480>)
+pub fn write_action(action: &Action, bytes: &mut ArrayVec<u8, PAYLOAD_BYTES>)
     ensures bytes { bytes.new.items ≡ action_bytes action.now }
     ensures range { IsInRange action.now }
 {
@@ -66,7 +67,7 @@ pub fn write_action(action: &Action, bytes: &mut ArrayVec<u8, 480>)
 }
 
 /// Adds the kind and the key.
-fn push_head(kind: u8, key: Key, bytes: &mut ArrayVec<u8, 480>)
+fn push_head(kind: u8, key: Key, bytes: &mut ArrayVec<u8, PAYLOAD_BYTES>)
     requires { bytes.old.items ≡ [] }
     ensures bytes { bytes.new.items ≡ headed kind key.0 [] }
     ensures few { length bytes.new.items ≡ 5 }
@@ -77,7 +78,13 @@ fn push_head(kind: u8, key: Key, bytes: &mut ArrayVec<u8, 480>)
 }
 
 /// Adds the kind, the key, the board and the number of calls, cards or claims made before.
-fn push_turn(kind: u8, key: Key, board: BoardNumber, at: MadeCount, bytes: &mut ArrayVec<u8, 480>)
+fn push_turn(
+    kind: u8,
+    key: Key,
+    board: BoardNumber,
+    at: MadeCount,
+    bytes: &mut ArrayVec<u8, PAYLOAD_BYTES>,
+)
     requires { bytes.old.items ≡ [] }
     ensures bytes { bytes.new.items ≡ headed kind key.0 (turn_bytes board at []) }
     ensures few { length bytes.new.items ≡ 8 }
@@ -91,7 +98,7 @@ fn push_turn(kind: u8, key: Key, board: BoardNumber, at: MadeCount, bytes: &mut 
 }
 
 /// Adds the kind, the key and the play.
-fn push_play(kind: u8, key: Key, play: PlayId, bytes: &mut ArrayVec<u8, 480>)
+fn push_play(kind: u8, key: Key, play: PlayId, bytes: &mut ArrayVec<u8, PAYLOAD_BYTES>)
     requires { bytes.old.items ≡ [] }
     ensures bytes { bytes.new.items ≡ headed kind key.0 (play_bytes play []) }
     ensures few { length bytes.new.items ≡ 8 }
@@ -104,7 +111,7 @@ fn push_play(kind: u8, key: Key, play: PlayId, bytes: &mut ArrayVec<u8, 480>)
 }
 
 /// Adds the four hands.
-fn push_hands(hands: &[CardSet; 4], bytes: &mut ArrayVec<u8, 480>)
+fn push_hands(hands: &[CardSet; 4], bytes: &mut ArrayVec<u8, PAYLOAD_BYTES>)
     requires { length bytes.old.items + 32 ≤ 480 }
     ensures bytes { bytes.new.items ≡ bytes.old.items ++ flat_map hand_bytes hands.now }
     ensures range { (length hands.now ≡ 4) × All IsCardSet hands.now }
@@ -117,7 +124,7 @@ fn push_hands(hands: &[CardSet; 4], bytes: &mut ArrayVec<u8, 480>)
 }
 
 /// Adds a hand.
-fn push_hand(hand: CardSet, bytes: &mut ArrayVec<u8, 480>)
+fn push_hand(hand: CardSet, bytes: &mut ArrayVec<u8, PAYLOAD_BYTES>)
     requires { length bytes.old.items + 8 ≤ 480 }
     ensures bytes { bytes.new.items ≡ bytes.old.items ++ hand_bytes hand }
     ensures few { length bytes.new.items ≡ length bytes.old.items + 8 }

@@ -10,6 +10,7 @@ use bridge_cards::{Deal, Seat};
 use bridge_config::{Config, PairFields};
 use bridge_movement::Row;
 use bridge_score::Scoring;
+use session_store::PAYLOAD_BYTES;
 
 fn scoring_number(scoring: Scoring) -> u8
     ensures { result ≡ scoring_number scoring }
@@ -21,7 +22,7 @@ fn scoring_number(scoring: Scoring) -> u8
 }
 
 /// Writes the configuration and the current round into an empty list.
-pub fn write_configuration(config: &Config, round: u8, part: &mut ArrayVec<u8, 480>)
+pub fn write_configuration(config: &Config, round: u8, part: &mut ArrayVec<u8, PAYLOAD_BYTES>)
     requires { part.old.items ≡ [] }
     ensures { part.new.items ≡ configuration_part config.now round }
 {
@@ -47,7 +48,7 @@ pub fn write_configuration(config: &Config, round: u8, part: &mut ArrayVec<u8, 4
 }
 
 /// Writes the rows of the movement into an empty list.
-pub fn write_movement(rows: &[Row], part: &mut ArrayVec<u8, 480>)
+pub fn write_movement(rows: &[Row], part: &mut ArrayVec<u8, PAYLOAD_BYTES>)
     requires empty { part.old.items ≡ [] }
     requires few { length rows.now ≤ 144 }
     ensures { part.new.items ≡ movement_part rows.now }
@@ -58,7 +59,7 @@ pub fn write_movement(rows: &[Row], part: &mut ArrayVec<u8, 480>)
 }
 
 /// Writes a pair into an empty list.
-pub fn write_pair(pair: &PairFields, part: &mut ArrayVec<u8, 480>)
+pub fn write_pair(pair: &PairFields, part: &mut ArrayVec<u8, PAYLOAD_BYTES>)
     requires { part.old.items ≡ [] }
     ensures { part.new.items ≡ pair_part (pair_of pair.now) }
 {
@@ -69,7 +70,7 @@ pub fn write_pair(pair: &PairFields, part: &mut ArrayVec<u8, 480>)
 }
 
 /// Writes a board into an empty list: 0, or 1 and the four hands of its deal.
-pub fn write_deal(deal: &Option<Deal>, part: &mut ArrayVec<u8, 480>)
+pub fn write_deal(deal: &Option<Deal>, part: &mut ArrayVec<u8, PAYLOAD_BYTES>)
     requires { part.old.items ≡ [] }
     ensures { part.new.items ≡ deal_part deal.now }
 {

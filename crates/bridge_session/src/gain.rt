@@ -15,7 +15,7 @@ use crate::scored::ScoredGames;
 use arrayvec::ArrayVec;
 use bridge_cards::Side;
 use bridge_movement::Shape;
-use bridge_score::{Line, Scoring, cross_imps, matchpoints};
+use bridge_score::{Line, MOST_LINES, Scoring, cross_imps, matchpoints};
 
 /// What a pair gained, and what was available to it.
 #[derive(Clone, Copy)]
@@ -127,7 +127,12 @@ fn line_of(scoring: Scoring, games: &ScoredGames<'_>, pair: u8) -> Line
 }
 
 /// The lines of so many pairs, from the first on.
-fn lines_from(scoring: Scoring, games: &ScoredGames<'_>, first: u8, count: u8) -> ArrayVec<Line, 24>
+fn lines_from(
+    scoring: Scoring,
+    games: &ScoredGames<'_>,
+    first: u8,
+    count: u8,
+) -> ArrayVec<Line, MOST_LINES>
     requires games { AreGames games.now }
     requires most { first + count ≤ 25 }
     requires least { 1 ≤ first }
@@ -153,7 +158,12 @@ pub fn has_field(shape: Shape, field: Field) -> bool
 }
 
 /// The lines of the pairs of a field.
-pub fn lines_of(scoring: Scoring, games: &[Game], shape: Shape, field: Field) -> ArrayVec<Line, 24>
+pub fn lines_of(
+    scoring: Scoring,
+    games: &[Game],
+    shape: Shape,
+    field: Field,
+) -> ArrayVec<Line, MOST_LINES>
     requires games { AreGames games.now }
     requires shape { IsShape shape }
     ensures lines { result.items ≡ map (line_of scoring games.now) (pairs_of_field shape field) }

@@ -14,6 +14,9 @@ use bridge_cards::{BoardNumber, Side, vulnerable};
 use bridge_movement::Row;
 use bridge_score::score;
 
+/// How many plays a session may have: three in each of 144 rows.
+pub const MOST_PLAYS: usize = 432;
+
 /// A play that counts.
 #[derive(Clone, Copy, Debug, Default, PartialEq, Eq)]
 pub struct Game {
@@ -92,7 +95,7 @@ fn games_in(row: Row, table: &[Record]) -> ArrayVec<Game, 3>
 }
 
 /// The plays that count, of the tables of all rows.
-pub fn games_of(rows: &[Row], tables: &[Vec<Record>]) -> ArrayVec<Game, 432>
+pub fn games_of(rows: &[Row], tables: &[Vec<Record>]) -> ArrayVec<Game, MOST_PLAYS>
     requires count { length rows.now ≡ length tables.now }
     requires most { length rows.now ≤ 144 }
     requires few { All (λ table. length table.items ≤ 3) tables.now }

@@ -11,16 +11,19 @@ ghost use Rattle.bridge_session.specs.Head.{head_parts, IsHeadingOf, IsHeadingPa
 
 use crate::config_bytes::{write_configuration, write_movement, write_pair};
 use arrayvec::{ArrayString, ArrayVec};
-use bridge_config::{Config, ConfigFields, Key, NAME_BYTES, PairFields, read_date, read_name};
+use bridge_config::{
+    Config, ConfigFields, DATE_BYTES, Key, NAME_BYTES, PairFields, read_date, read_name,
+};
 use bridge_movement::{MOST_PAIRS, MOST_ROWS, Movement, Row, Shape};
 use bridge_score::Scoring;
+use session_store::PAYLOAD_BYTES;
 
 /// What the first part states.
 #[derive(Clone, Copy)]
 pub struct Heading {
     pub event: ArrayString<NAME_BYTES>,
     pub site: ArrayString<NAME_BYTES>,
-    pub date: ArrayString<10>,
+    pub date: ArrayString<DATE_BYTES>,
     pub scoring: Scoring,
     pub boards: u8,
     pub shape: Shape,
@@ -97,7 +100,7 @@ fn read_heading(part: &[u8]) -> Option<Heading>
     if rest.len() != 22 {
         return None;
     }
-    let (date, numbers) = rest.split_at(10);
+    let (date, numbers) = rest.split_at(DATE_BYTES);
     let Some(date) = read_date(date) else {
         return None;
     };
@@ -178,7 +181,7 @@ fn read_pair(part: &[u8]) -> Option<PairFields>
 }
 
 /// The pairs that parts state, if each is in form.
-fn read_pairs(parts: &[ArrayVec<u8, 480>]) -> Option<ArrayVec<PairFields, MOST_PAIRS>>
+fn read_pairs(parts: &[ArrayVec<u8, PAYLOAD_BYTES>]) -> Option<ArrayVec<PairFields, MOST_PAIRS>>
     requires { length parts.now ≤ 24 }
     ensures some { IfSome result (λ pairs. map pair_of pairs.items ≡ map pair_in (map items_of parts.now)) }
     ensures none { IfNone result (Any (λ part. ¬ IsPairPart part.items) parts.now) }
@@ -204,7 +207,7 @@ fn movement_of(shape: Shape, part: &[u8]) -> Option<Movement>
 }
 
 /// The configuration and the round that the first part, the second, and those of the pairs state.
-fn read_parts(first: &[u8], second: &[u8], rest: &[ArrayVec<u8, 480>]) -> Option<Head>
+fn read_parts(first: &[u8], second: &[u8], rest: &[ArrayVec<u8, PAYLOAD_BYTES>]) -> Option<Head>
     ensures config { IfSome result (λ head. head.config ≡ configuration_in first.now second.now (map items_of rest.now)) }
     ensures round { IfSome result (λ head. head.round ≡ slice_index (numbers_in first.now) 11) }
     ensures none { IfNone result (¬ AreHeadParts first.now second.now (map items_of rest.now)) }
@@ -269,7 +272,7 @@ fn is_part_of(pair: &PairFields, part: &[u8]) -> bool
 }
 
 /// Whether the parts begin with those of the pairs.
-fn have_pairs(pairs: &[PairFields], parts: &[ArrayVec<u8, 480>]) -> bool
+fn have_pairs(pairs: &[PairFields], parts: &[ArrayVec<u8, PAYLOAD_BYTES>]) -> bool
     ensures { IsTrue result ↔ map (λ pair. pair_part (pair_of pair)) pairs.now ≡ take (length pairs.now) (map items_of parts.now) }
 {
     if parts.len() < pairs.len() {
@@ -284,7 +287,7 @@ fn have_pairs(pairs: &[PairFields], parts: &[ArrayVec<u8, 480>]) -> bool
 }
 
 /// Whether the round is one of the configuration or the one after the last, and the parts begin with those of the head.
-fn is_head(head: &Head, first: &[u8], second: &[u8], rest: &[ArrayVec<u8, 480>]) -> bool
+fn is_head(head: &Head, first: &[u8], second: &[u8], rest: &[ArrayVec<u8, PAYLOAD_BYTES>]) -> bool
     ensures { IsTrue result ↔ IsHead head.now.config head.now.round first.now second.now (map items_of rest.now) }
 {
     let fields = head.config.fields();
@@ -299,7 +302,7 @@ fn is_head(head: &Head, first: &[u8], second: &[u8], rest: &[ArrayVec<u8, 480>])
 }
 
 /// The same of the first part, the second, and the rest.
-fn head_of(first: &[u8], second: &[u8], rest: &[ArrayVec<u8, 480>]) -> Option<Head>
+fn head_of(first: &[u8], second: &[u8], rest: &[ArrayVec<u8, PAYLOAD_BYTES>]) -> Option<Head>
     ensures written { IfSome result (λ head. IsHead head.config head.round first.now second.now (map items_of rest.now)) }
     ensures other { IfNone result (NoHead first.now second.now (map items_of rest.now)) }
 {
@@ -315,7 +318,7 @@ fn head_of(first: &[u8], second: &[u8], rest: &[ArrayVec<u8, 480>]) -> Option<He
 
 /// What the parts before those of the boards state, where these are the parts of a configuration and a round; `None` where
 /// they are those of none.
-pub fn read_head(parts: &[ArrayVec<u8, 480>]) -> Option<Head>
+pub fn read_head(parts: &[ArrayVec<u8, PAYLOAD_BYTES>]) -> Option<Head>
     ensures written { IfSome result (λ head. head_parts head.config head.round ≡ take (2 + length head.config.pairs) (map items_of parts.now)) }
     ensures round { IfSome result (λ head. IsRound head.config head.round) }
     ensures other { IfNone result ((configuration : ConfigValue) (round : ℕ) (boards : List (List ℕ)) → IsConfiguration configuration →

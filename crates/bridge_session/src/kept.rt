@@ -6,7 +6,7 @@ use crate::refused::Refused;
 use crate::session::Session;
 use crate::{action_bytes, action_read};
 use arrayvec::ArrayVec;
-use session_store::{Kept, PartsFault};
+use session_store::{Kept, PAYLOAD_BYTES, PartsFault};
 use std::alloc::Global;
 
 impl Kept for Session {
@@ -23,15 +23,18 @@ impl Kept for Session {
         Session::parts(self)
     }
 
-    fn write_part(&self, i: u32, part: &mut ArrayVec<u8, 480>) {
+    fn write_part(&self, i: u32, part: &mut ArrayVec<u8, PAYLOAD_BYTES>) {
         Session::write_part(self, i, part);
     }
 
-    fn from_parts(alloc: Global, parts: &[ArrayVec<u8, 480>]) -> Result<Session, PartsFault> {
+    fn from_parts(
+        alloc: Global,
+        parts: &[ArrayVec<u8, PAYLOAD_BYTES>],
+    ) -> Result<Session, PartsFault> {
         Session::from_parts(alloc, parts)
     }
 
-    fn write_action(action: &Action, bytes: &mut ArrayVec<u8, 480>) {
+    fn write_action(action: &Action, bytes: &mut ArrayVec<u8, PAYLOAD_BYTES>) {
         action_bytes::write_action(action, bytes);
     }
 

@@ -3,9 +3,10 @@ ghost use Rattle.std.specs.Prelude.{◌≡◌, ◌+◌, ◌<◌, ◌≤◌, ◌+
 ghost use Rattle.bridge_session.specs.Parts.{text_bytes, value_if};
 
 use arrayvec::ArrayVec;
+use session_store::PAYLOAD_BYTES;
 
 /// Adds bytes.
-pub fn put(part: &mut ArrayVec<u8, 480>, bytes: &[u8])
+pub fn put(part: &mut ArrayVec<u8, PAYLOAD_BYTES>, bytes: &[u8])
     requires { length part.old.items + length bytes.now ≤ 480 }
     ensures { part.new.items ≡ part.old.items ++ bytes.now }
 {
@@ -13,7 +14,7 @@ pub fn put(part: &mut ArrayVec<u8, 480>, bytes: &[u8])
 }
 
 /// Adds a text: its length, and then its bytes.
-pub fn put_text(part: &mut ArrayVec<u8, 480>, text: &[u8])
+pub fn put_text(part: &mut ArrayVec<u8, PAYLOAD_BYTES>, text: &[u8])
     requires room { length part.old.items + 1 + length text.now ≤ 480 }
     requires short { length text.now < 256 }
     ensures { part.new.items ≡ part.old.items ++ text_bytes text.now }

@@ -13,9 +13,10 @@ use arrayvec::ArrayVec;
 use bridge_auction::Call;
 use bridge_cards::{Card, Seat};
 use bridge_play::Claim;
+use session_store::PAYLOAD_BYTES;
 
 /// Adds the number of the calls in two bytes, and then a byte for each.
-fn put_calls(part: &mut ArrayVec<u8, 480>, calls: &[Call])
+fn put_calls(part: &mut ArrayVec<u8, PAYLOAD_BYTES>, calls: &[Call])
     requires { length part.old.items + 2 + length calls.now ≤ 480 }
     ensures { part.new.items ≡ part.old.items ++ two_bytes (length calls.now) ++ map call_number calls.now }
 {
@@ -26,7 +27,7 @@ fn put_calls(part: &mut ArrayVec<u8, 480>, calls: &[Call])
 }
 
 /// Adds the number of the cards, and then a byte for each.
-fn put_cards(part: &mut ArrayVec<u8, 480>, cards: &[Card])
+fn put_cards(part: &mut ArrayVec<u8, PAYLOAD_BYTES>, cards: &[Card])
     requires room { length part.old.items + 1 + length cards.now ≤ 480 }
     requires short { length cards.now < 256 }
     ensures { part.new.items ≡ part.old.items ++ text_bytes cards.now }
@@ -48,7 +49,7 @@ fn agreed_byte(claim: &Claim) -> u8
 }
 
 /// Adds a claim that is agreed or not, if there is one.
-fn put_claim(part: &mut ArrayVec<u8, 480>, claim: &Option<Claim>, agreed: bool)
+fn put_claim(part: &mut ArrayVec<u8, PAYLOAD_BYTES>, claim: &Option<Claim>, agreed: bool)
     requires { length part.old.items + 4 ≤ 480 }
     ensures { part.new.items ≡ part.old.items ++ claim_bytes agreed claim.now }
 {
@@ -63,7 +64,7 @@ fn put_claim(part: &mut ArrayVec<u8, 480>, claim: &Option<Claim>, agreed: bool)
 }
 
 /// Adds a ruling, if there is one.
-fn put_ruling(part: &mut ArrayVec<u8, 480>, ruling: &Option<Ruling>)
+fn put_ruling(part: &mut ArrayVec<u8, PAYLOAD_BYTES>, ruling: &Option<Ruling>)
     requires { length part.old.items + 2 ≤ 480 }
     ensures { part.new.items ≡ part.old.items ++ ruling_bytes ruling.now }
 {
@@ -120,7 +121,7 @@ pub fn is_agreed(kept: &Record) -> bool
 }
 
 /// Writes the part of a play into an empty list.
-pub fn write_record(kept: &Record, part: &mut ArrayVec<u8, 480>)
+pub fn write_record(kept: &Record, part: &mut ArrayVec<u8, PAYLOAD_BYTES>)
     requires dealer { kept.now.auction.dealer ≡ dealer_of kept.now.board }
     requires empty { part.old.items ≡ [] }
     ensures { part.new.items ≡ record_part (plain_of kept.now) }
@@ -133,7 +134,7 @@ pub fn write_record(kept: &Record, part: &mut ArrayVec<u8, 480>)
 }
 
 /// Writes the part of a play in which nothing has happened into an empty list.
-pub fn write_empty(part: &mut ArrayVec<u8, 480>)
+pub fn write_empty(part: &mut ArrayVec<u8, PAYLOAD_BYTES>)
     requires { part.old.items ≡ [] }
     ensures { part.new.items ≡ record_part (empty_record 0) }
 {

@@ -20,6 +20,7 @@ use arrayvec::ArrayVec;
 use bridge_auction::{Auction, Call};
 use bridge_cards::{BoardNumber, Card, Deal, dealer};
 use bridge_play::Play;
+use session_store::PAYLOAD_BYTES;
 
 /// The record of a play of that board and round that the part was written of; `None` where it is the part of no record that
 /// is valid by the deals in the current round.
@@ -42,7 +43,7 @@ pub fn read_record(
 }
 
 /// The calls of those numbers.
-fn calls_of(numbers: &[u8]) -> Option<ArrayVec<Call, 480>>
+fn calls_of(numbers: &[u8]) -> Option<ArrayVec<Call, PAYLOAD_BYTES>>
     requires { length numbers.now ≤ 480 }
     ensures calls { IfSome result (λ calls. map some_call calls.items ≡ map call_at numbers.now) }
     ensures none { IfNone result (Any (λ number. call_at number ≡ None) numbers.now) }
@@ -55,7 +56,7 @@ fn calls_of(numbers: &[u8]) -> Option<ArrayVec<Call, 480>>
 }
 
 /// The cards of those numbers.
-fn cards_of(numbers: &[u8]) -> Option<ArrayVec<Card, 480>>
+fn cards_of(numbers: &[u8]) -> Option<ArrayVec<Card, PAYLOAD_BYTES>>
     requires { length numbers.now ≤ 480 }
     ensures cards { IfSome result (λ cards. cards.items ≡ numbers.now) }
     ensures none { IfNone result (Any (λ number. 52 ≤ number) numbers.now) }

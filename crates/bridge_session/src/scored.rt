@@ -10,14 +10,18 @@ ghost use Rattle.bridge_session.specs.Kept.{IsGame};
 use crate::game::{Game, score_for};
 use arrayvec::ArrayVec;
 use bridge_cards::{BoardNumber, Side};
+use bridge_movement::MOST_ROWS;
 use std::marker::Model;
+
+/// How many boards a session may have: three in each of 12 sets.
+const BOARDS: usize = 36;
 
 /// Plays that count, with the scores of each side by the boards' numbers.
 #[derive(Drop)]
 pub struct ScoredGames<'a> {
     games: &'a [Game],
-    north_south: ArrayVec<ArrayVec<i32, 144>, 36>,
-    east_west: ArrayVec<ArrayVec<i32, 144>, 36>,
+    north_south: ArrayVec<ArrayVec<i32, MOST_ROWS>, BOARDS>,
+    east_west: ArrayVec<ArrayVec<i32, MOST_ROWS>, BOARDS>,
 }
 
 impl<'a> Model for ScoredGames<'a> {
@@ -67,7 +71,7 @@ impl<'a> ScoredGames<'a> {
 }
 
 /// The list at the index of a board.
-fn scores_at(lists: &[ArrayVec<i32, 144>], board: u8) -> &[i32]
+fn scores_at(lists: &[ArrayVec<i32, MOST_ROWS>], board: u8) -> &[i32]
     requires count { length lists.now ≡ 36 }
     requires board { IsBoard board }
     ensures index { slice_get (map (λ scores. scores.items) lists.now) (board - 1) ≡ Some result.now }
@@ -77,7 +81,7 @@ fn scores_at(lists: &[ArrayVec<i32, 144>], board: u8) -> &[i32]
 }
 
 /// Adds a score to the list at the index of its board.
-fn add_score(lists: &mut [ArrayVec<i32, 144>], board: u8, score: i32)
+fn add_score(lists: &mut [ArrayVec<i32, MOST_ROWS>], board: u8, score: i32)
     requires count { length lists.old ≡ 36 }
     requires board { IsBoard board }
     requires room { length (slice_index_or (map (λ scores. scores.items) lists.old) (board - 1) []) < 144 }
@@ -87,7 +91,7 @@ fn add_score(lists: &mut [ArrayVec<i32, 144>], board: u8, score: i32)
 }
 
 /// A list for each board, with no score.
-fn empty_lists() -> ArrayVec<ArrayVec<i32, 144>, 36>
+fn empty_lists() -> ArrayVec<ArrayVec<i32, MOST_ROWS>, BOARDS>
     ensures { map (λ scores. scores.items) result.items ≡ map (λ _. []) (range_with_len 1 36) }
 {
     let mut lists = ArrayVec::new();
@@ -98,7 +102,7 @@ fn empty_lists() -> ArrayVec<ArrayVec<i32, 144>, 36>
 }
 
 /// The scores of a side on each board, by the boards' numbers.
-fn scores_by_board(games: &[Game], side: Side) -> ArrayVec<ArrayVec<i32, 144>, 36>
+fn scores_by_board(games: &[Game], side: Side) -> ArrayVec<ArrayVec<i32, MOST_ROWS>, BOARDS>
     requires games { AreGames games.now }
     ensures scores { map (λ scores. scores.items) result.items ≡ map (scores_on games.now side) (range_with_len 1 36) }
 {

@@ -25,7 +25,7 @@ use crate::view::{View, view_among};
 use arrayvec::ArrayVec;
 use bridge_cards::{BoardNumber, Deal};
 use bridge_config::{Config, Key};
-use bridge_score::{Ranked, rank};
+use bridge_score::{MOST_LINES, Ranked, rank};
 use std::alloc::{AllocError, Global};
 use std::marker::Model;
 
@@ -35,7 +35,7 @@ mod restored;
 mod step;
 
 /// The pairs of a field with their places, by place, then by pair.
-pub type Ranking = ArrayVec<Ranked, 24>;
+pub type Ranking = ArrayVec<Ranked, MOST_LINES>;
 
 /// A session: who plays, the round, the boards that are dealt, and a record of each play.
 #[derive(Drop)]

@@ -15,12 +15,13 @@ use crate::record_read::read_record;
 use arrayvec::ArrayVec;
 use bridge_cards::{BoardNumber, Deal};
 use bridge_movement::Row;
+use session_store::PAYLOAD_BYTES;
 use std::alloc::{AllocError, Global};
 
 /// The deals of the boards that the parts were written of; none where these are the parts of no boards.
 pub fn read_deals(
     alloc: Global,
-    parts: &[ArrayVec<u8, 480>],
+    parts: &[ArrayVec<u8, PAYLOAD_BYTES>],
 ) -> Result<Option<Vec<Option<Deal>>>, AllocError>
     ensures written { IfOk result (λ found. IfSome found (λ deals. map deal_part deals.items ≡ map items_of parts.now)) }
     ensures deals { IfOk result (λ found. IfSome found (λ deals. AreDeals deals.items)) }
@@ -50,7 +51,7 @@ fn are_zeros(bytes: &[u8]) -> bool
 }
 
 /// Whether the parts are those of plays in which nothing has happened.
-fn are_empty_parts(parts: &[ArrayVec<u8, 480>]) -> bool
+fn are_empty_parts(parts: &[ArrayVec<u8, PAYLOAD_BYTES>]) -> bool
     ensures { result ≡ list_all (λ part. is_empty_part part.items) parts.now }
 {
     parts.iter().all(|part| is_empty_part(part.as_slice()))
@@ -60,7 +61,7 @@ fn are_empty_parts(parts: &[ArrayVec<u8, 480>]) -> bool
 /// valid records.
 fn read_records(
     alloc: Global,
-    parts: &[ArrayVec<u8, 480>],
+    parts: &[ArrayVec<u8, PAYLOAD_BYTES>],
     first: u8,
     deals: &[Option<Deal>],
     now: u8,
@@ -91,7 +92,7 @@ fn read_records(
 /// nothing has happened.
 fn read_table(
     alloc: Global,
-    parts: &[ArrayVec<u8, 480>],
+    parts: &[ArrayVec<u8, PAYLOAD_BYTES>],
     row: &Row,
     boards: u8,
     deals: &[Option<Deal>],
@@ -121,7 +122,7 @@ fn read_table(
 /// are those of no valid records.
 pub fn read_tables(
     alloc: Global,
-    parts: &[ArrayVec<u8, 480>],
+    parts: &[ArrayVec<u8, PAYLOAD_BYTES>],
     rows: &[Row],
     boards: u8,
     deals: &[Option<Deal>],

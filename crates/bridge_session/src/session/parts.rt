@@ -13,6 +13,7 @@ use crate::record::Record;
 use crate::record_bytes::{write_empty, write_record};
 use crate::table::record_at;
 use arrayvec::ArrayVec;
+use session_store::PAYLOAD_BYTES;
 
 impl Session {
     /// The number of the session's parts, 1 to 494: the configuration, the movement, one for each pair, one for each board,
@@ -41,7 +42,7 @@ impl Session {
     }
 
     /// Writes the part of a play by its index among the plays into an empty list.
-    fn write_play(&self, index: usize, part: &mut ArrayVec<u8, 480>)
+    fn write_play(&self, index: usize, part: &mut ArrayVec<u8, PAYLOAD_BYTES>)
         requires within { index < length (play_parts self.now) }
         requires empty { part.old.items ≡ [] }
         ensures { part.new.items ≡ slice_index_or (play_parts self.now) index [] }
@@ -53,7 +54,7 @@ impl Session {
     }
 
     /// Writes the part of a board or a play by its index among these into an empty list.
-    fn write_from_boards(&self, index: usize, part: &mut ArrayVec<u8, 480>)
+    fn write_from_boards(&self, index: usize, part: &mut ArrayVec<u8, PAYLOAD_BYTES>)
         requires within { index < length (board_parts self.now) }
         requires empty { part.old.items ≡ [] }
         ensures { part.new.items ≡ slice_index_or (board_parts self.now) index [] }
@@ -67,7 +68,7 @@ impl Session {
     }
 
     /// Writes the part of a pair, a board or a play by its index among these into an empty list.
-    fn write_from_pairs(&self, index: usize, part: &mut ArrayVec<u8, 480>)
+    fn write_from_pairs(&self, index: usize, part: &mut ArrayVec<u8, PAYLOAD_BYTES>)
         requires within { index < length (pair_parts self.now) }
         requires empty { part.old.items ≡ [] }
         ensures { part.new.items ≡ slice_index_or (pair_parts self.now) index [] }
@@ -81,7 +82,7 @@ impl Session {
     }
 
     /// Clears `part`, and writes the part of the session of that index into it, counted from 0.
-    pub fn write_part(&self, index: u32, part: &mut ArrayVec<u8, 480>)
+    pub fn write_part(&self, index: u32, part: &mut ArrayVec<u8, PAYLOAD_BYTES>)
         requires { index < length (parts_of self.now) }
         ensures { part.new.items ≡ slice_index_or (parts_of self.now) index [] }
     {

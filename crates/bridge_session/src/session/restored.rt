@@ -11,7 +11,7 @@ use crate::head::read_head;
 use crate::tables_read::{read_deals, read_tables};
 use arrayvec::ArrayVec;
 use bridge_config::Config;
-use session_store::PartsFault;
+use session_store::{PAYLOAD_BYTES, PartsFault};
 use std::alloc::{AllocError, Global};
 
 /// The session of the configuration in the round whose boards and plays the parts state; none where they are those of none.
@@ -19,7 +19,7 @@ fn read_boards(
     alloc: Global,
     config: Config,
     round: u8,
-    parts: &[ArrayVec<u8, 480>],
+    parts: &[ArrayVec<u8, PAYLOAD_BYTES>],
 ) -> Result<Option<Session>, AllocError>
     requires { IsRound config round }
     ensures state { IfOk result (λ found. IfSome found (λ s. (s.configuration ≡ config) × (s.round ≡ round))) }
@@ -55,7 +55,10 @@ fn read_boards(
 impl Session {
     /// The session that the parts were written of. `Bad` where they are not exactly those of a session, `Memory` where it is
     /// out of memory, of which it takes none before the configuration, the round and the number of the parts are read.
-    pub fn from_parts(alloc: Global, parts: &[ArrayVec<u8, 480>]) -> Result<Session, PartsFault>
+    pub fn from_parts(
+        alloc: Global,
+        parts: &[ArrayVec<u8, PAYLOAD_BYTES>],
+    ) -> Result<Session, PartsFault>
         ensures parts { IfOk result (λ s. parts_of s ≡ map (λ part. part.items) parts.now) }
         ensures session { IfOk result IsSession }
         ensures bad { IsErrOf result PartsFault.Bad → (s : SessionValue) → IsSession s → parts_of s ≢ map (λ part. part.items) parts.now }

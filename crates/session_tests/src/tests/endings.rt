@@ -31,11 +31,11 @@ fn answers(
     rt: &impl Abort,
     session: &Session,
     key: u32,
-    table: &str,
+    table: u8,
     cards: u8,
     due: u8,
 ) -> Result<(), Fail> {
-    let answer = match session.ending(Key(key), play("1", table, "1")?, cards) {
+    let answer = match session.ending(Key(key), play(1, table, 1)?, cards) {
         Ok(_) => 0,
         Err(refused) => refused.number(),
     };
@@ -45,7 +45,7 @@ fn answers(
 
 /// After so many cards North leads, with that many tricks left, all of which North's spades win.
 fn leaves(rt: &impl Abort, session: &Session, cards: u8, tricks: u8) -> Result<(), Fail> {
-    let Ok(ending) = session.ending(Key(100), play("1", "1", "1")?, cards) else {
+    let Ok(ending) = session.ending(Key(100), play(1, 1, 1)?, cards) else {
         return Err(Fail::from("an ending"));
     };
     expect_eq(rt, ending.leader(), Seat::North, cards);
@@ -61,16 +61,16 @@ fn leaves(rt: &impl Abort, session: &Session, cards: u8, tricks: u8) -> Result<(
 #[test]
 fn endings_of_a_slam(rt: HostRuntime) -> Result<(), Fail> {
     let mut session = session_of(rt.alloc(), CLUB)?;
-    answers(&rt, &session, 999, "3", 1, 1)?;
-    answers(&rt, &session, 11, "3", 1, 2)?;
-    answers(&rt, &session, 100, "3", 1, 4)?;
-    answers(&rt, &session, 100, "1", 1, 25)?;
+    answers(&rt, &session, 999, 3, 1, 1)?;
+    answers(&rt, &session, 11, 3, 1, 2)?;
+    answers(&rt, &session, 100, 3, 1, 4)?;
+    answers(&rt, &session, 100, 1, 1, 25)?;
     run(&rt, &mut session, &[A_SLAM])?;
-    answers(&rt, &session, 100, "1", 28, 27)?;
+    answers(&rt, &session, 100, 1, 28, 27)?;
     run(&rt, &mut session, &TRICKS[..7])?;
     leaves(&rt, &session, 28, 6)?;
     for cards in [0, 24, 29, 32] {
-        answers(&rt, &session, 100, "1", cards, 27)?;
+        answers(&rt, &session, 100, 1, cards, 27)?;
     }
     run(&rt, &mut session, &TRICKS[7..10])?;
     leaves(&rt, &session, 28, 6)?;

@@ -56,7 +56,7 @@ fn cards_and_claims(rt: HostRuntime) -> Result<(), Fail> {
             "AGREE 31 1 2/AGREE 32 1 2/CALL 11 1 4 PASS = 7",
         ],
     )?;
-    let Some(entry) = session.entry(play("1", "1", "1")?) else {
+    let Some(entry) = session.entry(play(1, 1, 1)?) else {
         return Err(Fail::from("a play"));
     };
     let due = Outcome::Played {

@@ -1,15 +1,13 @@
-//! Actions as lines of words, so that a worked session can be read.
+//! Actions as lines of the protocol, so that a worked session can be read.
 use super::expect_eq;
-use arrayvec::ArrayVec;
-use bridge_auction::{Call, read_call};
-use bridge_cards::{BoardNumber, Card, CardSet, read_card, read_hands};
-use bridge_config::{Key, read_config};
-use bridge_session::{
-    Action, BoardIndex, MadeCount, PlayId, RoundNumber, Session, TableNumber, TrickCount,
-};
+use arrayvec::{ArrayString, ArrayVec};
+use bridge_cards::{CardSet, read_hands};
+use bridge_config::read_config;
+use bridge_session::{Action, BoardIndex, PlayId, RoundNumber, Session, TableNumber};
 use std::alloc::Global;
 use std::process::Abort;
 use std::test::Fail;
+use table_server::{Asked, asked_by};
 
 /// Two tables, one round, one board: pairs 1 and 3 at table 1, pairs 2 and 4 at table 2.
 pub const CLUB: &str = "EVENT Club-Night
@@ -55,136 +53,48 @@ pub fn session_of(alloc: Global, text: &str) -> Result<Session, Fail> {
     Ok(Session::new(alloc, config)?)
 }
 
-fn number(word: &str) -> Result<u32, Fail> {
-    Ok(word.parse::<u32>().ok().ok_or("a number")?)
-}
-
-fn byte(word: &str) -> Result<u8, Fail> {
-    Ok(u8::try_from(number(word)?).ok().ok_or("a small number")?)
-}
-
-fn made(word: &str) -> Result<MadeCount, Fail> {
-    let count = u16::try_from(number(word)?).ok().ok_or("a small number")?;
-    Ok(MadeCount::new(count).ok_or("a number of acts")?)
-}
-
-fn key(word: &str) -> Result<Key, Fail> {
-    Ok(Key(number(word)?))
-}
-
-fn board(word: &str) -> Result<BoardNumber, Fail> {
-    Ok(BoardNumber::new(byte(word)?).ok_or("a board")?)
-}
-
-fn tricks(word: &str) -> Result<TrickCount, Fail> {
-    Ok(TrickCount::new(byte(word)?).ok_or("tricks")?)
-}
-
-fn call(word: &str) -> Result<Call, Fail> {
-    Ok(read_call(word.as_bytes()).ok_or("a call")?)
-}
-
-fn card(word: &str) -> Result<Card, Fail> {
-    Ok(read_card(word.as_bytes()).ok_or("a card")?)
-}
-
-/// The hands of a deal by its name.
-pub fn hands(word: &str) -> Result<[CardSet; 4], Fail> {
-    let text = match word.as_bytes() {
+/// The text of a deal by its name.
+fn deal_text(name: &str) -> &str {
+    match name.as_bytes() {
         b"SUITS" => ONE_SUIT_EACH,
         b"ROWS" => CARDS_IN_A_ROW,
         _ => HEARTS_TWICE,
-    };
-    Ok(read_hands(text.as_bytes()).ok_or("hands")?)
+    }
+}
+
+/// The hands of a deal by its name.
+pub fn hands(name: &str) -> Result<[CardSet; 4], Fail> {
+    Ok(read_hands(deal_text(name).as_bytes()).ok_or("hands")?)
 }
 
 /// A play by its round, table and index.
-pub fn play(round: &str, table: &str, index: &str) -> Result<PlayId, Fail> {
+pub fn play(round: u8, table: u8, index: u8) -> Result<PlayId, Fail> {
     Ok(PlayId {
-        round: RoundNumber::new(byte(round)?).ok_or("a round")?,
-        table: TableNumber::new(byte(table)?).ok_or("a table")?,
-        index: BoardIndex::new(byte(index)?).ok_or("an index")?,
+        round: RoundNumber::new(round).ok_or("a round")?,
+        table: TableNumber::new(table).ok_or("a table")?,
+        index: BoardIndex::new(index).ok_or("an index")?,
     })
 }
 
-/// The first eight words of a line.
-fn words_of(line: &str) -> [&str; 8] {
-    let mut words = [""; 8];
-    for (index, word) in line.split(' ').enumerate() {
-        if index < 8 {
-            words[index] = word;
+/// The line with the text of its deal in place of the deal's name.
+fn with_deal(line: &str) -> Option<ArrayString<128>> {
+    let mut whole = ArrayString::new();
+    match line.rsplit_once(' ') {
+        Some((head, name)) if line.starts_with("DEAL ") => {
+            whole.try_push_str(head).ok()?;
+            whole.try_push_str(" ").ok()?;
+            whole.try_push_str(deal_text(name)).ok()?;
         }
+        _ => whole.try_push_str(line).ok()?,
     }
-    words
+    Some(whole)
 }
 
-/// What a player does, by the line's words.
-fn act(words: [&str; 8]) -> Result<Action, Fail> {
-    let [kind, key_word, board_word, at_word, what, ..] = words;
-    let key = key(key_word)?;
-    let board = board(board_word)?;
-    let at = made(at_word)?;
-    match kind.as_bytes() {
-        b"CALL" => Ok(Action::Call {
-            key,
-            board,
-            at,
-            call: call(what)?,
-        }),
-        b"CARD" => Ok(Action::Card {
-            key,
-            board,
-            at,
-            card: card(what)?,
-        }),
-        b"CLAIM" => Ok(Action::Claim {
-            key,
-            board,
-            at,
-            tricks: tricks(what)?,
-        }),
-        b"AGREE" => Ok(Action::Agree { key, board, at }),
-        b"REFUSE" => Ok(Action::Refuse { key, board, at }),
-        _ => Err(Fail::from("a kind of line")),
-    }
-}
-
-/// The action that a line states.
+/// The action that a line of the protocol states, in which a deal stands by its name.
 pub fn action(line: &str) -> Result<Action, Fail> {
-    let words = words_of(line);
-    let [kind, key_word, first, second, third, fourth, ..] = words;
-    match kind.as_bytes() {
-        b"DEAL" => Ok(Action::Deal {
-            key: key(key_word)?,
-            board: board(first)?,
-            hands: hands(second)?,
-        }),
-        b"NEXT" => Ok(Action::NextRound {
-            key: key(key_word)?,
-            round: RoundNumber::new(byte(first)?).ok_or("a round")?,
-        }),
-        b"TRICKS" => Ok(Action::Tricks {
-            key: key(key_word)?,
-            play: play(first, second, third)?,
-            tricks: tricks(fourth)?,
-        }),
-        b"VOID" => Ok(Action::Void {
-            key: key(key_word)?,
-            play: play(first, second, third)?,
-        }),
-        b"RESTORE" => Ok(Action::Restore {
-            key: key(key_word)?,
-            play: play(first, second, third)?,
-        }),
-        _ => act(words),
-    }
-}
-
-/// The number behind `=`, 0 where there is none.
-fn due_of(line: &str) -> Result<u8, Fail> {
-    match line.split_once(" = ") {
-        Some((_, number)) => byte(number),
-        None => Ok(0),
+    match asked_by(with_deal(line).ok_or("a short line")?.as_bytes()) {
+        Asked::Change(action) => Ok(action),
+        _ => Err(Fail::from("the line of an action")),
     }
 }
 
@@ -192,11 +102,16 @@ fn due_of(line: &str) -> Result<u8, Fail> {
 pub fn run(rt: &impl Abort, session: &mut Session, texts: &[&str]) -> Result<(), Fail> {
     for text in texts {
         for line in text.split('/') {
-            let answer = match session.step(&action(line)?) {
-                Ok(()) => 0,
-                Err(refused) => refused.number(),
-            };
-            expect_eq(rt, answer, due_of(line)?, line);
+            let (act, due) = line.split_once(" = ").unwrap_or((line, "0"));
+            let answer = session
+                .step(&action(act)?)
+                .map_err(|refused| refused.number());
+            expect_eq(
+                rt,
+                answer.err().unwrap_or(0),
+                due.parse::<u8>().unwrap_or(255),
+                line,
+            );
         }
     }
     Ok(())

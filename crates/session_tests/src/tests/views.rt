@@ -14,7 +14,7 @@ fn the_view_after_the_opening_lead(rt: HostRuntime) -> Result<(), Fail> {
     let Ok(view) = session.see(Key(32)) else {
         return Err(Fail::from("a view"));
     };
-    expect_eq(&rt, view.play, play("1", "1", "1")?, "play");
+    expect_eq(&rt, view.play, play(1, 1, 1)?, "play");
     expect_eq(&rt, view.board.number(), 1, "board");
     let seats = [view.seat, view.dealer, view.turn];
     let due = [Seat::West, Seat::North, Seat::South];

@@ -23,11 +23,11 @@ returns-clause-record c =
     let s = c.self.inside in
     let play = c.args.play in
     let table = c.as_slice.result.now in
-    let index = some_if (is_row_within s.config.movement.shape play.round play.table) (index_of_row s.config.movement.shape play.round play.table) c.in_ok-index.index (sym c.in_ok-index.ensures.row) in
+    let of_row = some_if (is_row_within s.config.movement.shape play.round play.table) (index_of_row s.config.movement.shape play.round play.table) c.in_ok-index.index (sym c.in_ok-index.ensures.row) in
     let index = c.from.ensures ∙ ap (λ n. n - 1) c.number.ensures.number in
     ap (option_map plain_of) c.record_at.ensures
     ∙ sym (slice_get-map plain_of table c.from.result)
-    ∙ sym (record_found s.config s.round s.deals.items (lists_in s.tables.items) play c.in_ok-index.index c.from.result table index.0 index.1 index (row_there c))
+    ∙ sym (record_found s.config s.round s.deals.items (lists_in s.tables.items) play c.in_ok-index.index c.from.result table of_row.0 of_row.1 index (row_there c))
     ∙ ap (λ (t : SessionValue). record_of t play) c.self.view_is
 
 pub returns-clause-tied : goal.returns-clause-tied

@@ -22,7 +22,7 @@ pub record IsChanged (c : After-self-1) : Type 0 where
   pub row : slice_get (lists_in c.self.inside.tables.items) c.in-Some.index ≡ Some c.as_mut_slice.result.now
   pub left : lists_in (slice_set c.self.inside.tables.items c.in-Some.index (with_items c.index_mut-records.result.now c.rule_among.new.table)) ≡ slice_set (lists_in c.self.inside.tables.items) c.in-Some.index c.rule_among.new.table
   pub index : c.from-at.result ≡ c.args.play.index - 1
-  pub index : (is_row_within c.self.inside.config.movement.shape c.args.play.round c.args.play.table ≡ true) × (index_of_row c.self.inside.config.movement.shape c.args.play.round c.args.play.table ≡ c.in-Some.index)
+  pub of_row : (is_row_within c.self.inside.config.movement.shape c.args.play.round c.args.play.table ≡ true) × (index_of_row c.self.inside.config.movement.shape c.args.play.round c.args.play.table ≡ c.in-Some.index)
 
 is_changed : (c : After-self-1) → IsChanged c
 is_changed c =
@@ -34,7 +34,7 @@ is_changed c =
       row = list_there s.tables.items index vector within c.index_mut-records.ensures.value ∙ ap Some (sym c.as_mut_slice.ensures.value);
       left = list_changed s.tables.items index vector c.rule_among.new.table (omega arith);
       index = c.from-at.ensures ∙ ap (λ n. n - 1) c.number.ensures.number;
-      index = some_if (is_row_within s.config.movement.shape c.args.play.round c.args.play.table) _ index (sym c.in-Some.ensures.row);
+      of_row = some_if (is_row_within s.config.movement.shape c.args.play.round c.args.play.table) _ index (sym c.in-Some.ensures.row);
     }
 
 -- the records of the table are tied
@@ -48,7 +48,7 @@ record_is : (c : After-self-1) → record_of (state_of c.self.inside.config c.se
 record_is c =
     let s = c.self.inside in
     let changed = is_changed c in
-    record_found s.config s.round s.deals.items (lists_in s.tables.items) c.args.play c.in-Some.index c.from-at.result c.as_mut_slice.result.now changed.index.0 changed.index.1 changed.index changed.row
+    record_found s.config s.round s.deals.items (lists_in s.tables.items) c.args.play c.in-Some.index c.from-at.result c.as_mut_slice.result.now changed.of_row.0 changed.of_row.1 changed.index changed.row
 
 -- the session before
 abbrev before : After-self-1 → SessionValue
@@ -82,7 +82,7 @@ ruled_is c taken =
     let seen = ap (map plain_of) taken ∙ changed_at-map plain_of (with_kept_ruling made) (with_ruling made) c.as_mut_slice.result.now c.from-at.result (λ kept. refl) in
     ap after (changed_row lists c.in-Some.index c.as_mut_slice.result.now c.rule_among.new.table (change c.from-at.result) changed.row seen)
     ∙ ap (λ index. after (changed_at (change index) (map (map plain_of) lists) c.in-Some.index)) changed.index
-    ∙ ap (λ index. after (changed_at (change (c.args.play.index - 1)) (map (map plain_of) lists) index)) (sym changed.index.1)
+    ∙ ap (λ index. after (changed_at (change (c.args.play.index - 1)) (map (map plain_of) lists) index)) (sym changed.of_row.1)
 
 -- it is one
 session_after : (c : After-self-1) → IsSession (state_of c.self.inside.config c.self.inside.round c.self.inside.deals.items (slice_set (lists_in c.self.inside.tables.items) c.in-Some.index c.rule_among.new.table))
