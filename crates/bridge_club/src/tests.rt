@@ -108,27 +108,33 @@ impl Write for Broken {
     }
 }
 
-/// Reads words that are a command.
-fn expect_read(rt: &impl Abort, alloc: Global, words: &[&'static str], due: Command<'static>) {
-    let read = read_words(alloc, words);
-    expect_eq(rt, read.ok(), Some(due), words);
+// Numbers are what clap's reader takes, a sign and zeros before them too.
+#[test]
+fn boards_are_read(rt: HostRuntime) -> Result<(), Fail> {
+    let board = BoardNumber::new(7).ok_or("a board")?;
+    for text in ["7", "+7", "007"] {
+        let words = ["auction", text];
+        match read_words(rt.alloc(), words.as_slice()) {
+            Ok(command) => expect_eq(&rt, command, Command::Auction(board), text),
+            Err(_) => return Err(Fail::from("a command")),
+        }
+    }
+    Ok(())
 }
 
-// Numbers are what clap's reader takes, a sign and zeros before them too; the largest port and count are taken.
+// The largest port and count are taken.
 #[test]
-fn numbers_are_read(rt: HostRuntime) -> Result<(), Fail> {
-    let board = Command::Auction(BoardNumber::new(7).ok_or("a board")?);
-    for text in ["7", "+7", "007"] {
-        expect_read(&rt, rt.alloc(), &["auction", text], board);
-    }
+fn ports_and_counts_are_read(rt: HostRuntime) -> Result<(), Fail> {
     let disk = "club.disk";
     for (port_text, count_text, port, count) in [
         ("65535", "1000", 65_535, 1000),
         ("+4000", "012", 4000, 12),
     ] {
         let words = ["serve", disk, port_text, count_text];
-        let due = Command::Serve { disk, port, count };
-        expect_read(&rt, rt.alloc(), words.as_slice(), due);
+        match read_words(rt.alloc(), words.as_slice()) {
+            Ok(command) => expect_eq(&rt, command, Command::Serve { disk, port, count }, port),
+            Err(_) => return Err(Fail::from("a command")),
+        }
     }
     Ok(())
 }
