@@ -10,7 +10,7 @@ use std::fs::{OpenFile, OpenOptions};
 use std::os::unix::fs::FileExt;
 use std::rt::Files;
 
-/// Bytes of a sector, as indexes in a file are counted.
+/// Bytes of a sector, as offsets in a file are counted.
 const SECTOR_BYTES: u64 = disk::SECTOR_BYTES as u64;
 
 /// Bytes of a file that is made: 2,048 sectors.
@@ -21,7 +21,7 @@ const CHUNK_BYTES: usize = 4096;
 const CHUNKS: u64 = 256;
 
 /// A disk in a file. Sector `i` is bytes 512 i to 512 i + 511. Each read and each write is asked of the system at
-/// that index, again for what is left after a short or interrupted answer, and a sync is the system's sync of the
+/// that offset, again for what is left after a short or interrupted answer, and a sync is the system's sync of the
 /// file's data to its device. Whether that keeps what was written is up to the device.
 #[derive(Drop)]
 pub struct FileDisk<F> {
