@@ -3,9 +3,11 @@ use bridge_auction::Call;
 use bridge_cards::{BoardNumber, Card, CardSet};
 use bridge_config::Key;
 use bridge_session::{Field, MadeCount, PlayId, RoundNumber, TrickCount};
+use thiserror::Error;
 
 /// A line states no command.
-#[derive(Clone, Copy, Debug, PartialEq, Eq)]
+#[derive(Clone, Copy, Debug, PartialEq, Eq, Error)]
+#[error("bad line")]
 pub struct BadLine;
 
 /// A line's command, with its words as values.
