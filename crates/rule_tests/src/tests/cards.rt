@@ -1,6 +1,5 @@
-//! Boards by the table of Law 2, and the lists of all values; cards, sets of cards, texts of deals and the shuffle.
+//! Boards by the table of Law 2, and the lists of all values; cards, texts of deals and the shuffle.
 mod card;
-mod card_set;
 mod deal_text;
 mod shuffle;
 

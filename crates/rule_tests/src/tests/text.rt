@@ -1,6 +1,6 @@
-//! Each generic function at a type of its own, and writers that fail.
+//! Writers that fail.
 use arrayvec::{ArrayString, ArrayVec};
-use line_text::{first_line, five_after, inline, push_refusal, value_of, word_after, write_text};
+use line_text::{push_refusal, write_text};
 use std::io::{Error, ErrorKind, Result, Write};
 
 /// Takes two bytes at a time, as many as it has room for, and then none, or fails.
@@ -68,27 +68,5 @@ fn texts_are_written_whole_or_to_the_first_error(rt: HostRuntime) {
         assert!(rt; writer.taken.as_slice() == taken.as_bytes());
         assert!(rt; result.err().map(|error| error.kind()) == error);
         assert!(rt; writer.flushes == flushes);
-    }
-}
-
-#[test]
-fn words_and_lines_of_a_text(rt: HostRuntime) {
-    let Some((line, rest)) = first_line(b"DIRECTOR 100\r\nROW 1 2 3 4 5\n") else {
-        return assert!(rt; false);
-    };
-    let director = word_after(b"DIRECTOR", line).and_then(value_of_numeral);
-    assert!(rt; director == Some(100));
-    let fifth = first_line(rest)
-        .and_then(|(row, _)| five_after(b"ROW", row))
-        .and_then(|words| value_of_numeral(words.fifth));
-    assert!(rt; fifth == Some(5));
-    assert!(rt; inline::<24>(b"Club-Night").as_str() == "Club-Night");
-}
-
-fn value_of_numeral(word: &[u8]) -> Option<u32> {
-    if line_text::is_numeral(word) {
-        value_of(word)
-    } else {
-        None
     }
 }

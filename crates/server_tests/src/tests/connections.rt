@@ -1,9 +1,7 @@
 //! Lines served over connections to a listener of the same process: the client connects, writes and ends what it sends
 //! before the connection is accepted.
-use super::disk::{CLUB, ClubStore, DEAL, answers, opened, served};
-use super::evening::seven_tricks;
+use super::disk::{CLUB, ClubStore, DEAL, opened, served};
 use super::expect_eq;
-use bridge_endings::Cache;
 use std::io;
 use std::io::Write;
 use std::net::{Ipv4Addr, Shutdown, SocketAddr, TcpListener, TcpStream};
@@ -30,10 +28,9 @@ fn serve_next(
     rt: &HostRuntime,
     listener: &TcpListener,
     store: &mut ClubStore,
-    cache: Option<&mut Cache>,
 ) -> Result<Served, ServeFault> {
     let _ = store.confirm();
-    accept_and_serve(rt, listener, store, cache)
+    accept_and_serve(rt, listener, store, None)
 }
 
 // The first connection is cut in the middle of its third line; the second one sends that line whole, to the same store.
@@ -45,7 +42,7 @@ fn one_connection_after_another(rt: HostRuntime) -> Result<(), Fail> {
     let first = sent(&rt, &listener, texts.as_slice())?;
     let second = sent(&rt, &listener, &["CALL 31 1 1 PASS\n"])?;
     for (client, lines, due) in [(first, 2, "OK\nOK\n"), (second, 1, "OK\n")] {
-        let result = serve_next(&rt, &listener, &mut store, None);
+        let result = serve_next(&rt, &listener, &mut store);
         expect_eq(&rt, result, Ok(served(lines, lines)), "served");
         let written = io::read_to_string(rt.alloc(), client)?;
         expect_eq(&rt, written.as_str(), due, "written");
@@ -59,10 +56,10 @@ fn no_connection(rt: HostRuntime) -> Result<(), Fail> {
     let mut store = opened(rt.alloc(), CLUB, u64::MAX)?;
     let listener = listening(&rt)?;
     listener.set_nonblocking(true)?;
-    let result = serve_next(&rt, &listener, &mut store, None);
+    let result = serve_next(&rt, &listener, &mut store);
     expect_eq(&rt, result, Err(ServeFault::Accept), "none");
     let client = sent(&rt, &listener, &[DEAL])?;
-    let result = serve_next(&rt, &listener, &mut store, None);
+    let result = serve_next(&rt, &listener, &mut store);
     expect_eq(&rt, result, Ok(served(1, 1)), "one");
     drop(client);
     Ok(())
@@ -76,30 +73,12 @@ fn a_client_that_is_gone(rt: HostRuntime) -> Result<(), Fail> {
     let mut texts = ["SYNC\n"; 100];
     texts[0] = DEAL;
     drop(sent(&rt, &listener, texts.as_slice())?);
-    let result = serve_next(&rt, &listener, &mut store, None);
+    let result = serve_next(&rt, &listener, &mut store);
     expect_eq(&rt, result, Err(ServeFault::Write), "the first");
     let client = sent(&rt, &listener, &["CALL 11 1 0 7S\n"])?;
-    let result = serve_next(&rt, &listener, &mut store, None);
+    let result = serve_next(&rt, &listener, &mut store);
     expect_eq(&rt, result, Ok(served(1, 1)), "the second");
     let written = io::read_to_string(rt.alloc(), client)?;
     expect_eq(&rt, written.as_str(), "OK\n", "the second");
-    Ok(())
-}
-
-#[test]
-fn a_connection_uses_the_cache(rt: HostRuntime) -> Result<(), Fail> {
-    let mut store = opened(rt.alloc(), CLUB, u64::MAX)?;
-    let tricks = seven_tricks(rt.alloc())?;
-    for text in [DEAL, tricks.as_str()] {
-        let _ = answers(rt.alloc(), &mut store, text.as_bytes());
-    }
-    let listener = listening(&rt)?;
-    let client = sent(&rt, &listener, &["SOLVE 100 1 1 1 28\n"])?;
-    let mut kept = Cache::new(rt.alloc(), 1)?;
-    let result = serve_next(&rt, &listener, &mut store, Some(&mut kept));
-    expect_eq(&rt, result, Ok(served(1, 0)), "served");
-    let written = io::read_to_string(rt.alloc(), client)?;
-    expect_eq(&rt, written.as_str(), "OK 6 0\n", "written");
-    expect_eq(&rt, kept.tried() > 0, true, "the cache is used");
     Ok(())
 }

@@ -145,7 +145,7 @@ fn rulings_once_the_session_is_closed(rt: HostRuntime) -> Result<(), Fail> {
 const CALLS: &str = "CALL 11 1 0 7S\nCALL 31 1 1 PASS\nCALL 12 1 2 PASS\nCALL 32 1 3 PASS\n";
 
 /// Seven tricks of the highest cards, the first led by East and the others by North.
-pub fn seven_tricks(alloc: Global) -> Result<String, Fail> {
+fn seven_tricks(alloc: Global) -> Result<String, Fail> {
     let mut lines = String::new(alloc);
     lines.push_str(CALLS)?;
     let from_north = [(11u8, 'S'), (31, 'H'), (11, 'D'), (32, 'C')];

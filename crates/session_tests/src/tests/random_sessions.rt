@@ -24,22 +24,6 @@ PAIR 5 Ida 51 Jan 52
 PAIR 6 Kim 61 Lea 62
 ";
 
-/// The same with one board in each set.
-const ONE_BOARD: &str = "EVENT Club-Night
-SITE Town-Hall
-DATE 2026.03.14
-SCORING IMP
-BOARDS 1
-MITCHELL 3
-DIRECTOR 100
-PAIR 1 Ann 11 Bob 12
-PAIR 2 Cat 21 Dan 22
-PAIR 3 Eve 31 Fay 32
-PAIR 4 Gus 41 Hal 42
-PAIR 5 Ida 51 Jan 52
-PAIR 6 Kim 61 Lea 62
-";
-
 /// What a player sees is what was done in the current play of the table.
 fn expect_view(rt: &impl Abort, session: &Session, twin: &Twin, key: Key) {
     match (session.see(key), twin.sight(key)) {
@@ -129,12 +113,14 @@ fn random_sessions_are_answered_alike(rt: HostRuntime) -> Result<(), Fail> {
     Ok(())
 }
 
-// Sessions of nine plays, of which some are played to the end.
+// Sessions of nine plays, by IMPs, of which some are played to the end.
 #[test]
 fn long_random_sessions_are_answered_alike(rt: HostRuntime) -> Result<(), Fail> {
+    let (before, after) = TWO_BOARDS.split_once("MP\nBOARDS 2").ok_or("two boards")?;
+    let text = format!(in rt.alloc(); "{before}IMP\nBOARDS 1{after}")?;
     let (mut state, mut closed) = (2, 0u32);
     for _ in 0..10 {
-        let (session, _) = run_session(&rt, rt.alloc(), ONE_BOARD, &mut state, 1200)?;
+        let (session, _) = run_session(&rt, rt.alloc(), text.as_str(), &mut state, 1200)?;
         if session.see(Key(11)).err() == Some(Refused::Closed) {
             closed = closed.saturating_add(1);
         }

@@ -47,21 +47,11 @@ fn matchpoints_of_both_fields(rt: HostRuntime) -> Result<(), Fail> {
 /// A grand slam is 1510 points, 17 IMPs above nothing. All pairs are one field, in which both sides are compared.
 #[test]
 fn imps_of_one_field(rt: HostRuntime) -> Result<(), Fail> {
-    let text = "EVENT Club-Night
-SITE Town-Hall
-DATE 2026.03.14
-SCORING IMP
-BOARDS 1
-MOVEMENT 2 1 1 4 4
-ROW 1 1 1 3 1
-ROW 1 2 2 4 1
-DIRECTOR 100
-PAIR 1 Ann 11 Bob 12
-PAIR 2 Cat 21 Dan 22
-PAIR 3 Eve 31 Fay 32
-PAIR 4 Gus 41 Hal 42
-";
-    let mut session = session_of(rt.alloc(), text)?;
+    let (before, after) = CLUB
+        .split_once("MP\nBOARDS 1\nMOVEMENT 2 1 1 4 2")
+        .ok_or("two fields")?;
+    let text = format!(in rt.alloc(); "{before}IMP\nBOARDS 1\nMOVEMENT 2 1 1 4 4{after}")?;
+    let mut session = session_of(rt.alloc(), text.as_str())?;
     run(&rt, &mut session, &[A_SLAM, A_CLAIM, A_PASS])?;
     let due = [(1, 1, 17, 2), (1, 4, 17, 2), (3, 2, -17, 2), (3, 3, -17, 2)];
     ranks(&rt, &session, 100, Field::First, &due)

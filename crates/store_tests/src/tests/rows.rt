@@ -140,26 +140,6 @@ fn a_full_journal_goes_over_to_a_checkpoint(rt: HostRuntime) -> Result<(), Failu
     Ok(())
 }
 
-#[test]
-fn at_most_64_actions_are_pending(rt: HostRuntime) -> Result<(), Failure> {
-    let disk = formatted(&rt, rt.alloc())?;
-    let mut store = Store::<MemoryDisk, Counter>::open(rt.alloc(), disk)
-        .ok()
-        .expect(&rt, "opened");
-    expect_eq(&rt, fill(&mut store, 63), 63, "submits");
-    expect_eq(&rt, store.submit(&1).is_ok(), true, "the 64th");
-    expect_eq(
-        &rt,
-        matches!(store.submit(&1), Err(SubmitFault::Batch)),
-        true,
-        "the 65th",
-    );
-    expect_eq(&rt, store.state().total(), 64, "total");
-    expect_eq(&rt, store.checkpoint(), Ok(()), "checkpoint");
-    expect_eq(&rt, store.pending().len(), 0, "pending");
-    Ok(())
-}
-
 // The last epoch: 1,024 actions, and then none.
 #[test]
 fn the_last_epoch_is_used_up(rt: HostRuntime) -> Result<(), Failure> {

@@ -1,7 +1,7 @@
 //! The configuration of a club night of five tables, `examples/mitchell.txt`.
 use crate::tests::expect_eq;
 use bridge_config::{Key, read_config};
-use bridge_movement::{Row, Shape};
+use bridge_movement::Movement;
 use bridge_score::Scoring;
 use std::test::Fail;
 
@@ -26,7 +26,7 @@ PAIR 10 I.McKay 57138 O.Jensen 12894
 ";
 
 #[test]
-fn heading_and_director_of_the_club_night(rt: HostRuntime) -> Result<(), Fail> {
+fn heading_and_movement_of_the_club_night(rt: HostRuntime) -> Result<(), Fail> {
     let config = read_config(CLUB.as_bytes())?;
     let fields = config.fields();
     expect_eq(&rt, fields.event.as_str(), "Tuesday-Pairs", "event");
@@ -35,31 +35,8 @@ fn heading_and_director_of_the_club_night(rt: HostRuntime) -> Result<(), Fail> {
     expect_eq(&rt, fields.scoring, Scoring::MatchPoints, "scoring");
     expect_eq(&rt, fields.boards, 3, "boards");
     expect_eq(&rt, fields.director, Key(52817), "director");
-    Ok(())
-}
-
-#[test]
-fn movement_of_the_club_night(rt: HostRuntime) -> Result<(), Fail> {
-    let config = read_config(CLUB.as_bytes())?;
-    let movement = &config.fields().movement;
-    let shape = Shape {
-        tables: 5,
-        rounds: 5,
-        sets: 5,
-        pairs: 10,
-        split: 5,
-    };
-    expect_eq(&rt, movement.shape(), shape, "shape");
-    // the first row of round 2: East and West have come from table 5 to table 1, and set 2 from table 2
-    let row = Row {
-        round: 2,
-        table: 1,
-        ns: 1,
-        ew: 10,
-        set: 2,
-    };
-    let found = movement.rows().get(5).copied();
-    expect_eq(&rt, found, Some(row), "round 2, table 1");
+    let due = Movement::mitchell(5);
+    expect_eq(&rt, fields.movement.rows(), due.rows(), "movement");
     Ok(())
 }
 

@@ -63,14 +63,3 @@ fn hands_that_are_no_ending_are_refused(rt: HostRuntime) -> Result<(), Fail> {
     }
     Ok(())
 }
-
-#[test]
-fn an_ending_is_what_it_was_made_of(rt: HostRuntime) -> Result<(), Fail> {
-    let text = b"N:AQ... KJ... 54... 32...";
-    let ending = ending_of(text, Some(Suit::Clubs), Seat::West)?;
-    expect_eq(&rt, ending.hands(), hands_of(text)?, "hands");
-    expect_eq(&rt, ending.trump(), Some(Suit::Clubs), "trump");
-    expect_eq(&rt, ending.leader(), Seat::West, "leader");
-    expect_eq(&rt, ending.tricks(), 2, "tricks");
-    Ok(())
-}

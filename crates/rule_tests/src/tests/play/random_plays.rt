@@ -91,6 +91,8 @@ fn play_all(rt: &impl Abort, deal: &Deal, contract: Contract, state: &mut u32) -
         expect_eq(rt, play.tricks(Side::NorthSouth), won, play.cards());
     }
     expect_eq(rt, play.is_over(), true, play.cards());
+    let over = play.try_card(leader, Card::new(0)?);
+    expect_eq(rt, over, Err(CardRefused::Over), leader);
     Some(())
 }
 
