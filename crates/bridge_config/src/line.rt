@@ -12,7 +12,7 @@ use crate::fields::{DATE_BYTES, Key, NAME_BYTES, PairFields};
 use crate::limits::{is_date_form, is_date_within, is_name, stands_in};
 use crate::refused::{ConfigFault, ConfigRefused};
 use arrayvec::ArrayString;
-use bridge_movement::{Row, Shape};
+use bridge_movement::{MOST_PAIRS, MOST_ROUNDS, MOST_SETS, MOST_TABLES, Row, Shape};
 use bridge_score::Scoring;
 use line_text::{Five, first_line, five_after, inline, is_numeral, value_of, word_after};
 
@@ -155,10 +155,10 @@ impl Line<'_> {
         requires { are_numerals (view_of_five words.now) ≡ true }
         ensures { Gives (λ shape. shape) result (shape_within self.entry.number (view_of_five words.now)) }
     {
-        let tables = self.within_byte(2, 12, words.first)?;
-        let rounds = self.within_byte(1, 12, words.second)?;
-        let sets = self.within_byte(1, 12, words.third)?;
-        let pairs = self.within_byte(2, 24, words.fourth)?;
+        let tables = self.within_byte(2, MOST_TABLES, words.first)?;
+        let rounds = self.within_byte(1, MOST_ROUNDS, words.second)?;
+        let sets = self.within_byte(1, MOST_SETS, words.third)?;
+        let pairs = self.within_byte(2, MOST_PAIRS as u8, words.fourth)?;
         let split = self.within_byte(1, pairs, words.fifth)?;
         Ok(Shape {
             tables,

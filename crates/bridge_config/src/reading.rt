@@ -14,7 +14,7 @@ use crate::fields::{ConfigFields, DATE_BYTES, Key, MOST_KEYS, NAME_BYTES, PairFi
 use crate::line::{due_line, has_line};
 use crate::refused::{ConfigFault, ConfigRefused};
 use arrayvec::{ArrayString, ArrayVec};
-use bridge_movement::{MOST_PAIRS, MOST_ROWS, Movement, Row, Shape};
+use bridge_movement::{MOST_PAIRS, MOST_ROWS, MOST_TABLES, Movement, Row, Shape};
 use bridge_score::Scoring;
 
 /// The most bytes that a text may have.
@@ -122,7 +122,7 @@ fn read_movement(text: &[u8]) -> Result<Moved<'_>, ConfigFault>
 {
     let (line, rest) = due_line(6, text)?;
     if line.has_word_after(b"MITCHELL") {
-        let tables = line.number(b"MITCHELL", 2, 12)?;
+        let tables = line.number(b"MITCHELL", 2, MOST_TABLES as u32)?;
         Ok(Moved {
             movement: Movement::mitchell(tables as u8),
             number: 7,

@@ -19,4 +19,4 @@ pub use movement::Movement;
 pub use place::Place;
 pub use refused::MovementRefused;
 pub use row::Row;
-pub use shape::{MOST_PAIRS, MOST_ROWS, Shape};
+pub use shape::{MOST_PAIRS, MOST_ROUNDS, MOST_ROWS, MOST_SETS, MOST_TABLES, Shape};

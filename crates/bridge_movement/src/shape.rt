@@ -1,6 +1,15 @@
 ghost use Rattle.std.specs.Prelude.{◌↔◌, ◌≡◌, ◌≤◌, IsTrue};
 ghost use Rattle.bridge_movement.specs.Shape.{IsShape, row_count};
 
+/// The most tables of a movement.
+pub const MOST_TABLES: u8 = 12;
+
+/// The most rounds of a movement.
+pub const MOST_ROUNDS: u8 = 12;
+
+/// The most sets of boards of a movement.
+pub const MOST_SETS: u8 = 12;
+
 /// The most pairs of a movement.
 pub const MOST_PAIRS: usize = 24;
 
@@ -27,9 +36,9 @@ impl Shape {
     pub fn is_within_limits(self) -> bool
         ensures { IsTrue result ↔ IsShape self }
     {
-        (2..=12).contains(&self.tables)
-            && (1..=12).contains(&self.rounds)
-            && (1..=12).contains(&self.sets)
+        (2..=MOST_TABLES).contains(&self.tables)
+            && (1..=MOST_ROUNDS).contains(&self.rounds)
+            && (1..=MOST_SETS).contains(&self.sets)
             && (2..=MOST_PAIRS as u8).contains(&self.pairs)
             && (1..=self.pairs).contains(&self.split)
     }

@@ -2,6 +2,8 @@
 ghost use Rattle.std.specs.Prelude.{◌≡◌, ◌↔◌, IsSome, IfSome};
 ghost use Rattle.bridge_session.specs.Numbers.{IsRoundNumber, IsTableNumber, IsBoardIndex, IsTrickCount, IsMadeCount};
 
+use bridge_movement::{MOST_ROUNDS, MOST_TABLES};
+use bridge_play::TRICKS;
 use std::marker::Model;
 
 /// The number of a round, 1 to 12.
@@ -35,12 +37,15 @@ impl Default for RoundNumber {
 }
 
 impl RoundNumber {
+    /// The highest number of a round.
+    pub const MAX: u8 = MOST_ROUNDS;
+
     /// The round of that number, or `None` where it is not from 1 to 12.
     pub fn new(number: u8) -> Option<RoundNumber>
         ensures valid { IsSome result ↔ IsRoundNumber number }
         ensures value { IfSome result (λ made. made ≡ number) }
     {
-        if (1..=12).contains(&number) {
+        if (1..=RoundNumber::MAX).contains(&number) {
             Some(RoundNumber { number })
         } else {
             None
@@ -76,12 +81,15 @@ impl Model for TableNumber {
 }
 
 impl TableNumber {
+    /// The highest number of a table.
+    pub const MAX: u8 = MOST_TABLES;
+
     /// The table of that number, or `None` where it is not from 1 to 12.
     pub fn new(number: u8) -> Option<TableNumber>
         ensures valid { IsSome result ↔ IsTableNumber number }
         ensures value { IfSome result (λ made. made ≡ number) }
     {
-        if (1..=12).contains(&number) {
+        if (1..=TableNumber::MAX).contains(&number) {
             Some(TableNumber { number })
         } else {
             None
@@ -117,12 +125,15 @@ impl Model for BoardIndex {
 }
 
 impl BoardIndex {
+    /// The highest index of a board.
+    pub const MAX: u8 = 3;
+
     /// The board of that number in its set, or `None` where it is not from 1 to 3.
     pub fn new(number: u8) -> Option<BoardIndex>
         ensures valid { IsSome result ↔ IsBoardIndex number }
         ensures value { IfSome result (λ made. made ≡ number) }
     {
-        if (1..=3).contains(&number) {
+        if (1..=BoardIndex::MAX).contains(&number) {
             Some(BoardIndex { number })
         } else {
             None
@@ -158,12 +169,15 @@ impl Model for TrickCount {
 }
 
 impl TrickCount {
+    /// The most tricks.
+    pub const MAX: u8 = TRICKS as u8;
+
     /// That many tricks, or `None` where it is not from 0 to 13.
     pub fn new(number: u8) -> Option<TrickCount>
         ensures valid { IsSome result ↔ IsTrickCount number }
         ensures value { IfSome result (λ made. made ≡ number) }
     {
-        if number <= 13 {
+        if number <= TrickCount::MAX {
             Some(TrickCount { number })
         } else {
             None
@@ -199,12 +213,15 @@ impl Model for MadeCount {
 }
 
 impl MadeCount {
+    /// The most that a player can name.
+    pub const MAX: u16 = 999;
+
     /// That many, or `None` where it is not from 0 to 999.
     pub fn new(number: u16) -> Option<MadeCount>
         ensures valid { IsSome result ↔ IsMadeCount number }
         ensures value { IfSome result (λ made. made ≡ number) }
     {
-        if number <= 999 {
+        if number <= MadeCount::MAX {
             Some(MadeCount { number })
         } else {
             None

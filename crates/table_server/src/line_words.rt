@@ -4,7 +4,7 @@ ghost use Rattle.std.specs.List.{list_all, range_with_len};
 ghost use Rattle.line_text.specs.Words.{spaced_words};
 ghost use Rattle.table_server.specs.LineWords.{Gives, number_of, key_of, board_of, made_of, tricks_of, round_of, table_of, index_of, cards_of_word, field_of, card_of_word, is_lower_hex, hex_value, hex_byte, seed_of, first_of};
 
-use bridge_cards::{BoardNumber, Card, read_card};
+use bridge_cards::{BoardNumber, Card, DECK, read_card};
 use bridge_config::Key;
 use bridge_session::{BoardIndex, Field, MadeCount, RoundNumber, TableNumber, TrickCount};
 use line_text::{first_word, is_numeral, value_of};
@@ -36,7 +36,7 @@ pub fn read_key(word: &[u8]) -> Option<Key>
 pub fn read_board(word: &[u8]) -> Option<BoardNumber>
     ensures { result ≡ board_of word.now }
 {
-    let number = read_number(1, 36, word)?;
+    let number = read_number(1, BoardNumber::MAX as u32, word)?;
     Some(BoardNumber::new(number as u8).unwrap())
 }
 
@@ -44,7 +44,7 @@ pub fn read_board(word: &[u8]) -> Option<BoardNumber>
 pub fn read_made(word: &[u8]) -> Option<MadeCount>
     ensures { result ≡ made_of word.now }
 {
-    let number = read_number(0, 999, word)?;
+    let number = read_number(0, MadeCount::MAX as u32, word)?;
     Some(MadeCount::new(number as u16).unwrap())
 }
 
@@ -52,7 +52,7 @@ pub fn read_made(word: &[u8]) -> Option<MadeCount>
 pub fn read_tricks(word: &[u8]) -> Option<TrickCount>
     ensures { result ≡ tricks_of word.now }
 {
-    let number = read_number(0, 13, word)?;
+    let number = read_number(0, TrickCount::MAX as u32, word)?;
     Some(TrickCount::new(number as u8).unwrap())
 }
 
@@ -60,7 +60,7 @@ pub fn read_tricks(word: &[u8]) -> Option<TrickCount>
 pub fn read_round(word: &[u8]) -> Option<RoundNumber>
     ensures { result ≡ round_of word.now }
 {
-    let number = read_number(1, 12, word)?;
+    let number = read_number(1, RoundNumber::MAX as u32, word)?;
     Some(RoundNumber::new(number as u8).unwrap())
 }
 
@@ -68,7 +68,7 @@ pub fn read_round(word: &[u8]) -> Option<RoundNumber>
 pub fn read_table(word: &[u8]) -> Option<TableNumber>
     ensures { result ≡ table_of word.now }
 {
-    let number = read_number(1, 12, word)?;
+    let number = read_number(1, TableNumber::MAX as u32, word)?;
     Some(TableNumber::new(number as u8).unwrap())
 }
 
@@ -76,7 +76,7 @@ pub fn read_table(word: &[u8]) -> Option<TableNumber>
 pub fn read_index(word: &[u8]) -> Option<BoardIndex>
     ensures { result ≡ index_of word.now }
 {
-    let number = read_number(1, 3, word)?;
+    let number = read_number(1, BoardIndex::MAX as u32, word)?;
     Some(BoardIndex::new(number as u8).unwrap())
 }
 
@@ -84,7 +84,7 @@ pub fn read_index(word: &[u8]) -> Option<BoardIndex>
 pub fn read_cards(word: &[u8]) -> Option<u8>
     ensures { result ≡ cards_of_word word.now }
 {
-    let number = read_number(0, 52, word)?;
+    let number = read_number(0, DECK as u32, word)?;
     Some(number as u8)
 }
 
