@@ -1,5 +1,5 @@
 -- Whether some card of the deck passes a test, and whether a hand has a card of a suit, by the set of its cards of that suit.
-use Rattle.std.proofs.Common.{◌≡◌, ℕ, ◌<◌, ◌/◌, Bool, true, false, not, ◌&&◌, ◌==◌, refl, sym, ap, ◌∙◌, arith, zero-add, MatchBool, IsTrue}
+use Rattle.std.proofs.Common.{◌≡◌, ℕ, ◌<◌, ◌/◌, Bool, true, false, not, ◌&&◌, ◌==◌, sym, ap, ◌∙◌, arith, zero-add, MatchBool, IsTrue}
 use Rattle.std.specs.List.{list_any, range_with_len}
 use Rattle.std.proofs.lemmas.Bool.{eqb-true, and_parts}
 use Rattle.std.proofs.lemmas.List.Folds.{list_any_at, list_any_none}

@@ -19,7 +19,7 @@ use Rattle.bridge_score.specs.declared.ranking.Scoring.{Scoring}
 use Rattle.bridge_score.specs.declared.ranking.Scoring.TheVariants.{MatchPoints, Imps}
 use Rattle.bridge_score.specs.declared.ranking.Line.{Line}
 use Rattle.bridge_score.specs.Comparison.{int_sum_by}
-use Rattle.bridge_score.specs.Ranking.{IsLine, AreOfTwoPairs}
+use Rattle.bridge_score.specs.Ranking.{AreOfTwoPairs}
 use Rattle.bridge_score.specs.ScoringTable.{IsScore}
 use Rattle.bridge_session.specs.declared.game.Game.{Game}
 use Rattle.bridge_session.specs.Ranking.{is_on, score_for, scores_on, line_of}

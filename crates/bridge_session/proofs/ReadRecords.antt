@@ -30,7 +30,7 @@ use Rattle.bridge_session.specs.declared.ruling.Ruling.{Ruling}
 use Rattle.bridge_session.specs.declared.ruling.Ruling.TheVariants as ruling
 use Rattle.bridge_session.specs.Correction.{tricks_answer}
 use Rattle.bridge_session.specs.Record.{PlainRecord, empty_record, contract_in, playing_in, play_of, is_open}
-use Rattle.bridge_session.specs.Kept.{plain_of, is_kept_open, IsTied, IsTiedIn}
+use Rattle.bridge_session.specs.Kept.{plain_of, is_kept_open, IsTied}
 use Rattle.bridge_session.specs.State.{deal_on}
 use Rattle.bridge_session.specs.Parts.{is_agreed_in, record_part}
 use Rattle.bridge_session.specs.StateRange.{AreHands, AreHandsOrNone, IsOfFourSeats, IsRulingInRange, IsRecordInRange}

@@ -1,9 +1,8 @@
 -- The complete lines of bytes, as bytes are added to a line that has begun.
-use Rattle.std.proofs.Common.{◌≡◌, ℕ, ◌<◌, ◌∙◌, Bool, true, false, not, ◌&&◌, List, [], ◌∷◌, ◌++◌, length, refl, sym, ap, arith, length-append, append-nil}
-use Rattle.std.proofs.lemmas.Bool.{le-leb}
+use Rattle.std.proofs.Common.{◌≡◌, ℕ, ◌∙◌, Bool, true, false, not, ◌&&◌, List, [], ◌∷◌, ◌++◌, refl, sym, ap, append-nil}
 use Rattle.std.specs.Prelude.{nat_eq}
 use Rattle.std.specs.List.{list_all}
-use Rattle.line_text.specs.Lines.{onto_first_line, complete_lines, is_long, is_within_line}
+use Rattle.line_text.specs.Lines.{onto_first_line, complete_lines, is_within_line}
 
 -- the bytes go onto the front of the first line, if there is one
 abbrev pub joined_first : List ℕ → List (List ℕ) → List (List ℕ)

@@ -5,17 +5,17 @@ use Rattle.std.specs.Prelude.{nat_le, nat_eq, IfSome, Result, Ok, Err, OnOk, IfE
 use Rattle.std.proofs.lemmas.Bool.{le-leb, lt-leb, ne_eqb}
 use Rattle.std.proofs.lemmas.List.{take_at, take_all}
 use Rattle.std.proofs.Math.Seq.{take-append-add}
-use Rattle.std.specs.Io.KnownBytes.{Appends, Consumes, Keeps, IsAtEnd}
+use Rattle.std.specs.Io.KnownBytes.{Appends, Consumes, IsAtEnd}
 use Rattle.bridge_cards.specs.declared.seat.Seat.{Seat}
 use Rattle.line_text.specs.Lines.{complete_lines, is_within_line}
 use Rattle.table_server.specs.Replies.{replies_to, calls_after, limit_notice, ending, byte_limit, output_for, auction_output}
 use Rattle.table_server.specs.declared.fault.ServeFault.{ServeFault}
-use Rattle.table_server.specs.declared.fault.ServeFault.TheVariants.{Read, Write}
+use Rattle.table_server.specs.declared.fault.ServeFault.TheVariants.{Write}
 use Rattle.table_server.specs.AuctionLines.{AuctionLinesValue, replies_from, calls_from, Answers}
 use Rattle.line_text.specs.Streams.{between, TakesPrefix, Written}
 use Rattle.table_server.specs.Heard.{Heard, StopsAt}
 use Rattle.line_text.proofs.CompleteLines.{lines_none}
-use Rattle.std.proofs.KnownBytes.{Appends-nil, Appends-trans, Consumes-nil, Consumes-trans, Consumes-kept}
+use Rattle.std.proofs.KnownBytes.{Appends-trans, Consumes-trans}
 use Rattle.line_text.proofs.Streams.{takes_prefix, prefix_longer}
 
 -- nothing is written for a line that has begun

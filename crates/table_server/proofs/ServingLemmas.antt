@@ -4,7 +4,7 @@ use Rattle.std.proofs.lemmas.Bool.{true≢false}
 use Rattle.std.proofs.lemmas.List.{length-drop}
 use Rattle.sector_disk.specs.Disk.{Disk}
 use Rattle.session_store.specs.Answers.{after_confirm, room}
-use Rattle.session_store.proofs.CallLaws.{few_pending, continues_begins, continues_joins}
+use Rattle.session_store.proofs.CallLaws.{few_pending, continues_joins}
 use Rattle.session_store.specs.Store.{Continues}
 use Rattle.session_store.specs.Value.{StoreValue}
 use Rattle.bridge_session.specs.declared.action.Action.{Action}

@@ -1,8 +1,7 @@
-use Rattle.std.proofs.Common.{◌≡◌, ◌↔◌, ◌≤◌, ℕ, Bool, List, not, true, false, refl, sym, ap, subst, ◌∙◌, arith}
+use Rattle.std.proofs.Common.{◌≡◌, ℕ, Bool, not, true, false, refl, sym, ap, subst, ◌∙◌}
 use Rattle.std.specs.Prelude.{Option, Some, None, IfSome}
-use Rattle.bridge_auction.specs.declared.contract.Contract.{Contract}
 use Rattle.bridge_play.specs.declared.claim.Claim.{Claim}
-use Rattle.bridge_play.specs.CardPlay.{CardPlayValue, played}
+use Rattle.bridge_play.specs.CardPlay.{CardPlayValue}
 use Rattle.bridge_play.specs.Legal.{IsLegal}
 use Rattle.bridge_play.specs.Play.{PlayValue, IsPlay, IsClaimIn, with_claims, playing, is_claim_in}
 use Rattle.bridge_play.proofs.RegularClaim.{regular_claim, claim_regular}
