@@ -1,4 +1,5 @@
-//! The commands over the session that a disk in a file holds.
+//! The commands over the session that a disk in a file holds. Each locks the file for as long as it runs, which no clause
+//! can say and tests show.
 ghost use Rattle.std.specs.Prelude.{◌≡◌, [], false, OnOk, IfOk, IfErr};
 ghost use Rattle.line_text.specs.Streams.{stream};
 ghost use Rattle.sector_disk.specs.File.{file_disk};
@@ -8,6 +9,7 @@ ghost use Rattle.bridge_club.specs.Scripted.{ServesOpened, StopsOpened};
 ghost use Rattle.bridge_club.specs.OnFile.{IsOnFile, RefusesFile, TellsOpened, StopsTelling, HasResults, StopsResults, HasScripted, StopsScripting, unknown, HasServedConnections, ServesHeard, StopsHearing, StopsListening, ServesConnectionsOpened, StopsConnectionsOpened, StopsServingConnections};
 
 use crate::fault::RunFault;
+use crate::lock::lock;
 use crate::results::{write_games, write_ranking};
 use crate::script::serve_store;
 use crate::serving::serve_connections;
@@ -77,6 +79,7 @@ pub fn run_rank<S: Files<File = File>, W: Write>(
     ensures done { OnOk result (HasResults IsRankingText (stream W.contents output.old output.new)) }
     ensures fault { IfErr result (StopsResults IsRankingText (stream W.contents output.old output.new)) }
 {
+    let _lock = lock(rt, disk)?;
     rank_opened(open_store(rt, alloc, disk), output)
 }
 
@@ -90,6 +93,7 @@ pub fn run_pbn<S: Files<File = File>, W: Write>(
     ensures done { OnOk result (HasResults IsPbnText (stream W.contents output.old output.new)) }
     ensures fault { IfErr result (StopsResults IsPbnText (stream W.contents output.old output.new)) }
 {
+    let _lock = lock(rt, disk)?;
     pbn_opened(open_store(rt, alloc, disk), output)
 }
 
@@ -129,6 +133,7 @@ pub fn run_script<S: Files<File = File>, R: Read, W: Write>(
     ensures fault { IfErr result (StopsScripting
         (stream R.remaining input.old input.new) (stream W.contents output.old output.new)) }
 {
+    let _lock = lock(rt, disk)?;
     let opened = open_store(rt, alloc, disk);
     script_opened(opened, Cache::new(alloc, CACHED_ENDINGS), input, output)
 }
@@ -202,6 +207,7 @@ pub fn run_serve<S: Files<File = File> + Net<Listener = TcpListener, Stream = Tc
     ensures done { OnOk result (HasServedConnections count) }
     ensures fault { IfErr result (StopsServingConnections count) }
 {
+    let _lock = lock(rt, disk)?;
     let opened = open_store(rt, alloc, disk);
     let cache = Cache::new(alloc, CACHED_ENDINGS);
     serve_opened(rt, port, count, opened, cache)

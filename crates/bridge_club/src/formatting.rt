@@ -1,11 +1,12 @@
 //! The command `format`: a disk for the session that begins by a configuration.
-ghost use Rattle.std.specs.Prelude.{◌≤◌, OnOk, IfOk, IfErr};
+ghost use Rattle.std.specs.Prelude.{◌≡◌, ◌≤◌, OnOk, IfOk, IfErr};
 ghost use Rattle.line_text.specs.Streams.{stream};
 ghost use Rattle.sector_disk.specs.File.{file_disk};
 ghost use Rattle.bridge_club.specs.Formatted.{Formats, FailsToFormat, FormatsMade, FailsToFormatMade, IsSessionFound, IsNoSessionFound, IsSessionOfFile, IsNoSessionOfFile, HasFormatted, StopsFormatting};
 
 use crate::config_file::read_session;
 use crate::fault::RunFault;
+use crate::lock::lock_new;
 use crate::output::write_output;
 use bridge_session::Session;
 use sector_disk::{DiskFault, FileDisk};
@@ -71,9 +72,24 @@ fn session_of_file<S: Files<File = File>>(
     session_found(alloc, File::open(rt, config))
 }
 
+/// A disk in the file DISK, made anew where the file was locked.
+fn create_locked<S: Files<File = File>>(
+    rt: &S,
+    disk: &str,
+    lock: &Result<File, RunFault>,
+) -> Result<FileDisk<File>, DiskFault>
+    ensures count { IfOk result (λ made. file_disk.count made ≡ 2048) }
+    ensures fault { IfErr result (λ fault. fault ≡ DiskFault.Write) }
+{
+    match lock {
+        Ok(_) => FileDisk::create(rt, disk),
+        Err(_) => Err(DiskFault::Write),
+    }
+}
+
 /// Makes the file DISK anew, as a disk that holds the session that begins by the configuration in the file CONFIG, and
-/// writes `formatted`. The configuration is read first, and where that fails DISK is not opened, which tests show: no
-/// clause speaks of a file that is left alone.
+/// writes `formatted`. The configuration is read first, and where that fails DISK is not opened; where another run has
+/// locked DISK, it is left as it is. Both are shown by tests: no clause speaks of a file that is left alone.
 pub fn run_format<S: Files<File = File>, W: Write>(
     rt: &S,
     alloc: Global,
@@ -85,7 +101,10 @@ pub fn run_format<S: Files<File = File>, W: Write>(
     ensures fault { IfErr result (StopsFormatting (stream W.contents output.old output.new)) }
 {
     match session_of_file(rt, alloc, config) {
-        Ok(session) => format_made(FileDisk::create(rt, disk), &session, output),
+        Ok(session) => {
+            let lock = lock_new(rt, disk);
+            format_made(create_locked(rt, disk, &lock), &session, output)
+        }
         Err(fault) => Err(fault),
     }
 }

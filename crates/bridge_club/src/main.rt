@@ -16,6 +16,7 @@ mod disk_commands;
 mod fault;
 mod fault_line;
 mod formatting;
+mod lock;
 mod output;
 mod read;
 mod results;
@@ -26,6 +27,7 @@ mod stored_session;
 #[cfg(test)]
 mod tests;
 
+use std::fs::File;
 use std::process::ExitCode;
 use std::{env, io};
 
@@ -36,6 +38,7 @@ fn main(rt: HostRuntime) -> ExitCode {
 
 /// Hands the program's words and its standard streams to `run_words`.
 fn run_with(rt: &HostRuntime) -> Result<u8, io::Error> {
+    let _nulls = taken_streams(rt)?;
     let arguments: Vec<String> = env::args(rt)?.skip(1).collect(rt.alloc())?;
     let mut words = Vec::new(rt.alloc());
     for argument in &arguments {
@@ -49,4 +52,16 @@ fn run_with(rt: &HostRuntime) -> Result<u8, io::Error> {
         &mut rt.stdout(),
         &mut rt.stderr(),
     ))
+}
+
+/// Takes the numbers of the standard streams with which the program was not started. The system gives a file the lowest
+/// number that is free, so a disk would otherwise take the place of a stream, and replies would be written over it. There
+/// is nothing to be read from the null device, and it is opened so that nothing can be written to it.
+fn taken_streams(rt: &HostRuntime) -> Result<[File; 3], io::Error> {
+    let path = "/dev/null";
+    Ok([
+        File::open(rt, path)?,
+        File::open(rt, path)?,
+        File::open(rt, path)?,
+    ])
 }

@@ -2,6 +2,7 @@
 use super::{
     Broken, HEADING, MOVEMENT, PEOPLE, expect_eq, expect_formatted, expect_run, write_config,
 };
+use crate::lock::lock;
 use crate::run::run_words;
 use std::alloc::Global;
 use std::fs;
@@ -121,6 +122,29 @@ fn a_disk_without_a_session_is_refused(rt: HostRuntime) -> Result<(), Fail> {
     );
     fs::remove_file(&rt, config)?;
     fs::remove_file(&rt, disk)?;
+    Ok(())
+}
+
+// While one run has a disk, each command over it is refused and leaves it as it is.
+#[test]
+fn a_locked_disk_is_left(rt: HostRuntime) -> Result<(), Fail> {
+    let (disk, config) = ("bridge_club_locked.disk", "bridge_club_locked.txt");
+    let alloc = rt.alloc();
+    expect_formatted(&rt, alloc, disk, config, MOVEMENT)?;
+    let bytes = fs::read(&rt, disk)?;
+    {
+        let Ok(_held) = lock(&rt, disk) else {
+            return Err(Fail::from("a lock"));
+        };
+        expect_refused(&rt, alloc, disk, 3, "disk fault\n");
+        let words = ["format", disk, config];
+        expect_run(&rt, alloc, &words, "", (3, "", "disk fault\n"));
+    }
+    let same = fs::read(&rt, disk)?.as_slice() == bytes.as_slice();
+    expect_eq(&rt, same, true, "the disk");
+    expect_run(&rt, alloc, &["pbn", disk], "", (0, "% PBN 2.1\n", ""));
+    fs::remove_file(&rt, disk)?;
+    fs::remove_file(&rt, config)?;
     Ok(())
 }
 
