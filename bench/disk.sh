@@ -23,7 +23,7 @@ crates=$work/repo/crates
 mkdir -p "$crates/disk_bench/src"
 cp -r "$top/crates/sector_disk" "$crates/sector_disk"
 cp "$here/disk/program.txt" "$crates/disk_bench/src/main.rt"
-printf 'sector_disk:\ndisk_bench: anyhow sector_disk\n' > "$work/repo/crates.txt"
+printf 'sector_disk: thiserror\ndisk_bench: anyhow sector_disk\n' > "$work/repo/crates.txt"
 echo 'Handles allowed: none.' > "$work/repo/HANDLES"
 echo "building" >&2
 if ! (cd "$crates/disk_bench" && rt run -- "$work/first.disk" 1) > "$work/build.log" 2>&1; then
