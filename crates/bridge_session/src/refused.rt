@@ -10,7 +10,8 @@ use std::fmt;
 pub enum Refused {
     /// The key is nobody's.
     NoKey,
-    /// The director's action by a player, or a player's by the director; the ranking to a player before the session is closed.
+    /// The director's action or question by a player, or a player's by the director; the ranking to a player before the session
+    /// is closed.
     NotAllowed,
     /// The session is closed.
     Closed,

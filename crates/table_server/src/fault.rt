@@ -9,7 +9,7 @@ pub enum ServeFault {
     /// A write failed or took no byte. A prefix of the text is written.
     #[error("cannot write output")]
     Write,
-    /// No connection was had. Only `accept_and_serve` answers this.
+    /// No connection was had. `accept_and_serve` answers this; `serve` and `run_auction` never do.
     #[error("cannot accept a connection")]
     Accept,
 }

@@ -103,12 +103,12 @@ fn end_lines<D: SectorDisk + Drop, W: Write>(
 /// notice follows. Lines are answered in order. The replies to changes, bad lines and long ones are held until what was accepted
 /// is confirmed: before a question is answered, at 64 held lines, at the limit, at the end of the input and where a
 /// read fails. What is written is flushed before more is read; replies that are held stay held. Nothing may be pending
-/// in the store, unless it has failed, and nothing is left pending.
+/// in a store that works, and nothing is left pending in one that still works at the end.
 ///
 /// Where the store fails or had failed, `ERR 40 Disk` answers each line that is held, the line itself and each later
-/// one. `Read` comes at the first error of the reader, and `Write` at the first error of the writer or where it takes no
-/// byte: that they come only there, and that what is written is flushed, no clause says, and tests show it. It takes no
-/// memory but the cache's.
+/// one. `Write` comes at the first error of the writer or where it takes no byte, and `Read` at the first error of the
+/// reader, once the replies that are held then are written: that they come only there, and that what is written is
+/// flushed, no clause says, and tests show it. It takes no memory but the cache's.
 pub fn serve<D: SectorDisk + Drop, R: Read, W: Write>(
     store: &mut Store<D, Session>,
     cache: Option<&mut Cache>,

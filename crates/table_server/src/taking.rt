@@ -1,5 +1,5 @@
 //! Taking changes.
-ghost use Rattle.std.specs.Prelude.{◌≡◌, ◌<◌, None, false, length};
+ghost use Rattle.std.specs.Prelude.{◌≡◌, ◌<◌, None, false, true, length};
 ghost use Rattle.table_server.specs.Serving.{Gives};
 ghost use Rattle.table_server.specs.Faulted.{FailsWithDisk};
 
@@ -18,6 +18,7 @@ pub fn take_change<D: SectorDisk + Drop>(
     ensures taken { store.old.failed ≡ false → length store.old.pending < 64
         → Gives D.disk store.old action.now store.new result }
     ensures full { store.old.failed ≡ false → length store.old.pending ≡ 64 → result ≡ None }
+    ensures failed { store.old.failed ≡ true → result ≡ None }
     ensures faults { FailsWithDisk D.disk store.old store.new }
 {
     match store.submit(action) {
