@@ -208,7 +208,7 @@ module _ {D S A R : Type 0} (kept : Keeping S A R) (disk : Disk D) where
 
   -- a store whose base caught up and whose pending list was cleared
   module _ (v : StoreValue D S A) (new : D) (base : S) (pending : List A) (caught_up : base ≡ v.state) (cleared : pending ≡ []) where
-    confirmed-same : after_confirm v new ≡ record v { disk = new; base = base; pending = pending }
+    pub confirmed-same : after_confirm v new ≡ record v { disk = new; base = base; pending = pending }
     confirmed-same = λ i. record v { disk = new; base = sym caught_up i; pending = sym cleared i }
 
     pub confirmed-store : {T E : Type 0} (result : Result T E) → Called disk v.disk new result → IsStore kept disk v

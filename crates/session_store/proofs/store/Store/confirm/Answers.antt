@@ -1,8 +1,10 @@
-use Rattle.std.proofs.Common.{[], refl, sym, ap, ◌∙◌, append-nil}
-use Rattle.std.proofs.lemmas.Bool.{eqb-true}
+use Rattle.std.proofs.Common.{[], length, IsSome, refl, sym, ap, subst, ◌∙◌, arith, append-nil}
+use Rattle.std.proofs.lemmas.Bool.{eqb-true, eqb-false}
+use Rattle.sector_disk.proofs.RunLaws.{remains, remains_on}
 use Rattle.session_store.specs.Keeping.{fold}
+use Rattle.session_store.specs.Value.{StoreValue}
 use Rattle.session_store.proofs.CallLaws.{continues_begins}
-use Rattle.session_store.proofs.StoreLemmas.{continues_none, sync-moments, sync-fault, idle-same, empty_list, some_is, confirmed-store, confirmed-continues, confirmed-stands}
+use Rattle.session_store.proofs.StoreLemmas.{continues_none, sync-moments, sync-fault, idle-same, empty_list, some_is, confirmed-same, confirmed-store, confirmed-continues, confirmed-stands}
 use Rattle.session_store.proofs.store.Store.confirm.Goals as goal
 
 pub returns-then-self-clause-continues : goal.returns-then-self-clause-continues
@@ -43,3 +45,67 @@ returns-in-Ok-clause-stands g c =
     rw (← c.self.view_is)
     (confirmed-stands g.K.Kept.kept g.D.SectorDisk.disk _ c.sync.new.self _ _ caught_up c.clear.ensures _ c.self.invariant
     c.if-self.false c.in-Ok.ensures.called c.in-Ok.ensures.syncs)
+
+pub returns-then-self-clause-answer : goal.returns-then-self-clause-answer
+returns-then-self-clause-answer g c = rw (← c.self.view_is) (c.if-self.true, refl)
+
+pub returns-then-self-clause-remains : goal.returns-then-self-clause-remains
+returns-then-self-clause-remains g c = remains g.D.SectorDisk.disk _
+
+pub returns-then-is_empty-clause-remains : goal.returns-then-is_empty-clause-remains
+returns-then-is_empty-clause-remains g c = remains g.D.SectorDisk.disk _
+
+pub catch_up-requires : goal.catch_up-requires
+catch_up-requires g c =
+    let made = ap (fold g.K.Kept.kept c.self.inside.base) c.as_slice.ensures.value ∙ c.self.invariant.accepted in
+    subst IsSome (sym made) refl
+
+pub invariant_of-self-in-Err : goal.invariant_of-self-in-Err
+invariant_of-self-in-Err g c = record {
+  large = omega (arith, c.sync.ensures.called.count, c.self.invariant.large);
+  accepted = c.self.invariant.accepted;
+  few = c.self.invariant.few;
+  recorded = c.self.invariant.recorded;
+  records = c.self.invariant.records;
+  some_epoch = c.self.invariant.some_epoch;
+  epoch = c.self.invariant.epoch;
+}
+
+pub returns-in-Ok-clause-answer : goal.returns-in-Ok-clause-answer
+returns-in-Ok-clause-answer g c =
+    let kept = g.K.Kept.kept in
+    let s = c.self.inside in
+    let v : StoreValue g.row.D.Denot g.row.K.Denot g.row.K-Action.Denot = record {
+      disk = s.disk;
+      base = s.base;
+      pending = s.pending.items;
+      state = s.state;
+      epoch = s.epoch;
+      records = s.records;
+      failed = s.failed;
+    } in
+    let caught_up = some_is _ _ (sym c.catch_up.ensures ∙ ap (fold kept s.base) c.as_slice.ensures.value ∙ c.self.invariant.accepted) in
+    let some = eqb-false _ _ (sym c.is_empty.ensures ∙ c.if-is_empty.false) in
+    rw (← c.self.view_is) (
+      c.if-self.false,
+      sym (confirmed-same kept g.D.SectorDisk.disk v c.sync.new.self _ _ caught_up c.clear.ensures),
+      λ none. absurd (some (ap length none)),
+    )
+
+pub returns-in-Ok-clause-remains : goal.returns-in-Ok-clause-remains
+returns-in-Ok-clause-remains g c =
+    let disk = g.D.SectorDisk.disk in
+    rw (← c.self.view_is) (remains_on disk _ _ _ _ (remains disk c.self.inside.disk) c.sync.ensures.called)
+
+pub returns-in-Ok-clause-no_fault : goal.returns-in-Ok-clause-no_fault
+returns-in-Ok-clause-no_fault g c = rw (← c.self.view_is) c.in-Ok.ensures.called.faults_ok
+
+pub returns-in-Err-clause-answer : goal.returns-in-Err-clause-answer
+returns-in-Err-clause-answer g c =
+    let some = eqb-false _ _ (sym c.is_empty.ensures ∙ c.if-is_empty.false) in
+    rw (← c.self.view_is) (c.if-self.false, λ none. some (ap length none), refl, omega (arith, c.in-Err.ensures.called.faults_err))
+
+pub returns-in-Err-clause-remains : goal.returns-in-Err-clause-remains
+returns-in-Err-clause-remains g c =
+    let disk = g.D.SectorDisk.disk in
+    rw (← c.self.view_is) (remains_on disk _ _ _ _ (remains disk c.self.inside.disk) c.sync.ensures.called)

@@ -1,9 +1,17 @@
-use Rattle.std.proofs.Common.{◌∙◌, sym, ap, subst}
+use Rattle.std.proofs.Common.{◌∙◌, refl, sym, ap, subst, IsSome, arith}
 use Rattle.session_store.specs.Keeping.{fold}
 use Rattle.session_store.specs.Value.{StoreValue, IsStore}
 use Rattle.session_store.proofs.StoreLemmas.{some_is}
 use Rattle.session_store.proofs.CheckpointLemmas.{snapshot-same, snapshot-store}
 use Rattle.session_store.proofs.store.Store.take_snapshot.Goals as goal
+
+pub overflow_add-self-inside : goal.overflow_add-self-inside
+overflow_add-self-inside g c = let room = rw (← c.self.view_is) at c.requires in omega (arith, room)
+
+pub catch_up-requires : goal.catch_up-requires
+catch_up-requires g c =
+    let made = ap (fold g.K.Kept.kept c.self.inside.base) c.as_slice.ensures.value ∙ c.self.invariant.accepted in
+    subst IsSome (sym made) refl
 
 pub invariant_of-self : goal.invariant_of-self
 invariant_of-self g c =
@@ -23,3 +31,63 @@ invariant_of-self g c =
     let room = rw (← c.self.view_is) at c.requires in
     subst (IsStore kept disk) (snapshot-same kept disk v c.write_snapshot.new.disk _ _ caught_up c.clear.ensures)
     (snapshot-store kept disk v c.write_snapshot.new.disk c.write_snapshot.ensures.remains.count room c.self.invariant)
+
+pub invariant_of-self-in-Err : goal.invariant_of-self-in-Err
+invariant_of-self-in-Err g c = record {
+  large = omega (arith, c.write_snapshot.ensures.remains.count, c.self.invariant.large);
+  accepted = c.self.invariant.accepted;
+  few = c.self.invariant.few;
+  recorded = c.self.invariant.recorded;
+  records = c.self.invariant.records;
+  some_epoch = c.self.invariant.some_epoch;
+  epoch = c.self.invariant.epoch;
+}
+
+pub returns-in-Ok-clause-answer : goal.returns-in-Ok-clause-answer
+returns-in-Ok-clause-answer g c =
+    let kept = g.K.Kept.kept in
+    let s = c.self.inside in
+    let v : StoreValue g.row.D.Denot g.row.K.Denot g.row.K-Action.Denot = record {
+      disk = s.disk;
+      base = s.base;
+      pending = s.pending.items;
+      state = s.state;
+      epoch = s.epoch;
+      records = s.records;
+      failed = s.failed;
+    } in
+    let caught_up = some_is _ _ (sym c.catch_up.ensures ∙ ap (fold kept s.base) c.as_slice.ensures.value ∙ c.self.invariant.accepted) in
+    rw (← c.self.view_is) (sym (snapshot-same kept g.D.SectorDisk.disk v c.write_snapshot.new.disk _ _ caught_up c.clear.ensures))
+
+pub returns-in-Ok-clause-fault : goal.returns-in-Ok-clause-fault
+returns-in-Ok-clause-fault g c = rw (← c.self.view_is) c.in-Ok.ensures.no_fault
+
+pub returns-in-Ok-clause-remains : goal.returns-in-Ok-clause-remains
+returns-in-Ok-clause-remains g c = rw (← c.self.view_is) c.write_snapshot.ensures.remains
+
+pub returns-in-Ok-clause-any_moment : goal.returns-in-Ok-clause-any_moment
+returns-in-Ok-clause-any_moment g c = rw (← c.self.view_is) c.write_snapshot.ensures.any_moment
+
+pub returns-in-Ok-clause-written : goal.returns-in-Ok-clause-written
+returns-in-Ok-clause-written g c = rw (← c.self.view_is) c.in-Ok.ensures.written
+
+pub returns-in-Ok-clause-state : goal.returns-in-Ok-clause-state
+returns-in-Ok-clause-state g c = rw (← c.self.view_is) c.write_snapshot.ensures.state
+
+pub returns-in-Err-clause-answer : goal.returns-in-Err-clause-answer
+returns-in-Err-clause-answer g c = rw (← c.self.view_is) refl
+
+pub returns-in-Err-clause-fault : goal.returns-in-Err-clause-fault
+returns-in-Err-clause-fault g c = rw (← c.self.view_is) c.in-Err.ensures.fault
+
+pub returns-in-Err-clause-remains : goal.returns-in-Err-clause-remains
+returns-in-Err-clause-remains g c = rw (← c.self.view_is) c.write_snapshot.ensures.remains
+
+pub returns-in-Err-clause-any_moment : goal.returns-in-Err-clause-any_moment
+returns-in-Err-clause-any_moment g c = rw (← c.self.view_is) c.write_snapshot.ensures.any_moment
+
+pub returns-in-Err-clause-written : goal.returns-in-Err-clause-written
+returns-in-Err-clause-written g c = λ _. tt
+
+pub returns-in-Err-clause-state : goal.returns-in-Err-clause-state
+returns-in-Err-clause-state g c = rw (← c.self.view_is) c.write_snapshot.ensures.state
