@@ -1,6 +1,9 @@
 -- Parts read one after another.
-use Rattle.std.proofs.Common.{◌≡◌, ◌<◌, ◌≤◌, ◌+◌, ◌-◌, ℕ, suc, List, [], ◌∷◌, ◌++◌, Option, Some, None, Result, Ok, Err, refl, sym, ap, ◌∙◌, arith, append_assoc, append-nil}
-use Rattle.sector_disk.specs.Disk.{Image}
+use Rattle.std.proofs.Common.{◌≡◌, ◌<◌, ◌≤◌, ◌+◌, ◌-◌, ℕ, suc, List, [], ◌∷◌, ◌++◌, length, ◌↔◌, IsOk, OnOk, Option, Some, None, Result, Ok, Err, refl, sym, ap, ◌∙◌, arith, append_assoc, append-nil}
+use Rattle.sector_disk.specs.Disk.{Image, Disk}
+use Rattle.sector_disk.specs.Calls.{Called, Reads}
+use Rattle.sector_disk.specs.Runs.{Quiet}
+use Rattle.sector_disk.proofs.RunLaws.{remains, remains_on, none_read, reads_on}
 use Rattle.session_store.specs.Form.{payload_in, part_mark, place}
 use Rattle.session_store.specs.declared.fault.StoreFault.{StoreFault}
 use Rattle.session_store.specs.declared.fault.StoreFault.TheVariants.{Damaged}
@@ -51,3 +54,21 @@ module _ (image : Image) (epoch i count : ℕ) (before : List (List ℕ)) where
   parts-all past =
       let none : count - i ≡ 0 = omega arith in
       ap (λ (n : ℕ). with_parts before (parts_from image epoch i n)) none ∙ ap (λ (xs : List (List ℕ)). Ok xs) (append-nil before)
+
+-- one read is quiet
+pub quiet_read : {D T E : Type 0} (disk : Disk D) (old new : D) (i : ℕ) (bytes : List ℕ) (result : Result T E)
+    → Called disk old new result → (disk.honest old → Reads disk old new i bytes result) → Quiet disk old new
+quiet_read disk old new i bytes result called did = record {
+  remains = remains_on disk old old new result (remains disk old) called;
+  only_read = λ honest. record {
+    reads = (did honest).untouched.reads;
+    moments = reads_on disk old old new (disk.may_leave old) result (none_read disk old honest).moments called i bytes (did honest);
+  };
+}
+
+-- a payload of at most 480 bytes fills a part that is empty
+pub filled : {E : Type 0} (result : Result (Unit {0}) E) (old new payload : List ℕ) → old ≡ [] → length payload ≤ 480
+    → IsOk result ↔ (length old + length payload ≤ 480) → OnOk result (new ≡ old ++ payload) → new ≡ payload
+filled (Ok _) old new payload none fits variant is = is ∙ ap (λ (xs : List ℕ). xs ++ payload) none
+filled (Err _) old new payload none fits variant is =
+    let never = variant.1 (omega (arith, ap length none, fits)) in absurd (cc never)
