@@ -1,11 +1,17 @@
-use Rattle.std.proofs.Common.{arith}
+use Rattle.std.proofs.Common.{◌≡◌, ◌+◌, ◌%◌, ℕ, arith}
 use Rattle.session_store.specs.Form.{place}
 use Rattle.session_store.proofs.snapshot.place_of.Goals as goal
 
-pub returns-then-epoch-eq1-clause-place : goal.returns-then-epoch-eq1-clause-place
+place-odd : (epoch : ℕ) → epoch % 2 ≡ 1 → 0 ≡ place epoch
 unfolding place
-returns-then-epoch-eq1-clause-place c = omega (arith, c.if-epoch-eq1.true)
+place-odd epoch odd = omega (arith, odd)
+
+place-even : (epoch : ℕ) → (epoch % 2 ≡ 1 → ⊥) → 512 ≡ place epoch
+unfolding place
+place-even epoch even = omega (arith, even)
+
+pub returns-then-epoch-eq1-clause-place : goal.returns-then-epoch-eq1-clause-place
+returns-then-epoch-eq1-clause-place c = place-odd c.args.epoch c.if-epoch-eq1.true
 
 pub returns-else-epoch-eq1-clause-place : goal.returns-else-epoch-eq1-clause-place
-unfolding place
-returns-else-epoch-eq1-clause-place c = omega (arith, c.if-epoch-eq1.false)
+returns-else-epoch-eq1-clause-place c = place-even c.args.epoch c.if-epoch-eq1.false

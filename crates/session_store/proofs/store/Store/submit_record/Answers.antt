@@ -105,3 +105,24 @@ returns-in-Err-write_record-clause-remains g c =
     let disk = g.D.SectorDisk.disk in
     subst (λ d. Remains disk d c.write_record.new.disk) (ap (λ v. v.disk) c.self.view_is)
     (remains_on disk _ _ _ _ (remains disk c.self.inside.disk) c.write_record.ensures.call.called)
+
+pub invariant_of-self : goal.invariant_of-self
+invariant_of-self g c = rw c.in-Err.ensures.refused c.self.invariant
+
+pub push-requires : goal.push-requires
+push-requires g c = let few = rw (← c.self.view_is) at c.requires.batch in omega (arith, few)
+
+pub overflow_add-self : goal.overflow_add-self
+overflow_add-self g c = let few = rw (← c.self.view_is) at c.requires.room in omega (arith, few)
+
+pub write_record-requires-clause-sectors : goal.write_record-requires-clause-sectors
+write_record-requires-clause-sectors g c = c.self.invariant.large
+
+pub write_record-requires-clause-room : goal.write_record-requires-clause-room
+write_record-requires-clause-room g c = rw (← c.self.view_is) at c.requires.room
+
+pub returns-in-Err-clause-remains : goal.returns-in-Err-clause-remains
+returns-in-Err-clause-remains g c = rw (← c.self.view_is) (remains g.D.SectorDisk.disk c.self.inside.disk)
+
+pub returns-in-Ok-write_record-clause-no_fault : goal.returns-in-Ok-write_record-clause-no_fault
+returns-in-Ok-write_record-clause-no_fault g c = rw (← c.self.view_is) c.in-Ok-write_record.ensures.call.called.faults_ok
