@@ -10,30 +10,14 @@
 //! ```
 #![tactic(auto)]
 
-mod command;
-mod config_file;
-mod disk_commands;
-mod fault;
-mod fault_line;
-mod formatting;
-mod lock;
-mod output;
-mod read;
-mod results;
-mod run;
-mod script;
-mod serving;
-mod stored_session;
-#[cfg(test)]
-mod tests;
-
+use club_commands::{run_words, status_of};
 use std::fs::File;
 use std::process::ExitCode;
 use std::{env, io};
 
 fn main(rt: HostRuntime) -> ExitCode {
     let outcome = run_with(&rt).map_err(|error| error.kind());
-    ExitCode::from(run::status_of(outcome, &mut rt.stderr()))
+    ExitCode::from(status_of(outcome, &mut rt.stderr()))
 }
 
 /// Hands the program's words and its standard streams to `run_words`.
@@ -44,7 +28,7 @@ fn run_with(rt: &HostRuntime) -> Result<u8, io::Error> {
     for argument in &arguments {
         words.push(argument.as_str())?;
     }
-    Ok(run::run_words(
+    Ok(run_words(
         rt,
         rt.alloc(),
         words.as_slice(),

@@ -1,0 +1,4 @@
+pub mod Reading
+pub mod Stopped
+pub mod Connected
+pub mod Opened

@@ -1,0 +1,10 @@
+pub use Rattle.command_line.specs.Words
+pub mod Faults
+pub mod Opening
+pub mod Formatted
+pub mod Stored
+pub mod Results
+pub mod Scripted
+pub mod Connections
+pub mod OnFile
+pub mod Run

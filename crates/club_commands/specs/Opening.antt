@@ -1,0 +1,54 @@
+-- The session that begins by a configuration's text.
+use Rattle.std.specs.Prelude.{◌≡◌, ◌⊎◌, ◌≤◌, ◌<◌, ◌++◌, ℕ, Bool, true, false, List, length, Err}
+use Rattle.std.specs.Io.KnownBytes.{IsAtEnd}
+use Rattle.line_text.specs.Streams.{Stream, Gives}
+use Rattle.bridge_config.specs.ConfigValue.{ConfigValue}
+use Rattle.bridge_config.specs.Reading.{Reads}
+use Rattle.bridge_config.specs.Spelling.{Spells}
+use Rattle.bridge_session.specs.State.{SessionValue, opening}
+use Rattle.session_store.specs.declared.fault.StoreFault.TheVariants.{NoMemory}
+use Rattle.table_server.specs.declared.fault.ServeFault.TheVariants.{Read}
+use Rattle.club_commands.specs.declared.fault.RunFault.{RunFault}
+use Rattle.club_commands.specs.declared.fault.RunFault.TheVariants.{Stream as StreamFault, Config, Store}
+
+-- so many bytes of a configuration's file are read at most: one more than a configuration may have
+abbrev pub most_read : ℕ
+most_read = 16385
+
+-- one read more: the reader gave some bytes, which follow the text, or it is at its end
+pub record ReadsOn (reader : Stream) (old new : List ℕ) (some : Bool) : Type 0 where
+  pub bytes : List ℕ
+  pub grown : new ≡ old ++ bytes
+  pub given : Gives reader bytes
+  pub more : some ≡ true → length old < length new
+  pub end : some ≡ false → IsAtEnd reader.new
+
+-- the reader gave this text, and all that it has, unless that is more than is read
+pub record IsTextRead (reader : Stream) (text : List ℕ) : Type 0 where
+  pub given : Gives reader text
+  pub few : length text ≤ most_read
+  pub whole : length text < most_read → IsAtEnd reader.new
+
+-- the text spells a configuration, and the session is its opening
+pub record Begins (text : List ℕ) (session : SessionValue) : Type 0 where
+  pub configuration : ConfigValue
+  pub spelled : Spells text configuration
+  pub begun : session ≡ opening configuration
+
+-- why there is no session: the text's first fault, or, where it spells a configuration, memory refused
+abbrev pub IsNoSession : List ℕ → RunFault → Type 0
+IsNoSession text (StreamFault fault) = ⊥
+IsNoSession text (Config fault) = Reads text (Err fault)
+IsNoSession text (Store fault) = (fault ≡ NoMemory) × ((configuration : ConfigValue) × Spells text configuration)
+
+-- the reader gave the whole text of a configuration, and the session is its opening
+pub record IsSessionRead (reader : Stream) (session : SessionValue) : Type 0 where
+  pub text : List ℕ
+  pub given : Gives reader text
+  pub whole : IsAtEnd reader.new
+  pub begins : Begins text session
+
+-- why no session was read: a read failed, or the text that was read begins none
+abbrev pub StopsReading : Stream → RunFault → Type 0
+StopsReading reader fault =
+    (fault ≡ StreamFault Read) ⊎ ((text : List ℕ) × IsTextRead reader text × IsNoSession text fault)

@@ -1,0 +1,79 @@
+-- What stands on the program's streams once a command was done, and at a fault.
+use Rattle.std.specs.Prelude.{◌≡◌, ℕ, List, take, codes, IfSome}
+use Rattle.bridge_cards.specs.Board.{dealer_of}
+use Rattle.line_text.specs.Streams.{Stream, Gives, Takes, TakesPrefix, IsUntouched}
+use Rattle.table_server.specs.Heard.{StopsAt}
+use Rattle.table_server.specs.Replies.{auction_output, byte_limit}
+use Rattle.command_line.specs.declared.command.Command.{Command}
+use Rattle.command_line.specs.declared.command.Command.TheVariants.{Auction, Format, Script, Serve, Rank, Pbn}
+use Rattle.command_line.specs.declared.command.WordsFault.{WordsFault}
+use Rattle.command_line.specs.declared.command.WordsFault.TheVariants.{Usage, Memory}
+use Rattle.club_commands.specs.declared.fault.RunFault.{RunFault}
+use Rattle.club_commands.specs.declared.fault.RunFault.TheVariants.{Stream as StreamFault, Config, Store}
+use Rattle.session_store.specs.declared.fault.StoreFault.TheVariants.{NoMemory}
+use Rattle.club_commands.specs.Faults.{store_line, fault_line, fault_status}
+use Rattle.club_commands.specs.Formatted.{HasFormatted, StopsFormatting}
+use Rattle.club_commands.specs.OnFile.{HasResults, StopsResults, HasScripted, StopsScripting, HasServedConnections, StopsServingConnections}
+use Rattle.club_commands.specs.Results.{IsRankingText, IsPbnText}
+
+-- the output of a board's auction is written for what was read of the input
+abbrev pub HasAuction : ℕ → Stream → Stream → Type 0
+HasAuction board input output = IfSome input.old (λ bytes.
+    Takes output (auction_output (dealer_of board) bytes) × Gives input (take byte_limit bytes))
+
+-- what a board's auction leaves of the input and on the output at a fault
+abbrev pub StopsAuction : ℕ → Stream → Stream → RunFault → Type 0
+StopsAuction board input output (StreamFault fault) = StopsAt (dealer_of board) input output fault
+StopsAuction board input output (Config fault) = ⊥
+StopsAuction board input output (Store fault) = ⊥
+
+-- what a command that was done read from standard input and wrote to standard output
+abbrev pub Does : Command → Stream → Stream → Type 0
+Does (Auction board) input output = HasAuction board input output
+Does (Format disk config) input output = HasFormatted output × IsUntouched input
+Does (Script disk) input output = HasScripted input output
+Does (Serve disk port count) input output = HasServedConnections count × IsUntouched output × IsUntouched input
+Does (Rank disk) input output = HasResults IsRankingText output × IsUntouched input
+Does (Pbn disk) input output = HasResults IsPbnText output × IsUntouched input
+
+-- what a command leaves of standard input and on standard output where it stops at that fault
+abbrev pub StopsBy : Command → Stream → Stream → RunFault → Type 0
+StopsBy (Auction board) input output fault = StopsAuction board input output fault
+StopsBy (Format disk config) input output fault = StopsFormatting output fault × IsUntouched input
+StopsBy (Script disk) input output fault = StopsScripting input output fault
+StopsBy (Serve disk port count) input output fault =
+    StopsServingConnections count fault × IsUntouched output × IsUntouched input
+StopsBy (Rank disk) input output fault = StopsResults IsRankingText output fault × IsUntouched input
+StopsBy (Pbn disk) input output fault = StopsResults IsPbnText output fault × IsUntouched input
+
+-- a command was done, and nothing stands on standard error
+abbrev pub IsDone : Command → Stream → Stream → Stream → Type 0
+IsDone command input output errors = Does command input output × IsUntouched errors
+
+-- A command stopped at some fault that has this status, and standard error took a prefix of the line for that fault, no
+-- more.
+pub record IsStopped (command : Command) (input output errors : Stream) (status : ℕ) : Type 0 where
+  pub fault : RunFault
+  pub stopped : StopsBy command input output fault
+  pub named : TakesPrefix errors (fault_line fault)
+  pub status_is : status ≡ fault_status fault
+
+-- the line on standard error where memory is refused
+abbrev pub memory_line : List ℕ
+memory_line = store_line NoMemory
+
+-- the line on standard error where the program's words cannot be read as text
+abbrev pub text_line : List ℕ
+text_line = codes "a word of the command line is not UTF-8\n"
+
+-- where memory is refused before any command: nothing was read or written, and standard error took a prefix of the line
+-- for that
+pub record IsWithoutMemory (input output errors : Stream) : Type 0 where
+  pub unread : IsUntouched input
+  pub unwritten : IsUntouched output
+  pub named : TakesPrefix errors memory_line
+
+-- the exit status where the words are no command, and what standard error took where memory was refused
+abbrev pub Refuses : WordsFault → ℕ → Stream → Type 0
+Refuses (Usage error) status errors = status ≡ 2
+Refuses Memory status errors = (status ≡ 3) × TakesPrefix errors memory_line

@@ -1,0 +1,108 @@
+//! The line of standard error and the exit status that a fault has.
+ghost use Rattle.std.specs.Prelude.{◌≡◌, ◌≤◌, length};
+ghost use Rattle.club_commands.specs.Faults.{stream_line, config_line, store_line, fault_line, store_status, fault_status};
+
+use crate::fault::RunFault;
+use arrayvec::ArrayString;
+use bridge_config::ConfigFault;
+use itoa::Buffer;
+use session_store::StoreFault;
+use table_server::ServeFault;
+
+/// Reading, writing, accepting a connection, the disk or memory failed, the configuration is refused, or the epochs are
+/// spent.
+pub const FAULT: u8 = 3;
+/// The disk holds no session.
+pub const NO_SESSION: u8 = 4;
+
+/// The most bytes of a line.
+const LINE_BYTES: usize = 40;
+
+/// The line of a fault.
+pub type FaultLine = ArrayString<LINE_BYTES>;
+
+/// The exit status at a fault: 4 where the disk is too small, not formatted or damaged, and 3 otherwise.
+pub fn fault_status(fault: RunFault) -> u8
+    ensures { result ≡ fault_status fault }
+{
+    match fault {
+        RunFault::Stream(_) => FAULT,
+        RunFault::Config(_) => FAULT,
+        RunFault::Store(fault) => store_status(fault),
+    }
+}
+
+/// The exit status where the disk is refused or has failed, or memory is refused.
+fn store_status(fault: StoreFault) -> u8
+    ensures { result ≡ store_status fault }
+{
+    match fault {
+        StoreFault::TooSmall | StoreFault::NotFormatted | StoreFault::Damaged(_) => NO_SESSION,
+        StoreFault::Disk | StoreFault::EpochsSpent | StoreFault::NoMemory => FAULT,
+    }
+}
+
+/// The line that names a fault.
+pub fn fault_line(fault: RunFault) -> FaultLine
+    ensures { result.bytes ≡ fault_line fault }
+{
+    match fault {
+        RunFault::Stream(fault) => stream_line(fault),
+        RunFault::Config(fault) => config_line(fault),
+        RunFault::Store(fault) => store_line(fault),
+    }
+}
+
+/// The text as a line.
+fn line_of(text: &str) -> FaultLine
+    requires { length text.now ≤ LINE_BYTES }
+    ensures { result.bytes ≡ text.now }
+{
+    let mut line = FaultLine::new();
+    line.push_str(text);
+    line
+}
+
+fn stream_line(fault: ServeFault) -> FaultLine
+    ensures { result.bytes ≡ stream_line fault }
+{
+    match fault {
+        ServeFault::Read | ServeFault::Accept => line_of("cannot read input\n"),
+        ServeFault::Write => line_of("cannot write output\n"),
+    }
+}
+
+fn config_line(fault: ConfigFault) -> FaultLine
+    ensures { result.bytes ≡ config_line fault }
+{
+    let mut line = FaultLine::new();
+    line.push_str("config line ");
+    line.push_str(Buffer::new().format(fault.line));
+    line.push_str(": ");
+    line.push_str(fault.cause.name());
+    line.push_str("\n");
+    line
+}
+
+fn store_line(fault: StoreFault) -> FaultLine
+    ensures { result.bytes ≡ store_line fault }
+{
+    match fault {
+        StoreFault::TooSmall => line_of("disk too small\n"),
+        StoreFault::Disk => line_of("disk fault\n"),
+        StoreFault::NotFormatted => line_of("not formatted\n"),
+        StoreFault::Damaged(sector) => damaged_line(sector),
+        StoreFault::EpochsSpent => line_of("epochs spent\n"),
+        StoreFault::NoMemory => line_of("no memory\n"),
+    }
+}
+
+fn damaged_line(sector: u32) -> FaultLine
+    ensures { result.bytes ≡ store_line (StoreFault.Damaged sector) }
+{
+    let mut line = FaultLine::new();
+    line.push_str("damaged sector ");
+    line.push_str(Buffer::new().format(sector));
+    line.push_str("\n");
+    line
+}

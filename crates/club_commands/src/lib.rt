@@ -1,0 +1,29 @@
+//! The commands of the program `bridge_club`: what its words ask for is done over its streams, over a disk in a file and
+//! over connections, and the exit status says how that ended.
+//!
+//! ```rust
+//! let words = ["auction", "1"];
+//! let status = run_words(&rt, rt.alloc(), words.as_slice(), &mut rt.stdin(), &mut rt.stdout(), &mut rt.stderr());
+//! ```
+#![tactic(auto)]
+
+mod config_file;
+mod disk_commands;
+mod disk_lock;
+mod fault;
+mod fault_line;
+mod formatting;
+mod output;
+mod results;
+mod run;
+mod script;
+mod serving;
+mod stored_session;
+
+pub use config_file::read_session;
+pub use disk_lock::lock;
+pub use fault::RunFault;
+pub use run::{refuse, run_words, status_of};
+pub use script::serve_store;
+pub use serving::serve_connections;
+pub use stored_session::open_session;

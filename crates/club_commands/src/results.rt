@@ -1,0 +1,65 @@
+//! The results of a session, as the commands `rank` and `pbn` write them.
+ghost use Rattle.std.specs.Prelude.{◌≡◌, ℕ, List, IfErr};
+ghost use Rattle.line_text.specs.Streams.{stream, Written};
+ghost use Rattle.bridge_pbn.specs.Games.{session_text};
+ghost use Rattle.table_server.specs.declared.fault.ServeFault.TheVariants.{Write as WriteFault};
+ghost use Rattle.club_commands.specs.Results.{field_heading, IsFieldText, IsRankingText};
+
+use crate::fault::RunFault;
+use crate::output::write_output;
+use bridge_pbn::write_pbn;
+use bridge_session::{Field, Session};
+use std::io::Write;
+use table_server::{ReplyText, ServeFault, push_pairs};
+
+/// The heading of a field.
+fn heading(field: Field) -> &'static str
+    ensures { result.now ≡ field_heading field }
+{
+    match field {
+        Field::First => "FIELD 1\n",
+        Field::Second => "FIELD 2\n",
+    }
+}
+
+/// The heading of a field and the lines of its pairs, as the director's ranking has them; nothing where there is no such
+/// field.
+fn field_text(session: &Session, field: Field) -> ReplyText
+    ensures { IsFieldText session.now field result.bytes }
+{
+    let fields = session.config().fields();
+    let mut text = ReplyText::new();
+    match session.ranking(fields.director, field) {
+        Ok(ranking) => {
+            text.push_str(heading(field));
+            push_pairs(&mut text, fields.scoring, ranking.as_slice());
+            text
+        }
+        Err(_) => text,
+    }
+}
+
+/// Writes the ranking of each field.
+pub fn write_ranking<W: Write>(session: &Session, output: &mut W) -> Result<(), RunFault>
+    ensures written { (text : List ℕ) × IsRankingText session.now text
+        × Written (stream W.contents output.old output.new) text result }
+    ensures fault { IfErr result (λ fault. fault ≡ RunFault.Stream WriteFault) }
+{
+    let first = field_text(session, Field::First);
+    let second = field_text(session, Field::Second);
+    match write_output(output, first.as_str()) {
+        Ok(()) => write_output(output, second.as_str()),
+        Err(fault) => Err(fault),
+    }
+}
+
+/// Writes the results in Portable Bridge Notation.
+pub fn write_games<W: Write>(session: &Session, output: &mut W) -> Result<(), RunFault>
+    ensures written { Written (stream W.contents output.old output.new) (session_text session.now) result }
+    ensures fault { IfErr result (λ fault. fault ≡ RunFault.Stream WriteFault) }
+{
+    match write_pbn(session, output) {
+        Ok(()) => Ok(()),
+        Err(_) => Err(RunFault::Stream(ServeFault::Write)),
+    }
+}

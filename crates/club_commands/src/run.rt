@@ -1,0 +1,170 @@
+//! Runs the command that the words ask for.
+ghost use Rattle.std.specs.Prelude.{◌≡◌, ◌≢◌, ◌⊎◌, [], map, IfOk, IfErr, OnOk};
+ghost use Rattle.clap.specs.Words.{fault_of};
+ghost use Rattle.command_line.specs.Words.{club_app, Asks};
+ghost use Rattle.line_text.specs.Streams.{stream, TakesPrefix, IsUntouched};
+ghost use Rattle.club_commands.specs.Faults.{fault_line, fault_status};
+ghost use Rattle.club_commands.specs.Run.{HasAuction, StopsAuction, Does, StopsBy, IsDone, IsStopped, IsWithoutMemory, Refuses, memory_line, text_line};
+ghost use Rattle.command_line.specs.declared.command.Command.{Command};
+
+use crate::disk_commands::{run_pbn, run_rank, run_script, run_serve};
+use crate::fault::RunFault;
+use crate::fault_line::{fault_line, fault_status};
+use crate::formatting::run_format;
+use bridge_cards::BoardNumber;
+use command_line::{Command, WordsFault, read_words};
+use line_text::write_text;
+use session_store::StoreFault;
+use std::alloc::Global;
+use std::fs::File;
+use std::io::{ErrorKind, Read, Write};
+use std::net::{Net, TcpListener, TcpStream};
+use std::rt::Files;
+use table_server::run_auction;
+
+/// The command was done.
+pub const DONE: u8 = 0;
+/// The words are no command, or call for help, or one of them is not UTF-8.
+pub const USAGE: u8 = 2;
+
+const NOT_TEXT: &str = "a word of the command line is not UTF-8\n";
+
+/// Runs the command that the words after the program's name ask for, and answers the exit status.
+///
+/// The runtime gives the files that commands open, and for `serve` the connections; `auction` opens none.
+///
+/// 0: done. 2: the words are no command, or call for help; what clap says of them goes to `errors`, and no clause speaks of
+/// that text. At 3 and 4 `errors` takes the line that names the fault, or a prefix of it where it fails itself. 3: `cannot read input`, `cannot write output`, `config line N: Name`, `disk fault`, `epochs spent` or
+/// `no memory`. 4: the disk holds no session, being `disk too small`, `not formatted` or `damaged sector N`.
+pub fn run_words<
+    S: Files<File = File> + Net<Listener = TcpListener, Stream = TcpStream>,
+    R: Read,
+    W: Write,
+    E: Write,
+>(rt: &S, alloc: Global, words: &[&str], input: &mut R, output: &mut W, errors: &mut E) -> u8
+    ensures done { result ≡ 0 → (command : Command) × Asks (map (λ word. word.now) words.entry.now) command
+        × IsDone command (stream R.remaining input.old input.new)
+        (stream W.contents output.old output.new) (stream E.contents errors.old errors.new) }
+    ensures usage { result ≡ 2 → (fault_of club_app (map (λ word. word.now) words.entry.now) ≢ [])
+        × IsUntouched (stream R.remaining input.old input.new)
+        × IsUntouched (stream W.contents output.old output.new) }
+    ensures fault { result ≡ 3 → IsWithoutMemory (stream R.remaining input.old input.new)
+        (stream W.contents output.old output.new) (stream E.contents errors.old errors.new)
+        ⊎ ((command : Command) × Asks (map (λ word. word.now) words.entry.now) command
+        × IsStopped command (stream R.remaining input.old input.new)
+        (stream W.contents output.old output.new) (stream E.contents errors.old errors.new) 3) }
+    ensures no_session { result ≡ 4 → (command : Command) × Asks (map (λ word. word.now) words.entry.now) command
+        × IsStopped command (stream R.remaining input.old input.new)
+        (stream W.contents output.old output.new) (stream E.contents errors.old errors.new) 4 }
+    ensures status { (result ≡ 0) ⊎ ((result ≡ 2) ⊎ ((result ≡ 3) ⊎ (result ≡ 4))) }
+{
+    match read_words(alloc, words) {
+        Ok(command) => run_command(rt, alloc, &command, input, output, errors),
+        Err(fault) => refuse(fault, errors),
+    }
+}
+
+/// Says on `errors` why the words are no command, and answers the exit status.
+pub fn refuse<E: Write>(fault: WordsFault, errors: &mut E) -> u8
+    ensures { Refuses fault result (stream E.contents errors.old errors.new) }
+{
+    match fault {
+        WordsFault::Usage(error) => {
+            let _ = write!(errors, "{error}");
+            USAGE
+        }
+        WordsFault::Memory => fails(RunFault::Store(StoreFault::NoMemory), errors),
+    }
+}
+
+/// Runs a command, and where it stops names the fault on `errors`. The answer is the exit status.
+fn run_command<
+    S: Files<File = File> + Net<Listener = TcpListener, Stream = TcpStream>,
+    R: Read,
+    W: Write,
+    E: Write,
+>(rt: &S, alloc: Global, command: &Command<'_>, input: &mut R, output: &mut W, errors: &mut E) -> u8
+    ensures done { result ≡ 0 → IsDone command.now (stream R.remaining input.old input.new)
+        (stream W.contents output.old output.new) (stream E.contents errors.old errors.new) }
+    ensures stopped { result ≢ 0 → IsStopped command.now (stream R.remaining input.old input.new)
+        (stream W.contents output.old output.new) (stream E.contents errors.old errors.new) result }
+    ensures status { (result ≡ 0) ⊎ ((result ≡ 3) ⊎ (result ≡ 4)) }
+{
+    match do_command(rt, alloc, command, input, output) {
+        Ok(()) => DONE,
+        Err(fault) => fails(fault, errors),
+    }
+}
+
+/// Runs a command.
+fn do_command<
+    S: Files<File = File> + Net<Listener = TcpListener, Stream = TcpStream>,
+    R: Read,
+    W: Write,
+>(
+    rt: &S,
+    alloc: Global,
+    command: &Command<'_>,
+    input: &mut R,
+    output: &mut W,
+) -> Result<(), RunFault>
+    ensures done { OnOk result (Does command.now (stream R.remaining input.old input.new)
+        (stream W.contents output.old output.new)) }
+    ensures fault { IfErr result (StopsBy command.now (stream R.remaining input.old input.new)
+        (stream W.contents output.old output.new)) }
+{
+    match *command {
+        Command::Auction(board) => hold_auction(board, input, output),
+        Command::Format { disk, config } => run_format(rt, alloc, disk, config, output),
+        Command::Script { disk } => run_script(rt, alloc, disk, input, output),
+        Command::Serve { disk, port, count } => run_serve(rt, alloc, disk, port, count),
+        Command::Rank { disk } => run_rank(rt, alloc, disk, output),
+        Command::Pbn { disk } => run_pbn(rt, alloc, disk, output),
+    }
+}
+
+/// Reads a board's auction from the input.
+fn hold_auction<R: Read, W: Write>(
+    board: BoardNumber,
+    input: &mut R,
+    output: &mut W,
+) -> Result<(), RunFault>
+    ensures done { OnOk result (HasAuction board (stream R.remaining input.old input.new)
+        (stream W.contents output.old output.new)) }
+    ensures fault { IfErr result (StopsAuction board (stream R.remaining input.old input.new)
+        (stream W.contents output.old output.new)) }
+{
+    match run_auction(board, input, output) {
+        Ok(()) => Ok(()),
+        Err(fault) => Err(RunFault::Stream(fault)),
+    }
+}
+
+/// The exit status of the program: that of the run, or where its words could not be had, which a line of `errors` says,
+/// 3 where memory is refused, and 2 at any other error, which is taken to be that a word is not UTF-8.
+pub fn status_of<E: Write>(outcome: Result<u8, ErrorKind>, errors: &mut E) -> u8
+    ensures run { IfOk outcome (λ status. (result ≡ status)
+        × IsUntouched (stream E.contents errors.old errors.new)) }
+    ensures memory { IfErr outcome (λ kind. kind ≡ ErrorKind.OutOfMemory → (result ≡ 3)
+        × TakesPrefix (stream E.contents errors.old errors.new) memory_line) }
+    ensures text { IfErr outcome (λ kind. kind ≢ ErrorKind.OutOfMemory → (result ≡ 2)
+        × TakesPrefix (stream E.contents errors.old errors.new) text_line) }
+{
+    match outcome {
+        Ok(status) => status,
+        Err(ErrorKind::OutOfMemory) => refuse(WordsFault::Memory, errors),
+        Err(_) => {
+            let _ = write_text(errors, NOT_TEXT.as_bytes());
+            USAGE
+        }
+    }
+}
+
+/// Writes the line of a fault, as much of it as `errors` takes, and answers its exit status.
+fn fails<E: Write>(fault: RunFault, errors: &mut E) -> u8
+    ensures status { result ≡ fault_status fault }
+    ensures line { TakesPrefix (stream E.contents errors.old errors.new) (fault_line fault) }
+{
+    let _ = write_text(errors, fault_line(fault).as_str().as_bytes());
+    fault_status(fault)
+}

@@ -1,0 +1,129 @@
+//! Connections to a listener of the same process.
+use super::script::{failing_disk, solved_board};
+use super::{MOVEMENT, expect_eq, expect_formatted, expect_run};
+use bridge_endings::Cache;
+use club_commands::{RunFault, open_session, serve_connections};
+use session_store::StoreFault;
+use std::alloc::Global;
+use std::fs::File;
+use std::io::Write;
+use std::net::{Ipv4Addr, Net, Shutdown, SocketAddr, TcpListener, TcpStream};
+use std::process::Abort;
+use std::rt::Files;
+use std::test::Fail;
+use std::{fs, io};
+
+/// A listener at a port that is free.
+fn listening(rt: &HostRuntime) -> Result<TcpListener, Fail> {
+    Ok(TcpListener::bind(rt, SocketAddr::from((Ipv4Addr::LOCALHOST, 0)))?)
+}
+
+/// A client that sent this text and sends no more.
+fn sent(rt: &HostRuntime, listener: &TcpListener, text: &str) -> Result<TcpStream, Fail> {
+    let mut client = TcpStream::connect(rt, listener.local_addr()?)?;
+    client.write_all(text.as_bytes())?;
+    client.shutdown(Shutdown::Write)?;
+    Ok(client)
+}
+
+/// Serves at most two connections over a disk of which all calls after so many fail.
+fn serve_two<N: Net>(
+    rt: &N,
+    listener: &N::Listener,
+    alloc: Global,
+    passes: u64,
+) -> Result<Result<(), RunFault>, Fail> {
+    let mut cache = Cache::new(alloc, 1)?;
+    match open_session(alloc, failing_disk(alloc, passes)?) {
+        Ok(mut store) => Ok(serve_connections(rt, listener, 2, &mut store, &mut cache)),
+        Err(fault) => Ok(Err(RunFault::Store(fault))),
+    }
+}
+
+/// Two lines that change the session, and the beginning of a third.
+const VOIDS: &str = "VOID 100 1 1 1\nVOID 100 1 2 1\nNEXT 100";
+
+// The second connection finds what the first one changed.
+#[test]
+fn connections_share_the_session(rt: HostRuntime) -> Result<(), Fail> {
+    let listener = listening(&rt)?;
+    let first = sent(&rt, &listener, VOIDS)?;
+    let second = sent(&rt, &listener, "SEE 11\n")?;
+    let result = serve_two(&rt, &listener, rt.alloc(), u64::MAX)?;
+    expect_eq(&rt, result, Ok(()), "served");
+    for (client, reply) in [(first, "OK\nOK\n"), (second, "ERR 7 NotCurrent\n")] {
+        let written = io::read_to_string(rt.alloc(), client)?;
+        expect_eq(&rt, written.as_str(), reply, "written");
+    }
+    Ok(())
+}
+
+// The disk is opened by its first 25 calls, and fails in the first connection. The second one is still to be accepted.
+#[test]
+fn a_store_that_fails_ends_the_run(rt: HostRuntime) -> Result<(), Fail> {
+    let listener = listening(&rt)?;
+    let first = sent(&rt, &listener, VOIDS)?;
+    let second = sent(&rt, &listener, "SEE 11\n")?;
+    let result = serve_two(&rt, &listener, rt.alloc(), 25)?;
+    expect_eq(
+        &rt,
+        result,
+        Err(RunFault::Store(StoreFault::Disk)),
+        "served",
+    );
+    let written = io::read_to_string(rt.alloc(), first)?;
+    expect_eq(
+        &rt,
+        written.as_str(),
+        "ERR 40 Disk\nERR 40 Disk\n",
+        "written",
+    );
+    listener.set_nonblocking(true)?;
+    let (next, _) = listener.accept()?;
+    let waiting = io::read_to_string(rt.alloc(), next)?;
+    expect_eq(&rt, waiting.as_str(), "SEE 11\n", "not served");
+    drop(second);
+    Ok(())
+}
+
+// What is left is solved with the cache.
+#[test]
+fn a_connection_uses_the_cache(rt: HostRuntime) -> Result<(), Fail> {
+    let alloc = rt.alloc();
+    let listener = listening(&rt)?;
+    let client = sent(&rt, &listener, solved_board(alloc)?.as_str())?;
+    let mut cache = Cache::new(alloc, 1)?;
+    let Ok(mut store) = open_session(alloc, failing_disk(alloc, u64::MAX)?) else {
+        return Err(Fail::from("a session"));
+    };
+    let result = serve_connections(&rt, &listener, 1, &mut store, &mut cache);
+    expect_eq(&rt, result, Ok(()), "served");
+    let written = io::read_to_string(alloc, client)?;
+    expect_eq(&rt, written.ends_with("OK\nOK 6 0\n"), true, "solved");
+    expect_eq(&rt, cache.tried() > 0, true, "with the cache");
+    Ok(())
+}
+
+/// Serves at a port that is taken.
+fn expect_taken<T: Abort + Files<File = File> + Net<Listener = TcpListener, Stream = TcpStream>>(
+    rt: &T,
+    alloc: Global,
+    disk: &str,
+    port: &str,
+) {
+    let due = (3, "", "cannot read input\n");
+    expect_run(rt, alloc, &["serve", disk, port, "1"], "", due);
+}
+
+#[test]
+fn a_port_that_is_taken_is_named(rt: HostRuntime) -> Result<(), Fail> {
+    let (disk, config) = ("bridge_club_port.disk", "bridge_club_port.txt");
+    expect_formatted(&rt, rt.alloc(), disk, config, MOVEMENT)?;
+    let listener = listening(&rt)?;
+    let port = listener.local_addr()?.port();
+    let port = format!(in rt.alloc(); "{port}")?;
+    expect_taken(&rt, rt.alloc(), disk, port.as_str());
+    fs::remove_file(&rt, disk)?;
+    fs::remove_file(&rt, config)?;
+    Ok(())
+}

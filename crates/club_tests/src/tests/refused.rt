@@ -1,0 +1,209 @@
+//! Disks and configurations that are refused, and streams that fail.
+use super::{
+    Broken, HEADING, MOVEMENT, PEOPLE, expect_eq, expect_formatted, expect_run, write_config,
+};
+use club_commands::{lock, run_words};
+use std::alloc::Global;
+use std::fs;
+use std::fs::File;
+use std::net::{Net, TcpListener, TcpStream};
+use std::process::Abort;
+use std::rt::Files;
+use std::test::Fail;
+
+// The disk is neither made nor touched where the configuration is refused.
+#[test]
+fn a_bad_configuration_leaves_the_disk(rt: HostRuntime) -> Result<(), Fail> {
+    let (disk, config) = ("bridge_club_bad.disk", "bridge_club_bad.txt");
+    let words = ["format", disk, config];
+    let words = words.as_slice();
+    expect_run(&rt, rt.alloc(), words, "", (3, "", "cannot read input\n"));
+    for (movement, line) in [
+        ("MITCHELL 1\n", "config line 6: Range\n"),
+        ("MITCHELL two\n", "config line 6: Form\n"),
+        ("MITCHELL 2\nDIRECTOR 11\n", "config line 8: Form\n"),
+        (
+            "MITCHELL 2\nDIRECTOR 11\nPAIR 1 Ann 11 Bob 12\n",
+            "config line 8: KeyTwice\n",
+        ),
+        (
+            "MOVEMENT 2 1 1 4 2\nROW 1 1 1 3 1\nROW 1 1 2 4 1\n",
+            "config line 8: MissingRow\n",
+        ),
+    ] {
+        write_config(&rt, rt.alloc(), config, movement)?;
+        expect_run(&rt, rt.alloc(), words, "", (3, "", line));
+        expect_eq(&rt, fs::exists(&rt, disk)?, false, movement);
+    }
+    fs::write(&rt, config, b"")?;
+    expect_run(&rt, rt.alloc(), words, "", (3, "", "config line 1: Form\n"));
+    fs::write(&rt, disk, b"kept")?;
+    let text = format!(in rt.alloc(); "{HEADING}{MOVEMENT}{PEOPLE}PAIR 5 Ida 51 Jan 52\n")?;
+    fs::write(&rt, config, text)?;
+    expect_run(
+        &rt,
+        rt.alloc(),
+        words,
+        "",
+        (3, "", "config line 14: Form\n"),
+    );
+    // Past the bytes that are read a configuration stands, which is not looked for.
+    let mut long = vec![in rt.alloc(); b'A'; 16_385]?;
+    for part in [HEADING, MOVEMENT, PEOPLE] {
+        long.extend_from_slice(part.as_bytes())?;
+    }
+    fs::write(&rt, config, long)?;
+    expect_run(
+        &rt,
+        rt.alloc(),
+        words,
+        "",
+        (3, "", "config line 0: TooLong\n"),
+    );
+    expect_eq(
+        &rt,
+        fs::read(&rt, disk)?.as_slice(),
+        b"kept".as_slice(),
+        "a disk that was there",
+    );
+    fs::remove_file(&rt, config)?;
+    fs::remove_file(&rt, disk)?;
+    Ok(())
+}
+
+/// Runs each of the commands over this disk, and expects the status and the line.
+fn expect_refused<T: Abort + Files<File = File> + Net<Listener = TcpListener, Stream = TcpStream>>(
+    rt: &T,
+    alloc: Global,
+    disk: &str,
+    status: u8,
+    line: &str,
+) {
+    for command in ["rank", "pbn", "script"] {
+        expect_run(rt, alloc, &[command, disk], "SYNC\n", (status, "", line));
+    }
+    let words = ["serve", disk, "4000", "1"];
+    expect_run(rt, alloc, &words, "SYNC\n", (status, "", line));
+}
+
+#[test]
+fn a_disk_without_a_session_is_refused(rt: HostRuntime) -> Result<(), Fail> {
+    let (disk, config) = ("bridge_club_none.disk", "bridge_club_none.txt");
+    expect_refused(&rt, rt.alloc(), disk, 3, "disk fault\n");
+    fs::write(&rt, disk, vec![in rt.alloc(); 0u8; 1_048_575]?)?;
+    expect_refused(&rt, rt.alloc(), disk, 4, "disk too small\n");
+    fs::write(&rt, disk, vec![in rt.alloc(); b'A'; 1_048_576]?)?;
+    expect_refused(&rt, rt.alloc(), disk, 4, "not formatted\n");
+    let others = fs::read(&rt, disk)?.iter().any(|byte| *byte != b'A');
+    expect_eq(&rt, others, false, "a file that is no disk");
+
+    expect_formatted(&rt, rt.alloc(), disk, config, MOVEMENT)?;
+    let mut bytes = fs::read(&rt, disk)?;
+    // Part 3 of the session, in sector 4.
+    for byte in bytes.iter_mut().skip(4 * 512).take(512) {
+        *byte = 0;
+    }
+    fs::write(&rt, disk, bytes.as_slice())?;
+    expect_refused(&rt, rt.alloc(), disk, 4, "damaged sector 4\n");
+    // The epoch of the header, in sector 0.
+    for byte in bytes.iter_mut().skip(4).take(8) {
+        *byte = 0xff;
+    }
+    fs::write(&rt, disk, bytes.as_slice())?;
+    expect_refused(&rt, rt.alloc(), disk, 3, "epochs spent\n");
+    let missing = "missing_folder/bridge_club.disk";
+    expect_run(
+        &rt,
+        rt.alloc(),
+        &["format", missing, config],
+        "",
+        (3, "", "disk fault\n"),
+    );
+    fs::remove_file(&rt, config)?;
+    fs::remove_file(&rt, disk)?;
+    Ok(())
+}
+
+// While one run has a disk, each command over it is refused and leaves it as it is.
+#[test]
+fn a_locked_disk_is_left(rt: HostRuntime) -> Result<(), Fail> {
+    let (disk, config) = ("bridge_club_locked.disk", "bridge_club_locked.txt");
+    let alloc = rt.alloc();
+    expect_formatted(&rt, alloc, disk, config, MOVEMENT)?;
+    let bytes = fs::read(&rt, disk)?;
+    {
+        let Ok(_held) = lock(&rt, disk) else {
+            return Err(Fail::from("a lock"));
+        };
+        expect_refused(&rt, alloc, disk, 3, "disk fault\n");
+        let words = ["format", disk, config];
+        expect_run(&rt, alloc, &words, "", (3, "", "disk fault\n"));
+    }
+    let same = fs::read(&rt, disk)?.as_slice() == bytes.as_slice();
+    expect_eq(&rt, same, true, "the disk");
+    expect_run(&rt, alloc, &["pbn", disk], "", (0, "% PBN 2.1\n", ""));
+    fs::remove_file(&rt, disk)?;
+    fs::remove_file(&rt, config)?;
+    Ok(())
+}
+
+// The record of a confirmed action, in sector 1024, whose payload begins with a byte that no action has; and a disk of a
+// session that is made anew.
+#[test]
+fn a_damaged_record_is_named(rt: HostRuntime) -> Result<(), Fail> {
+    let (disk, config) = ("bridge_club_record.disk", "bridge_club_record.txt");
+    let alloc = rt.alloc();
+    expect_formatted(&rt, alloc, disk, config, MOVEMENT)?;
+    let due = (0, "OK\n", "");
+    expect_run(&rt, alloc, &["script", disk], "VOID 100 1 1 1\n", due);
+    let mut bytes = fs::read(&rt, disk)?;
+    for byte in bytes.iter_mut().skip(1024 * 512 + 18).take(1) {
+        *byte = 0xff;
+    }
+    fs::write(&rt, disk, bytes)?;
+    expect_refused(&rt, alloc, disk, 4, "damaged sector 1024\n");
+    expect_formatted(&rt, alloc, disk, config, MOVEMENT)?;
+    let due = (0, "ERR 8 NotDealt\n", "");
+    expect_run(&rt, alloc, &["script", disk], "SEE 11\n", due);
+    fs::remove_file(&rt, disk)?;
+    fs::remove_file(&rt, config)?;
+    Ok(())
+}
+
+#[test]
+fn streams_that_fail_are_named(rt: HostRuntime) -> Result<(), Fail> {
+    let (disk, config) = ("bridge_club_output.disk", "bridge_club_output.txt");
+    write_config(&rt, rt.alloc(), config, MOVEMENT)?;
+    let rows: [&[&str]; 5] = [
+        &["auction", "1"],
+        &["format", disk, config],
+        &["rank", disk],
+        &["pbn", disk],
+        &["script", disk],
+    ];
+    for words in rows {
+        let mut input: &[u8] = b"1C\n";
+        let mut errors = Vec::new(rt.alloc());
+        let status = run_words(&rt, rt.alloc(), words, &mut input, &mut Broken, &mut errors);
+        expect_eq(&rt, status, 3, words);
+        expect_eq(
+            &rt,
+            errors.as_slice(),
+            b"cannot write output\n".as_slice(),
+            words,
+        );
+    }
+    let rows: [&[&str]; 2] = [&["auction", "1"], &["script", disk]];
+    for words in rows {
+        let mut input = Broken;
+        let mut output = Vec::new(rt.alloc());
+        let mut errors = Vec::new(rt.alloc());
+        let status = run_words(&rt, rt.alloc(), words, &mut input, &mut output, &mut errors);
+        expect_eq(&rt, status, 3, words);
+        let line = b"cannot read input\n".as_slice();
+        expect_eq(&rt, errors.as_slice(), line, words);
+    }
+    fs::remove_file(&rt, config)?;
+    fs::remove_file(&rt, disk)?;
+    Ok(())
+}

@@ -1,0 +1,132 @@
+-- The command line, in the words of clap.
+use Rattle.std.specs.Prelude.{◌≡◌, ◌≢◌, ℕ, List, [], Option, None, Some, Ok, pos, true, codes}
+use Rattle.std.specs.Str.Parse.{ParsesUnsigned}
+use Rattle.std.specs.declared.num.ParseIntError.{ParseIntError}
+use Rattle.clap.specs.Words.{App, Row, Rule, Text, new_app, new_rule, with_rule, with_subcommand, subcommand_of, one_of, first_of, fault_of}
+use Rattle.clap.specs.declared.builder.value_parser.ValueParser.TheVariants as parser
+use Rattle.command_line.specs.declared.command.Command.{Command}
+use Rattle.command_line.specs.declared.command.Command.TheVariants.{Auction, Format, Script, Serve, Rank, Pbn}
+use Rattle.command_line.specs.declared.command.WordsFault.{WordsFault}
+use Rattle.command_line.specs.declared.command.WordsFault.TheVariants.{Usage, Memory}
+
+-- the argument BOARD, which is required: a number from 1 to 36
+abbrev pub board_rule : Rule
+board_rule = record (new_rule (codes "BOARD")) { required = true; parser = Some (parser.Signed (pos 1) (pos 36)) }
+
+-- the command `auction BOARD`
+abbrev pub auction_app : App
+auction_app = with_rule (new_app (codes "auction")) board_rule
+
+-- the argument DISK, which is required
+abbrev pub disk_rule : Rule
+disk_rule = record (new_rule (codes "DISK")) { required = true }
+
+-- the argument CONFIG, which is required
+abbrev pub config_rule : Rule
+config_rule = record (new_rule (codes "CONFIG")) { required = true }
+
+-- the command `format DISK CONFIG`
+abbrev pub format_app : App
+format_app = with_rule (with_rule (new_app (codes "format")) disk_rule) config_rule
+
+-- a command with the argument DISK alone
+abbrev pub disk_app : Text → App
+disk_app name = with_rule (new_app name) disk_rule
+
+-- the command `script DISK`
+abbrev pub script_app : App
+script_app = disk_app (codes "script")
+
+-- the argument PORT, which is required: a number from 1 to 65535
+abbrev pub port_rule : Rule
+port_rule = record (new_rule (codes "PORT")) { required = true; parser = Some (parser.Signed (pos 1) (pos 65535)) }
+
+-- the argument COUNT, which is required: a number from 1 to 1000
+abbrev pub count_rule : Rule
+count_rule = record (new_rule (codes "COUNT")) { required = true; parser = Some (parser.Signed (pos 1) (pos 1000)) }
+
+-- the command `serve DISK PORT COUNT`
+abbrev pub serve_app : App
+serve_app = with_rule (with_rule (disk_app (codes "serve")) port_rule) count_rule
+
+-- the command `rank DISK`
+abbrev pub rank_app : App
+rank_app = disk_app (codes "rank")
+
+-- the command `pbn DISK`
+abbrev pub pbn_app : App
+pbn_app = disk_app (codes "pbn")
+
+-- the program's name alone
+abbrev pub named_app : App
+named_app = new_app (codes "bridge_club")
+
+-- its words come without its own name, and one of its commands is among them
+abbrev pub bare_app : App
+bare_app = record named_app { top = record named_app.top { no_binary_name = true; subcommand_required = true } }
+
+-- the program with its commands, one after another
+abbrev pub app_with_auction : App
+app_with_auction = with_subcommand bare_app auction_app.top
+
+abbrev pub app_with_format : App
+app_with_format = with_subcommand app_with_auction format_app.top
+
+abbrev pub app_with_script : App
+app_with_script = with_subcommand app_with_format script_app.top
+
+abbrev pub app_with_serve : App
+app_with_serve = with_subcommand app_with_script serve_app.top
+
+abbrev pub app_with_rank : App
+app_with_rank = with_subcommand app_with_serve rank_app.top
+
+-- the program: words without its own name, and one of its commands
+abbrev pub club_app : App
+club_app = with_subcommand app_with_rank pbn_app.top
+
+-- the argument of that name is this number of so many bits, in decimal digits
+abbrev pub HasNumber : ℕ → List Row → Text → ℕ → Type 0
+HasNumber bits rows id number =
+    (text : Text) × (one_of id rows ≡ Some text) × ParsesUnsigned {E = ParseIntError} bits 10 text (Ok number)
+
+-- the argument of that name is this text
+abbrev pub HasText : List Row → Text → Text → Type 0
+HasText rows id text = first_of id rows ≡ Some text
+
+-- the arguments are those of a command
+abbrev pub HasWords : List Row → Command → Type 0
+HasWords rows (Auction board) = HasNumber 8 rows (codes "BOARD") board
+HasWords rows (Format disk config) = HasText rows (codes "DISK") disk.now × HasText rows (codes "CONFIG") config.now
+HasWords rows (Script disk) = HasText rows (codes "DISK") disk.now
+HasWords rows (Serve disk port count) = HasText rows (codes "DISK") disk.now
+    × HasNumber 16 rows (codes "PORT") port × HasNumber 16 rows (codes "COUNT") count
+HasWords rows (Rank disk) = HasText rows (codes "DISK") disk.now
+HasWords rows (Pbn disk) = HasText rows (codes "DISK") disk.now
+
+-- the name of a command
+abbrev pub name_of : Command → Text
+name_of (Auction board) = codes "auction"
+name_of (Format disk config) = codes "format"
+name_of (Script disk) = codes "script"
+name_of (Serve disk port count) = codes "serve"
+name_of (Rank disk) = codes "rank"
+name_of (Pbn disk) = codes "pbn"
+
+-- the command of that name, with these arguments
+abbrev pub IsNamed : Text → List Row → Command → Type 0
+IsNamed name rows command = (name ≡ name_of command) × HasWords rows command
+
+-- a subcommand's name and its arguments are those of a command
+abbrev pub IsCommand : Option (Text × List Row) → Command → Type 0
+IsCommand None command = ⊥
+IsCommand (Some named) command = IsNamed named.0 named.1 command
+
+-- clap finds no fault in the texts, and they are the words of the command
+abbrev pub Asks : List Text → Command → Type 0
+Asks texts words = (fault_of club_app texts ≡ []) × IsCommand (subcommand_of club_app texts) words
+
+-- clap finds a fault in the texts, or memory was refused
+abbrev pub IsRefusedBy : List Text → WordsFault → Type 0
+IsRefusedBy texts (Usage error) = fault_of club_app texts ≢ []
+IsRefusedBy texts Memory = Unit {0}

@@ -1,0 +1,13 @@
+//! The command line of the program `bridge_club`: what the words after its name ask for.
+//!
+//! ```rust
+//! let words = ["serve", "club.disk", "4000", "12"];
+//! let command = read_words(rt.alloc(), words.as_slice());
+//! ```
+#![tactic(auto)]
+
+mod command;
+mod read;
+
+pub use command::{Command, WordsFault};
+pub use read::read_words;
