@@ -1,13 +1,10 @@
-//! The lines of the protocol, and lines that are served over a store. The auction's stream: what is written for what is
-//! read, when it is shown, and streams that fail once.
+//! The forms of a line, endings and their cache, seeds and epochs. When what is written is shown, over a store and for an
+//! auction, and streams, connections and disks that fail. Worked lines with their replies stand in examples/sessions.
 mod commands;
 mod connections;
 mod disk;
-mod evening;
+mod endings;
 mod faults;
-mod hostile;
-mod refusals;
-mod rows;
 mod shares;
 mod shown;
 mod spent;

@@ -1,4 +1,4 @@
-//! Lines and the commands that they state: each form of a line at the ends of its ranges, and lines just beyond.
+//! Lines and the commands that they state: each form of a line at the ends of its ranges.
 use super::expect_eq;
 use arrayvec::ArrayString;
 use bridge_cards::{Deal, Seat, print_deal};
@@ -37,31 +37,6 @@ const GOOD: [&str; 27] = [
     "SOLVE 100 12 11 3 52",
     "PBN 0",
     "PBN 4294967295",
-];
-
-/// Lines of each word, with `/` between two.
-const BAD: [&str; 13] = [
-    "sync/ SYNC/SYNC /SYNC 1/SYNC\r",
-    "SEE/SEE  1/SEE 1 /SEE 1 2/SEE 01/SEE +1/SEE 4294967296/SEE\t1",
-    "PBN/RANK 100/RANK 100 0/RANK 100 3",
-    "CALL 11 1/CALL 11 1 0/CALL 11 1 0 /CALL 11 1 0 PASS /CALL 11 1 1000 PASS/CALL 11 1 0 P/CALL 11 1 0 8C",
-    "CARD 31 1 0 H1/CARD 31 1 0 sa",
-    "CLAIM 11 1 0 14/AGREE 31 1 1000/REFUSE 31 1 1000",
-    "NEXT 100 0/NEXT 100 13",
-    "TRICKS 100 1 1 1 14/TRICKS 100 0 1 1 7/TRICKS 100 1 13 1 7/TRICKS 100 1 1 4 7",
-    "VOID 100 1 1 1 1",
-    "RESTORE 100 1 0 1/RESTORE 100 1 1 0",
-    "SOLVE 100 1 1 1 53",
-    "DEAL 100 1 N:... ... ...",
-    "DEAL 100 37 N:... ... ... .../DEAL 100 1  N:... ... ... ...",
-];
-
-const BAD_SEEDS: [&str; 4] = [
-    // 63 digits, 65, one of them a capital, one of them no digit
-    "SHUFFLE 100 1 000102030405060708090a0b0c0d0e0f101112131415161718191a1b1c1d1e1",
-    "SHUFFLE 100 1 000102030405060708090a0b0c0d0e0f101112131415161718191a1b1c1d1e1f0",
-    "SHUFFLE 100 1 000102030405060708090A0b0c0d0e0f101112131415161718191a1b1c1d1e1f",
-    "SHUFFLE 100 1 000102030405060708090g0b0c0d0e0f101112131415161718191a1b1c1d1e1f",
 ];
 
 /// The line of a command, with hands from North.
@@ -162,16 +137,4 @@ fn each_form_is_its_command(rt: HostRuntime) -> Result<(), Fail> {
         }
     }
     Ok(())
-}
-
-#[test]
-fn other_lines_are_bad(rt: HostRuntime) {
-    for lines in BAD.iter().chain(BAD_SEEDS.iter()) {
-        for line in lines.split('/') {
-            let found = read_line_command(line.as_bytes()).is_ok();
-            expect_eq(&rt, found, false, line);
-        }
-    }
-    let found = read_line_command(b"SEE \xc8").is_ok();
-    expect_eq(&rt, found, false, "byte 200");
 }

@@ -109,19 +109,3 @@ pub fn answers(
     let result = serve_all(store, &mut reader, &mut written);
     (written, result)
 }
-
-/// Fails with the line where its reply is not the one that is due; neither has its line feed.
-pub fn put_each(
-    rt: &impl Abort,
-    alloc: Global,
-    store: &mut ClubStore,
-    rows: &[(&'static str, &'static str)],
-) -> Result<(), Fail> {
-    for (line, due) in rows {
-        let text = format!(in alloc; "{line}\n")?;
-        let reply = format!(in alloc; "{due}\n")?;
-        let (written, _) = answers(alloc, store, text.as_bytes());
-        expect_eq(rt, written.as_slice(), reply.as_bytes(), *line);
-    }
-    Ok(())
-}

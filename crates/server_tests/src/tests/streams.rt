@@ -1,4 +1,4 @@
-//! Streams that fail once and would then go on, and ones that give a byte or take two at a time.
+//! Streams that fail once and would then go on, and one that takes two bytes at a time.
 use std::cell::Cell;
 use std::io::{Error, ErrorKind, Read, Result, Write};
 
@@ -25,32 +25,6 @@ impl Read for Pieces<'_> {
         let (front, _) = piece.as_bytes().split_at(taken);
         buf[..taken].copy_from_slice(front);
         Ok(taken)
-    }
-}
-
-/// Gives a text over and over, a byte at each read, and ends after so many bytes.
-#[derive(Drop)]
-pub struct ByteByByte<'a> {
-    pub text: &'a [u8],
-    pub next: usize,
-    pub left: usize,
-}
-
-impl Read for ByteByByte<'_> {
-    fn read(&mut self, buf: &mut [u8]) -> Result<usize> {
-        if self.left == 0 || buf.is_empty() {
-            return Ok(0);
-        }
-        let Some(byte) = self.text.get(self.next) else {
-            return Ok(0);
-        };
-        buf[0] = *byte;
-        self.left = self.left.saturating_sub(1);
-        self.next = self.next.wrapping_add(1);
-        if self.next == self.text.len() {
-            self.next = 0;
-        }
-        Ok(1)
     }
 }
 

@@ -1,0 +1,102 @@
+//! The worth of endings, asked over a store with a cache and without.
+use super::disk::{CLUB, ClubStore, answers, opened, serve_with, served};
+use super::expect_eq;
+use bridge_endings::Cache;
+use std::alloc::Global;
+use std::test::Fail;
+
+/// A deal of one suit to each hand, seven spades by North, and eight tricks of the highest cards.
+const EIGHT_TRICKS: &str =
+    "DEAL 100 1 N:AKQJT98765432... .AKQJT98765432.. ..AKQJT98765432. ...AKQJT98765432
+CALL 11 1 0 7S
+CALL 31 1 1 PASS
+CALL 12 1 2 PASS
+CALL 32 1 3 PASS
+CARD 31 1 0 HA
+CARD 11 1 1 DA
+CARD 32 1 2 CA
+CARD 11 1 3 SA
+CARD 11 1 4 SK
+CARD 31 1 5 HK
+CARD 11 1 6 DK
+CARD 32 1 7 CK
+CARD 11 1 8 SQ
+CARD 31 1 9 HQ
+CARD 11 1 10 DQ
+CARD 32 1 11 CQ
+CARD 11 1 12 SJ
+CARD 31 1 13 HJ
+CARD 11 1 14 DJ
+CARD 32 1 15 CJ
+CARD 11 1 16 ST
+CARD 31 1 17 HT
+CARD 11 1 18 DT
+CARD 32 1 19 CT
+CARD 11 1 20 S9
+CARD 31 1 21 H9
+CARD 11 1 22 D9
+CARD 32 1 23 C9
+CARD 11 1 24 S8
+CARD 31 1 25 H8
+CARD 11 1 26 D8
+CARD 32 1 27 C8
+CARD 11 1 28 S7
+CARD 31 1 29 H7
+CARD 11 1 30 D7
+CARD 32 1 31 C7
+";
+
+/// A store in which eight tricks were played.
+fn played(alloc: Global) -> Result<ClubStore, Fail> {
+    let mut store = opened(alloc, CLUB, u64::MAX)?;
+    let (_, result) = answers(alloc, &mut store, EIGHT_TRICKS.as_bytes());
+    if result != Ok(served(37, 37)) {
+        return Err(Fail::from("eight tricks"));
+    }
+    Ok(store)
+}
+
+// `rt try --test --fail-alloc N` refuses the Nth allocation: where the cache asks for it, the same is written. Every other
+// run refuses none.
+#[test]
+fn an_endings_worth(rt: HostRuntime) -> Result<(), Fail> {
+    let mut store = played(rt.alloc())?;
+    for capacity in [0, 1, 4096] {
+        let mut kept = Cache::new(rt.alloc(), capacity.max(1))?;
+        let cache = if capacity == 0 { None } else { Some(&mut kept) };
+        let mut reader: &[u8] = b"SOLVE 100 1 1 1 28\n";
+        let mut written = Vec::with_capacity(rt.alloc(), 256)?;
+        let _ = serve_with(&mut store, cache, &mut reader, &mut written);
+        expect_eq(&rt, written.as_slice(), b"OK 6 0\n".as_slice(), capacity);
+        let is_used = kept.tried() > 0;
+        expect_eq(&rt, is_used, capacity > 0, "the cache is used");
+    }
+    Ok(())
+}
+
+// Of two endings of one run each is kept: asked again, in the other order, none is searched.
+#[test]
+fn each_ending_is_kept(rt: HostRuntime) -> Result<(), Fail> {
+    let mut store = played(rt.alloc())?;
+    let mut kept = Cache::new(rt.alloc(), 2)?;
+    let mut tried = 0;
+    for (text, due) in [
+        (
+            "SOLVE 100 1 1 1 28\nSOLVE 100 1 1 1 32\n",
+            "OK 6 0\nOK 5 0\n",
+        ),
+        (
+            "SOLVE 100 1 1 1 32\nSOLVE 100 1 1 1 28\n",
+            "OK 5 0\nOK 6 0\n",
+        ),
+    ] {
+        let before = tried;
+        let mut reader = text.as_bytes();
+        let mut written = Vec::new(rt.alloc());
+        let _ = serve_with(&mut store, Some(&mut kept), &mut reader, &mut written);
+        expect_eq(&rt, written.as_slice(), due.as_bytes(), text);
+        tried = kept.tried();
+        expect_eq(&rt, tried > before, before == 0, "searched once alone");
+    }
+    Ok(())
+}
