@@ -44,7 +44,7 @@ impl<D: SectorDisk + Drop, K: Kept> Store<D, K> {
 
     /// Writes the state as a snapshot of the next epoch, after which nothing is pending. `Failed` where a call of the
     /// disk had failed before, `EpochsSpent` where the epoch is 2^64 - 1, and then nothing changes; `Disk` where a
-    /// call of the disk failed, after which every call answers `Failed`.
+    /// call of the disk failed, after which `submit`, `confirm` and `checkpoint` answer `Failed`.
     pub fn checkpoint(&mut self) -> Result<(), CheckpointFault>
         ensures answer { Checkpoints K.kept D.disk self.old self.new result }
         ensures continues { Continues K.kept D.disk self.old [] self.new }

@@ -22,7 +22,7 @@ pub(crate) fn catch_up<K: Kept>(base: &mut K, actions: &[K::Action])
 impl<D: SectorDisk + Drop, K: Kept> Store<D, K> {
     /// Confirms all pending actions by one sync: from then on no power cut loses them. With none pending no call of
     /// the disk is made. `Failed` where a call of the disk had failed before, and then nothing changes; `Disk` where
-    /// the sync failed, after which every call answers `Failed`.
+    /// the sync failed, after which `submit`, `confirm` and `checkpoint` answer `Failed`.
     pub fn confirm(&mut self) -> Result<(), ConfirmFault>
         ensures answer { Confirms K.kept D.disk self.old self.new result }
         ensures continues { Continues K.kept D.disk self.old [] self.new }

@@ -94,7 +94,7 @@ impl<D: SectorDisk + Drop, K: Kept> Store<D, K> {
     /// checkpoint is made that holds it. `Failed` where a call of the disk had failed before, `Batch` where 64 actions
     /// are pending, `EpochsSpent` where the journal is full and the epoch is 2^64 - 1, `Refused` where the state
     /// refuses the action, and then nothing changes; `Disk` where a call of the disk failed: the action is in the
-    /// state, a power cut may keep or lose it, and every later call answers `Failed`.
+    /// state, a power cut may keep or lose it, and from then on `submit`, `confirm` and `checkpoint` answer `Failed`.
     pub fn submit(&mut self, action: &K::Action) -> Result<(), SubmitFault<K::Refusal>>
         ensures answer { Submits K.kept D.disk self.old action.now self.new result }
         ensures continues { Continues K.kept D.disk self.old (accepted_by action.now result) self.new }
