@@ -1,8 +1,9 @@
-use Rattle.std.proofs.Common.{subst}
+use Rattle.std.proofs.Common.{subst, sym, ap, ◌∙◌}
 use Rattle.sector_disk.proofs.CallLaws.{sync_reads}
 use Rattle.sector_disk.proofs.ImageLaws.{image_is}
 use Rattle.sector_disk.proofs.RunLaws.{quiet, quiet_sync, quiet_joins, only_read_leaves}
-use Rattle.session_store.specs.Opening.{HasNext}
+use Rattle.session_store.specs.Opening.{HasNext, reading}
+use Rattle.session_store.proofs.OpeningLemmas.{cause-from}
 use Rattle.session_store.proofs.opening.recover_behind_barrier.Goals as goal
 
 pub returns-in-Err-clause-quiet : goal.returns-in-Err-clause-quiet
@@ -36,3 +37,10 @@ returns-in-Err-recover-clause-at_rest g c = λ honest other image left.
     let disk = g.D.SectorDisk.disk in
     let read = c.recover.ensures.quiet.only_read (c.sync.ensures.called.stays_honest honest) in
     image_is image _ ((c.in-Ok.ensures.syncs honest).ok.images image (only_read_leaves disk _ _ read image left))
+
+pub returns-in-Err-recover-clause-fault : goal.returns-in-Err-recover-clause-fault
+returns-in-Err-recover-clause-fault g c =
+    let disk = g.D.SectorDisk.disk in
+    cause-from _ _ _ _ _ _ _ _ c.sync.ensures.called.stays_honest c.in-Ok.ensures.called.faults_ok
+    (λ honest is. ap (reading g.K.Kept.kept) (sym (image_is _ _ (sync_reads disk _ _ _ (c.sync.ensures.syncs honest)))) ∙ is)
+    c.in-Err-recover.ensures.fault

@@ -38,3 +38,6 @@ returns-clause-found g c = λ honest.
     after_parts-ok kept _ c.args.header _ _ _ payloads c.in-Ok-make_states.ensures.state
     ∙ ap (λ image. replay kept 1024 image c.args.header.epoch 0 c.in-Ok-make_states.state) (sym reads)
     ∙ c.in-Ok-replay_records.ensures.replayed (c.in-Ok.ensures.quiet.remains.stays_honest honest)
+
+pub returns-clause-epoch : goal.returns-clause-epoch
+returns-clause-epoch g c = refl

@@ -1,5 +1,5 @@
-use Rattle.std.proofs.Common.{◌∙◌, arith}
-use Rattle.sector_disk.proofs.RunLaws.{remains_on}
+use Rattle.std.proofs.Common.{◌∙◌, refl, arith}
+use Rattle.sector_disk.proofs.RunLaws.{begins, remains, remains_on}
 use Rattle.session_store.proofs.RunLemmas.{part_on, part_there}
 use Rattle.session_store.proofs.snapshot.write_parts.Goals as goal
 
@@ -22,4 +22,13 @@ loop-i-preserved g c =
       written = λ honest.
           part_there disk (disk.may_leave c.args.disk.now) c.args.epoch _ _ c.loop-i.i (g.K.Kept.kept.parts c.args.state.now) _
           (c.loop-i.invariant.moments honest).honest c.in_ok-write_part.ensures (c.loop-i.invariant.written honest);
+    }
+
+pub loop-i-init : goal.loop-i-init
+loop-i-init g c =
+    let disk = g.D.SectorDisk.disk in record {
+      remains = remains disk c.args.disk.now;
+      no_fault = refl;
+      moments = λ honest. begins disk c.args.disk.now _ honest (λ image left. (image, left, λ k other. refl));
+      written = λ honest k below. absurd (omega (arith, below));
     }
