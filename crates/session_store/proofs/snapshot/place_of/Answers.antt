@@ -1,4 +1,4 @@
-use Rattle.std.proofs.Common.{◌≡◌, ◌+◌, ◌%◌, ℕ, arith}
+use Rattle.std.proofs.Common.{◌≡◌, ◌%◌, ℕ, arith}
 use Rattle.session_store.specs.Form.{place}
 use Rattle.session_store.proofs.snapshot.place_of.Goals as goal
 
