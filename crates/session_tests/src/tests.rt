@@ -1,20 +1,17 @@
-//! Worked sessions, each action with its answer; their results; the disks that hold them.
+//! A plain twin beside random sessions, the bytes of parts and actions, and the disks that hold sessions. Worked sessions,
+//! with the answer to each action, their rankings and their results, stand in examples/sessions.
 mod action_bytes;
 mod disk;
-mod endings;
 mod faults;
 mod largest;
 mod parts;
 mod random_actions;
 mod random_sessions;
-mod rankings;
 mod restored;
 mod results;
-mod rows;
 mod script;
 mod story;
 mod twin;
-mod views;
 
 use std::fmt::Debug;
 use std::process::Abort;

@@ -8,7 +8,7 @@ use std::test::Fail;
 /// The action of a line, its bytes.
 const ROWS: [(&str, &[u8]); 11] = [
     (
-        "DEAL 100 1 SUITS",
+        "DEAL 100 1 N:AKQJT98765432... .AKQJT98765432.. ..AKQJT98765432. ...AKQJT98765432",
         b"\x01\0\0\0\x64\x01\0\x0f\xff\x80\0\0\0\0\0\0\0\x7f\xfc\0\0\0\0\0\0\0\x03\xff\xe0\0\0\0\0\0\0\0\x1f\xff",
     ),
     ("CALL 11 1 0 7S", b"\x02\0\0\0\x0b\x01\0\0\x24"),

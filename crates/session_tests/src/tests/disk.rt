@@ -12,7 +12,8 @@ use std::test::Fail;
 /// A store over a disk whose calls may fail from one on.
 type ClubStore = Store<Fuse<MemoryDisk>, Session>;
 
-const DEAL: &str = "DEAL 100 1 SUITS";
+const DEAL: &str =
+    "DEAL 100 1 N:AKQJT98765432... .AKQJT98765432.. ..AKQJT98765432. ...AKQJT98765432";
 
 /// The calls of the disk in which a store without records is opened.
 const OPENING_CALLS: u64 = 25;

@@ -11,7 +11,8 @@ use std::process::Abort;
 use std::test::Fail;
 
 /// What stands on the disk from an epoch before.
-const FIRST: &str = "DEAL 100 1 SUITS/CALL 11 1 0 7S/CONFIRM/CALL 31 1 1 PASS";
+const FIRST: &str =
+    "DEAL 100 1 N:AKQJT98765432... .AKQJT98765432.. ..AKQJT98765432. ...AKQJT98765432/CALL 11 1 0 7S/CONFIRM/CALL 31 1 1 PASS";
 
 /// What follows.
 const THEN: &str =

@@ -40,7 +40,9 @@ fn configuration(alloc: Global) -> Result<String, Fail> {
 fn pass_out(rt: &impl Abort, alloc: Global, session: &mut Session) -> Result<(), Fail> {
     for table in 1..13usize {
         let board = 3 * table - 2;
-        let deal = format!(in alloc; "DEAL 100 {board} SUITS")?;
+        let deal = format!(in alloc;
+            "DEAL 100 {board} N:AKQJT98765432... .AKQJT98765432.. ..AKQJT98765432. ...AKQJT98765432"
+        )?;
         expect_eq(rt, session.step(&action(deal.as_str())?), Ok(()), table);
         let players = [100 + table, 112 + table, 200 + table, 212 + table];
         for at in 0..4 {
