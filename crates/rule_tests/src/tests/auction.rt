@@ -1,3 +1,2 @@
-//! The auction against worked auctions, and against a plain twin on every short list of calls.
-mod rows;
+//! The auction against a plain twin on every short list of calls. Worked auctions stand in examples/auctions.
 mod twin;

@@ -1,4 +1,3 @@
-//! The play on worked boards, and over whole random plays.
+//! The play over whole random plays. Worked plays stand in examples/sessions.
 mod deals;
 mod random_plays;
-mod rows;

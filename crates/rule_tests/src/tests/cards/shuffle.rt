@@ -1,5 +1,6 @@
 use crate::tests::expect_eq;
 use bridge_cards::{BoardNumber, Seat, deal_board};
+use std::process::Abort;
 use std::test::Fail;
 
 /// The words of ChaCha20 in turn, with the seed as the key, on the stream of that number.
@@ -202,27 +203,31 @@ fn the_block_is_that_of_the_rfc(rt: HostRuntime) {
     );
 }
 
+/// Deals a board from a seed: as the shuffle does, and as no board was dealt before.
+fn deal_anew(
+    rt: &impl Abort,
+    seen: &mut Vec<[u64; 4]>,
+    seed: &[u8; 32],
+    board: u8,
+) -> Result<(), Fail> {
+    let hands = hands_dealt(seed, board).ok_or("a board from 1 to 36")?;
+    let is_due = expected_hands(seed, board) == Some(hands);
+    expect_eq(rt, is_due, true, (*seed, board));
+    expect_eq(rt, seen.contains(&hands), false, (*seed, board));
+    seen.push(hands)?;
+    Ok(())
+}
+
 #[test]
 fn deals_are_those_of_the_shuffle_and_differ(rt: HostRuntime) -> Result<(), Fail> {
-    let mut seen: Vec<[u64; 4]> = Vec::new(rt.alloc());
+    let mut seen = Vec::new(rt.alloc());
     for board in 1..=BoardNumber::MAX {
-        let seed = seed_of(None);
-        let hands = hands_dealt(&seed, board).ok_or("a board from 1 to 36")?;
-        expect_eq(&rt, Some(hands), expected_hands(&seed, board), board);
-        assert!(rt; !seen.contains(&hands), "board {board} is dealt as another");
-        seen.push(hands)?;
+        deal_anew(&rt, &mut seen, &seed_of(None), board)?;
     }
     for bit in 0..=255 {
         let seed = seed_of(Some(bit));
-        for board in [1, BoardNumber::MAX] {
-            let hands = hands_dealt(&seed, board).ok_or("a board from 1 to 36")?;
-            expect_eq(&rt, Some(hands), expected_hands(&seed, board), (bit, board));
-            assert!(rt;
-                !seen.contains(&hands),
-                "bit {bit}, board {board} is dealt as another"
-            );
-            seen.push(hands)?;
-        }
+        deal_anew(&rt, &mut seen, &seed, 1)?;
+        deal_anew(&rt, &mut seen, &seed, BoardNumber::MAX)?;
     }
     Ok(())
 }

@@ -2,6 +2,7 @@ use super::ending_of;
 use crate::tests::expect_eq;
 use bridge_cards::{Seat, Suit};
 use bridge_endings::{Cache, Ending, solve};
+use std::process::Abort;
 use std::test::Fail;
 
 const FINESSE_LOSES: &[u8] = b"N:AQ... KJ... 54... 32...";
@@ -23,16 +24,36 @@ fn turns() -> Result<[(Ending, u8); 6], Fail> {
     ])
 }
 
+/// Fails where an ending of the rows has another worth, with this cache or without.
+fn expect_worths(rt: &impl Abort, cache: &mut Option<Cache>) -> Result<(), Fail> {
+    for (ending, worth) in turns()?.as_slice() {
+        expect_eq(rt, solve(ending, cache.as_mut()), *worth, "the cache");
+        expect_eq(rt, solve(ending, None), *worth, "no cache");
+    }
+    Ok(())
+}
+
 #[test]
 fn one_cache_serves_any_endings(rt: HostRuntime) -> Result<(), Fail> {
     for capacity in [1, 2, 16] {
-        let mut cache = Cache::new(rt.alloc(), capacity)?;
-        for (ending, worth) in turns()?.iter() {
-            expect_eq(&rt, solve(ending, Some(&mut cache)), *worth, capacity);
-            expect_eq(&rt, solve(ending, None), *worth, "no cache");
-        }
+        expect_worths(&rt, &mut Some(Cache::new(rt.alloc(), capacity)?))?;
     }
     Ok(())
+}
+
+/// Solves an ending with the cache, and fails where its worth is another, or cards are tried where it is kept, or none where
+/// it is not.
+fn expect_kept(
+    rt: &impl Abort,
+    cache: &mut Cache,
+    ending: &Ending,
+    worth: u8,
+    is_kept: bool,
+    row: &str,
+) {
+    let before = cache.tried();
+    expect_eq(rt, solve(ending, Some(cache)), worth, row);
+    expect_eq(rt, cache.tried() == before, is_kept, row);
 }
 
 #[test]
@@ -40,34 +61,27 @@ fn a_kept_ending_is_answered_without_a_card(rt: HostRuntime) -> Result<(), Fail>
     let mut cache = Cache::new(rt.alloc(), 16)?;
     expect_eq(&rt, cache.tried(), 0, "a new cache");
     let ending = ending_of(FINESSE_LOSES, None, Seat::South)?;
-    expect_eq(&rt, solve(&ending, Some(&mut cache)), 1, "searched");
-    let tried = cache.tried();
-    assert_ne!(rt; tried, 0, "cards were tried");
-    expect_eq(&rt, solve(&ending, Some(&mut cache)), 1, "kept");
-    expect_eq(&rt, cache.tried(), tried, "no card more");
+    expect_kept(&rt, &mut cache, &ending, 1, false, "searched");
+    expect_kept(&rt, &mut cache, &ending, 1, true, "kept");
     let other = ending_of(FINESSE_LOSES, None, Seat::North)?;
-    expect_eq(
-        &rt,
-        solve(&other, Some(&mut cache)),
-        solve(&other, None),
-        "another leader",
-    );
-    assert!(rt; cache.tried() > tried, "another ending is searched");
+    let worth = solve(&other, None);
+    expect_kept(&rt, &mut cache, &other, worth, false, "another leader");
     Ok(())
 }
 
 #[test]
 fn the_least_recently_used_ending_gives_way(rt: HostRuntime) -> Result<(), Fail> {
-    let [(first, one), (second, two), _, (third, none), _, _] = turns()?;
+    let south = Seat::South;
+    let first = ending_of(FINESSE_LOSES, None, south)?;
+    let second = ending_of(FINESSE_WINS, None, south)?;
+    let third = ending_of(ONE_CARD, None, south)?;
     let mut cache = Cache::new(rt.alloc(), 2)?;
-    for (ending, worth) in [(first, one), (second, two), (first, one), (third, none)] {
-        expect_eq(&rt, solve(&ending, Some(&mut cache)), worth, ending);
-    }
-    let tried = cache.tried();
-    expect_eq(&rt, solve(&first, Some(&mut cache)), one, "used again");
-    expect_eq(&rt, cache.tried(), tried, "the first is kept");
-    expect_eq(&rt, solve(&second, Some(&mut cache)), two, "gone");
-    assert!(rt; cache.tried() > tried, "the second is searched anew");
+    expect_kept(&rt, &mut cache, &first, 1, false, "the first");
+    expect_kept(&rt, &mut cache, &second, 2, false, "the second");
+    expect_kept(&rt, &mut cache, &first, 1, true, "the first again");
+    expect_kept(&rt, &mut cache, &third, 0, false, "the third");
+    expect_kept(&rt, &mut cache, &first, 1, true, "the first is kept");
+    expect_kept(&rt, &mut cache, &second, 2, false, "the second is gone");
     Ok(())
 }
 
@@ -76,10 +90,7 @@ fn the_least_recently_used_ending_gives_way(rt: HostRuntime) -> Result<(), Fail>
 #[test]
 fn answers_are_the_same_where_memory_is_refused(rt: HostRuntime) -> Result<(), Fail> {
     for capacity in [1, 16] {
-        let mut cache = Cache::new(rt.alloc(), capacity).ok();
-        for (ending, worth) in turns()?.iter() {
-            expect_eq(&rt, solve(ending, cache.as_mut()), *worth, capacity);
-        }
+        expect_worths(&rt, &mut Cache::new(rt.alloc(), capacity).ok())?;
     }
     Ok(())
 }

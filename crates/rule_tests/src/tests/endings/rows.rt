@@ -23,15 +23,10 @@ const WORTHS: [(&[u8], Option<Suit>, Seat, u8); 7] = [
 #[test]
 fn worths_are_those_of_the_rows(rt: HostRuntime) -> Result<(), Fail> {
     let mut cache = Cache::new(rt.alloc(), 1)?;
-    for (text, trump, leader, worth) in WORTHS {
-        let ending = ending_of(text, trump, leader)?;
-        expect_eq(&rt, solve(&ending, None), worth, (text, trump));
-        expect_eq(
-            &rt,
-            solve(&ending, Some(&mut cache)),
-            worth,
-            (text, trump, "a cache of one"),
-        );
+    for (text, trump, leader, worth) in WORTHS.as_slice() {
+        let ending = ending_of(text, *trump, *leader)?;
+        expect_eq(&rt, solve(&ending, None), *worth, *text);
+        expect_eq(&rt, solve(&ending, Some(&mut cache)), *worth, *text);
     }
     Ok(())
 }

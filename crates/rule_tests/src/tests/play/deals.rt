@@ -2,10 +2,6 @@ use bridge_auction::{Bid, Contract, Denomination, Doubling, Level};
 use bridge_cards::{Deal, Seat, read_deal};
 use std::test::Fail;
 
-/// Each hand has one suit: North spades, East hearts, South diamonds and West clubs.
-pub const ONE_SUIT_EACH: &[u8] =
-    b"N:AKQJT98765432... .AKQJT98765432.. ..AKQJT98765432. ...AKQJT98765432";
-
 /// Each hand has four cards in a row of one suit, and three of each other.
 pub const CARDS_IN_A_ROW: &[u8] =
     b"N:AKQJ.T98.765.432 T98.765.432.AKQJ 765.432.AKQJ.T98 432.AKQJ.T98.765";
