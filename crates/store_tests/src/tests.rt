@@ -105,6 +105,11 @@ pub fn formatted(rt: &impl Abort, alloc: Global) -> Result<MemoryDisk, AllocErro
     Ok(format(disk, &Counter::new(9)).ok().expect(rt, "formatted"))
 }
 
+/// The store on this disk.
+pub fn open<D: SectorDisk + Drop>(rt: &impl Abort, alloc: Global, disk: D) -> Store<D, Counter> {
+    Store::open(alloc, disk).ok().expect(rt, "opened")
+}
+
 /// The total and the epoch of the store that is opened behind this fuse, and the disk.
 pub fn opened_behind(
     alloc: Global,

@@ -2,6 +2,8 @@
 use super::{expect_eq, opened, opened_behind, opened_until, put, put_snapshot, written};
 use sector_disk::{DiskFault, Fail, Fuse, MemoryDisk};
 use session_store::StoreFault;
+use std::alloc::Global;
+use std::process::Abort;
 use std::test::Fail as Failure;
 
 const HEADER: &[u8; 4] = b"BD1H";
@@ -17,7 +19,13 @@ type Written = (u32, &'static [u8; 4], u64, u32, &'static [u8]);
 
 /// A snapshot of epoch 1 with total 65,000 in which these sectors were written over, and what opening the disk answers: the
 /// total and the epoch.
-const ROWS: [(&str, &[Written], Result<(u16, u64), StoreFault>); 20] = [
+type Row = (
+    &'static str,
+    &'static [Written],
+    Result<(u16, u64), StoreFault>,
+);
+
+const ROWS: [Row; 20] = [
     ("no records", &[], Ok((65_000, 2))),
     (
         "no record 2",
@@ -134,14 +142,24 @@ fn put_all(disk: &mut MemoryDisk, sectors: &[Written]) -> Result<(), DiskFault> 
     Ok(())
 }
 
-#[test]
-fn what_opening_answers(rt: HostRuntime) -> Result<(), Failure> {
-    for (name, sectors, due) in ROWS {
-        let mut disk = MemoryDisk::new(rt.alloc(), 2048)?;
+/// Fails with the name of a row whose disk is opened with another answer.
+fn expect_answers(rt: &impl Abort, alloc: Global, rows: &[Row]) -> Result<(), Failure> {
+    for (name, sectors, due) in rows {
+        let mut disk = MemoryDisk::new(alloc, 2048)?;
         put_snapshot(&mut disk, 0, 1, 65_000)?;
         put_all(&mut disk, sectors)?;
-        expect_eq(&rt, opened(rt.alloc(), disk).1, due, name);
+        expect_eq(rt, opened(alloc, disk).1, *due, *name);
     }
+    Ok(())
+}
+
+#[test]
+fn what_opening_answers(rt: HostRuntime) -> Result<(), Failure> {
+    expect_answers(&rt, rt.alloc(), ROWS.as_slice())
+}
+
+#[test]
+fn disks_without_a_store(rt: HostRuntime) -> Result<(), Failure> {
     for (count, due) in [
         (0, StoreFault::TooSmall),
         (2047, StoreFault::TooSmall),

@@ -1,6 +1,6 @@
 //! Worked rows, over a counter of 9 parts.
 use super::counter::Counter;
-use super::{expect_eq, formatted, opened, opened_until, put_records, put_snapshot};
+use super::{expect_eq, formatted, open, opened, opened_until, put_records, put_snapshot};
 use sector_disk::{Fail, Fuse, MemoryDisk, SectorDisk};
 use session_store::{CheckpointFault, Store, StoreFault, SubmitFault, format};
 use std::alloc::Global;
@@ -11,9 +11,7 @@ use std::test::Fail as Failure;
 #[test]
 fn sectors_are_written_as_in_the_format(rt: HostRuntime) -> Result<(), Failure> {
     let disk = formatted(&rt, rt.alloc())?;
-    let mut store = Store::<MemoryDisk, Counter>::open(rt.alloc(), disk)
-        .ok()
-        .expect(&rt, "opened");
+    let mut store = open(&rt, rt.alloc(), disk);
     expect_eq(&rt, store.submit(&3).is_ok(), true, "record 0");
     expect_eq(&rt, store.submit(&36).is_ok(), true, "record 1");
     let mut disk = store.into_disk();
@@ -40,9 +38,7 @@ fn left_after_cut(
     picks: &[u32],
 ) -> Result<(MemoryDisk, Result<(u16, u64), StoreFault>), Failure> {
     let disk = formatted(rt, alloc)?;
-    let mut store = Store::<MemoryDisk, Counter>::open(alloc, disk)
-        .ok()
-        .expect(rt, "opened");
+    let mut store = open(rt, alloc, disk);
     expect_eq(rt, store.epoch(), 2, "epoch");
     expect_eq(rt, store.submit(&1).is_ok(), true, "submit");
     expect_eq(rt, store.confirm(), Ok(()), "confirm");
@@ -75,9 +71,7 @@ fn a_power_cut_leaves_a_prefix(rt: HostRuntime) -> Result<(), Failure> {
     ] {
         let (disk, found) = left_after_cut(&rt, rt.alloc(), confirmed, picks)?;
         expect_eq(&rt, found, Ok((total, 3)), (confirmed, total));
-        let mut store = Store::<MemoryDisk, Counter>::open(rt.alloc(), disk)
-            .ok()
-            .expect(&rt, "opened");
+        let mut store = open(&rt, rt.alloc(), disk);
         expect_eq(&rt, store.submit(&8).is_ok(), true, "submit");
         expect_eq(&rt, store.confirm(), Ok(()), "confirm");
         let mut disk = store.into_disk();
@@ -92,18 +86,19 @@ fn a_power_cut_leaves_a_prefix(rt: HostRuntime) -> Result<(), Failure> {
     Ok(())
 }
 
-// Takes 1 that many times, confirming after each 64, and answers how many calls were Ok.
-fn fill<D: SectorDisk + Drop>(store: &mut Store<D, Counter>, count: u32) -> u32 {
-    let mut done = 0;
-    for i in 0..count {
-        if store.submit(&1).is_ok() {
-            done = i + 1;
+// Takes 1 in each of 1,024 actions, confirming after each 64, and answers whether every call was Ok.
+fn fill<D: SectorDisk + Drop>(store: &mut Store<D, Counter>) -> bool {
+    for _ in 0..16 {
+        for _ in 0..64 {
+            if store.submit(&1).is_err() {
+                return false;
+            }
         }
-        if i % 64 == 63 && store.confirm().is_err() {
-            done = 0;
+        if store.confirm().is_err() {
+            return false;
         }
     }
-    done
+    true
 }
 
 // 1,024 actions and 16 confirms are one call of the disk each. The 1,025th action makes a checkpoint of 12 calls.
@@ -114,10 +109,8 @@ fn a_full_journal_goes_over_to_a_checkpoint(rt: HostRuntime) -> Result<(), Failu
         for (kept, picks) in [(false, [].as_slice()), (true, &ones)] {
             let disk = formatted(&rt, rt.alloc())?;
             let fuse = Fuse::new(disk, 25 + 1024 + 16 + calls, Fail::Always, false);
-            let mut store = Store::<Fuse<MemoryDisk>, Counter>::open(rt.alloc(), fuse)
-                .ok()
-                .expect(&rt, "opened");
-            expect_eq(&rt, fill(&mut store, 1024), 1024, "filled");
+            let mut store = open(&rt, rt.alloc(), fuse);
+            expect_eq(&rt, fill(&mut store), true, "filled");
             expect_eq(&rt, store.submit(&1).is_ok(), 12 <= calls, calls);
             expect_eq(&rt, store.epoch(), if calls < 12 { 2 } else { 3 }, calls);
             expect_eq(&rt, store.submit(&1).is_ok(), calls == 13, calls);
@@ -145,11 +138,9 @@ fn a_full_journal_goes_over_to_a_checkpoint(rt: HostRuntime) -> Result<(), Failu
 fn the_last_epoch_is_used_up(rt: HostRuntime) -> Result<(), Failure> {
     let mut disk = MemoryDisk::new(rt.alloc(), 2048)?;
     put_snapshot(&mut disk, 512, u64::MAX - 1, 500)?;
-    let mut store = Store::<MemoryDisk, Counter>::open(rt.alloc(), disk)
-        .ok()
-        .expect(&rt, "opened");
+    let mut store = open(&rt, rt.alloc(), disk);
     expect_eq(&rt, store.epoch(), u64::MAX, "epoch");
-    expect_eq(&rt, fill(&mut store, 1024), 1024, "filled");
+    expect_eq(&rt, fill(&mut store), true, "filled");
     expect_eq(
         &rt,
         matches!(store.submit(&1), Err(SubmitFault::EpochsSpent)),
@@ -188,9 +179,7 @@ fn calls_of_the_disk_are_as_few_as_due(rt: HostRuntime) -> Result<(), Failure> {
         }
     }
     let fuse = Fuse::new(formatted(&rt, rt.alloc())?, 25, Fail::Always, false);
-    let mut store = Store::<Fuse<MemoryDisk>, Counter>::open(rt.alloc(), fuse)
-        .ok()
-        .expect(&rt, "opened");
+    let mut store = open(&rt, rt.alloc(), fuse);
     expect_eq(&rt, store.confirm(), Ok(()), "no call");
     Ok(())
 }
@@ -203,9 +192,7 @@ fn a_disk_with_a_full_journal_is_opened_and_formatted(rt: HostRuntime) -> Result
         if again {
             disk = format(disk, &Counter::new(9)).ok().expect(&rt, "formatted");
         }
-        let mut store = Store::<MemoryDisk, Counter>::open(rt.alloc(), disk)
-            .ok()
-            .expect(&rt, "opened");
+        let mut store = open(&rt, rt.alloc(), disk);
         expect_eq(
             &rt,
             store.state().total(),
