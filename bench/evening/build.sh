@@ -5,7 +5,7 @@ top=$(cd "$here/.." && pwd)
 program=${PROGRAM:-}
 if [ -z "$program" ]; then
     below="line_text bridge_cards bridge_movement bridge_auction bridge_play bridge_score bridge_endings bridge_config sector_disk session_store \
-bridge_session bridge_pbn"
+session_rules bridge_table session_bytes bridge_ranking bridge_session bridge_pbn"
     crates=$work/repo/crates
     mkdir -p "$crates/evening/src"
     for crate in $below; do

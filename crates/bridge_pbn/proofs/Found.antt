@@ -7,12 +7,12 @@ use Rattle.bridge_auction.specs.Auction.{AuctionValue}
 use Rattle.bridge_play.specs.Play.{PlayValue}
 use Rattle.bridge_movement.specs.declared.row.Row.{Row}
 use Rattle.bridge_config.specs.ConfigValue.{ConfigValue}
-use Rattle.bridge_session.specs.declared.action.PlayId.{PlayId}
-use Rattle.bridge_session.specs.declared.outcome.Outcome.{Outcome}
-use Rattle.bridge_session.specs.Outcome.{outcome_of}
-use Rattle.bridge_session.specs.Record.{PlainRecord, bidding_of, playing_in, play_of, contract_in}
-use Rattle.bridge_session.specs.State.{SessionValue, deal_on, hands_on}
-use Rattle.bridge_session.specs.Step.{record_of}
+use Rattle.session_rules.specs.declared.action.PlayId.{PlayId}
+use Rattle.session_rules.specs.declared.outcome.Outcome.{Outcome}
+use Rattle.session_rules.specs.Outcome.{outcome_of}
+use Rattle.session_rules.specs.Record.{PlainRecord, bidding_of, playing_in, play_of, contract_in}
+use Rattle.session_rules.specs.State.{SessionValue, deal_on, hands_on}
+use Rattle.session_rules.specs.Step.{record_of}
 use Rattle.bridge_pbn.specs.Games.{game_by, game_lines, game_at, play_at, listed, is_listed}
 
 -- the hands do not matter to the cards of a play

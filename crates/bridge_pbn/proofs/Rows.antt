@@ -4,7 +4,7 @@ use Rattle.bridge_movement.specs.declared.row.Row.{Row}
 use Rattle.bridge_movement.specs.declared.shape.Shape.{Shape}
 use Rattle.bridge_movement.specs.Shape.{IsShape}
 use Rattle.bridge_movement.specs.Fair.{IsDue, IsMovement}
-use Rattle.bridge_session.specs.Numbers.{IsRoundNumber, IsTableNumber}
+use Rattle.session_rules.specs.Numbers.{IsRoundNumber, IsTableNumber}
 
 -- each row names a round and a table
 pub row_numbers : (shape : Shape) (rows : List Row) (index : ℕ) (d : Row) → IsShape shape → IsMovement shape rows → index < length rows → IsRoundNumber (get_or rows index d).round × IsTableNumber (get_or rows index d).table

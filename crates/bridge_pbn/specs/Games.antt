@@ -6,13 +6,13 @@ use Rattle.bridge_auction.specs.declared.call.Call.{Call}
 use Rattle.bridge_play.specs.Play.{PlayValue}
 use Rattle.bridge_movement.specs.declared.row.Row.{Row}
 use Rattle.bridge_config.specs.ConfigValue.{ConfigValue}
-use Rattle.bridge_session.specs.declared.action.PlayId.{PlayId}
-use Rattle.bridge_session.specs.declared.outcome.Outcome.{Outcome}
-use Rattle.bridge_session.specs.declared.outcome.Outcome.TheVariants.{Unfinished, PassedOut, Played, Voided}
-use Rattle.bridge_session.specs.Record.{PlainRecord, play_of}
-use Rattle.bridge_session.specs.Outcome.{outcome_of}
-use Rattle.bridge_session.specs.State.{SessionValue, deal_on, is_of_set}
-use Rattle.bridge_session.specs.Step.{record_of}
+use Rattle.session_rules.specs.declared.action.PlayId.{PlayId}
+use Rattle.session_rules.specs.declared.outcome.Outcome.{Outcome}
+use Rattle.session_rules.specs.declared.outcome.Outcome.TheVariants.{Unfinished, PassedOut, Played, Voided}
+use Rattle.session_rules.specs.Record.{PlainRecord, play_of}
+use Rattle.session_rules.specs.Outcome.{outcome_of}
+use Rattle.session_rules.specs.State.{SessionValue, deal_on, is_of_set}
+use Rattle.session_rules.specs.Step.{record_of}
 use Rattle.bridge_pbn.specs.Lines.{lines_text, parted}
 use Rattle.bridge_pbn.specs.Tags.{event_tags, player_tags, board_tags, outcome_tags, table_tags}
 use Rattle.bridge_pbn.specs.Sections.{auction_lines, play_lines}

@@ -10,8 +10,8 @@ use Rattle.bridge_movement.specs.declared.row.Row.{Row}
 use Rattle.bridge_score.specs.declared.ranking.Scoring.{Scoring}
 use Rattle.bridge_score.specs.declared.ranking.Scoring.TheVariants.{MatchPoints, Imps}
 use Rattle.bridge_config.specs.ConfigValue.{ConfigValue, Pair}
-use Rattle.bridge_session.specs.declared.outcome.Outcome.{Outcome}
-use Rattle.bridge_session.specs.declared.outcome.Outcome.TheVariants.{Unfinished, PassedOut, Played, Voided}
+use Rattle.session_rules.specs.declared.outcome.Outcome.{Outcome}
+use Rattle.session_rules.specs.declared.outcome.Outcome.TheVariants.{Unfinished, PassedOut, Played, Voided}
 use Rattle.bridge_pbn.specs.Lines.{tag}
 
 -- the name of a pair's first player, at index 0, or second, at index 1

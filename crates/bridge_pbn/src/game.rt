@@ -1,6 +1,6 @@
 //! The games of a session: the plays that are finished and not void.
 ghost use Rattle.std.specs.Prelude.{◌≡◌, ◌+◌, ◌≤◌, ◌∷◌, ◌++◌, [], Some, None, is_some, if◌then◌else◌, length};
-ghost use Rattle.bridge_session.specs.Numbers.{IsRoundNumber, IsTableNumber};
+ghost use Rattle.session_rules.specs.Numbers.{IsRoundNumber, IsTableNumber};
 ghost use Rattle.bridge_pbn.specs.Lines.{lines_text};
 ghost use Rattle.bridge_pbn.specs.Sections.{play_lines};
 ghost use Rattle.bridge_pbn.specs.Games.{is_listed, play_at, game_at, game_by};

@@ -3,7 +3,7 @@ ghost use Rattle.std.specs.Prelude.{◌≡◌, ◌+◌, ◌*◌, ◌≤◌, ◌�
 ghost use Rattle.arrayvec.specs.ArrayString.{array_string_len};
 ghost use Rattle.std.specs.Fmt.{decimal};
 ghost use Rattle.bridge_auction.specs.Spelling.{bid_text, doubling_text};
-ghost use Rattle.bridge_session.specs.declared.outcome.Outcome.TheVariants.{Played};
+ghost use Rattle.session_rules.specs.declared.outcome.Outcome.TheVariants.{Played};
 ghost use Rattle.bridge_config.specs.ConfigValue.{pair_of};
 ghost use Rattle.bridge_pbn.specs.Lines.{lines_text, tag};
 ghost use Rattle.bridge_pbn.specs.Tags.{event_tags, player_tags, board_tags, outcome_tags, table_tags};

@@ -1,7 +1,7 @@
 ghost use Rattle.std.specs.Prelude.{◌≡◌, false};
 ghost use Rattle.std.specs.Option.{option_to_list};
 ghost use Rattle.line_text.specs.Streams.{stream, Written};
-ghost use Rattle.bridge_session.specs.Numbers.{IsRoundNumber, IsTableNumber};
+ghost use Rattle.session_rules.specs.Numbers.{IsRoundNumber, IsTableNumber};
 ghost use Rattle.bridge_pbn.specs.Games.{game_at, games_on, all_games, session_text};
 ghost use Rattle.bridge_pbn.specs.Written.{WrittenGames};
 

@@ -13,9 +13,9 @@ use Rattle.bridge_endings.specs.declared.ending.EndingRefused.{EndingRefused}
 use Rattle.bridge_endings.specs.declared.ending.EndingRefused.TheVariants.{Unequal, TooLong, Overlap}
 use Rattle.bridge_endings.specs.EndingValue.{EndingValue}
 use Rattle.bridge_endings.specs.Ending.{tricks_in, SomeUnequal}
-use Rattle.bridge_session.specs.See.{cards_left}
+use Rattle.session_rules.specs.See.{cards_left}
 use Rattle.bridge_session.specs.Ending.{plain_ending, ending_after}
-use Rattle.bridge_session.proofs.Shown.{left_is}
+use Rattle.session_rules.proofs.Shown.{left_is}
 
 -- hands with as many cards each are not unequal
 none_unequal : (hands : List ℕ) (tricks : ℕ) → All (λ hand. card_count hand + tricks ≡ 13) hands → SomeUnequal hands → ⊥

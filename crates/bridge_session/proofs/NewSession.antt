@@ -10,12 +10,13 @@ use Rattle.bridge_movement.specs.Row.{is_live}
 use Rattle.bridge_movement.specs.Shape.{row_count}
 use Rattle.bridge_config.specs.ConfigValue.{ConfigValue}
 use Rattle.bridge_config.specs.Limits.{IsConfiguration}
-use Rattle.bridge_session.specs.declared.record.Record.{Record}
-use Rattle.bridge_session.specs.Record.{PlainRecord, empty_record}
-use Rattle.bridge_session.specs.State.{SessionValue, opening, opening_row, row_boards}
-use Rattle.bridge_session.specs.StateRange.{IsSession}
-use Rattle.bridge_session.specs.Kept.{plain_of, board_kept, state_of, StateASession, new_record, new_table, IsTiedIn, IsKept}
-use Rattle.bridge_session.proofs.SessionStays.{opening_session}
+use Rattle.bridge_table.specs.declared.record.Record.{Record}
+use Rattle.session_rules.specs.Record.{PlainRecord, empty_record}
+use Rattle.session_rules.specs.State.{SessionValue, opening, opening_row, row_boards}
+use Rattle.session_rules.specs.StateRange.{IsSession}
+use Rattle.bridge_table.specs.Kept.{plain_of, board_kept, new_record, IsTiedIn}
+use Rattle.bridge_session.specs.KeptSession.{state_of, StateASession, new_table, IsKept}
+use Rattle.bridge_session.specs.Laws.SessionStays.{opening_session}
 
 -- a new record is tied to whatever is dealt
 new_tied : (deals : List (Option (List ℕ))) (board : ℕ) → IsTiedIn deals (new_record board)

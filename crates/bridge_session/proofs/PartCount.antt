@@ -6,10 +6,11 @@ use Rattle.std.proofs.lemmas.Bool.{leb-true, and_parts}
 use Rattle.std.proofs.lemmas.List.{length-map}
 use Rattle.bridge_config.specs.ConfigValue.{ConfigValue}
 use Rattle.bridge_config.specs.Limits.{IsConfiguration}
-use Rattle.bridge_session.specs.declared.record.Record.{Record}
-use Rattle.bridge_session.specs.Kept.{state_of, plain_of, IsKept}
-use Rattle.bridge_session.specs.Parts.{parts_of}
-use Rattle.bridge_session.proofs.PartIndexes.{count_parts}
+use Rattle.bridge_table.specs.declared.record.Record.{Record}
+use Rattle.bridge_session.specs.KeptSession.{state_of, IsKept}
+use Rattle.bridge_table.specs.Kept.{plain_of}
+use Rattle.session_bytes.specs.Parts.{parts_of}
+use Rattle.session_bytes.proofs.PartIndexes.{count_parts}
 
 -- the numbers of pairs, boards and plays are within bounds
 pub record AreFew (configuration : ConfigValue) (deals : List (Option (List ℕ))) (tables : List (List Record)) : Type 0 where

@@ -5,13 +5,13 @@ use Rattle.std.specs.Option.{option_map}
 use Rattle.std.proofs.Math.Nat.{div-lt_iff_lt-mul}
 use Rattle.std.proofs.lemmas.List.{length-map}
 use Rattle.std.proofs.lemmas.Option.{slice_get-map, get_or_from_slice_get}
-use Rattle.bridge_session.specs.declared.record.Record.{Record}
-use Rattle.bridge_session.specs.Record.{PlainRecord, empty_record}
-use Rattle.bridge_session.specs.State.{SessionValue}
-use Rattle.bridge_session.specs.Kept.{plain_of}
-use Rattle.bridge_session.specs.Parts.{record_part, record_or_empty, play_parts}
-use Rattle.bridge_session.proofs.Acted.{row_is}
-use Rattle.bridge_session.proofs.PartIndexes.{count_plays, index_of_play}
+use Rattle.bridge_table.specs.declared.record.Record.{Record}
+use Rattle.session_rules.specs.Record.{PlainRecord, empty_record}
+use Rattle.session_rules.specs.State.{SessionValue}
+use Rattle.bridge_table.specs.Kept.{plain_of}
+use Rattle.session_bytes.specs.Parts.{record_part, record_or_empty, play_parts}
+use Rattle.bridge_table.proofs.Tables.{row_is}
+use Rattle.session_bytes.proofs.PartIndexes.{count_plays, index_of_play}
 
 module _ (s : SessionValue) (tables : List (List Record)) (boards row_index : ℕ) (records_are : map (map plain_of) tables ≡ s.records)
     (boards_are : boards ≡ s.configuration.boards) (some : 0 < boards) (within : row_index < length (play_parts s)) where

@@ -14,23 +14,24 @@ use Rattle.bridge_movement.specs.declared.row.Row.{Row}
 use Rattle.bridge_movement.specs.Row.{is_live}
 use Rattle.bridge_config.specs.ConfigValue.{ConfigValue}
 use Rattle.bridge_config.specs.Limits.{IsConfiguration}
-use Rattle.bridge_session.specs.declared.record.Record.{Record}
-use Rattle.bridge_session.specs.Record.{PlainRecord}
-use Rattle.bridge_session.specs.State.{SessionValue, row_boards}
-use Rattle.bridge_session.specs.Kept.{plain_of, board_kept, IsTiedIn, state_of, StateASession, IsKept}
-use Rattle.bridge_session.specs.Head.{head_parts, IsRound}
-use Rattle.bridge_session.specs.Parts.{deal_part, row_parts, play_parts, board_parts}
-use Rattle.bridge_session.specs.PartsRead.{numbers_in, configuration_in, deal_of}
-use Rattle.bridge_session.specs.StateRange.{IsRecordInRange, IsStateInRange, IsSession}
-use Rattle.bridge_session.specs.Valid.{board_of, IsValidRecord, IsValid}
-use Rattle.bridge_session.specs.Reading.{plains_of, AreDeals, AreRows}
-use Rattle.bridge_session.proofs.Acted.{lists_in}
-use Rattle.bridge_session.proofs.PartIndexes.{count_boards}
-use Rattle.bridge_session.proofs.ReadLists.{all_there, some_there}
-use Rattle.bridge_session.proofs.SessionBack.{numbers_back, configuration_back}
-use Rattle.bridge_session.proofs.PairBack.{deal_back}
-use Rattle.bridge_session.proofs.BytesBack.{all_back, take_front, drop_front}
-use Rattle.bridge_session.proofs.StaysValid.{mapped_from, row_found}
+use Rattle.bridge_table.specs.declared.record.Record.{Record}
+use Rattle.session_rules.specs.Record.{PlainRecord}
+use Rattle.session_rules.specs.State.{SessionValue, row_boards}
+use Rattle.bridge_table.specs.Kept.{plain_of, board_kept, IsTiedIn}
+use Rattle.bridge_session.specs.KeptSession.{state_of, StateASession, IsKept}
+use Rattle.session_bytes.specs.Head.{head_parts, IsRound}
+use Rattle.session_bytes.specs.Parts.{deal_part, row_parts, play_parts, board_parts}
+use Rattle.session_bytes.specs.PartsRead.{numbers_in, configuration_in, deal_of}
+use Rattle.session_rules.specs.StateRange.{IsRecordInRange, IsStateInRange, IsSession}
+use Rattle.session_rules.specs.Valid.{board_of, IsValidRecord, IsValid}
+use Rattle.session_bytes.specs.Reading.{plains_of, AreDeals, AreRows}
+use Rattle.bridge_table.proofs.Tables.{lists_in}
+use Rattle.session_bytes.proofs.PartIndexes.{count_boards}
+use Rattle.session_bytes.proofs.ReadLists.{all_there, some_there}
+use Rattle.session_bytes.proofs.SessionBack.{numbers_back, configuration_back}
+use Rattle.session_bytes.proofs.PairBack.{deal_back}
+use Rattle.session_bytes.proofs.BytesBack.{all_back, take_front, drop_front}
+use Rattle.session_rules.proofs.StaysValid.{mapped_from, row_found}
 
 -- Lists, by their indexes
 

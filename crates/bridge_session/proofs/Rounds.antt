@@ -4,17 +4,18 @@ use Rattle.std.specs.Prelude.{All, map}
 use Rattle.std.specs.List.{list_any}
 use Rattle.std.proofs.lemmas.Bool.{eq-eqb}
 use Rattle.std.proofs.lemmas.List.{take-map, drop-map}
-use Rattle.bridge_session.specs.declared.record.Record.{Record}
-use Rattle.bridge_session.specs.Record.{is_open}
+use Rattle.bridge_table.specs.declared.record.Record.{Record}
+use Rattle.session_rules.specs.Record.{is_open}
 use Rattle.bridge_config.specs.ConfigValue.{ConfigValue}
-use Rattle.bridge_session.specs.declared.refused.Refused.{Refused}
-use Rattle.bridge_session.specs.declared.refused.Refused.TheVariants.{Closed, Stale, RoundOpen}
-use Rattle.bridge_session.specs.State.{SessionValue, is_closed, hands_on}
-use Rattle.bridge_session.specs.Step.{records_of_round, next_answer}
-use Rattle.bridge_session.specs.StateRange.{IsSession}
-use Rattle.bridge_session.specs.Kept.{plain_of, state_of, is_kept_open, StateASession, IsTiedIn, IsKept}
-use Rattle.bridge_session.proofs.Tied.{open_same}
-use Rattle.bridge_session.proofs.Acted.{lists_in}
+use Rattle.session_rules.specs.declared.refused.Refused.{Refused}
+use Rattle.session_rules.specs.declared.refused.Refused.TheVariants.{Closed, Stale, RoundOpen}
+use Rattle.session_rules.specs.State.{SessionValue, is_closed, hands_on}
+use Rattle.session_rules.specs.Step.{records_of_round, next_answer}
+use Rattle.session_rules.specs.StateRange.{IsSession}
+use Rattle.bridge_table.specs.Kept.{plain_of, is_kept_open, IsTiedIn}
+use Rattle.bridge_session.specs.KeptSession.{state_of, StateASession, IsKept}
+use Rattle.bridge_table.proofs.Tied.{open_same}
+use Rattle.bridge_table.proofs.Tables.{lists_in}
 
 list_any-map : {X Y : Type 0} (p : Y → Bool) (f : X → Y) (xs : List X) → list_any p (map f xs) ≡ list_any (λ x. p (f x)) xs
 list_any-map p f [] = refl

@@ -7,16 +7,16 @@ use Rattle.std.proofs.lemmas.List.Elements.{All-set}
 use Rattle.std.proofs.lemmas.Option.{slice_get-map, slice_get_cases}
 use Rattle.bridge_auction.specs.declared.call.Call.{Call}
 use Rattle.bridge_auction.specs.declared.contract.Contract.{Contract}
-use Rattle.bridge_session.specs.declared.correction.Correction.{Correction}
-use Rattle.bridge_session.specs.declared.correction.Correction.TheVariants as correction
-use Rattle.bridge_session.specs.declared.record.Record.{Record}
-use Rattle.bridge_session.specs.declared.refused.Refused.TheVariants.{NotYet}
-use Rattle.bridge_session.specs.Record.{PlainRecord, play_of, playing_in, contract_in}
-use Rattle.bridge_session.specs.Correction.{ruling_answer}
-use Rattle.bridge_session.specs.State.{changed_at, hands_on}
-use Rattle.bridge_session.specs.Step.{rule_answer}
-use Rattle.bridge_session.specs.Kept.{plain_of, with_kept_ruling, kept_rule_answer, IsTiedIn}
-use Rattle.bridge_session.proofs.Lists.{changed_at-Some, changed_at-None}
+use Rattle.session_rules.specs.declared.correction.Correction.{Correction}
+use Rattle.session_rules.specs.declared.correction.Correction.TheVariants as correction
+use Rattle.bridge_table.specs.declared.record.Record.{Record}
+use Rattle.session_rules.specs.declared.refused.Refused.TheVariants.{NotYet}
+use Rattle.session_rules.specs.Record.{PlainRecord, play_of, playing_in, contract_in}
+use Rattle.session_rules.specs.Correction.{ruling_answer}
+use Rattle.session_rules.specs.State.{changed_at, hands_on}
+use Rattle.session_rules.specs.Step.{rule_answer}
+use Rattle.bridge_table.specs.Kept.{plain_of, with_kept_ruling, kept_rule_answer, IsTiedIn}
+use Rattle.session_rules.proofs.Lists.{changed_at-Some, changed_at-None}
 
 -- the answer to a ruling does not depend on the hands
 by_hands : (calls : List Call) (hands : List ℕ) (plain : PlainRecord) (made : Correction) (over : Bool) (contract : Option Contract) → ruling_answer calls (option_map (playing_in hands plain) contract) made over ≡ ruling_answer calls (option_map (playing_in [] plain) contract) made over

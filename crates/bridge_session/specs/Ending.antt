@@ -7,13 +7,13 @@ use Rattle.bridge_cards.specs.CardSet.{cards_of}
 use Rattle.bridge_play.specs.Play.{PlayValue}
 use Rattle.bridge_play.specs.Trick.{trump_of, leader_of}
 use Rattle.bridge_endings.specs.EndingValue.{EndingValue}
-use Rattle.bridge_session.specs.declared.action.PlayId.{PlayId}
-use Rattle.bridge_session.specs.declared.refused.Refused.{Refused}
-use Rattle.bridge_session.specs.declared.refused.Refused.TheVariants.{NoSuchPlay, NotYet, NoContract, NotAnEnding}
-use Rattle.bridge_session.specs.Record.{PlainRecord, play_of}
-use Rattle.bridge_session.specs.State.{SessionValue, director_answer, hands_on}
-use Rattle.bridge_session.specs.Step.{record_of}
-use Rattle.bridge_session.specs.See.{cards_left}
+use Rattle.session_rules.specs.declared.action.PlayId.{PlayId}
+use Rattle.session_rules.specs.declared.refused.Refused.{Refused}
+use Rattle.session_rules.specs.declared.refused.Refused.TheVariants.{NoSuchPlay, NotYet, NoContract, NotAnEnding}
+use Rattle.session_rules.specs.Record.{PlainRecord, play_of}
+use Rattle.session_rules.specs.State.{SessionValue, director_answer, hands_on}
+use Rattle.session_rules.specs.Step.{record_of}
+use Rattle.session_rules.specs.See.{cards_left}
 
 -- the cards of each hand in order, North's first and then clockwise, the trump suit if there is one, and the seat to lead
 pub record PlainEnding : Type 0 where

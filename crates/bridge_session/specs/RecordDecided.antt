@@ -10,13 +10,13 @@ use Rattle.bridge_play.specs.Legal as cards
 use Rattle.bridge_play.specs.Play.{PlayValue, is_claim_in, IsClaimIn, IsPlay}
 use Rattle.bridge_play.specs.Trick.{turn_of}
 use Rattle.bridge_play.proofs.RegularClaim.{regular_claim, claim_regular}
-use Rattle.bridge_session.specs.declared.refused.Refused.{Refused}
-use Rattle.bridge_session.specs.declared.ruling.Ruling.{Ruling}
-use Rattle.bridge_session.specs.declared.ruling.Ruling.TheVariants as ruling
-use Rattle.bridge_session.specs.Correction.{tricks_answer}
-use Rattle.bridge_session.specs.Record.{PlainRecord, empty_record, contract_in, play_of, is_open}
-use Rattle.bridge_session.specs.State.{deal_on, hands_on}
-use Rattle.bridge_session.specs.Valid.{MayStand, IsUnplayed, IsValidRecord}
+use Rattle.session_rules.specs.declared.refused.Refused.{Refused}
+use Rattle.session_rules.specs.declared.ruling.Ruling.{Ruling}
+use Rattle.session_rules.specs.declared.ruling.Ruling.TheVariants as ruling
+use Rattle.session_rules.specs.Correction.{tricks_answer}
+use Rattle.session_rules.specs.Record.{PlainRecord, empty_record, contract_in, play_of, is_open}
+use Rattle.session_rules.specs.State.{deal_on, hands_on}
+use Rattle.session_rules.specs.Valid.{MayStand, IsUnplayed, IsValidRecord}
 use Rattle.bridge_session.specs.Decided.{Decided, decided_like, decided_both, decided_implies, decided_equal, decided_less, decided_most, decided_true, decided_false, decided_none, decided_empty, decided_found, decided_indexes}
 
 -- whether a call is one of the 38

@@ -6,12 +6,12 @@ use Rattle.bridge_cards.specs.Deal.{is_dealt_out}
 use Rattle.bridge_config.specs.ConfigValue.{ConfigValue, Pair, keys_of}
 use Rattle.bridge_config.specs.Limits.{is_name, is_date_form, is_date_within, is_between, are_distinct, IsKeyNumber, AreKeys, IsPair, IsConfiguration}
 use Rattle.bridge_movement.specs.declared.row.Row.{Row}
-use Rattle.bridge_session.specs.declared.ruling.Ruling.{Ruling}
-use Rattle.bridge_session.specs.declared.ruling.Ruling.TheVariants as ruling
-use Rattle.bridge_session.specs.Record.{PlainRecord}
-use Rattle.bridge_session.specs.State.{SessionValue, row_at, row_boards}
-use Rattle.bridge_session.specs.Valid.{IsDealtOut, IsDealOrNone, board_of, IsValidRecord, IsValid}
-use Rattle.bridge_session.specs.StateRange.{AreHands, AreHandsOrNone, IsOfFourSeats, IsRulingInRange, IsRecordInRange, IsStateInRange, IsSession}
+use Rattle.session_rules.specs.declared.ruling.Ruling.{Ruling}
+use Rattle.session_rules.specs.declared.ruling.Ruling.TheVariants as ruling
+use Rattle.session_rules.specs.Record.{PlainRecord}
+use Rattle.session_rules.specs.State.{SessionValue, row_at, row_boards}
+use Rattle.session_rules.specs.Valid.{IsDealtOut, IsDealOrNone, board_of, IsValidRecord, IsValid}
+use Rattle.session_rules.specs.StateRange.{AreHands, AreHandsOrNone, IsOfFourSeats, IsRulingInRange, IsRecordInRange, IsStateInRange, IsSession}
 use Rattle.bridge_session.specs.Decided.{Decided, decided_like, decided_both, decided_equal, decided_less, decided_most, decided_true, decided_lists, decided_found, decided_all, decided_indexes}
 use Rattle.bridge_session.specs.MovementDecided.{decided_shape, decided_movement}
 use Rattle.bridge_session.specs.RecordDecided.{decided_record}

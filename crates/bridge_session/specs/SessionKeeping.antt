@@ -1,17 +1,17 @@
 -- What a session means to a store: its parts, its actions, its step.
 use Rattle.std.proofs.Common.{◌≡◌, ℕ, List, Option, None, Some, Result, Ok, Err, inl, inr}
 use Rattle.session_store.specs.Keeping.{Keeping}
-use Rattle.bridge_session.specs.declared.action.Action.{Action}
-use Rattle.bridge_session.specs.declared.refused.Refused.{Refused}
-use Rattle.bridge_session.specs.ActionBytes.{action_bytes, action_of}
-use Rattle.bridge_session.specs.ActionRange.{IsInRange}
+use Rattle.session_rules.specs.declared.action.Action.{Action}
+use Rattle.session_rules.specs.declared.refused.Refused.{Refused}
+use Rattle.session_bytes.specs.ActionBytes.{action_bytes, action_of}
+use Rattle.session_bytes.specs.ActionRange.{IsInRange}
 use Rattle.bridge_session.specs.Decided.{Decided, decided_both}
-use Rattle.bridge_session.specs.Parts.{parts_of}
-use Rattle.bridge_session.specs.PartsRead.{state_read}
+use Rattle.session_bytes.specs.Parts.{parts_of}
+use Rattle.session_bytes.specs.PartsRead.{state_read}
 use Rattle.bridge_session.specs.SessionDecided.{decided_session, decided_parts}
-use Rattle.bridge_session.specs.State.{SessionValue}
-use Rattle.bridge_session.specs.StateRange.{IsSession}
-use Rattle.bridge_session.specs.Step.{step_answer, changed}
+use Rattle.session_rules.specs.State.{SessionValue}
+use Rattle.session_rules.specs.StateRange.{IsSession}
+use Rattle.session_rules.specs.Step.{step_answer, changed}
 
 -- the state is that of a session, and these are its parts
 abbrev pub HasParts : SessionValue → List (List ℕ) → Type 0

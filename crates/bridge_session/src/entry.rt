@@ -1,6 +1,6 @@
-use crate::outcome::Outcome;
 use bridge_auction::Auction;
 use bridge_play::Play;
+use session_rules::Outcome;
 
 /// What is known of a play.
 #[derive(Clone, Copy)]

@@ -1,11 +1,9 @@
 //! A session that a store keeps.
 
-use crate::action::Action;
-use crate::action_range::ranges_of_action;
-use crate::refused::Refused;
 use crate::session::Session;
-use crate::{action_bytes, action_read};
 use arrayvec::ArrayVec;
+use session_bytes::ranges_of_action;
+use session_rules::{Action, Refused};
 use session_store::{Kept, PAYLOAD_BYTES, PartsFault};
 use std::alloc::Global;
 
@@ -35,11 +33,11 @@ impl Kept for Session {
     }
 
     fn write_action(action: &Action, bytes: &mut ArrayVec<u8, PAYLOAD_BYTES>) {
-        action_bytes::write_action(action, bytes);
+        session_bytes::write_action(action, bytes);
     }
 
     fn read_action(bytes: &[u8]) -> Option<Action> {
-        action_read::read_action(bytes)
+        session_bytes::read_action(bytes)
     }
 
     fn step(&mut self, action: &Action) -> Result<(), Refused> {

@@ -2,11 +2,12 @@
 ghost use Rattle.std.specs.Prelude.{◌≡◌, ◌≤◌, ◌+◌, ◌-◌, ◌*◌, map, replicate, length, IfOk, All, None};
 ghost use Rattle.std.specs.List.{range_with_len};
 ghost use Rattle.bridge_movement.specs.Row.{is_live};
-ghost use Rattle.bridge_session.specs.Kept.{new_record, new_table};
+ghost use Rattle.bridge_table.specs.Kept.{new_record};
+ghost use Rattle.bridge_session.specs.KeptSession.{new_table};
 
-use crate::record::Record;
 use bridge_cards::{BoardNumber, Deal};
 use bridge_movement::Row;
+use bridge_table::Record;
 use std::alloc::{AllocError, Global};
 
 /// So many boards, none of them dealt.

@@ -1,31 +1,24 @@
 ghost use Rattle.std.specs.Prelude.{◌≡◌, IfOk, IfSome, MatchResult, Err};
 ghost use Rattle.std.specs.Option.{option_copied, option_map};
-ghost use Rattle.bridge_session.specs.Record.{bidding_of, play_of};
-ghost use Rattle.bridge_session.specs.Outcome.{outcome_of};
-ghost use Rattle.bridge_session.specs.State.{opening, deal_on, hands_on};
-ghost use Rattle.bridge_session.specs.Step.{record_of};
-ghost use Rattle.bridge_session.specs.See.{shown_to};
-ghost use Rattle.bridge_session.specs.Views.{IsViewTo};
-ghost use Rattle.bridge_session.specs.Ranking.{ranking_answer, IsRankingTo};
-ghost use Rattle.bridge_session.specs.StateRange.{IsSession};
-ghost use Rattle.bridge_session.specs.Kept.{plain_of, IsTiedIn};
+ghost use Rattle.session_rules.specs.Record.{bidding_of, play_of};
+ghost use Rattle.session_rules.specs.Outcome.{outcome_of};
+ghost use Rattle.session_rules.specs.State.{opening, deal_on, hands_on};
+ghost use Rattle.session_rules.specs.Step.{record_of};
+ghost use Rattle.session_rules.specs.See.{shown_to};
+ghost use Rattle.session_rules.specs.Views.{IsViewTo};
+ghost use Rattle.bridge_ranking.specs.Ranking.{ranking_answer, IsRankingTo};
+ghost use Rattle.session_rules.specs.StateRange.{IsSession};
+ghost use Rattle.bridge_table.specs.Kept.{plain_of, IsTiedIn};
 
-use crate::action::PlayId;
 use crate::entry::Entry;
-use crate::field::Field;
-use crate::gain::{has_field, lines_of};
-use crate::game::games_of;
-use crate::numbers::{RoundNumber, TableNumber};
 use crate::opening::{opening_tables, undealt};
-use crate::record::Record;
-use crate::refused::Refused;
-use crate::seating::{check_asker, row_of, seat_by};
-use crate::table::record_at;
-use crate::view::{View, view_among};
 use arrayvec::ArrayVec;
 use bridge_cards::{BoardNumber, Deal};
 use bridge_config::{Config, Key};
+use bridge_ranking::{Field, games_of, has_field, lines_of};
 use bridge_score::{MOST_LINES, Ranked, rank};
+use bridge_table::{Record, check_asker, record_at, row_of, seat_by, view_among};
+use session_rules::{PlayId, Refused, RoundNumber, TableNumber, View};
 use std::alloc::{AllocError, Global};
 use std::marker::Model;
 
@@ -51,8 +44,8 @@ pub struct Session {
 
 impl Model for Session {
     ghost use Rattle.std.specs.Prelude.{map};
-    ghost use Rattle.bridge_session.specs.State.{SessionValue};
-    ghost use Rattle.bridge_session.specs.Kept.{state_of, IsKept};
+    ghost use Rattle.session_rules.specs.State.{SessionValue};
+    ghost use Rattle.bridge_session.specs.KeptSession.{state_of, IsKept};
 
     ghost Value = { SessionValue };
 

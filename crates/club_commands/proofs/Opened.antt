@@ -10,9 +10,9 @@ use Rattle.session_store.specs.declared.fault.StoreFault.{StoreFault}
 use Rattle.session_store.specs.declared.fault.StoreFault.TheVariants.{TooSmall, NoMemory}
 use Rattle.session_store.specs.Opening.{IsCause, HasNext, reading}
 use Rattle.session_store.specs.Value.{StoreValue}
-use Rattle.bridge_session.specs.declared.action.Action.{Action}
+use Rattle.session_rules.specs.declared.action.Action.{Action}
 use Rattle.bridge_session.specs.SessionKeeping.{session_keeping}
-use Rattle.bridge_session.specs.State.{SessionValue}
+use Rattle.session_rules.specs.State.{SessionValue}
 use Rattle.club_commands.specs.declared.fault.RunFault.{RunFault}
 use Rattle.club_commands.specs.Formatted.{FormatsMade, FailsToFormatMade, IsNoSessionFound, IsSessionOfFile, IsNoSessionOfFile, HasFormatted, StopsFormatting}
 use Rattle.club_commands.specs.Opening.{StopsReading}

@@ -5,8 +5,8 @@ use Rattle.line_text.specs.Streams.{Stream, Written}
 use Rattle.sector_disk.specs.declared.file.FileDisk.{FileDisk}
 use Rattle.session_store.specs.declared.fault.StoreFault.{StoreFault}
 use Rattle.session_store.specs.Value.{StoreValue}
-use Rattle.bridge_session.specs.declared.action.Action.{Action}
-use Rattle.bridge_session.specs.State.{SessionValue}
+use Rattle.session_rules.specs.declared.action.Action.{Action}
+use Rattle.session_rules.specs.State.{SessionValue}
 use Rattle.table_server.specs.declared.fault.ServeFault.TheVariants.{Write}
 use Rattle.club_commands.specs.declared.fault.RunFault.{RunFault}
 use Rattle.club_commands.specs.declared.fault.RunFault.TheVariants.{Stream as StreamFault}

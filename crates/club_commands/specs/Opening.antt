@@ -5,7 +5,7 @@ use Rattle.line_text.specs.Streams.{Stream, Gives}
 use Rattle.bridge_config.specs.ConfigValue.{ConfigValue}
 use Rattle.bridge_config.specs.Reading.{Reads}
 use Rattle.bridge_config.specs.Spelling.{Spells}
-use Rattle.bridge_session.specs.State.{SessionValue, opening}
+use Rattle.session_rules.specs.State.{SessionValue, opening}
 use Rattle.session_store.specs.declared.fault.StoreFault.TheVariants.{NoMemory}
 use Rattle.table_server.specs.declared.fault.ServeFault.TheVariants.{Read}
 use Rattle.club_commands.specs.declared.fault.RunFault.{RunFault}

@@ -1,10 +1,10 @@
 -- What the commands `rank` and `pbn` write.
 use Rattle.std.specs.Prelude.{◌≡◌, ◌++◌, [], ℕ, List, map, codes, MatchBool}
 use Rattle.bridge_score.specs.declared.ranking.Ranked.{Ranked}
-use Rattle.bridge_session.specs.declared.field.Field.{Field}
-use Rattle.bridge_session.specs.declared.field.Field.TheVariants.{First, Second}
-use Rattle.bridge_session.specs.Ranking.{IsRankingTo, has_field}
-use Rattle.bridge_session.specs.State.{SessionValue}
+use Rattle.bridge_ranking.specs.declared.field.Field.{Field}
+use Rattle.bridge_ranking.specs.declared.field.Field.TheVariants.{First, Second}
+use Rattle.bridge_ranking.specs.Ranking.{IsRankingTo, has_field}
+use Rattle.session_rules.specs.State.{SessionValue}
 use Rattle.bridge_pbn.specs.Games.{session_text}
 use Rattle.bridge_pbn.specs.Lines.{lines_text}
 use Rattle.table_server.specs.ReplyTexts.{rank_line}

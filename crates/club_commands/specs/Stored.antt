@@ -6,9 +6,9 @@ use Rattle.session_store.specs.declared.fault.StoreFault.TheVariants.{TooSmall, 
 use Rattle.session_store.specs.Base.{HasEpoch}
 use Rattle.session_store.specs.Opening.{IsCause, IsOpened, HasNext, reading}
 use Rattle.session_store.specs.Value.{StoreValue}
-use Rattle.bridge_session.specs.declared.action.Action.{Action}
+use Rattle.session_rules.specs.declared.action.Action.{Action}
 use Rattle.bridge_session.specs.SessionKeeping.{session_keeping}
-use Rattle.bridge_session.specs.State.{SessionValue}
+use Rattle.session_rules.specs.State.{SessionValue}
 
 module _ {D : Type 0} (disk : Disk D) where
   -- Opening a disk gave this store, which works: no call of the disk failed. Its epoch is the one after the disk's, and has

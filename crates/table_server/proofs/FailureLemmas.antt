@@ -6,9 +6,9 @@ use Rattle.session_store.specs.Answers.{room}
 use Rattle.session_store.proofs.CallLaws.{few_pending, continues_begins}
 use Rattle.session_store.specs.Store.{Continues}
 use Rattle.session_store.specs.Value.{StoreValue}
-use Rattle.bridge_session.specs.declared.action.Action.{Action}
+use Rattle.session_rules.specs.declared.action.Action.{Action}
 use Rattle.bridge_session.specs.SessionKeeping.{session_keeping}
-use Rattle.bridge_session.specs.State.{SessionValue}
+use Rattle.session_rules.specs.State.{SessionValue}
 use Rattle.table_server.specs.declared.asked.Asked.{Asked}
 use Rattle.table_server.specs.declared.asked.Asked.TheVariants.{Change}
 use Rattle.table_server.specs.Answered.{after, accepted, after_all, accepted_all, disk_errors}

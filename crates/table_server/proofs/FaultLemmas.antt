@@ -9,10 +9,10 @@ use Rattle.session_store.specs.declared.fault.SubmitFault.{SubmitFault}
 use Rattle.session_store.specs.declared.fault.SubmitFault.TheVariants as submit
 use Rattle.session_store.specs.declared.fault.ConfirmFault.{ConfirmFault}
 use Rattle.session_store.specs.declared.fault.ConfirmFault.TheVariants as confirm
-use Rattle.bridge_session.specs.declared.action.Action.{Action}
-use Rattle.bridge_session.specs.declared.refused.Refused.{Refused as SessionRefused}
+use Rattle.session_rules.specs.declared.action.Action.{Action}
+use Rattle.session_rules.specs.declared.refused.Refused.{Refused as SessionRefused}
 use Rattle.bridge_session.specs.SessionKeeping.{session_keeping}
-use Rattle.bridge_session.specs.State.{SessionValue}
+use Rattle.session_rules.specs.State.{SessionValue}
 use Rattle.table_server.specs.Faulted.{FailsWithDisk}
 use Rattle.table_server.proofs.TakingLemmas.{failed_either}
 

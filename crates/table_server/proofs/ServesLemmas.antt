@@ -10,9 +10,9 @@ use Rattle.session_store.specs.declared.fault.ConfirmFault.TheVariants.{Failed a
 use Rattle.session_store.specs.Answers.{Confirms}
 use Rattle.session_store.specs.Store.{Continues}
 use Rattle.session_store.specs.Value.{StoreValue}
-use Rattle.bridge_session.specs.declared.action.Action.{Action}
+use Rattle.session_rules.specs.declared.action.Action.{Action}
 use Rattle.bridge_session.specs.SessionKeeping.{session_keeping}
-use Rattle.bridge_session.specs.State.{SessionValue}
+use Rattle.session_rules.specs.State.{SessionValue}
 use Rattle.line_text.specs.Streams.{Stream, between, TakesPrefix, Written}
 use Rattle.table_server.specs.declared.asked.Asked.{Asked}
 use Rattle.table_server.specs.declared.fault.ServeFault.{ServeFault}

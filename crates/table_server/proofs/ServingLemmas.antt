@@ -7,9 +7,9 @@ use Rattle.session_store.specs.Answers.{after_confirm, room}
 use Rattle.session_store.proofs.CallLaws.{few_pending, continues_joins}
 use Rattle.session_store.specs.Store.{Continues}
 use Rattle.session_store.specs.Value.{StoreValue}
-use Rattle.bridge_session.specs.declared.action.Action.{Action}
+use Rattle.session_rules.specs.declared.action.Action.{Action}
 use Rattle.bridge_session.specs.SessionKeeping.{session_keeping}
-use Rattle.bridge_session.specs.State.{SessionValue}
+use Rattle.session_rules.specs.State.{SessionValue}
 use Rattle.table_server.specs.declared.asked.Asked.{Asked}
 use Rattle.table_server.specs.declared.asked.Asked.TheVariants.{Told}
 use Rattle.table_server.specs.declared.asked.Question.{Question}

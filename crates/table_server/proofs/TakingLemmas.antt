@@ -5,10 +5,10 @@ use Rattle.sector_disk.specs.Disk.{Disk}
 use Rattle.session_store.specs.Answers.{TakesMore, room, after_fault, after_failed_submit, with_action, with_record}
 use Rattle.session_store.specs.Store.{Continues}
 use Rattle.session_store.specs.Value.{StoreValue}
-use Rattle.bridge_session.specs.declared.action.Action.{Action}
-use Rattle.bridge_session.specs.declared.refused.Refused.{Refused as SessionRefused}
+use Rattle.session_rules.specs.declared.action.Action.{Action}
+use Rattle.session_rules.specs.declared.refused.Refused.{Refused as SessionRefused}
 use Rattle.bridge_session.specs.SessionKeeping.{session_keeping}
-use Rattle.bridge_session.specs.State.{SessionValue}
+use Rattle.session_rules.specs.State.{SessionValue}
 use Rattle.table_server.specs.Serving.{FailsTaking}
 use Rattle.table_server.specs.Standing.{Standing, standing_of, standing_within, accepted_within}
 

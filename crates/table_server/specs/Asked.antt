@@ -5,7 +5,7 @@ use Rattle.line_text.specs.Lines.{is_long}
 use Rattle.bridge_cards.specs.Deal.{IsDeal}
 use Rattle.bridge_cards.specs.Shuffle.{shuffled_deck, IsDealtFrom}
 use Rattle.bridge_config.specs.declared.fields.Key.{Key}
-use Rattle.bridge_session.specs.declared.action.Action.TheVariants as action
+use Rattle.session_rules.specs.declared.action.Action.TheVariants as action
 use Rattle.table_server.specs.declared.asked.Asked.{Asked as AskedType}
 use Rattle.table_server.specs.declared.asked.Asked.TheVariants.{Change, Told, BadLine, LongLine}
 use Rattle.table_server.specs.declared.asked.Question.TheVariants as question

@@ -2,8 +2,8 @@
 use Rattle.std.specs.Prelude.{◌≡◌, ◌⊎◌, true, false}
 use Rattle.sector_disk.specs.Disk.{Disk, Rose}
 use Rattle.session_store.specs.Value.{StoreValue}
-use Rattle.bridge_session.specs.declared.action.Action.{Action}
-use Rattle.bridge_session.specs.State.{SessionValue}
+use Rattle.session_rules.specs.declared.action.Action.{Action}
+use Rattle.session_rules.specs.State.{SessionValue}
 
 module _ {D : Type 0} (disk : Disk D) where
   -- no call of the disk failed, and the store works where it did

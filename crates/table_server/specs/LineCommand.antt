@@ -5,7 +5,7 @@ use Rattle.line_text.specs.Words.{spaced, spaced_words, only_word}
 use Rattle.bridge_cards.specs.DealText.{SpellsDeal, StatesOnly, StatesNone}
 use Rattle.bridge_auction.specs.Spelling.{call_of}
 use Rattle.bridge_config.specs.declared.fields.Key.{Key}
-use Rattle.bridge_session.specs.declared.action.PlayId.{PlayId}
+use Rattle.session_rules.specs.declared.action.PlayId.{PlayId}
 use Rattle.table_server.specs.declared.command.Command.{Command}
 use Rattle.table_server.specs.declared.command.Command.TheVariants.{Deal, Shuffle, Call, Card, Claim, Agree, Refuse, Next, Tricks, Void, Restore, Sync, See, Rank, Solve, Pbn}
 use Rattle.table_server.specs.LineWords.{◌>>=◌, first_of, key_of, board_of, made_of, tricks_of, round_of, table_of, index_of, cards_of_word, field_of, card_of_word, seed_of}

@@ -9,8 +9,8 @@ use Rattle.line_text.specs.Numeral.{is_numeral}
 use Rattle.bridge_cards.specs.Card.{card_text}
 use Rattle.bridge_config.specs.declared.fields.Key.{Key}
 use Rattle.bridge_config.specs.Limits.{is_between}
-use Rattle.bridge_session.specs.declared.field.Field.{Field}
-use Rattle.bridge_session.specs.declared.field.Field.TheVariants.{First, Second}
+use Rattle.bridge_ranking.specs.declared.field.Field.{Field}
+use Rattle.bridge_ranking.specs.declared.field.Field.TheVariants.{First, Second}
 
 infixl 10 ◌>>=◌
 abbrev pub ◌>>=◌ : {A B : Type 0} → Option A → (A → Option B) → Option B

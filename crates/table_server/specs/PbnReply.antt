@@ -1,6 +1,6 @@
 -- The reply to a question for the results.
 use Rattle.std.specs.Prelude.{ℕ, List, ◌++◌, codes}
-use Rattle.bridge_session.specs.State.{SessionValue}
+use Rattle.session_rules.specs.State.{SessionValue}
 use Rattle.bridge_pbn.specs.Games.{session_text}
 
 -- the text, and a full stop on a line of its own

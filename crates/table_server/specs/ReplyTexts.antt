@@ -7,7 +7,7 @@ use Rattle.bridge_score.specs.declared.ranking.Scoring.{Scoring}
 use Rattle.bridge_score.specs.declared.ranking.Scoring.TheVariants.{MatchPoints, Imps}
 use Rattle.bridge_score.specs.Percent.{percent_hundredths_of}
 use Rattle.bridge_pbn.specs.Lines.{lines_text}
-use Rattle.bridge_session.specs.Refused.{refusal_number, refusal_name}
+use Rattle.session_rules.specs.Refused.{refusal_number, refusal_name}
 use Rattle.table_server.specs.declared.short_reply.ShortReply.{ShortReply}
 use Rattle.table_server.specs.declared.short_reply.ShortReply.TheVariants.{Done, Refused, BadLine, LongLine, Disk, EpochsSpent}
 

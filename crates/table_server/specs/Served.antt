@@ -4,9 +4,9 @@ use Rattle.std.specs.List.{list_all}
 use Rattle.sector_disk.specs.Disk.{Disk}
 use Rattle.session_store.specs.Store.{Continues}
 use Rattle.session_store.specs.Value.{StoreValue}
-use Rattle.bridge_session.specs.declared.action.Action.{Action}
+use Rattle.session_rules.specs.declared.action.Action.{Action}
 use Rattle.bridge_session.specs.SessionKeeping.{session_keeping}
-use Rattle.bridge_session.specs.State.{SessionValue}
+use Rattle.session_rules.specs.State.{SessionValue}
 use Rattle.table_server.specs.declared.asked.Asked.{Asked}
 use Rattle.table_server.specs.Answered.{AreReplies, after_all, accepted_all, held_after, is_held, disk_errors}
 use Rattle.table_server.specs.Standing.{standing_of}

@@ -3,8 +3,8 @@ use Rattle.std.specs.Prelude.{◌≡◌, ◌≤◌, ◌<◌, ◌+◌, ◌⊎◌,
 use Rattle.std.specs.Io.KnownBytes.{IsAtEnd}
 use Rattle.sector_disk.specs.Disk.{Disk}
 use Rattle.session_store.specs.Value.{StoreValue}
-use Rattle.bridge_session.specs.declared.action.Action.{Action}
-use Rattle.bridge_session.specs.State.{SessionValue}
+use Rattle.session_rules.specs.declared.action.Action.{Action}
+use Rattle.session_rules.specs.State.{SessionValue}
 use Rattle.line_text.specs.Lines.{complete_lines}
 use Rattle.line_text.specs.Streams.{Stream, Gives, Takes}
 use Rattle.table_server.specs.declared.asked.Asked.{Asked}

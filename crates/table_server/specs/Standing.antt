@@ -1,9 +1,9 @@
 -- What changes make of a session, and the replies to them.
 use Rattle.std.specs.Prelude.{ℕ, zero, suc, List, [], ◌∷◌, Result, Ok, Err}
-use Rattle.bridge_session.specs.declared.action.Action.{Action}
-use Rattle.bridge_session.specs.declared.refused.Refused.{Refused as SessionRefused}
+use Rattle.session_rules.specs.declared.action.Action.{Action}
+use Rattle.session_rules.specs.declared.refused.Refused.{Refused as SessionRefused}
 use Rattle.bridge_session.specs.SessionKeeping.{session_keeping}
-use Rattle.bridge_session.specs.State.{SessionValue}
+use Rattle.session_rules.specs.State.{SessionValue}
 use Rattle.session_store.specs.Answers.{room}
 use Rattle.session_store.specs.Value.{StoreValue}
 use Rattle.table_server.specs.declared.short_reply.ShortReply.{ShortReply}

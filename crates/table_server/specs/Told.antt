@@ -4,15 +4,15 @@ use Rattle.bridge_endings.specs.Ending.{tricks_in, IsEnding}
 use Rattle.bridge_endings.specs.EndingValue.{EndingValue}
 use Rattle.bridge_endings.specs.Worth.{worth_of}
 use Rattle.bridge_score.specs.declared.ranking.Ranked.{Ranked}
-use Rattle.bridge_session.specs.declared.action.PlayId.{PlayId}
-use Rattle.bridge_session.specs.declared.field.Field.{Field}
-use Rattle.bridge_session.specs.declared.refused.Refused.{Refused as SessionRefused}
-use Rattle.bridge_session.specs.declared.view.View.{View}
+use Rattle.session_rules.specs.declared.action.PlayId.{PlayId}
+use Rattle.bridge_ranking.specs.declared.field.Field.{Field}
+use Rattle.session_rules.specs.declared.refused.Refused.{Refused as SessionRefused}
+use Rattle.session_rules.specs.declared.view.View.{View}
 use Rattle.bridge_session.specs.Ending.{plain_ending, ending_answer}
-use Rattle.bridge_session.specs.Ranking.{ranking_answer, IsRankingTo}
-use Rattle.bridge_session.specs.See.{shown_to}
-use Rattle.bridge_session.specs.State.{SessionValue, director_answer}
-use Rattle.bridge_session.specs.Views.{IsViewTo}
+use Rattle.bridge_ranking.specs.Ranking.{ranking_answer, IsRankingTo}
+use Rattle.session_rules.specs.See.{shown_to}
+use Rattle.session_rules.specs.State.{SessionValue, director_answer}
+use Rattle.session_rules.specs.Views.{IsViewTo}
 use Rattle.table_server.specs.declared.asked.Question.{Question}
 use Rattle.table_server.specs.declared.asked.Question.TheVariants.{Sync, See, Rank, Solve, Pbn}
 use Rattle.table_server.specs.declared.short_reply.ShortReply.TheVariants.{Done, Refused}

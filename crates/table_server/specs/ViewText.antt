@@ -7,8 +7,8 @@ use Rattle.bridge_cards.specs.Card.{card_text}
 use Rattle.bridge_cards.specs.DealText.{hand_text}
 use Rattle.bridge_auction.specs.Spelling.{call_text}
 use Rattle.bridge_cards.specs.Vulnerability.{vulnerability_text}
-use Rattle.bridge_session.specs.declared.view.Trick.{Trick}
-use Rattle.bridge_session.specs.declared.view.View.{View}
+use Rattle.session_rules.specs.declared.view.Trick.{Trick}
+use Rattle.session_rules.specs.declared.view.View.{View}
 use Rattle.table_server.specs.ReplyTexts.{line_of, listed}
 
 abbrev pub seat_word : Seat → List ℕ

@@ -3,8 +3,8 @@ ghost use Rattle.std.specs.Prelude.{◌≡◌, ◌<◌, ◌≤◌, ◌+◌, ◌�
 ghost use Rattle.session_store.specs.Value.{StoreValue};
 ghost use Rattle.session_store.specs.Store.{Continues};
 ghost use Rattle.bridge_session.specs.SessionKeeping.{session_keeping};
-ghost use Rattle.bridge_session.specs.State.{SessionValue};
-ghost use Rattle.bridge_session.specs.declared.action.Action.{Action as ActionType};
+ghost use Rattle.session_rules.specs.State.{SessionValue};
+ghost use Rattle.session_rules.specs.declared.action.Action.{Action as ActionType};
 ghost use Rattle.line_text.specs.Streams.{stream, Written};
 ghost use Rattle.table_server.specs.declared.asked.Asked.{Asked as AskedType};
 ghost use Rattle.table_server.specs.declared.asked.Asked.TheVariants.{Change, Told};

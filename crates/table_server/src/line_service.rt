@@ -1,8 +1,8 @@
 //! Bytes served as they come: each line is answered once it is complete.
 ghost use Rattle.std.specs.Prelude.{◌≡◌, ◌<◌, ◌≤◌, ◌+◌, ◌-◌, ◌∷◌, ◌++◌, [], List, ℕ, length, false};
 ghost use Rattle.session_store.specs.Value.{StoreValue};
-ghost use Rattle.bridge_session.specs.State.{SessionValue};
-ghost use Rattle.bridge_session.specs.declared.action.Action.{Action as ActionType};
+ghost use Rattle.session_rules.specs.State.{SessionValue};
+ghost use Rattle.session_rules.specs.declared.action.Action.{Action as ActionType};
 ghost use Rattle.line_text.specs.Streams.{stream};
 ghost use Rattle.table_server.specs.Faulted.{FailsWithDisk};
 ghost use Rattle.table_server.specs.Hearing.{Hearing, HearsOn};

@@ -9,7 +9,7 @@ use Rattle.bridge_cards.specs.CardSet.{IsCardSet, has_card, card_count}
 use Rattle.bridge_cards.specs.Deal.{holders, is_each_once, is_dealt_out, IsDeal}
 use Rattle.bridge_cards.proofs.CardSetLaws.{has_card-beyond}
 use Rattle.bridge_endings.proofs.Deck.{not_all_cards}
-use Rattle.bridge_session.specs.StateRange.{AreHands}
+use Rattle.session_rules.specs.StateRange.{AreHands}
 
 -- no hand has a card beyond the deck
 none_beyond : (hands : List ℕ) (card : ℕ) → All IsCardSet hands → 52 ≤ card → holders hands card ≡ 0

@@ -18,17 +18,17 @@ use Rattle.bridge_movement.specs.declared.row.Row.{Row}
 use Rattle.bridge_play.specs.declared.claim.Claim.{Claim}
 use Rattle.bridge_play.specs.Play.{IsPlay}
 use Rattle.bridge_play.proofs.LegalCards.{legal_cards_few}
-use Rattle.bridge_session.specs.declared.ruling.Ruling.{Ruling}
-use Rattle.bridge_session.specs.declared.ruling.Ruling.TheVariants as ruling
-use Rattle.bridge_session.specs.Parts.{eight_bytes, configuration_part, row_bytes, movement_part, player_bytes, pair_part, deal_part, is_agreed_in, claim_bytes, ruling_bytes, record_part, record_or_empty, row_parts, play_parts, board_parts, pair_parts, parts_of}
-use Rattle.bridge_session.specs.Record.{PlainRecord, empty_record, contract_in, playing_in}
-use Rattle.bridge_session.specs.State.{SessionValue, deal_on, row_boards, hands_on}
-use Rattle.bridge_session.specs.StateRange.{AreHands, AreHandsOrNone, IsSession}
-use Rattle.bridge_session.specs.Valid.{IsDealtOut, IsDealOrNone, board_of, IsValidRecord}
+use Rattle.session_rules.specs.declared.ruling.Ruling.{Ruling}
+use Rattle.session_rules.specs.declared.ruling.Ruling.TheVariants as ruling
+use Rattle.session_bytes.specs.Parts.{eight_bytes, configuration_part, row_bytes, movement_part, player_bytes, pair_part, deal_part, is_agreed_in, claim_bytes, ruling_bytes, record_part, record_or_empty, row_parts, play_parts, board_parts, pair_parts, parts_of}
+use Rattle.session_rules.specs.Record.{PlainRecord, empty_record, contract_in, playing_in}
+use Rattle.session_rules.specs.State.{SessionValue, deal_on, row_boards, hands_on}
+use Rattle.session_rules.specs.StateRange.{AreHands, AreHandsOrNone, IsSession}
+use Rattle.session_rules.specs.Valid.{IsDealtOut, IsDealOrNone, board_of, IsValidRecord}
 use Rattle.bridge_session.specs.Laws.DealtOut.{dealt_is_deal}
-use Rattle.bridge_session.specs.Laws.PartLemmas.{length-flat_fixed}
-use Rattle.bridge_session.specs.Laws.PartIndexes.{count_parts}
-use Rattle.bridge_session.specs.Laws.SessionRecords.{each_record}
+use Rattle.session_bytes.proofs.PartLemmas.{length-flat_fixed}
+use Rattle.session_bytes.proofs.PartIndexes.{count_parts}
+use Rattle.session_bytes.proofs.SessionRecords.{each_record}
 
 -- the bytes fit into a part
 abbrev Fits : List ℕ → Type 0

@@ -1,18 +1,18 @@
 -- What a store asks of a session holds.
 use Rattle.std.proofs.Common.{◌≡◌, Result, Ok, Err, refl, sym, subst, arith}
 use Rattle.session_store.specs.Keeping.{IsLawful}
-use Rattle.bridge_session.specs.declared.action.Action.{Action}
-use Rattle.bridge_session.specs.declared.refused.Refused.{Refused}
-use Rattle.bridge_session.specs.ActionRange.{IsInRange}
-use Rattle.bridge_session.specs.Parts.{parts_of}
+use Rattle.session_rules.specs.declared.action.Action.{Action}
+use Rattle.session_rules.specs.declared.refused.Refused.{Refused}
+use Rattle.session_bytes.specs.ActionRange.{IsInRange}
+use Rattle.session_bytes.specs.Parts.{parts_of}
 use Rattle.bridge_session.specs.SessionKeeping.{step_by, session_keeping}
-use Rattle.bridge_session.specs.State.{SessionValue}
-use Rattle.bridge_session.specs.StateRange.{IsSession}
-use Rattle.bridge_session.specs.Step.{step_answer, changed}
-use Rattle.bridge_session.specs.Laws.ActionInRange.{read_in_range, action_fits}
-use Rattle.bridge_session.specs.Laws.ActionLaws.{read_back}
+use Rattle.session_rules.specs.State.{SessionValue}
+use Rattle.session_rules.specs.StateRange.{IsSession}
+use Rattle.session_rules.specs.Step.{step_answer, changed}
+use Rattle.session_bytes.proofs.ActionInRange.{read_in_range, action_fits}
+use Rattle.session_bytes.proofs.ActionLaws.{read_back}
 use Rattle.bridge_session.specs.Laws.PartLengths.{parts_fit, few_parts}
-use Rattle.bridge_session.specs.Laws.PartIndexes.{count_parts}
+use Rattle.session_bytes.proofs.PartIndexes.{count_parts}
 use Rattle.bridge_session.specs.Laws.SessionOf.{session_of_is, has_parts}
 use Rattle.bridge_session.specs.Laws.SessionStays.{step_session}
 

@@ -1,12 +1,12 @@
 -- The session of parts.
 use Rattle.std.proofs.Common.{◌≡◌, ◌≢◌, ℕ, List, None, Some, inl, inr, refl, sym, ap, subst, ◌∙◌}
 use Rattle.bridge_session.specs.Decided.{Decided}
-use Rattle.bridge_session.specs.Parts.{parts_of}
-use Rattle.bridge_session.specs.PartsRead.{state_read}
+use Rattle.session_bytes.specs.Parts.{parts_of}
+use Rattle.session_bytes.specs.PartsRead.{state_read}
 use Rattle.bridge_session.specs.SessionKeeping.{HasParts, decided_has_parts, with_parts, session_of}
-use Rattle.bridge_session.specs.State.{SessionValue}
-use Rattle.bridge_session.specs.StateRange.{IsSession}
-use Rattle.bridge_session.specs.Laws.SessionBack.{session_back}
+use Rattle.session_rules.specs.State.{SessionValue}
+use Rattle.session_rules.specs.StateRange.{IsSession}
+use Rattle.session_bytes.proofs.SessionBack.{session_back}
 
 with_own_parts : (s : SessionValue) (parts : List (List ℕ)) (known : Decided (HasParts s parts)) → HasParts s parts → with_parts s parts known ≡ Some s
 with_own_parts s parts (inl has) is = refl

@@ -2,15 +2,15 @@
 use Rattle.std.proofs.Common.{◌≡◌, Ok}
 use Rattle.bridge_config.specs.ConfigValue.{ConfigValue}
 use Rattle.bridge_config.specs.Limits.{IsConfiguration}
-use Rattle.bridge_session.specs.declared.action.Action.{Action}
-use Rattle.bridge_session.specs.ActionRange.{IsInRange}
-use Rattle.bridge_session.specs.State.{SessionValue, opening}
-use Rattle.bridge_session.specs.StateRange.{IsSession}
-use Rattle.bridge_session.specs.Step.{step_answer, changed}
-use Rattle.bridge_session.specs.Laws.ActionInRange.{range_is_action}
+use Rattle.session_rules.specs.declared.action.Action.{Action}
+use Rattle.session_bytes.specs.ActionRange.{IsInRange}
+use Rattle.session_rules.specs.State.{SessionValue, opening}
+use Rattle.session_rules.specs.StateRange.{IsSession}
+use Rattle.session_rules.specs.Step.{step_answer, changed}
+use Rattle.session_bytes.proofs.ActionInRange.{range_is_action}
 use Rattle.bridge_session.specs.Laws.StateRanges.{opening_in_range, changed_in_range}
-use Rattle.bridge_session.specs.Laws.StaysValid.{opening_valid}
-use Rattle.bridge_session.specs.Laws.ValidStep.{step_valid}
+use Rattle.session_rules.proofs.StaysValid.{opening_valid}
+use Rattle.session_rules.proofs.ValidStep.{step_valid}
 
 pub opening_session : (configuration : ConfigValue) → IsConfiguration configuration → IsSession (opening configuration)
 opening_session configuration limits = record {

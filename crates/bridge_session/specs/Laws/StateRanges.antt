@@ -9,21 +9,21 @@ use Rattle.bridge_cards.specs.Seat.{seat_number}
 use Rattle.bridge_config.specs.ConfigValue.{ConfigValue}
 use Rattle.bridge_play.specs.declared.claim.Claim.{Claim}
 use Rattle.bridge_play.specs.Claims.{with_agreed}
-use Rattle.bridge_session.specs.declared.action.Action.{Action}
-use Rattle.bridge_session.specs.declared.action.Action.TheVariants as action
-use Rattle.bridge_session.specs.declared.action.PlayId.{PlayId}
-use Rattle.bridge_session.specs.declared.correction.Correction.{Correction}
-use Rattle.bridge_session.specs.declared.correction.Correction.TheVariants as correction
-use Rattle.bridge_session.specs.declared.deed.Deed.{Deed}
-use Rattle.bridge_session.specs.declared.deed.Deed.TheVariants as deed
-use Rattle.bridge_session.specs.declared.refused.Refused.{Refused}
-use Rattle.bridge_session.specs.declared.seating.Seating.{Seating}
-use Rattle.bridge_session.specs.ActionRange.{IsInRange}
-use Rattle.bridge_session.specs.Deed.{with_deed}
-use Rattle.bridge_session.specs.Record.{PlainRecord, empty_record}
-use Rattle.bridge_session.specs.State.{SessionValue, opening, opening_row, row_boards, index_of_row, seating_of, changed_at, current_index}
-use Rattle.bridge_session.specs.StateRange.{IsCorrectionInRange, AreHandsOrNone, IsOfFourSeats, IsRecordInRange, IsStateInRange}
-use Rattle.bridge_session.specs.Step.{acted_among, acted_at, with_ruling, ruled, changed}
+use Rattle.session_rules.specs.declared.action.Action.{Action}
+use Rattle.session_rules.specs.declared.action.Action.TheVariants as action
+use Rattle.session_rules.specs.declared.action.PlayId.{PlayId}
+use Rattle.session_rules.specs.declared.correction.Correction.{Correction}
+use Rattle.session_rules.specs.declared.correction.Correction.TheVariants as correction
+use Rattle.session_rules.specs.declared.deed.Deed.{Deed}
+use Rattle.session_rules.specs.declared.deed.Deed.TheVariants as deed
+use Rattle.session_rules.specs.declared.refused.Refused.{Refused}
+use Rattle.session_rules.specs.declared.seating.Seating.{Seating}
+use Rattle.session_bytes.specs.ActionRange.{IsInRange}
+use Rattle.session_rules.specs.Deed.{with_deed}
+use Rattle.session_rules.specs.Record.{PlainRecord, empty_record}
+use Rattle.session_rules.specs.State.{SessionValue, opening, opening_row, row_boards, index_of_row, seating_of, changed_at, current_index}
+use Rattle.session_rules.specs.StateRange.{IsCorrectionInRange, AreHandsOrNone, IsOfFourSeats, IsRecordInRange, IsStateInRange}
+use Rattle.session_rules.specs.Step.{acted_among, acted_at, with_ruling, ruled, changed}
 
 -- one element is changed
 all_changed : {X : Type 0} (P : X → Type 0) (f : X → X) (xs : List X) (index : ℕ) → ((x : X) → P x → P (f x)) → All P xs → All P (changed_at f xs index)

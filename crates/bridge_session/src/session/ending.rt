@@ -6,12 +6,11 @@ ghost use Rattle.bridge_endings.specs.Ending.{IsEnding};
 ghost use Rattle.bridge_session.specs.Ending.{plain_ending, ending_after, leave_an_ending, ending_in, ending_answer};
 
 use super::Session;
-use crate::action::PlayId;
-use crate::refused::Refused;
-use crate::seating::check_director;
 use bridge_config::Key;
 use bridge_endings::Ending;
 use bridge_play::Play;
+use bridge_table::check_director;
+use session_rules::{PlayId, Refused};
 
 /// The fewest cards after which each hand has at most six.
 const LEAST_CARDS: usize = 28;

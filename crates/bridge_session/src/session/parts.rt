@@ -2,17 +2,17 @@
 ghost use Rattle.std.specs.Prelude.{◌≡◌, ◌<◌, ◌≤◌, [], length, slice_index_or, unwrap_or, IfSome};
 ghost use Rattle.std.specs.Option.{option_copied, option_map};
 ghost use Rattle.bridge_cards.specs.Board.{dealer_of};
-ghost use Rattle.bridge_session.specs.Record.{empty_record};
-ghost use Rattle.bridge_session.specs.StateRange.{IsSession};
-ghost use Rattle.bridge_session.specs.Kept.{plain_of};
-ghost use Rattle.bridge_session.specs.Parts.{parts_of, pair_parts, board_parts, play_parts, record_part};
+ghost use Rattle.session_rules.specs.Record.{empty_record};
+ghost use Rattle.session_rules.specs.StateRange.{IsSession};
+ghost use Rattle.bridge_table.specs.Kept.{plain_of};
+ghost use Rattle.session_bytes.specs.Parts.{parts_of, pair_parts, board_parts, play_parts, record_part};
 
 use super::Session;
-use crate::config_bytes::{write_configuration, write_deal, write_movement, write_pair};
-use crate::record::Record;
-use crate::record_bytes::{write_empty, write_record};
-use crate::table::record_at;
 use arrayvec::ArrayVec;
+use bridge_table::{Record, record_at};
+use session_bytes::{
+    write_configuration, write_deal, write_empty, write_movement, write_pair, write_record,
+};
 use session_store::PAYLOAD_BYTES;
 
 impl Session {

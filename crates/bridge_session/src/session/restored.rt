@@ -1,16 +1,15 @@
 //! A session read back from its parts.
 ghost use Rattle.std.specs.Prelude.{◌≡◌, ◌≢◌, length, map, IfOk, IfSome, IfNone, IsErrOf, OnErr};
 ghost use Rattle.bridge_config.specs.Limits.{IsConfiguration};
-ghost use Rattle.bridge_session.specs.State.{SessionValue};
-ghost use Rattle.bridge_session.specs.StateRange.{IsSession};
-ghost use Rattle.bridge_session.specs.Head.{IsRound, board_part_count, HasHead};
-ghost use Rattle.bridge_session.specs.Parts.{parts_of, board_parts};
+ghost use Rattle.session_rules.specs.State.{SessionValue};
+ghost use Rattle.session_rules.specs.StateRange.{IsSession};
+ghost use Rattle.session_bytes.specs.Head.{IsRound, board_part_count, HasHead};
+ghost use Rattle.session_bytes.specs.Parts.{parts_of, board_parts};
 
 use super::Session;
-use crate::head::read_head;
-use crate::tables_read::{read_deals, read_tables};
 use arrayvec::ArrayVec;
 use bridge_config::Config;
+use session_bytes::{read_deals, read_head, read_tables};
 use session_store::{PAYLOAD_BYTES, PartsFault};
 use std::alloc::{AllocError, Global};
 

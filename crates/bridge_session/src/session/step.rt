@@ -2,24 +2,20 @@
 ghost use Rattle.std.specs.Prelude.{◌≡◌, ◌+◌, ◌<◌, ◌≤◌, OnOk, OnErr, IfSome, if◌then◌else◌, Some, None, map, take, drop, length, slice_set, ◌-◌};
 ghost use Rattle.std.specs.List.{list_any};
 ghost use Rattle.bridge_movement.specs.Shape.{row_count};
-ghost use Rattle.bridge_session.specs.declared.correction.Correction.TheVariants as correction;
-ghost use Rattle.bridge_session.specs.declared.deed.Deed.TheVariants as deed;
-ghost use Rattle.bridge_session.specs.Record.{is_open};
-ghost use Rattle.bridge_session.specs.State.{director_answer, index_of_row};
-ghost use Rattle.bridge_session.specs.Step.{seen_by, player_answer, acted, if_allowed, deal_answer, next_answer, records_of_round, is_row_within, rule_answer, record_of, ruled, step_answer, changed};
-ghost use Rattle.bridge_session.specs.Kept.{is_kept_open};
+ghost use Rattle.session_rules.specs.declared.correction.Correction.TheVariants as correction;
+ghost use Rattle.session_rules.specs.declared.deed.Deed.TheVariants as deed;
+ghost use Rattle.session_rules.specs.Record.{is_open};
+ghost use Rattle.session_rules.specs.State.{director_answer, index_of_row};
+ghost use Rattle.session_rules.specs.Step.{seen_by, player_answer, acted, if_allowed, deal_answer, next_answer, records_of_round, is_row_within, rule_answer, record_of, ruled, step_answer, changed};
+ghost use Rattle.bridge_table.specs.Kept.{is_kept_open};
 
 use super::Session;
-use crate::action::{Action, PlayId};
-use crate::correction::Correction;
-use crate::deed::Deed;
-use crate::numbers::{MadeCount, RoundNumber};
-use crate::record::Record;
-use crate::refused::Refused;
-use crate::seating::{check_director, is_closed, is_of_set, row_of, seat_by};
-use crate::table::{act_among, has_open, rule_among};
 use bridge_cards::{BoardNumber, CardSet, Deal};
 use bridge_config::Key;
+use bridge_table::{
+    Record, act_among, check_director, has_open, is_closed, is_of_set, row_of, rule_among, seat_by,
+};
+use session_rules::{Action, Correction, Deed, MadeCount, PlayId, Refused, RoundNumber};
 
 /// Whether one of so many tables from an index on has a play that is neither finished nor void.
 fn have_open(tables: &[Vec<Record>], start: usize, count: usize) -> bool

@@ -2,9 +2,9 @@ use Rattle.std.proofs.Common.{◌≡◌, ◌+◌, ◌∷◌, ◌++◌, [], map, 
 use Rattle.std.specs.Prelude.{IfSome}
 use Rattle.std.specs.List.{range_with_len}
 use Rattle.std.proofs.lemmas.List.{map-append}
-use Rattle.bridge_session.specs.declared.record.Record.{Record}
-use Rattle.bridge_session.specs.Kept.{new_record}
-use Rattle.bridge_session.proofs.Lists.{range-push}
+use Rattle.bridge_table.specs.declared.record.Record.{Record}
+use Rattle.bridge_table.specs.Kept.{new_record}
+use Rattle.session_rules.proofs.Lists.{range-push}
 use Rattle.bridge_session.proofs.opening.new_records.Goals as goal
 
 pub loop-index-preserved : goal.loop-index-preserved

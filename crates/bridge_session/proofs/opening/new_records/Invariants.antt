@@ -1,6 +1,6 @@
 use Rattle.std.proofs.Common.{◌≡◌, map}
 use Rattle.std.specs.List.{range_with_len}
-use Rattle.bridge_session.specs.Kept.{new_record}
+use Rattle.bridge_table.specs.Kept.{new_record}
 use Rattle.bridge_session.proofs.opening.new_records.Given as goal
 
 abbrev pub invariant-loop-index : goal.invariant-loop-index

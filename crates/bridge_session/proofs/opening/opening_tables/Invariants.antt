@@ -1,5 +1,5 @@
 use Rattle.std.proofs.Common.{◌≡◌, map, take}
-use Rattle.bridge_session.specs.Kept.{new_table}
+use Rattle.bridge_session.specs.KeptSession.{new_table}
 use Rattle.bridge_session.proofs.opening.opening_tables.Given as goal
 
 abbrev pub invariant-loop-row : goal.invariant-loop-row

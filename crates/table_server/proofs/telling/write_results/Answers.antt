@@ -1,5 +1,5 @@
 use Rattle.std.proofs.Common.{◌∙◌, ◌∷◌, inl, inr, refl, sym, ap}
-use Rattle.bridge_session.specs.State.{director_answer}
+use Rattle.session_rules.specs.State.{director_answer}
 use Rattle.table_server.specs.PbnReply.{text_and_stop}
 use Rattle.table_server.proofs.telling.write_results.Goals as goal
 

@@ -1,11 +1,11 @@
 use Rattle.std.proofs.Common.{◌≡◌, List, ℕ, Some, Result, Ok, Err, IfOk, map}
 use Rattle.arrayvec.specs.ArrayVec.{ArrayVec}
 use Rattle.session_store.specs.declared.fault.PartsFault.{PartsFault}
-use Rattle.bridge_session.specs.Parts.{parts_of}
-use Rattle.bridge_session.specs.State.{SessionValue}
-use Rattle.bridge_session.specs.StateRange.{IsSession}
+use Rattle.session_bytes.specs.Parts.{parts_of}
+use Rattle.session_rules.specs.State.{SessionValue}
+use Rattle.session_rules.specs.StateRange.{IsSession}
 use Rattle.bridge_session.specs.SessionKeeping.{session_of}
-use Rattle.bridge_session.proofs.SessionOf.{session_of_is, no_session}
+use Rattle.bridge_session.specs.Laws.SessionOf.{session_of_is, no_session}
 use Rattle.bridge_session.proofs.kept.SessionKept.from_parts.Goals as goal
 
 -- a session that has the parts is theirs

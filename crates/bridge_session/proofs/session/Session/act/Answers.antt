@@ -1,17 +1,19 @@
 use Rattle.std.proofs.Common.{◌≡◌, ◌<◌, ℕ, List, length, Option, Some, Result, sym, ap, ◌∙◌, subst, arith}
 use Rattle.std.specs.Prelude.{All, OnOk, map, slice_get, slice_set}
 use Rattle.std.specs.Vec.{with_items}
-use Rattle.bridge_session.specs.declared.record.Record.{Record}
-use Rattle.bridge_session.specs.declared.refused.Refused.{Refused}
-use Rattle.bridge_session.specs.State.{SessionValue, deal_on, seating_of}
-use Rattle.bridge_session.specs.Step.{seen_by, player_answer, answer_among, acted}
-use Rattle.bridge_session.specs.Valid.{IsDeed}
-use Rattle.bridge_session.specs.StateRange.{IsSession}
-use Rattle.bridge_session.specs.Kept.{plain_of, state_of, IsTiedIn, IsKept}
-use Rattle.bridge_session.proofs.Lists.{at_result, map_ok, map_err, set_there}
-use Rattle.bridge_session.proofs.Acted.{kept_session, boards_same, seated_answer, row_at_is, acted_state, kept_with, tied_row, lists_in, list_there, list_changed}
-use Rattle.bridge_session.proofs.StateRanges.{acted_in_range}
-use Rattle.bridge_session.proofs.ValidPlayer.{player_valid}
+use Rattle.bridge_table.specs.declared.record.Record.{Record}
+use Rattle.session_rules.specs.declared.refused.Refused.{Refused}
+use Rattle.session_rules.specs.State.{SessionValue, deal_on, seating_of}
+use Rattle.session_rules.specs.Step.{seen_by, player_answer, answer_among, acted}
+use Rattle.session_rules.specs.Valid.{IsDeed}
+use Rattle.session_rules.specs.StateRange.{IsSession}
+use Rattle.bridge_table.specs.Kept.{plain_of, IsTiedIn}
+use Rattle.bridge_session.specs.KeptSession.{state_of, IsKept}
+use Rattle.session_rules.proofs.Lists.{at_result, map_ok, map_err, set_there}
+use Rattle.bridge_session.proofs.Acted.{kept_session, seated_answer, acted_state, kept_with}
+use Rattle.bridge_table.proofs.Tables.{boards_same, row_at_is, tied_row, lists_in, list_there, list_changed}
+use Rattle.bridge_session.specs.Laws.StateRanges.{acted_in_range}
+use Rattle.session_rules.proofs.ValidPlayer.{player_valid}
 use Rattle.bridge_session.proofs.session.Session.act.Goals as goal
 use Rattle.bridge_session.proofs.session.Session.act.Goals.{After-self-1}
 

@@ -1,12 +1,13 @@
 use Rattle.std.proofs.Common.{◌≡◌, ◌-◌, ◌<◌, ◌≤◌, ◌*◌, length, Some, None, Ok, sym, ap, ◌∙◌, subst, arith}
 use Rattle.std.specs.Prelude.{slice_set}
-use Rattle.bridge_session.specs.State.{SessionValue, deal_on, director_answer}
-use Rattle.bridge_session.specs.Step.{if_allowed, deal_answer}
-use Rattle.bridge_session.specs.StateRange.{AreHands, AreHandsOrNone, IsSession}
-use Rattle.bridge_session.specs.Kept.{state_of, IsKept}
-use Rattle.bridge_session.proofs.Acted.{kept_session, lists_in}
+use Rattle.session_rules.specs.State.{SessionValue, deal_on, director_answer}
+use Rattle.session_rules.specs.Step.{if_allowed, deal_answer}
+use Rattle.session_rules.specs.StateRange.{AreHands, AreHandsOrNone, IsSession}
+use Rattle.bridge_session.specs.KeptSession.{state_of, IsKept}
+use Rattle.bridge_session.proofs.Acted.{kept_session}
+use Rattle.bridge_table.proofs.Tables.{lists_in}
 use Rattle.std.proofs.lemmas.List.Elements.{All-set}
-use Rattle.bridge_session.proofs.ValidRound.{deal_valid}
+use Rattle.session_rules.proofs.ValidRound.{deal_valid}
 use Rattle.bridge_session.proofs.Dealt.{was_none, kept_dealt, deal_accepted}
 use Rattle.bridge_session.proofs.session.Session.deal_board.Goals as goal
 use Rattle.bridge_session.proofs.session.Session.deal_board.Goals.{After-self-1}

@@ -1,13 +1,14 @@
 use Rattle.std.proofs.Common.{◌≡◌, ◌+◌, false, sym, ap, ◌∙◌, subst}
 use Rattle.std.specs.List.{list_any}
-use Rattle.bridge_session.specs.Record.{is_open}
-use Rattle.bridge_session.specs.State.{SessionValue, is_closed}
-use Rattle.bridge_session.specs.Step.{records_of_round}
-use Rattle.bridge_session.specs.StateRange.{IsSession}
-use Rattle.bridge_session.specs.Kept.{state_of, IsKept}
-use Rattle.bridge_session.proofs.Acted.{kept_session, lists_in}
+use Rattle.session_rules.specs.Record.{is_open}
+use Rattle.session_rules.specs.State.{SessionValue, is_closed}
+use Rattle.session_rules.specs.Step.{records_of_round}
+use Rattle.session_rules.specs.StateRange.{IsSession}
+use Rattle.bridge_session.specs.KeptSession.{state_of, IsKept}
+use Rattle.bridge_session.proofs.Acted.{kept_session}
+use Rattle.bridge_table.proofs.Tables.{lists_in}
 use Rattle.bridge_session.proofs.Rounds.{next_accepted, kept_next}
-use Rattle.bridge_session.proofs.ValidRound.{next_valid}
+use Rattle.session_rules.proofs.ValidRound.{next_valid}
 use Rattle.bridge_session.proofs.session.Session.end_round.Goals as goal
 
 pub invariant_of-self : goal.invariant_of-self

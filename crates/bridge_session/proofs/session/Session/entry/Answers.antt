@@ -1,7 +1,7 @@
 use Rattle.std.proofs.Common.{Some, ap, ◌∙◌}
 use Rattle.std.specs.Option.{option_map}
-use Rattle.bridge_session.specs.Outcome.{outcome_of}
-use Rattle.bridge_session.proofs.Entries.{outcome_seen}
+use Rattle.session_rules.specs.Outcome.{outcome_of}
+use Rattle.bridge_table.proofs.Outcomes.{outcome_seen}
 use Rattle.bridge_session.proofs.session.Session.entry.Goals as goal
 
 pub returns-clause-outcome : goal.returns-clause-outcome

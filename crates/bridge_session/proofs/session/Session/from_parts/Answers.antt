@@ -2,11 +2,11 @@ use Rattle.std.proofs.Common.{◌≡◌, ◌+◌, ◌++◌, ◌∙◌, length, m
 use Rattle.std.specs.List.{drop-map}
 use Rattle.std.proofs.lemmas.List.{length-map, take-append-drop}
 use Rattle.bridge_config.specs.ConfigValue.{ConfigValue, pair_of}
-use Rattle.bridge_session.specs.State.{SessionValue}
-use Rattle.bridge_session.specs.Head.{head_parts}
-use Rattle.bridge_session.specs.Parts.{pair_part, board_parts}
-use Rattle.bridge_session.specs.Reading.{items_of}
-use Rattle.bridge_session.proofs.ReadTables.{when_none, when_some}
+use Rattle.session_rules.specs.State.{SessionValue}
+use Rattle.session_bytes.specs.Head.{head_parts}
+use Rattle.session_bytes.specs.Parts.{pair_part, board_parts}
+use Rattle.session_bytes.specs.Reading.{items_of}
+use Rattle.session_bytes.proofs.ReadTables.{when_none, when_some}
 use Rattle.bridge_session.proofs.Restored.{same_head}
 use Rattle.bridge_session.proofs.session.Session.from_parts.Goals as goal
 

@@ -2,11 +2,11 @@ use Rattle.std.proofs.Common.{◌≡◌, ◌-◌, ◌*◌, ℕ, Bool, List, ap, 
 use Rattle.std.specs.List.{list_any}
 use Rattle.bridge_movement.specs.declared.shape.Shape.{Shape}
 use Rattle.bridge_config.specs.ConfigValue.{ConfigValue}
-use Rattle.bridge_session.specs.declared.record.Record.{Record}
-use Rattle.bridge_session.specs.Record.{is_open}
-use Rattle.bridge_session.specs.State.{SessionValue}
-use Rattle.bridge_session.specs.Step.{records_of_round}
-use Rattle.bridge_session.specs.Kept.{is_kept_open}
+use Rattle.bridge_table.specs.declared.record.Record.{Record}
+use Rattle.session_rules.specs.Record.{is_open}
+use Rattle.session_rules.specs.State.{SessionValue}
+use Rattle.session_rules.specs.Step.{records_of_round}
+use Rattle.bridge_table.specs.Kept.{is_kept_open}
 use Rattle.bridge_session.proofs.Rounds.{open_of_round}
 use Rattle.bridge_session.proofs.session.Session.is_round_open.Goals as goal
 

@@ -1,6 +1,7 @@
 use Rattle.std.proofs.Common.{subst}
-use Rattle.bridge_session.specs.StateRange.{IsSession}
-use Rattle.bridge_session.proofs.Acted.{kept_session, lists_in}
+use Rattle.session_rules.specs.StateRange.{IsSession}
+use Rattle.bridge_session.proofs.Acted.{kept_session}
+use Rattle.bridge_table.proofs.Tables.{lists_in}
 use Rattle.bridge_session.proofs.session.Session.is_session.Goals as goal
 
 pub returns : goal.returns

@@ -5,8 +5,8 @@ use Rattle.std.proofs.lemmas.Bool.{leb-true, and_parts}
 use Rattle.bridge_config.specs.Limits.{IsConfiguration}
 use Rattle.bridge_movement.specs.declared.shape.Shape.{Shape}
 use Rattle.bridge_config.specs.ConfigValue.{ConfigValue, configuration_of}
-use Rattle.bridge_session.specs.Kept.{new_table}
-use Rattle.bridge_session.proofs.Acted.{lists_in}
+use Rattle.bridge_session.specs.KeptSession.{new_table}
+use Rattle.bridge_table.proofs.Tables.{lists_in}
 use Rattle.bridge_session.proofs.NewSession.{IsNew, new_is_kept, new_is_opening}
 use Rattle.bridge_session.proofs.session.Session.new.Goals as goal
 use Rattle.bridge_session.proofs.session.Session.new.Goals.{In_ok-tables}

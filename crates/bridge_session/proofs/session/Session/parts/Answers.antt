@@ -1,10 +1,10 @@
 use Rattle.std.proofs.Common.{Vec, Global, ◌≡◌, ◌+◌, ◌*◌, length, sym, ap, ◌∙◌, arith}
 use Rattle.std.proofs.lemmas.List.{length-map}
 use Rattle.bridge_config.specs.ConfigValue.{ConfigValue, pair_of}
-use Rattle.bridge_session.specs.declared.record.Record.{Record}
-use Rattle.bridge_session.specs.State.{SessionValue}
-use Rattle.bridge_session.specs.Parts.{parts_of}
-use Rattle.bridge_session.proofs.Acted.{lists_in}
+use Rattle.bridge_table.specs.declared.record.Record.{Record}
+use Rattle.session_rules.specs.State.{SessionValue}
+use Rattle.session_bytes.specs.Parts.{parts_of}
+use Rattle.bridge_table.proofs.Tables.{lists_in}
 use Rattle.bridge_session.proofs.PartCount.{few_of_each, count_kept}
 use Rattle.bridge_session.proofs.session.Session.parts.Goals as goal
 use Rattle.bridge_session.proofs.session.Session.parts.Goals.{After-len-3}

@@ -5,12 +5,12 @@ use Rattle.std.proofs.lemmas.Bool.{leb-true, and_parts}
 use Rattle.std.proofs.lemmas.List.{length-map}
 use Rattle.bridge_cards.specs.Board.{dealer_of}
 use Rattle.bridge_config.specs.ConfigValue.{ConfigValue}
-use Rattle.bridge_session.specs.declared.record.Record.{Record}
-use Rattle.bridge_session.specs.State.{SessionValue}
-use Rattle.bridge_session.specs.Kept.{IsTiedIn}
-use Rattle.bridge_session.specs.Parts.{record_part}
-use Rattle.bridge_session.proofs.Acted.{tied_row, lists_in, list_there}
-use Rattle.bridge_session.proofs.Entries.{all_at}
+use Rattle.bridge_table.specs.declared.record.Record.{Record}
+use Rattle.session_rules.specs.State.{SessionValue}
+use Rattle.bridge_table.specs.Kept.{IsTiedIn}
+use Rattle.session_bytes.specs.Parts.{record_part}
+use Rattle.bridge_table.proofs.Tables.{tied_row, lists_in, list_there}
+use Rattle.session_rules.proofs.Lists.{all_at}
 use Rattle.bridge_session.proofs.PlayIndexes.{row_within, play_part_is, found_or_empty}
 use Rattle.bridge_session.proofs.session.Session.play_at.Goals as goal
 use Rattle.bridge_session.proofs.session.Session.play_at.Goals.{After-record_at}

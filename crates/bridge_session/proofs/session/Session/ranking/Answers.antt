@@ -7,16 +7,17 @@ use Rattle.bridge_movement.specs.declared.shape.Shape.{Shape}
 use Rattle.bridge_score.specs.declared.ranking.Line.{Line}
 use Rattle.bridge_score.specs.declared.ranking.Scoring.{Scoring}
 use Rattle.bridge_score.specs.Ranking.{ranked_in}
-use Rattle.bridge_session.specs.declared.game.Game.{Game}
-use Rattle.bridge_session.specs.declared.record.Record.{Record}
-use Rattle.bridge_session.specs.declared.refused.Refused.{Refused}
-use Rattle.bridge_session.specs.declared.refused.Refused.TheVariants.{NoSuchPlay}
-use Rattle.bridge_session.specs.State.{SessionValue}
-use Rattle.bridge_session.specs.Step.{if_allowed}
-use Rattle.bridge_session.specs.Ranking.{is_on, line_of, lines_of, games_of, pairs_of_field, has_field, IsRankingTo}
-use Rattle.bridge_session.specs.Kept.{IsGame, state_of, kept_games}
-use Rattle.bridge_session.proofs.Acted.{lists_in, list_there, few_row}
-use Rattle.bridge_session.proofs.Games.{few_on_board, games_seen}
+use Rattle.bridge_ranking.specs.declared.game.Game.{Game}
+use Rattle.bridge_table.specs.declared.record.Record.{Record}
+use Rattle.session_rules.specs.declared.refused.Refused.{Refused}
+use Rattle.session_rules.specs.declared.refused.Refused.TheVariants.{NoSuchPlay}
+use Rattle.session_rules.specs.State.{SessionValue}
+use Rattle.session_rules.specs.Step.{if_allowed}
+use Rattle.bridge_ranking.specs.Ranking.{is_on, line_of, lines_of, games_of, pairs_of_field, has_field, IsRankingTo}
+use Rattle.bridge_ranking.specs.KeptGames.{IsGame, kept_games}
+use Rattle.bridge_session.specs.KeptSession.{state_of}
+use Rattle.bridge_table.proofs.Tables.{lists_in, list_there, few_row}
+use Rattle.bridge_ranking.proofs.Games.{few_on_board, games_seen}
 use Rattle.bridge_session.proofs.session.Session.ranking.Goals as goal
 
 pub games_of-games-requires-clause-few : goal.games_of-games-requires-clause-few

@@ -2,11 +2,12 @@ use Rattle.std.proofs.Common.{◌≡◌, ◌<◌, ◌-◌, length, Some, sym, ap
 use Rattle.std.specs.Prelude.{slice_get, IfSome}
 use Rattle.std.specs.Option.{option_map, option_copied}
 use Rattle.std.proofs.lemmas.Option.{slice_get-map}
-use Rattle.bridge_session.specs.State.{SessionValue, index_of_row}
-use Rattle.bridge_session.specs.Step.{is_row_within, record_of}
-use Rattle.bridge_session.specs.Kept.{plain_of, IsTiedIn}
-use Rattle.bridge_session.proofs.Acted.{tied_row, lists_in, list_there}
-use Rattle.bridge_session.proofs.Entries.{all_at, record_found}
+use Rattle.session_rules.specs.State.{SessionValue, index_of_row}
+use Rattle.session_rules.specs.Step.{is_row_within, record_of}
+use Rattle.bridge_table.specs.Kept.{plain_of, IsTiedIn}
+use Rattle.bridge_table.proofs.Tables.{tied_row, lists_in, list_there}
+use Rattle.session_rules.proofs.Lists.{all_at}
+use Rattle.bridge_session.proofs.Acted.{record_found}
 use Rattle.bridge_session.proofs.Ruled.{some_if}
 use Rattle.bridge_session.proofs.session.Session.record_of.Goals as goal
 use Rattle.bridge_session.proofs.session.Session.record_of.Goals.{After-record_at}

@@ -1,19 +1,22 @@
 use Rattle.std.proofs.Common.{◌≡◌, ◌<◌, ◌≤◌, ◌-◌, ℕ, true, List, length, Some, Result, refl, sym, ap, ◌∙◌, subst, arith}
 use Rattle.std.specs.Prelude.{All, OnOk, map, slice_get, slice_set}
 use Rattle.std.specs.Vec.{with_items}
-use Rattle.bridge_session.specs.declared.record.Record.{Record}
-use Rattle.bridge_session.specs.declared.refused.Refused.{Refused}
-use Rattle.bridge_session.specs.Record.{PlainRecord}
-use Rattle.bridge_session.specs.State.{SessionValue, director_answer, index_of_row, changed_at}
-use Rattle.bridge_session.specs.Step.{if_allowed, is_row_within, rule_answer, record_of, ruled, with_ruling}
-use Rattle.bridge_session.specs.StateRange.{IsCorrectionInRange, IsSession}
-use Rattle.bridge_session.specs.Kept.{plain_of, board_kept, state_of, with_kept_ruling, kept_rule_answer, IsTiedIn, IsKept}
-use Rattle.bridge_session.proofs.Lists.{at_result, map_ok, map_err, set_there}
-use Rattle.bridge_session.proofs.Acted.{kept_session, map-changed_at, changed_row, kept_with, tied_row, lists_in, list_there, list_changed}
-use Rattle.bridge_session.proofs.Entries.{record_found}
+use Rattle.bridge_table.specs.declared.record.Record.{Record}
+use Rattle.session_rules.specs.declared.refused.Refused.{Refused}
+use Rattle.session_rules.specs.Record.{PlainRecord}
+use Rattle.session_rules.specs.State.{SessionValue, director_answer, index_of_row, changed_at}
+use Rattle.session_rules.specs.Step.{if_allowed, is_row_within, rule_answer, record_of, ruled, with_ruling}
+use Rattle.session_rules.specs.StateRange.{IsCorrectionInRange, IsSession}
+use Rattle.bridge_table.specs.Kept.{plain_of, board_kept, with_kept_ruling, kept_rule_answer, IsTiedIn}
+use Rattle.bridge_session.specs.KeptSession.{state_of, IsKept}
+use Rattle.session_rules.proofs.Lists.{at_result, map_ok, map_err, set_there}
+use Rattle.bridge_session.proofs.Acted.{kept_session, kept_with}
+use Rattle.session_rules.proofs.Lists.{map-changed_at}
+use Rattle.bridge_table.proofs.Tables.{changed_row, tied_row, lists_in, list_there, list_changed}
+use Rattle.bridge_session.proofs.Acted.{record_found}
 use Rattle.bridge_session.proofs.Ruled.{rule_seen, changed_at-map, All-changed_at, ruling_tied, some_if}
-use Rattle.bridge_session.proofs.StateRanges.{ruled_in_range}
-use Rattle.bridge_session.proofs.ValidRuling.{rule_valid}
+use Rattle.bridge_session.specs.Laws.StateRanges.{ruled_in_range}
+use Rattle.session_rules.proofs.ValidRuling.{rule_valid}
 use Rattle.bridge_session.proofs.session.Session.rule.Goals as goal
 use Rattle.bridge_session.proofs.session.Session.rule.Goals.{After-self-1}
 

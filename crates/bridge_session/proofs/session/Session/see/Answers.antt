@@ -1,11 +1,12 @@
 use Rattle.std.proofs.Common.{◌≡◌, ◌<◌, length, Some, Err, sym, ap, ◌∙◌, subst, arith}
 use Rattle.std.specs.Prelude.{All, map, slice_get, IfSome, MatchResult}
-use Rattle.bridge_session.specs.State.{SessionValue}
-use Rattle.bridge_session.specs.See.{shown_among, shown_seated, shown_to}
-use Rattle.bridge_session.specs.Views.{IsViewOf, IsViewTo}
-use Rattle.bridge_session.specs.Kept.{plain_of, state_of, IsTiedIn}
-use Rattle.bridge_session.proofs.Lists.{match_map}
-use Rattle.bridge_session.proofs.Acted.{row_at_is, tied_row, few_row, lists_in, list_there}
+use Rattle.session_rules.specs.State.{SessionValue}
+use Rattle.session_rules.specs.See.{shown_among, shown_seated, shown_to}
+use Rattle.session_rules.specs.Views.{IsViewOf, IsViewTo}
+use Rattle.bridge_table.specs.Kept.{plain_of, IsTiedIn}
+use Rattle.bridge_session.specs.KeptSession.{state_of}
+use Rattle.session_rules.proofs.Lists.{match_map}
+use Rattle.bridge_table.proofs.Tables.{row_at_is, tied_row, few_row, lists_in, list_there}
 use Rattle.bridge_session.proofs.session.Session.see.Goals as goal
 use Rattle.bridge_session.proofs.session.Session.see.Goals.{After-as_slice-2}
 

@@ -2,9 +2,9 @@ use Rattle.std.proofs.Common.{◌≡◌, ◌<◌, List, length, map, sym, ap, su
 use Rattle.std.specs.Prelude.{slice_index_or}
 use Rattle.std.proofs.lemmas.List.{length-map, get_or-map}
 use Rattle.bridge_config.specs.ConfigValue.{ConfigValue, Pair, pair_of}
-use Rattle.bridge_session.specs.State.{SessionValue}
-use Rattle.bridge_session.specs.Parts.{pair_part}
-use Rattle.bridge_session.proofs.PartIndexes.{index_of_pair}
+use Rattle.session_rules.specs.State.{SessionValue}
+use Rattle.session_bytes.specs.Parts.{pair_part}
+use Rattle.session_bytes.proofs.PartIndexes.{index_of_pair}
 use Rattle.bridge_session.proofs.session.Session.write_from_pairs.Goals as goal
 
 pub returns-then-index-pairs : goal.returns-then-index-pairs

@@ -5,12 +5,12 @@ use Rattle.std.proofs.lemmas.List.{length-map, take-append-drop}
 use Rattle.bridge_movement.specs.declared.row.Row.{Row}
 use Rattle.bridge_movement.specs.declared.shape.Shape.{Shape}
 use Rattle.bridge_config.specs.ConfigValue.{ConfigValue, configuration_of}
-use Rattle.bridge_session.specs.declared.record.Record.{Record}
-use Rattle.bridge_session.specs.Parts.{deal_part, row_parts, board_parts}
-use Rattle.bridge_session.specs.Reading.{items_of, plains_of, AreDeals, AreRows}
-use Rattle.bridge_session.specs.Kept.{IsTiedIn}
-use Rattle.bridge_session.specs.StateRange.{IsSession}
-use Rattle.bridge_session.proofs.ReadTables.{when_none, when_some}
+use Rattle.bridge_table.specs.declared.record.Record.{Record}
+use Rattle.session_bytes.specs.Parts.{deal_part, row_parts, board_parts}
+use Rattle.session_bytes.specs.Reading.{items_of, plains_of, AreDeals, AreRows}
+use Rattle.bridge_table.specs.Kept.{IsTiedIn}
+use Rattle.session_rules.specs.StateRange.{IsSession}
+use Rattle.session_bytes.proofs.ReadTables.{when_none, when_some}
 use Rattle.bridge_session.proofs.Restored.{AreMade, made_kept, made_is, made_session, session_deals, same_deals, board_half, play_half, parts_long, rows_of}
 use Rattle.bridge_session.proofs.session.restored.read_boards.Goals as goal
 

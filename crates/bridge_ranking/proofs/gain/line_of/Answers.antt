@@ -1,0 +1,51 @@
+use Rattle.std.proofs.Common.{◌≡◌, ◌<◌, ◌+◌, ◌≤◌, ◌+ℤ◌, ℕ, ℤ, List, pos, length, get_or, take, sum_by, sym, ap, ◌∙◌, subst, arith}
+use Rattle.std.proofs.lemmas.Int.{to_z-of_z}
+use Rattle.std.proofs.lemmas.List.Sums.{sum_by_more}
+use mir.Syntax.{w32}
+use mir.Val.{SFits, to_z}
+use Rattle.bridge_ranking.specs.declared.game.Game.{Game}
+use Rattle.bridge_ranking.specs.Ranking.{value_in, available_in}
+use Rattle.bridge_ranking.specs.Gains.{IsGainWithin}
+use Rattle.bridge_ranking.proofs.Gains.{within_both, within_small, small_fits, code_sum, summed}
+use Rattle.bridge_ranking.proofs.gain.line_of.Goals as goal
+
+-- the value that a read past the end would give
+abbrev none : Game
+none = record { board = 0; ns = 0; ew = 0; score = pos 0 }
+
+pub overflow_add-value : goal.overflow_add-value
+overflow_add-value c =
+    let v : ℤ = to_z w32 c.loop-game.value-bits in
+    let gain = c.gain_in-gain.result in
+    let few : c.loop-game.available + gain.available ≤ 123552 = omega (arith, c.loop-game.invariant.most, c.gain_in-gain.ensures.most, c.loop-game-test.true, ap length c.games-game-items.ensures, c.requires.most) in
+    let fits_gain = small_fits gain.value (within_small c.args.scoring gain.value gain.available c.gain_in-gain.ensures.within (omega arith)) in
+    let both = within_both c.args.scoring v gain.value c.loop-game.available gain.available c.loop-game.invariant.within c.gain_in-gain.ensures.within in
+    let fits = small_fits (v +ℤ gain.value) (within_small c.args.scoring (v +ℤ gain.value) (c.loop-game.available + gain.available) both few) in
+    subst (λ z. SFits w32 (v +ℤ z)) (sym (to_z-of_z w32 gain.value fits_gain)) fits
+
+pub loop-game-preserved : goal.loop-game-preserved
+loop-game-preserved c =
+    let v : ℤ = to_z w32 c.loop-game.value-bits in
+    let gain = c.gain_in-gain.result in
+    let few : c.loop-game.available + gain.available ≤ 123552 = omega (arith, c.loop-game.invariant.most, c.gain_in-gain.ensures.most, c.loop-game-test.true, ap length c.games-game-items.ensures, c.requires.most) in
+    let fits_gain = small_fits gain.value (within_small c.args.scoring gain.value gain.available c.gain_in-gain.ensures.within (omega arith)) in
+    let both = within_both c.args.scoring v gain.value c.loop-game.available gain.available c.loop-game.invariant.within c.gain_in-gain.ensures.within in
+    let fits = small_fits (v +ℤ gain.value) (within_small c.args.scoring (v +ℤ gain.value) (c.loop-game.available + gain.available) both few) in
+    let sum = code_sum v gain.value fits_gain fits in
+    let games = c.args.games.now in
+    let i = c.loop-game.game-index in
+    let available : Game → ℕ = available_in games c.args.pair in
+    let within : i < length games = omega (arith, c.loop-game-test.true, ap length c.games-game-items.ensures) in
+    let value : gain.value ≡ value_in c.args.scoring games c.args.pair (get_or games i none) =
+    c.gain_in-gain.ensures.value ∙ ap (λ (gs : List Game). value_in c.args.scoring games c.args.pair (get_or gs i none)) c.games-game-items.ensures in
+    let more : gain.available ≡ available (get_or games i none) =
+    c.gain_in-gain.ensures.available ∙ ap (λ (gs : List Game). available_in games c.args.pair (get_or gs i none)) c.games-game-items.ensures in
+    record {
+      value = sum ∙ summed (value_in c.args.scoring games c.args.pair) games i none v gain.value within c.loop-game.invariant.value value;
+      available =
+          ap (λ n. n + gain.available) c.loop-game.invariant.available
+          ∙ ap (λ n. sum_by available (take i games) + n) more
+          ∙ sym (sum_by_more available games i none within);
+      within = subst (λ z. IsGainWithin c.args.scoring z (c.loop-game.available + gain.available)) (sym sum) both;
+      most = omega (arith, c.loop-game.invariant.most, c.gain_in-gain.ensures.most);
+    }

@@ -1,0 +1,14 @@
+//! The ranking of a session: which plays count, what each pair gains in them against the other scores of a board, and the
+//! lines of a field's pairs (Law 78).
+#![tactic(auto)]
+
+pub mod even;
+pub mod field;
+pub mod gain;
+pub mod game;
+mod scored;
+
+pub use even::equal_scores_gain_the_same;
+pub use field::Field;
+pub use gain::{has_field, lines_of};
+pub use game::{Game, games_of};

@@ -1,8 +1,0 @@
-use Rattle.bridge_session.proofs.SameView.{shown_same, view_same}
-use Rattle.bridge_session.proofs.apart.hidden_cards_are_not_shown.Goals as goal
-
-pub returns-clause-shown : goal.returns-clause-shown
-returns-clause-shown c = shown_same
-
-pub returns-clause-views : goal.returns-clause-views
-returns-clause-views c = view_same

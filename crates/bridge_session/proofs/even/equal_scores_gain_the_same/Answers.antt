@@ -1,5 +1,0 @@
-use Rattle.bridge_session.proofs.EqualGains.{equal_gains}
-use Rattle.bridge_session.proofs.even.equal_scores_gain_the_same.Goals as goal
-
-pub returns : goal.returns
-returns c = equal_gains

@@ -1,5 +1,0 @@
-use Rattle.bridge_session.proofs.Shown.{dealt_is}
-use Rattle.bridge_session.proofs.view.dealt_to.Goals as goal
-
-pub returns : goal.returns
-returns c = dealt_is c.hand.result c.args.deal.now c.args.seat c.hand.ensures.hand

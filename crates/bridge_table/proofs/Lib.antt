@@ -1,0 +1,4 @@
+pub mod Tied
+pub mod Among
+pub mod Tables
+pub mod Outcomes

@@ -1,0 +1,79 @@
+-- The records that the code keeps, and what contracts see of them.
+use Rattle.std.specs.Prelude.{◌≡◌, ℕ, nat_lt, if◌then◌else◌, Err, Bool, not, ◌&&◌, List, [], ◌∷◌, ◌++◌, Option, None, Some, Result}
+use Rattle.std.specs.Option.{option_map, option_map_or}
+use Rattle.bridge_cards.specs.declared.seat.Seat.{Seat}
+use Rattle.bridge_cards.specs.Board.{dealer_of}
+use Rattle.bridge_auction.specs.declared.contract.Contract.{Contract}
+use Rattle.bridge_auction.specs.Auction.{with_call}
+use Rattle.bridge_auction.specs.Contract.{contract_of}
+use Rattle.bridge_play.specs.Play.{PlayValue, with_card, with_claim, with_agreement, without_claim}
+use Rattle.bridge_table.specs.declared.record.Record.{Record}
+use Rattle.session_rules.specs.declared.deed.Deed.{Deed}
+use Rattle.session_rules.specs.declared.deed.Deed.TheVariants as deed
+use Rattle.session_rules.specs.declared.correction.Correction.{Correction}
+use Rattle.session_rules.specs.declared.refused.Refused.{Refused}
+use Rattle.session_rules.specs.declared.refused.Refused.TheVariants.{NoSuchPlay, NotYet}
+use Rattle.session_rules.specs.Correction.{ruling_by, ruling_answer}
+use Rattle.session_rules.specs.State.{deal_on, hands_on}
+use Rattle.session_rules.specs.Record.{PlainRecord, play_of, is_done, is_void}
+
+-- the play that is begun with those hands in that contract
+abbrev pub begun_with : List ℕ → Contract → PlayValue
+begun_with hands contract = record { hands = hands; contract = contract; cards = []; claims = 0; claim = None }
+
+-- what contracts see of a record
+abbrev pub plain_of : Record → PlainRecord
+plain_of kept = record {
+  board = kept.board;
+  calls = kept.auction.calls;
+  cards = option_map_or (λ (play : PlayValue). play.cards) kept.play [];
+  claims = option_map_or (λ (play : PlayValue). play.claims) kept.play 0;
+  claim = option_map_or (λ (play : PlayValue). play.claim) kept.play None;
+  ruling = kept.ruling;
+}
+
+-- the play that is kept is what the rest of the record makes of the hands
+pub record IsTied (hands : List ℕ) (kept : Record) : Type 0 where
+  pub dealer : kept.auction.dealer ≡ dealer_of kept.board
+  pub play : kept.play ≡ play_of hands (plain_of kept)
+
+-- whether the play is neither finished nor void
+abbrev pub is_kept_open : Record → Bool
+is_kept_open kept = not (is_void kept.ruling) && not (is_done kept.auction.calls kept.play)
+
+-- the record after what a player did
+abbrev pub after_deed : List ℕ → Seat → Deed → Record → Record
+after_deed hands seat (deed.Call call) kept = record kept {
+  auction = with_call kept.auction call;
+  play = option_map (begun_with hands) (contract_of kept.auction.dealer (kept.auction.calls ++ call ∷ []));
+}
+after_deed hands seat (deed.Card card) kept = record kept { play = option_map (λ (play : PlayValue). with_card play card) kept.play }
+after_deed hands seat (deed.Claim tricks) kept = record kept { play = option_map (λ (play : PlayValue). with_claim play seat tricks) kept.play }
+after_deed hands seat deed.Agree kept = record kept { play = option_map (λ (play : PlayValue). with_agreement play seat) kept.play }
+after_deed hands seat deed.Refuse kept = record kept { play = option_map without_claim kept.play }
+
+-- the answer to a ruling on the play
+abbrev pub kept_ruling_answer : Record → Correction → Bool → Result (Unit {0}) Refused
+kept_ruling_answer kept correction round_is_over = ruling_answer kept.auction.calls kept.play correction round_is_over
+
+-- the record is tied to the deal of its board, and has calls only where the board is dealt
+pub record IsTiedIn (deals : List (Option (List ℕ))) (kept : Record) : Type 0 where
+  pub tied : IsTied (hands_on deals kept.board) kept
+  pub undealt : deal_on deals kept.board ≡ None → kept.auction.calls ≡ []
+
+abbrev pub board_kept : Record → ℕ
+board_kept kept = kept.board
+
+-- a record in which nothing has happened
+abbrev pub new_record : ℕ → Record
+new_record board = record { board = board; auction = record { dealer = dealer_of board; calls = [] }; play = None; ruling = None }
+
+-- the record after a ruling
+abbrev pub with_kept_ruling : Correction → Record → Record
+with_kept_ruling correction kept = record kept { ruling = ruling_by correction }
+
+-- the answer to a ruling on the play of a record, if there is one
+abbrev pub kept_rule_answer : ℕ → ℕ → Correction → Option Record → Result (Unit {0}) Refused
+kept_rule_answer now round correction None = Err NoSuchPlay
+kept_rule_answer now round correction (Some kept) =
+    if nat_lt now round then Err NotYet else kept_ruling_answer kept correction (nat_lt round now)

@@ -1,0 +1,13 @@
+//! The tables of a session: who sits where, the records of a table's plays, what is done in them, and what a player there is
+//! shown.
+#![tactic(auto)]
+
+pub mod record;
+pub mod seating;
+pub mod table;
+pub mod view;
+
+pub use record::Record;
+pub use seating::{check_asker, check_director, is_closed, is_of_set, row_of, seat_by};
+pub use table::{act_among, deal_on, has_open, record_at, rule_among};
+pub use view::view_among;

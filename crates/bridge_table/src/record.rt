@@ -1,0 +1,300 @@
+//! The record of one play.
+ghost use Rattle.std.specs.Prelude.{◌≡◌, OnOk, OnErr, Some};
+ghost use Rattle.bridge_auction.specs.Call.{IsCall};
+ghost use Rattle.session_rules.specs.Record.{is_done, is_void};
+ghost use Rattle.session_rules.specs.Deed.{from_call, from_card, from_claim, from_consent, renamed, call_answer, deed_answer, answer_if_play};
+ghost use Rattle.session_rules.specs.Correction.{ruling_by};
+ghost use Rattle.session_rules.specs.Outcome.{outcome_of_play, outcome_by, HasFewTricks};
+ghost use Rattle.session_rules.specs.declared.ruling.Ruling.TheVariants as ruling;
+ghost use Rattle.session_rules.specs.Valid.{IsDeed};
+ghost use Rattle.session_rules.specs.StateRange.{IsCorrectionInRange};
+ghost use Rattle.bridge_table.specs.Kept.{new_record, is_kept_open, after_deed, kept_ruling_answer};
+ghost use Rattle.session_rules.specs.declared.deed.Deed.TheVariants as deed;
+
+use bridge_auction::{Auction, Call, CallRefused};
+use bridge_cards::{BoardNumber, Card, Deal, Seat, dealer};
+use bridge_play::{CardRefused, ClaimRefused, ConsentRefused, Play};
+use session_rules::{Correction, Deed, MadeCount, Outcome, Refused, Ruling, TrickCount};
+
+/// The play of one board by one table: its calls, its cards and claims once there is a contract, and the ruling on it.
+#[derive(Drop)]
+pub struct Record {
+    pub board: BoardNumber,
+    pub auction: Auction,
+    pub play: Option<Play>,
+    pub ruling: Option<Ruling>,
+}
+
+fn call_result(answer: Result<(), CallRefused>) -> Result<(), Refused>
+    ensures { result ≡ renamed from_call answer }
+{
+    match answer {
+        Ok(()) => Ok(()),
+        Err(CallRefused::Ended) => Err(Refused::WrongPhase),
+        Err(CallRefused::InsufficientBid) => Err(Refused::InsufficientBid),
+        Err(CallRefused::InadmissibleDouble) => Err(Refused::InadmissibleDouble),
+        Err(CallRefused::InadmissibleRedouble) => Err(Refused::InadmissibleRedouble),
+    }
+}
+
+fn card_result(answer: Result<(), CardRefused>) -> Result<(), Refused>
+    ensures { result ≡ renamed from_card answer }
+{
+    match answer {
+        Ok(()) => Ok(()),
+        Err(CardRefused::Over) => Err(Refused::NotCurrent),
+        Err(CardRefused::ClaimStands) => Err(Refused::ClaimStands),
+        Err(CardRefused::NotYourTurn) => Err(Refused::NotYourTurn),
+        Err(CardRefused::NotHeld) => Err(Refused::NotHeld),
+        Err(CardRefused::MustFollow) => Err(Refused::MustFollow),
+    }
+}
+
+fn claim_result(answer: Result<(), ClaimRefused>) -> Result<(), Refused>
+    ensures { result ≡ renamed from_claim answer }
+{
+    match answer {
+        Ok(()) => Ok(()),
+        Err(ClaimRefused::Over) => Err(Refused::NotCurrent),
+        Err(ClaimRefused::ClaimStands) => Err(Refused::ClaimStands),
+        Err(ClaimRefused::NotYourTurn) => Err(Refused::NotYourTurn),
+        Err(ClaimRefused::MidTrick) => Err(Refused::MidTrick),
+        Err(ClaimRefused::TooManyTricks) => Err(Refused::TooManyTricks),
+        Err(ClaimRefused::ClaimsSpent) => Err(Refused::ClaimsSpent),
+    }
+}
+
+fn consent_result(answer: Result<(), ConsentRefused>) -> Result<(), Refused>
+    ensures { result ≡ renamed from_consent answer }
+{
+    match answer {
+        Ok(()) => Ok(()),
+        Err(ConsentRefused::Stale) => Err(Refused::Stale),
+        Err(ConsentRefused::NoClaim) => Err(Refused::NoClaim),
+        Err(ConsentRefused::NotAsked) => Err(Refused::NotAsked),
+    }
+}
+
+impl Record {
+    /// Nothing has happened in the play of the board.
+    pub fn new(board: BoardNumber) -> Record
+        ensures { result ≡ new_record board }
+    {
+        Record {
+            board,
+            auction: Auction::new(dealer(board)),
+            play: None,
+            ruling: None,
+        }
+    }
+
+    /// Whether the play is finished: over, or passed out.
+    pub fn is_finished(&self) -> bool
+        ensures { result ≡ is_done self.now.auction.calls self.now.play }
+    {
+        match &self.play {
+            Some(play) => play.is_over(),
+            None => self.auction.is_ended(),
+        }
+    }
+
+    fn is_void(&self) -> bool
+        ensures { result ≡ is_void self.now.ruling }
+    {
+        matches!(self.ruling, Some(Ruling::Void))
+    }
+
+    /// Whether the play is neither finished nor void.
+    pub fn is_open(&self) -> bool
+        ensures { result ≡ is_kept_open self.now }
+    {
+        !self.is_void() && !self.is_finished()
+    }
+
+    /// What came of the play but for a ruling.
+    fn outcome_of_play(&self) -> Outcome
+        ensures outcome { result ≡ outcome_of_play self.now.auction.calls self.now.play }
+        ensures few { HasFewTricks result }
+    {
+        match &self.play {
+            None if self.auction.is_ended() => Outcome::PassedOut,
+            Some(play) if play.is_over() => {
+                let contract = *play.contract();
+                let side = contract.declarer.side();
+                Outcome::Played {
+                    contract,
+                    tricks: play.tricks(side),
+                }
+            }
+            _ => Outcome::Unfinished,
+        }
+    }
+
+    /// What came of the play of which declarer has that many tricks by a ruling.
+    fn outcome_ruled(&self, tricks: TrickCount) -> Outcome
+        ensures outcome { result ≡ outcome_by self.now.auction.calls self.now.play (Some (ruling.Tricks tricks)) }
+        ensures few { HasFewTricks result }
+    {
+        match &self.play {
+            Some(play) => Outcome::Played {
+                contract: *play.contract(),
+                tricks: tricks.number(),
+            },
+            None => Outcome::Unfinished,
+        }
+    }
+
+    /// What came of the play.
+    pub fn outcome(&self) -> Outcome
+        ensures outcome { result ≡ outcome_by self.now.auction.calls self.now.play self.now.ruling }
+        ensures few { HasFewTricks result }
+    {
+        match self.ruling {
+            None => self.outcome_of_play(),
+            Some(Ruling::Void) => Outcome::Voided,
+            Some(Ruling::Tricks(tricks)) => self.outcome_ruled(tricks),
+        }
+    }
+
+    fn call(&mut self, seat: Seat, at: MadeCount, call: Call, deal: &Deal) -> Result<(), Refused>
+        ensures answer { result ≡ call_answer self.old.auction seat at call }
+        ensures known { OnOk result (IsCall call) }
+        ensures taken { OnOk result (self.new ≡ after_deed deal.now seat (deed.Call call) self.old) }
+        ensures refused { OnErr result (self.new ≡ self.old) }
+    {
+        if self.auction.is_ended() {
+            return Err(Refused::WrongPhase);
+        }
+        if usize::from(at.number()) != self.auction.calls().len() {
+            return Err(Refused::Stale);
+        }
+        if seat != self.auction.turn() {
+            return Err(Refused::NotYourTurn);
+        }
+        let answer = call_result(self.auction.try_call(call));
+        if answer.is_ok() {
+            self.play = self
+                .auction
+                .contract()
+                .map(|contract| Play::new(deal, contract));
+        }
+        answer
+    }
+
+    fn card(&mut self, seat: Seat, at: MadeCount, card: Card, deal: &Deal) -> Result<(), Refused>
+        ensures answer { result ≡ answer_if_play self.old.play seat at (deed.Card card) }
+        ensures taken { OnOk result (self.new ≡ after_deed deal.now seat (deed.Card card) self.old) }
+        ensures refused { OnErr result (self.new ≡ self.old) }
+    {
+        let Some(play) = &mut self.play else {
+            return Err(Refused::WrongPhase);
+        };
+        if usize::from(at.number()) != play.cards().len() {
+            return Err(Refused::Stale);
+        }
+        card_result(play.try_card(seat, card))
+    }
+
+    fn claim(
+        &mut self,
+        seat: Seat,
+        at: MadeCount,
+        tricks: TrickCount,
+        deal: &Deal,
+    ) -> Result<(), Refused>
+        ensures answer { result ≡ answer_if_play self.old.play seat at (deed.Claim tricks) }
+        ensures taken { OnOk result (self.new ≡ after_deed deal.now seat (deed.Claim tricks) self.old) }
+        ensures refused { OnErr result (self.new ≡ self.old) }
+    {
+        let Some(play) = &mut self.play else {
+            return Err(Refused::WrongPhase);
+        };
+        if at.number() != u16::from(play.claims()) {
+            return Err(Refused::Stale);
+        }
+        claim_result(play.try_claim(seat, tricks.number()))
+    }
+
+    fn agree(&mut self, seat: Seat, at: MadeCount, deal: &Deal) -> Result<(), Refused>
+        ensures answer { result ≡ answer_if_play self.old.play seat at deed.Agree }
+        ensures taken { OnOk result (self.new ≡ after_deed deal.now seat deed.Agree self.old) }
+        ensures refused { OnErr result (self.new ≡ self.old) }
+    {
+        let Some(play) = &mut self.play else {
+            return Err(Refused::WrongPhase);
+        };
+        let claims = play.claims();
+        if at.number() != u16::from(claims) {
+            return Err(Refused::Stale);
+        }
+        consent_result(play.agree(seat, claims))
+    }
+
+    fn refuse(&mut self, seat: Seat, at: MadeCount, deal: &Deal) -> Result<(), Refused>
+        ensures answer { result ≡ answer_if_play self.old.play seat at deed.Refuse }
+        ensures taken { OnOk result (self.new ≡ after_deed deal.now seat deed.Refuse self.old) }
+        ensures refused { OnErr result (self.new ≡ self.old) }
+    {
+        let Some(play) = &mut self.play else {
+            return Err(Refused::WrongPhase);
+        };
+        let claims = play.claims();
+        if at.number() != u16::from(claims) {
+            return Err(Refused::Stale);
+        }
+        consent_result(play.refuse(seat, claims))
+    }
+
+    /// What a player does, who names how many such acts were made before, in the play of that deal.
+    pub fn act(&mut self, seat: Seat, at: MadeCount, deed: Deed, deal: &Deal) -> Result<(), Refused>
+        ensures answer { result ≡ deed_answer self.old.auction self.old.play seat at deed }
+        ensures known { OnOk result (IsDeed deed) }
+        ensures taken { OnOk result (self.new ≡ after_deed deal.now seat deed self.old) }
+        ensures refused { OnErr result (self.new ≡ self.old) }
+    {
+        match deed {
+            Deed::Call(call) => self.call(seat, at, call, deal),
+            Deed::Card(card) => self.card(seat, at, card, deal),
+            Deed::Claim(tricks) => self.claim(seat, at, tricks, deal),
+            Deed::Agree => self.agree(seat, at, deal),
+            Deed::Refuse => self.refuse(seat, at, deal),
+        }
+    }
+
+    /// The answer to a ruling, of a play whose round is over or not: `Tricks` and `Restore` may be refused.
+    fn ruling_answer(&self, correction: Correction, round_is_over: bool) -> Result<(), Refused>
+        ensures { result ≡ kept_ruling_answer self.now correction round_is_over }
+    {
+        match correction {
+            Correction::Tricks(_) => match &self.play {
+                None => Err(Refused::NoContract),
+                Some(play) if !play.is_over() => Err(Refused::NotFinished),
+                Some(_) => Ok(()),
+            },
+            Correction::Void => Ok(()),
+            Correction::Restore => {
+                if round_is_over && !self.is_finished() {
+                    Err(Refused::NotFinished)
+                } else {
+                    Ok(())
+                }
+            }
+        }
+    }
+
+    /// Sets the ruling, or takes it back.
+    pub fn rule(&mut self, correction: Correction, round_is_over: bool) -> Result<(), Refused>
+        ensures answer { result ≡ kept_ruling_answer self.old correction round_is_over }
+        ensures taken { OnOk result (self.new ≡ record self.old { ruling = ruling_by correction }) }
+        ensures range { IsCorrectionInRange correction }
+        ensures refused { OnErr result (self.new ≡ self.old) }
+    {
+        let made = correction;
+        let ruling = made.ruling();
+        let answer = self.ruling_answer(correction, round_is_over);
+        if answer.is_ok() {
+            self.ruling = ruling;
+        }
+        answer
+    }
+}

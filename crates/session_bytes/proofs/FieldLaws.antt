@@ -1,0 +1,324 @@
+-- The fields of a part are read back from its bytes, and only from these.
+use Rattle.std.proofs.Common.{◌≡◌, ◌≢◌, IfSome, IfNone, ◌+◌, ◌*◌, ◌/◌, ◌%◌, ◌<◌, ◌≤◌, ◌^◌, ◌==◌, nat_le, nat_lt, ℕ, zero, suc, Bool, true, false, List, [], ◌∷◌, ◌++◌, length, take, drop, map, Option, Some, None, if◌then◌else◌, refl, sym, ap, ◌∙◌, subst, arith, inl, inr, length-append, append_assoc}
+use Rattle.std.specs.Prelude.{option_and_then}
+use Rattle.std.specs.Int.{w16, to_be_bytes, from_be_bytes}
+use Rattle.std.specs.Option.{option_map}
+use Rattle.std.proofs.lemmas.Bool.{ltb-false, le-ltb, leb-true, le-leb, eqb-true}
+use Rattle.std.proofs.lemmas.Nat.{from_be_bytes-to_be_bytes_2, be_bytes_2}
+use Rattle.std.proofs.lemmas.List.{take-append-drop, length-take, take_at, drop_at, length-map}
+use Rattle.bridge_cards.specs.declared.seat.Seat.{Seat}
+use Rattle.bridge_cards.specs.declared.seat.Seat.TheVariants.{North, East, South, West}
+use Rattle.bridge_cards.specs.Seat.{seat_number}
+use Rattle.bridge_auction.specs.Call.{call_number}
+use Rattle.bridge_auction.specs.declared.contract.Contract.{Contract}
+use Rattle.bridge_play.specs.declared.claim.Claim.{Claim}
+use Rattle.session_bytes.specs.declared.record_fields.RecordFields.{RecordFields}
+use Rattle.session_rules.specs.declared.ruling.Ruling.{Ruling}
+use Rattle.session_rules.specs.declared.ruling.Ruling.TheVariants as ruling
+use Rattle.session_rules.specs.Record.{PlainRecord, contract_in}
+use Rattle.session_bytes.specs.Parts.{text_bytes, value_if, agreed_byte, is_agreed_in, claim_bytes, ruling_bytes, record_part}
+use Rattle.session_rules.specs.StateRange.{IsOfFourSeats, IsRulingInRange, IsRecordInRange}
+use Rattle.session_bytes.specs.PartsRead.{agreed_in}
+use Rattle.session_bytes.specs.Reading.{Fields, fields_in, fields_of, bytes_at, calls_at, cards_at, seat_numbered, claimed_by, marked_at, claim_at, tricks_in, ruling_at, claims_at, fields_at, fields_part, AreFieldsOf}
+use Rattle.session_bytes.proofs.RecordBack.{agreed_back}
+use Rattle.session_bytes.proofs.ActionLaws.{AreBytes, map_is, then_is, if_is, two_bytes}
+
+pub some_is : {A : Type 0} (x y : A) → Some x ≡ Some y → x ≡ y
+some_is x y is = cc
+
+pub not_some : {A : Type 0} (x : A) → ◌≡◌ {A = Option A} None (Some x) → ⊥
+not_some x is = cc
+
+-- Bytes behind their number
+
+split_take : (count : ℕ) (bytes : List ℕ) (x : List ℕ × List ℕ) → bytes_at count bytes ≡ Some x → (length x.0 ≡ count) × (x.0 ++ x.1 ≡ bytes)
+split_take count bytes x is =
+    elim (if_is (nat_lt (length bytes) count) None (Some (take count bytes, drop count bytes)) (Some x) is) [
+      | inl here ↦ absurd (not_some x here.1)
+      | inr other ↦
+          let long : count ≤ length bytes = ltb-false (length bytes) count other.0 in
+          let few : length (take count bytes) ≡ count = omega (arith, length-take count bytes, long) in
+          subst (λ (y : List ℕ × List ℕ). (length y.0 ≡ count) × (y.0 ++ y.1 ≡ bytes)) (some_is (take count bytes, drop count bytes) x other.1)
+          (few, take-append-drop count bytes)
+    ]
+
+split_again : (xs rest : List ℕ) → bytes_at (length xs) (xs ++ rest) ≡ Some (xs, rest)
+split_again xs rest =
+    let long : nat_lt (length (xs ++ rest)) (length xs) ≡ false = le-ltb _ _ (omega (arith, length-append xs rest)) in
+    rw (long, take_at xs rest (length xs) refl, drop_at xs rest (length xs) refl) refl
+
+calls_take : (bytes : List ℕ) (x : List ℕ × List ℕ) → AreBytes bytes → calls_at bytes ≡ Some x → to_be_bytes w16 (length x.0) ++ x.0 ++ x.1 ≡ bytes
+calls_take [] x are is = absurd (not_some x is)
+calls_take (high ∷ []) x are is = absurd (not_some x is)
+calls_take (high ∷ low ∷ rest) x are is =
+    let number : ℕ = from_be_bytes w16 (high ∷ low ∷ []) in
+    let split = split_take number rest x is in
+    let two : to_be_bytes w16 (length x.0) ≡ high ∷ low ∷ []
+    = be_bytes_2 (high ∷ low ∷ []) (length x.0) refl (two_bytes high low (are 0) (are 1)) split.0 in
+    ap (λ front. front ++ (x.0 ++ x.1)) two ∙ ap (λ behind. high ∷ low ∷ behind) split.1
+
+calls_again : (xs rest : List ℕ) → length xs < 2 ^ 16 → calls_at (to_be_bytes w16 (length xs) ++ xs ++ rest) ≡ Some (xs, rest)
+calls_again xs rest few =
+    ap (λ n. bytes_at n (xs ++ rest)) (from_be_bytes-to_be_bytes_2 (length xs) few) ∙ split_again xs rest
+
+cards_take : (bytes : List ℕ) (x : List ℕ × List ℕ) → cards_at bytes ≡ Some x → text_bytes x.0 ++ x.1 ≡ bytes
+cards_take [] x is = absurd (not_some x is)
+cards_take (count ∷ rest) x is =
+    let split = split_take count rest x is in
+    ap (λ n. n ∷ (x.0 ++ x.1)) split.0 ∙ ap (λ behind. count ∷ behind) split.1
+
+-- A claim
+
+seat_take : (number : ℕ) (seat : Seat) → seat_numbered number ≡ Some seat → seat_number seat ≡ number
+seat_take number seat is =
+    elim (if_is (number == 0) (Some North) _ (Some seat) is) [
+      | inl here ↦ ap seat_number (sym (some_is North seat here.1)) ∙ sym (eqb-true number 0 here.0)
+      | inr other ↦ elim (if_is (number == 1) (Some East) _ (Some seat) other.1) [
+        | inl here ↦ ap seat_number (sym (some_is East seat here.1)) ∙ sym (eqb-true number 1 here.0)
+        | inr other ↦ elim (if_is (number == 2) (Some South) _ (Some seat) other.1) [
+          | inl here ↦ ap seat_number (sym (some_is South seat here.1)) ∙ sym (eqb-true number 2 here.0)
+          | inr other ↦ elim (if_is (number == 3) (Some West) _ (Some seat) other.1) [
+            | inl here ↦ ap seat_number (sym (some_is West seat here.1)) ∙ sym (eqb-true number 3 here.0)
+            | inr other ↦ absurd (not_some seat other.1)
+          ]
+        ]
+      ]
+    ]
+
+seat_again : (seat : Seat) → seat_numbered (seat_number seat) ≡ Some seat
+seat_again North = refl
+seat_again East = refl
+seat_again South = refl
+seat_again West = refl
+
+bit_value : (bit value : ℕ) → bit < 2 → value_if (bit == 1) value ≡ bit * value
+bit_value zero value less = omega arith
+bit_value (suc zero) value less = omega arith
+bit_value (suc (suc n)) value less = absurd (omega (arith, less))
+
+abbrev claim_by : Seat → ℕ → List Bool → Claim
+claim_by claimer tricks agreed = record { claimer = claimer; tricks = tricks; agreed = agreed }
+
+bits_take : (claimer : Seat) (tricks bits : ℕ) → bits ≤ 15 → agreed_byte (claim_by claimer tricks (agreed_in bits)) ≡ bits
+bits_take claimer tricks bits few =
+    let one = bit_value (bits % 2) 1 (omega arith) in
+    let two = bit_value (bits / 2 % 2) 2 (omega arith) in
+    let four = bit_value (bits / 4 % 2) 4 (omega arith) in
+    let eight = bit_value (bits / 8 % 2) 8 (omega arith) in
+    rw (one, two, four, eight) (omega (arith, few))
+
+few_bits : (a b c d : Bool) → nat_lt 15 (value_if a 1 + value_if b 2 + value_if c 4 + value_if d 8) ≡ false
+few_bits false false false false = refl
+few_bits false false false true = refl
+few_bits false false true false = refl
+few_bits false false true true = refl
+few_bits false true false false = refl
+few_bits false true false true = refl
+few_bits false true true false = refl
+few_bits false true true true = refl
+few_bits true false false false = refl
+few_bits true false false true = refl
+few_bits true false true false = refl
+few_bits true false true true = refl
+few_bits true true false false = refl
+few_bits true true false true = refl
+few_bits true true true false = refl
+few_bits true true true true = refl
+
+claimed_take : (seat tricks bits : ℕ) (claim : Claim) → claimed_by seat tricks bits ≡ Some claim
+    → (seat_number claim.claimer ≡ seat) × (claim.tricks ≡ tricks) × (agreed_byte claim ≡ bits) × IsOfFourSeats claim
+claimed_take seat tricks bits claim is =
+    elim (if_is (nat_lt 15 bits) None (option_map (λ (claimer : Seat). claim_by claimer tricks (agreed_in bits)) (seat_numbered seat)) (Some claim) is) [
+      | inl here ↦ absurd (not_some claim here.1)
+      | inr other ↦
+          let found = map_is (λ (claimer : Seat). claim_by claimer tricks (agreed_in bits)) (seat_numbered seat) claim other.1 in
+          let few : bits ≤ 15 = ltb-false 15 bits other.0 in
+          subst (λ (k : Claim). (seat_number k.claimer ≡ seat) × (k.tricks ≡ tricks) × (agreed_byte k ≡ bits) × IsOfFourSeats k) found.2
+          (seat_take seat found.0 found.1, refl, bits_take found.0 tricks bits few, refl)
+    ]
+
+claimed_again : (claimer : Seat) (tricks : ℕ) (agreed : List Bool) → length agreed ≡ 4
+    → claimed_by (seat_number claimer) tricks (agreed_byte (claim_by claimer tricks agreed)) ≡ Some (claim_by claimer tricks agreed)
+claimed_again claimer tricks [] four = absurd (omega (arith, four))
+claimed_again claimer tricks (a ∷ []) four = absurd (omega (arith, four))
+claimed_again claimer tricks (a ∷ b ∷ []) four = absurd (omega (arith, four))
+claimed_again claimer tricks (a ∷ b ∷ c ∷ []) four = absurd (omega (arith, four))
+claimed_again claimer tricks (a ∷ b ∷ c ∷ d ∷ []) four =
+    rw (few_bits a b c d, seat_again claimer) (ap (λ agreed. Some (claim_by claimer tricks agreed)) (agreed_back a b c d))
+claimed_again claimer tricks (a ∷ b ∷ c ∷ d ∷ e ∷ more) four = absurd (omega (arith, four))
+
+-- the mark of a claim
+abbrev mark_of : Bool → ℕ
+mark_of agreed = if agreed then 2 else 1
+
+marked_take : (agreed : Bool) (bytes : List ℕ) (x : Option Claim × Bool × List ℕ) → marked_at agreed bytes ≡ Some x
+    → (mark_of agreed ∷ bytes ≡ claim_bytes x.1 x.0 ++ x.2) × IfSome x.0 IsOfFourSeats
+marked_take agreed [] x is = absurd (not_some x is)
+marked_take agreed (seat ∷ []) x is = absurd (not_some x is)
+marked_take agreed (seat ∷ tricks ∷ []) x is = absurd (not_some x is)
+marked_take agreed (seat ∷ tricks ∷ bits ∷ rest) x is =
+    let found = map_is (λ (claim : Claim). (Some claim, agreed, rest)) (claimed_by seat tricks bits) x is in
+    let claim : Claim = found.0 in
+    let parts = claimed_take seat tricks bits claim found.1 in
+    subst (λ (y : Option Claim × Bool × List ℕ). (mark_of agreed ∷ seat ∷ tricks ∷ bits ∷ rest ≡ claim_bytes y.1 y.0 ++ y.2) × IfSome y.0 IsOfFourSeats)
+    found.2 (
+      ap (λ n. mark_of agreed ∷ n ∷ tricks ∷ bits ∷ rest) (sym parts.0) ∙ ap (λ n. mark_of agreed ∷ seat_number claim.claimer ∷ n ∷ bits ∷ rest) (sym parts.1)
+          ∙ ap (λ n. mark_of agreed ∷ seat_number claim.claimer ∷ claim.tricks ∷ n ∷ rest) (sym parts.2),
+      parts.3,
+    )
+
+claim_take : (bytes : List ℕ) (x : Option Claim × Bool × List ℕ) → claim_at bytes ≡ Some x → (claim_bytes x.1 x.0 ++ x.2 ≡ bytes) × IfSome x.0 IsOfFourSeats
+claim_take [] x is = absurd (not_some x is)
+claim_take (mark ∷ rest) x is =
+    elim (if_is (mark == 0) _ _ (Some x) is) [
+      | inl here ↦
+          let zero_is = eqb-true mark 0 here.0 in
+          subst (λ (y : Option Claim × Bool × List ℕ). (claim_bytes y.1 y.0 ++ y.2 ≡ mark ∷ rest) × IfSome y.0 IsOfFourSeats)
+          (some_is (None, false, rest) x here.1) (ap (λ n. n ∷ rest) (sym zero_is), tt)
+      | inr other ↦ elim (if_is (mark == 1) _ _ (Some x) other.1) [
+        | inl here ↦
+            let taken = marked_take false rest x here.1 in
+            (sym taken.0 ∙ ap (λ n. n ∷ rest) (sym (eqb-true mark 1 here.0)), taken.1)
+        | inr other ↦ elim (if_is (mark == 2) _ _ (Some x) other.1) [
+          | inl here ↦
+              let taken = marked_take true rest x here.1 in
+              (sym taken.0 ∙ ap (λ n. n ∷ rest) (sym (eqb-true mark 2 here.0)), taken.1)
+          | inr other ↦ absurd (not_some x other.1)
+        ]
+      ]
+    ]
+
+marked_again : (agreed : Bool) (claim : Claim) (rest : List ℕ) → IsOfFourSeats claim
+    → marked_at agreed (seat_number claim.claimer ∷ claim.tricks ∷ agreed_byte claim ∷ rest) ≡ Some (Some claim, agreed, rest)
+marked_again agreed claim rest four =
+    ap (option_map (λ (k : Claim). (Some k, agreed, rest))) (claimed_again claim.claimer claim.tricks claim.agreed four)
+
+claim_again : (agreed : Bool) (claim : Option Claim) (rest : List ℕ) → IfSome claim IsOfFourSeats → (claim ≡ None → agreed ≡ false)
+    → claim_at (claim_bytes agreed claim ++ rest) ≡ Some (claim, agreed, rest)
+claim_again agreed None rest four unmarked = ap (λ b. Some (None, b, rest)) (sym (unmarked refl))
+claim_again false (Some claim) rest four unmarked = marked_again false claim rest four
+claim_again true (Some claim) rest four unmarked = marked_again true claim rest four
+
+-- A ruling
+
+tricks_take : (tricks : ℕ) (r : Option Ruling) → tricks_in tricks ≡ Some r → (ruling_bytes r ≡ 1 ∷ tricks ∷ []) × IfSome r IsRulingInRange
+tricks_take tricks r is =
+    elim (if_is (nat_le tricks 13) _ _ (Some r) is) [
+      | inl here ↦
+          subst (λ (y : Option Ruling). (ruling_bytes y ≡ 1 ∷ tricks ∷ []) × IfSome y IsRulingInRange)
+          (some_is (Some (ruling.Tricks tricks)) r here.1) (refl, leb-true tricks 13 here.0)
+      | inr other ↦ absurd (not_some r other.1)
+    ]
+
+ruling_take : (bytes : List ℕ) (r : Option Ruling) → ruling_at bytes ≡ Some r → (ruling_bytes r ≡ bytes) × IfSome r IsRulingInRange
+ruling_take [] r is = absurd (not_some r is)
+ruling_take (kind ∷ []) r is =
+    elim (if_is (kind == 0) _ _ (Some r) is) [
+      | inl here ↦
+          let same : None ≡ r = some_is None r here.1 in
+          subst (λ (y : Option Ruling). (ruling_bytes y ≡ kind ∷ []) × IfSome y IsRulingInRange) same
+          (ap (λ n. n ∷ []) (sym (eqb-true kind 0 here.0)), tt)
+      | inr other ↦ elim (if_is (kind == 2) _ _ (Some r) other.1) [
+        | inl here ↦
+            subst (λ (y : Option Ruling). (ruling_bytes y ≡ kind ∷ []) × IfSome y IsRulingInRange) (some_is (Some ruling.Void) r here.1)
+            (ap (λ n. n ∷ []) (sym (eqb-true kind 2 here.0)), tt)
+        | inr other ↦ absurd (not_some r other.1)
+      ]
+    ]
+ruling_take (kind ∷ tricks ∷ []) r is =
+    elim (if_is (kind == 1) _ _ (Some r) is) [
+      | inl here ↦
+          let taken = tricks_take tricks r here.1 in
+          (taken.0 ∙ ap (λ n. n ∷ tricks ∷ []) (sym (eqb-true kind 1 here.0)), taken.1)
+      | inr other ↦ absurd (not_some r other.1)
+    ]
+ruling_take (kind ∷ tricks ∷ more ∷ rest) r is = absurd (not_some r is)
+
+ruling_again : (r : Option Ruling) → IfSome r IsRulingInRange → ruling_at (ruling_bytes r) ≡ Some r
+ruling_again None few = refl
+ruling_again (Some (ruling.Tricks tricks)) few = rw (le-leb tricks 13 few) refl
+ruling_again (Some ruling.Void) few = refl
+
+-- All fields
+
+-- one part behind the other
+join : (a b c d e : List ℕ) (n : ℕ) → a ++ b ++ c ++ (n ∷ []) ++ d ++ e ≡ a ++ b ++ (c ++ (n ∷ (d ++ e)))
+join a b c d e n =
+    append_assoc (a ++ b ++ c ++ (n ∷ [])) d e ∙ append_assoc (a ++ b ++ c) (n ∷ []) (d ++ e) ∙ append_assoc (a ++ b) c (n ∷ (d ++ e))
+
+claims_take : (calls cards bytes : List ℕ) (f : Fields) → claims_at calls cards bytes ≡ Some f
+    → (f.calls ≡ calls) × (f.cards ≡ cards) × (f.claims ∷ (claim_bytes f.agreed f.claim ++ ruling_bytes f.ruling) ≡ bytes)
+    × IfSome f.claim IsOfFourSeats × IfSome f.ruling IsRulingInRange
+claims_take calls cards [] f is = absurd (not_some f is)
+claims_take calls cards (claims ∷ rest) f is =
+    let made : Option Claim × Bool × List ℕ → Option Ruling → Fields
+    = λ both r. record { calls = calls; cards = cards; claims = claims; claim = both.0; agreed = both.1; ruling = r } in
+    let claim = then_is (λ both. option_map (made both) (ruling_at both.2)) (claim_at rest) f is in
+    let both = claim.0 in
+    let ruled = map_is (made both) (ruling_at both.2) f claim.2 in
+    let first = claim_take rest both claim.1 in
+    let second = ruling_take both.2 ruled.0 ruled.1 in
+    subst (λ (f : Fields). (f.calls ≡ calls) × (f.cards ≡ cards) × (f.claims ∷ (claim_bytes f.agreed f.claim ++ ruling_bytes f.ruling) ≡ claims ∷ rest)
+    × IfSome f.claim IsOfFourSeats × IfSome f.ruling IsRulingInRange) ruled.2
+    (refl, refl, ap (λ xs. claims ∷ (claim_bytes both.1 both.0 ++ xs)) second.0 ∙ ap (λ xs. claims ∷ xs) first.0, first.1, second.1)
+
+fields_take : (bytes : List ℕ) (f : Fields) → AreBytes bytes → fields_at bytes ≡ Some f → AreFieldsOf bytes f
+fields_take bytes f are is =
+    let calls = then_is (λ (calls : List ℕ × List ℕ). option_and_then (λ (cards : List ℕ × List ℕ). claims_at calls.0 cards.0 cards.1) (cards_at calls.1)) (calls_at bytes) f is in
+    let cards = then_is (λ (cards : List ℕ × List ℕ). claims_at calls.0.0 cards.0 cards.1) (cards_at calls.0.1) f calls.2 in
+    let first = calls_take bytes calls.0 are calls.1 in
+    let second = cards_take calls.0.1 cards.0 cards.1 in
+    let third = claims_take calls.0.0 cards.0.0 cards.0.1 f cards.2 in
+    let claimed : List ℕ = claim_bytes f.agreed f.claim in
+    let end : List ℕ = f.claims ∷ (claimed ++ ruling_bytes f.ruling) in
+    let behind : text_bytes f.cards ++ end ≡ calls.0.1
+    = ap (λ xs. text_bytes xs ++ end) third.1 ∙ ap (λ xs. text_bytes cards.0.0 ++ xs) third.2 ∙ second in
+    let joined = join (to_be_bytes w16 (length f.calls)) f.calls (text_bytes f.cards) claimed (ruling_bytes f.ruling) f.claims in
+    let whole : fields_part f ≡ bytes
+    = joined ∙ ap (λ xs. to_be_bytes w16 (length xs) ++ xs ++ (text_bytes f.cards ++ end)) third.0
+    ∙ ap (λ xs. to_be_bytes w16 (length calls.0.0) ++ calls.0.0 ++ xs) behind ∙ first in
+    let long : length (to_be_bytes w16 (length f.calls) ++ f.calls ++ (text_bytes f.cards ++ end)) ≡ length bytes = ap length (sym joined ∙ whole) in
+    let one = length-append (to_be_bytes w16 (length f.calls) ++ f.calls) (text_bytes f.cards ++ end) in
+    let two = length-append (to_be_bytes w16 (length f.calls)) f.calls in
+    let three = length-append (text_bytes f.cards) end in
+    record {
+      bytes = whole;
+      few_calls = omega (arith, long, one, two);
+      few_cards = omega (arith, long, one, two, three);
+      answers = third.3;
+      ruled = third.4;
+    }
+
+-- without a claim none is agreed
+unmarked : (plain : PlainRecord) (contract : Option Contract) → contract_in plain ≡ contract → plain.claim ≡ None → is_agreed_in plain ≡ false
+unmarked plain None is none = rw is refl
+unmarked plain (Some contract) is none = rw (is, none) refl
+
+pub fields_again : (plain : PlainRecord) → length plain.calls ≤ 319 → IsRecordInRange plain
+    → fields_at (record_part plain) ≡ Some (fields_of plain)
+fields_again plain few in_range =
+    let numbers : List ℕ = map call_number plain.calls in
+    let claim : List ℕ = claim_bytes (is_agreed_in plain) plain.claim in
+    let behind : List ℕ = plain.claims ∷ (claim ++ ruling_bytes plain.ruling) in
+    let count : length plain.calls ≡ length numbers = sym (length-map plain.calls call_number) in
+    let joined = join (to_be_bytes w16 (length plain.calls)) numbers (text_bytes plain.cards) claim (ruling_bytes plain.ruling) plain.claims in
+    let first : calls_at (record_part plain) ≡ Some (numbers, text_bytes plain.cards ++ behind)
+    = ap calls_at joined ∙ ap (λ n. calls_at (to_be_bytes w16 n ++ numbers ++ (text_bytes plain.cards ++ behind))) count
+    ∙ calls_again numbers (text_bytes plain.cards ++ behind) (omega (arith, few, count)) in
+    let second : cards_at (text_bytes plain.cards ++ behind) ≡ Some (plain.cards, behind) = split_again plain.cards behind in
+    let third : claim_at (claim ++ ruling_bytes plain.ruling) ≡ Some (plain.claim, is_agreed_in plain, ruling_bytes plain.ruling)
+    = claim_again (is_agreed_in plain) plain.claim (ruling_bytes plain.ruling) in_range.claim (unmarked plain (contract_in plain) refl) in
+    let fourth : ruling_at (ruling_bytes plain.ruling) ≡ Some plain.ruling = ruling_again plain.ruling in_range.ruling in
+    rw (first, second, third, fourth) refl
+
+-- what was read, as a result tells it
+pub fields_written : (bytes : List ℕ) (o : Option RecordFields) → AreBytes bytes → option_map fields_in o ≡ fields_at bytes
+    → IfSome o (λ fields. AreFieldsOf bytes (fields_in fields))
+fields_written bytes None are is = tt
+fields_written bytes (Some fields) are is = fields_take bytes (fields_in fields) are (sym is)
+
+pub fields_other : (bytes : List ℕ) (o : Option RecordFields) → option_map fields_in o ≡ fields_at bytes
+    → IfNone o ((plain : PlainRecord) → length plain.calls ≤ 319 → IsRecordInRange plain → record_part plain ≢ bytes)
+fields_other bytes None is =
+    λ plain few in_range same. not_some (fields_of plain) (is ∙ ap fields_at (sym same) ∙ fields_again plain few in_range)
+fields_other bytes (Some fields) is = tt

@@ -1,0 +1,16 @@
+pub mod ActionLaws
+pub mod PartLemmas
+pub mod PartIndexes
+pub mod BytesBack
+pub mod PairBack
+pub mod RecordBack
+pub mod TablesBack
+pub mod SessionRecords
+pub mod SessionBack
+pub mod ActionInRange
+pub mod FieldLaws
+pub mod ReadRecords
+pub mod DealLaws
+pub mod HeadLaws
+pub mod ReadLists
+pub mod ReadTables

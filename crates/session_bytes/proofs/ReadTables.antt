@@ -1,0 +1,191 @@
+-- The records of a row and of all rows, one after the other.
+use Rattle.std.proofs.Common.{◌≡◌, ◌+◌, ◌-◌, ◌*◌, ◌<◌, ◌==◌, ℕ, zero, suc, true, false, cond, Result, Ok, Err, List, [], ◌∷◌, ◌++◌, length, map, take, drop, Option, Some, None, refl, sym, ap, ◌∙◌, subst, arith, add-one, length-append}
+use Rattle.std.specs.Prelude.{IfOk, IfSome, IfNone, slice_get, flat_map, replicate, unwrap_or}
+use Rattle.arrayvec.specs.ArrayVec.{ArrayVec}
+use Rattle.std.specs.List.{range_with_len, list_all}
+use Rattle.std.specs.Option.{option_map}
+use Rattle.std.proofs.lemmas.Bool.{and_parts, eqb-true}
+use Rattle.std.specs.Global.{Vec}
+use Rattle.std.proofs.lemmas.List.{map-append, length-map, drop_at}
+use Rattle.std.proofs.lemmas.List.FromFn.{length-range_with_len, length-map-range_with_len}
+use Rattle.std.proofs.lemmas.Simd.{map-map}
+use Rattle.std.proofs.lemmas.List.Elements.{All-push}
+use Rattle.std.proofs.lemmas.Option.{slice_get_within, slice_get-map, slice_get_past, get_or_from_slice_get}
+use Rattle.bridge_movement.specs.declared.row.Row.{Row}
+use Rattle.bridge_movement.specs.Row.{is_live}
+use Rattle.bridge_table.specs.declared.record.Record.{Record}
+use Rattle.session_rules.specs.Record.{PlainRecord, empty_record}
+use Rattle.bridge_table.specs.Kept.{plain_of}
+use Rattle.session_bytes.specs.Parts.{record_part, record_or_empty, row_parts}
+use Rattle.session_rules.specs.State.{row_boards}
+use Rattle.session_rules.specs.StateRange.{IsRecordInRange}
+use Rattle.session_rules.specs.Valid.{board_of, IsValidRecord}
+use Rattle.session_bytes.specs.Reading.{items_of, is_empty_part, part_kept, plains_of, AreRecords, IsRowOf, AreRows, IsReadFrom}
+use Rattle.session_rules.proofs.Lists.{range-push}
+use Rattle.session_bytes.proofs.ReadLists.{some_there, both_push, flat_at, suc_times}
+use Rattle.session_bytes.proofs.PartLemmas.{next_taken, length-flat_fixed}
+
+range_next : (first i : ℕ) → range_with_len first (i + 1) ≡ range_with_len first i ++ (first + i) ∷ []
+range_next first i = ap (range_with_len first) (add-one i) ∙ range-push first i
+
+module _ (deals : List (Option (List ℕ))) (now round : ℕ) where
+  -- one record more
+  pub records_push : (first i board : ℕ) (part : List ℕ) (table : List Record) (kept : Record) → board ≡ first + i
+      → AreRecords deals now round (range_with_len first i) (map plain_of table) → IsReadFrom deals now round board part kept
+      → AreRecords deals now round (range_with_len first (i + 1)) (map plain_of (table ++ kept ∷ []))
+  records_push first i board part table kept board_is are read =
+      let longer : map plain_of (table ++ kept ∷ []) ≡ map plain_of table ++ plain_of kept ∷ [] = map-append plain_of table (kept ∷ []) in
+      subst (AreRecords deals now round (range_with_len first (i + 1))) (sym longer) (record {
+        boards_are = map-append board_of (map plain_of table) (plain_of kept ∷ [])
+            ∙ ap (λ bs. bs ++ kept.board ∷ []) are.boards_are
+            ∙ ap (λ b. range_with_len first i ++ b ∷ []) (read.board_is ∙ board_is)
+            ∙ sym (range_next first i);
+        valid = All-push (IsValidRecord deals now round) (map plain_of table) (plain_of kept) are.valid read.valid;
+        in_range = All-push IsRecordInRange (map plain_of table) (plain_of kept) are.in_range read.in_range;
+      })
+
+-- the number at an index of a range
+pub range_at : (first count i n : ℕ) → slice_get (range_with_len first count) i ≡ Some n → n ≡ first + i
+range_at first zero i n is = let within = slice_get_within {A = ℕ} [] i n is in absurd (omega (arith, within))
+range_at first (suc count) zero n is = let same : first ≡ n = cc in omega (arith, same)
+range_at first (suc count) (suc i) n is = let next = range_at (first + 1) count i n is in omega (arith, next)
+
+-- the board of a record by its index
+pub board_there : (first count i : ℕ) (records : List PlainRecord) (plain : PlainRecord) → map board_of records ≡ range_with_len first count
+    → slice_get records i ≡ Some plain → plain.board ≡ first + i
+board_there first count i records plain is found =
+    range_at first count i plain.board (ap (λ bs. slice_get bs i) (sym is) ∙ slice_get-map board_of records i ∙ ap (option_map board_of) found)
+
+-- The parts of a row
+
+-- records of so many boards
+pub records_count : (deals : List (Option (List ℕ))) (now round first count : ℕ) (records : List PlainRecord)
+    → AreRecords deals now round (range_with_len first count) records → length records ≡ count
+records_count deals now round first count records are =
+    sym (length-map records board_of) ∙ ap length are.boards_are ∙ length-range_with_len first count
+
+-- the part of a play in which nothing has happened
+abbrev six_zeros : List ℕ
+six_zeros = 0 ∷ 0 ∷ 0 ∷ 0 ∷ 0 ∷ 0 ∷ []
+
+zeros_are : (bytes : List ℕ) → is_empty_part bytes ≡ true → bytes ≡ six_zeros
+zeros_are bytes is =
+    let both = and_parts (length bytes == 6) (list_all (λ byte. byte == 0) bytes) is in
+    six bytes (eqb-true (length bytes) 6 both.0) both.1
+  where
+    one : (b : ℕ) (bs : List ℕ) → list_all (λ byte. byte == 0) (b ∷ bs) ≡ true → (b ≡ 0) × (list_all (λ byte. byte == 0) bs ≡ true)
+    one b bs all = let both = and_parts (b == 0) (list_all (λ byte. byte == 0) bs) all in (eqb-true b 0 both.0, both.1)
+
+    zeros : (n : ℕ) (bs : List ℕ) → length bs ≡ n → list_all (λ byte. byte == 0) bs ≡ true → bs ≡ replicate n 0
+    zeros zero [] long all = refl
+    zeros zero (b ∷ bs) long all = absurd (omega (arith, long))
+    zeros (suc n) [] long all = absurd (omega (arith, long))
+    zeros (suc n) (b ∷ bs) long all =
+        let both = one b bs all in
+        ap (λ c. c ∷ bs) both.0 ∙ ap (λ cs. 0 ∷ cs) (zeros n bs (omega (arith, long)) both.1)
+
+    six : (bs : List ℕ) → length bs ≡ 6 → list_all (λ byte. byte == 0) bs ≡ true → bs ≡ six_zeros
+    six bs long all = zeros 6 bs long all
+
+none_at : (index : ℕ) → record_part (record_or_empty [] index) ≡ six_zeros
+none_at index = ap (λ o. record_part (unwrap_or o (empty_record 0))) (slice_get_past {X = PlainRecord} [] index (omega arith))
+
+-- a row without records
+row_none : (parts : List (ArrayVec ℕ)) (k : ℕ) → list_all (λ part. is_empty_part part.items) parts ≡ true
+    → map (λ index. record_part (record_or_empty [] index)) (range_with_len k (length parts)) ≡ map items_of parts
+row_none [] k all = refl
+row_none (part ∷ parts) k all =
+    let both = and_parts (is_empty_part part.items) (list_all (λ part. is_empty_part part.items) parts) all in
+    ap (λ p. p ∷ map (λ index. record_part (record_or_empty [] index)) (range_with_len (k + 1) (length parts))) (none_at k ∙ sym (zeros_are part.items both.0))
+    ∙ ap (λ ps. part.items ∷ ps) (row_none parts (k + 1) both.1)
+
+none_row : (parts : List (ArrayVec ℕ)) (k : ℕ) → map (λ index. record_part (record_or_empty [] index)) (range_with_len k (length parts)) ≡ map items_of parts
+    → list_all (λ part. is_empty_part part.items) parts ≡ true
+none_row [] k is = refl
+none_row (part ∷ parts) k is =
+    let first : record_part (record_or_empty [] k) ≡ part.items = cc in
+    let rest : map (λ index. record_part (record_or_empty [] index)) (range_with_len (k + 1) (length parts)) ≡ map items_of parts = cc in
+    let empty : is_empty_part part.items ≡ true = ap is_empty_part (sym (sym (none_at k) ∙ first)) in
+    rw (empty, none_row parts (k + 1) rest) refl
+
+pub unplayed_row : (boards : ℕ) (parts : List (ArrayVec ℕ)) → length parts ≡ boards → list_all (λ part. is_empty_part part.items) parts ≡ true
+    → row_parts boards [] ≡ map items_of parts
+unplayed_row boards parts long all = ap (λ n. row_parts n []) (sym long) ∙ row_none parts 0 all
+
+pub row_unplayed : (boards : ℕ) (parts : List (ArrayVec ℕ)) → length parts ≡ boards → row_parts boards [] ≡ map items_of parts
+    → list_all (λ part. is_empty_part part.items) parts ≡ true
+row_unplayed boards parts long is = none_row parts 0 (ap (λ n. row_parts n []) long ∙ is)
+
+pub no_records : (records : List PlainRecord) → map board_of records ≡ [] → records ≡ []
+no_records [] is = refl
+no_records (x ∷ xs) is = absurd cc
+
+-- the boards of a row
+pub live_boards : (boards : ℕ) (row : Row) → is_live row ≡ true → row_boards boards row ≡ range_with_len ((row.set - 1) * boards + 1) boards
+live_boards boards row is = ap (λ b. cond b (range_with_len ((row.set - 1) * boards + 1) boards) []) is
+
+pub other_boards : (boards : ℕ) (row : Row) → is_live row ≡ false → row_boards boards row ≡ []
+other_boards boards row is = ap (λ b. cond b (range_with_len ((row.set - 1) * boards + 1) boards) []) is
+
+-- what is kept of records has their parts
+pub kept_parts : (table : List Record) → map part_kept table ≡ map record_part (map plain_of table)
+kept_parts table = sym (map-map record_part plain_of table)
+
+-- what was found, or not
+
+pub found_both : {A E : Type 0} (P Q R : A → Type 0) (r : Result (Option A) E) → IfOk r (λ o. IfSome o P) → IfOk r (λ o. IfSome o Q)
+    → ((x : A) → P x → Q x → R x) → IfOk r (λ o. IfSome o R)
+found_both P Q R (Ok None) one two then = tt
+found_both P Q R (Ok (Some x)) one two then = then x one two
+found_both P Q R (Err e) one two then = tt
+
+pub found_none : {A E : Type 0} (P Q : Type 0) (r : Result (Option A) E) → IfOk r (λ o. IfNone o P) → (P → Q) → IfOk r (λ o. IfNone o Q)
+found_none P Q (Ok None) holds then = then holds
+found_none P Q (Ok (Some x)) holds then = tt
+found_none P Q (Err e) holds then = tt
+
+-- All rows
+
+-- the rows that are left, with one and without it
+pub suc_row : (rows row_index boards : ℕ) → row_index < rows → (rows - row_index) * boards ≡ boards + (rows - (row_index + 1)) * boards
+suc_row rows row_index boards within =
+    let next : rows - row_index ≡ suc (rows - (row_index + 1)) = omega (arith, within) in
+    ap (λ n. n * boards) next ∙ suc_times (rows - (row_index + 1)) boards
+
+row_length : (boards : ℕ) (records : List PlainRecord) → length (row_parts boards records) ≡ boards
+row_length boards records = length-map-range_with_len (λ index. record_part (record_or_empty records index)) 0 boards
+
+module _ (deals : List (Option (List ℕ))) (now boards : ℕ) where
+  -- one row more
+  pub rows_push : (rows : List Row) (i : ℕ) (row : Row) (tables : List (Vec Record)) (table : Vec Record) → i < length rows → slice_get rows i ≡ Some row
+      → AreRows deals now boards (take i rows) (map plains_of tables) → IsRowOf deals now boards row (plains_of table)
+      → AreRows deals now boards (take (i + 1) rows) (map plains_of (tables ++ table ∷ []))
+  rows_push rows i row tables table within is are own =
+      let longer : take (i + 1) rows ≡ take i rows ++ row ∷ [] = next_taken rows i row within (sym (get_or_from_slice_get rows i row row is)) in
+      let made : map plains_of (tables ++ table ∷ []) ≡ map plains_of tables ++ plains_of table ∷ [] = map-append plains_of tables (table ∷ []) in
+      subst (λ (rs : List Row). AreRows deals now boards rs (map plains_of (tables ++ table ∷ []))) (sym longer)
+      (subst (AreRows deals now boards (take i rows ++ row ∷ [])) (sym made) (record {
+        count = omega (arith, are.count, length-append (map plains_of tables) (plains_of table ∷ []), length-append (take i rows) (row ∷ []));
+        each = both_push (IsRowOf deals now boards) (take i rows) (map plains_of tables) row (plains_of table) are.count are.each own;
+      }))
+
+  -- the records of the row at an index have the parts there
+  pub row_there : (rows : List Row) (records front : List (List PlainRecord)) (rest : List (List ℕ)) (i : ℕ) (row : Row)
+      → AreRows deals now boards rows records → flat_map (row_parts boards) front ++ rest ≡ flat_map (row_parts boards) records
+      → length front ≡ i → i < length rows → slice_get rows i ≡ Some row
+      → (own : List PlainRecord) × IsRowOf deals now boards row own × (row_parts boards own ≡ take boards rest)
+  row_there rows records front rest i row are same before within is =
+      let found = some_there records i (omega (arith, within, are.count)) in
+      let long : length (flat_map (row_parts boards) front) ≡ i * boards = length-flat_fixed (row_parts boards) boards (row_length boards) front ∙ ap (λ n. n * boards) before in
+      let parts = flat_at (row_parts boards) boards (row_length boards) i records found.0 found.1 in (
+        found.0,
+        are.each i row found.0 is found.1,
+        sym parts ∙ ap (λ ps. take boards (drop (i * boards) ps)) (sym same) ∙ ap (take boards) (drop_at (flat_map (row_parts boards) front) rest (i * boards) long),
+      )
+
+pub when_none : {A : Type 0} (P : Type 0) (o : Option A) → IfNone o P → o ≡ None → P
+when_none P None holds is = holds
+when_none P (Some x) holds is = absurd (let wrong : Some x ≡ None = is in cc)
+
+pub when_some : {A : Type 0} (P : A → Type 0) (o : Option A) (x : A) → IfSome o P → o ≡ Some x → P x
+when_some P o x holds is = subst (λ p. IfSome p P) is holds

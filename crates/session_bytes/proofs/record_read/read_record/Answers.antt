@@ -1,0 +1,16 @@
+use Rattle.std.proofs.Common.{◌∙◌, ap, sym}
+use Rattle.session_bytes.specs.Reading.{fields_in, fields_of, fields_at}
+use Rattle.session_bytes.proofs.FieldLaws.{some_is, not_some}
+use Rattle.session_bytes.proofs.ReadRecords.{valid_fields, if_none_then}
+use Rattle.session_bytes.proofs.record_read.read_record.Goals as goal
+
+pub returns-in-Some-clause-none : goal.returns-in-Some-clause-none
+returns-in-Some-clause-none c =
+    if_none_then _ _ c.record_of.result c.record_of.ensures.none (λ none plain board_is valid in_range is.
+    none plain board_is valid in_range
+    (some_is (fields_of plain) (fields_in c.in-Some.fields)
+    (sym (valid_fields c.args.deals.now c.args.now c.args.round plain valid in_range) ∙ ap fields_at is ∙ sym c.in-Some.ensures.value)))
+
+pub returns-in-None-clause-none : goal.returns-in-None-clause-none
+returns-in-None-clause-none c = λ plain board_is valid in_range is.
+    not_some (fields_of plain) (c.in-None.ensures.value ∙ ap fields_at (sym is) ∙ valid_fields c.args.deals.now c.args.now c.args.round plain valid in_range)

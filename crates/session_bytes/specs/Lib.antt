@@ -1,0 +1,7 @@
+-- The definitions of the bytes.
+pub mod Parts
+pub mod Reading
+pub mod ActionRange
+pub mod ActionBytes
+pub mod PartsRead
+pub mod Head

@@ -1,0 +1,235 @@
+-- Reading the parts of plays, deals and rows from left to right: a value, and the bytes behind it.
+use Rattle.std.specs.Prelude.{◌≡◌, ℕ, ◌≤◌, ◌==◌, nat_lt, nat_le, Bool, true, false, not, ◌&&◌, ◌||◌, if◌then◌else◌, map, List, [], ◌∷◌, ◌++◌, length, take, drop, Option, Some, None, is_some, IfSome, option_and_then, slice_get, All}
+use Rattle.std.specs.List.{list_all}
+use Rattle.std.specs.Global.{Vec}
+use Rattle.arrayvec.specs.ArrayVec.{ArrayVec}
+use Rattle.std.specs.Int.{w16, from_be_bytes}
+use Rattle.std.specs.Option.{option_map, option_map_or}
+use Rattle.bridge_cards.specs.declared.seat.Seat.{Seat}
+use Rattle.bridge_cards.specs.declared.seat.Seat.TheVariants.{North, East, South, West}
+use Rattle.bridge_cards.specs.Deal.{is_dealt_out}
+use Rattle.bridge_auction.specs.declared.call.Call.{Call}
+use Rattle.bridge_auction.specs.Call.{call_number}
+use Rattle.bridge_movement.specs.declared.row.Row.{Row}
+use Rattle.bridge_play.specs.declared.claim.Claim.{Claim}
+use Rattle.bridge_play.specs.Play.{PlayValue, IsPlay, is_over}
+use Rattle.bridge_table.specs.declared.record.Record.{Record}
+use Rattle.session_bytes.specs.declared.record_fields.RecordFields.{RecordFields}
+use Rattle.session_rules.specs.declared.ruling.Ruling.{Ruling}
+use Rattle.session_rules.specs.declared.ruling.Ruling.TheVariants as ruling
+use Rattle.session_bytes.specs.ActionBytes.{hands_in}
+use Rattle.session_bytes.specs.PartsRead.{agreed_in}
+use Rattle.session_rules.specs.Record.{PlainRecord, contract_in, play_of}
+use Rattle.session_rules.specs.State.{row_boards}
+use Rattle.bridge_table.specs.Kept.{plain_of, is_kept_open, IsTiedIn}
+use Rattle.session_bytes.specs.Parts.{two_bytes, text_bytes, claim_bytes, ruling_bytes, is_agreed_in, record_part}
+use Rattle.session_rules.specs.StateRange.{AreHandsOrNone, IsOfFourSeats, IsRulingInRange, IsRecordInRange}
+use Rattle.session_rules.specs.Valid.{board_of, IsDealOrNone, IsUnplayed, IsValidRecord}
+
+-- what the part of a play says: the calls and the cards by their numbers, how many claims were made, the claim, whether it
+-- is marked as agreed, and the ruling
+pub record Fields : Type 0 where
+  pub calls : List ℕ
+  pub cards : List ℕ
+  pub claims : ℕ
+  pub claim : Option Claim
+  pub agreed : Bool
+  pub ruling : Option Ruling
+
+-- what the code keeps of them
+abbrev pub fields_in : RecordFields → Fields
+fields_in fields = record {
+  calls = fields.calls.now;
+  cards = fields.cards.now;
+  claims = fields.claims;
+  claim = fields.claim;
+  agreed = fields.agreed;
+  ruling = fields.ruling;
+}
+
+-- what the part of a record says
+abbrev pub fields_of : PlainRecord → Fields
+fields_of plain = record {
+  calls = map call_number plain.calls;
+  cards = plain.cards;
+  claims = plain.claims;
+  claim = plain.claim;
+  agreed = is_agreed_in plain;
+  ruling = plain.ruling;
+}
+
+-- so many bytes, and those behind them
+abbrev pub bytes_at : ℕ → List ℕ → Option (List ℕ × List ℕ)
+bytes_at count bytes = if nat_lt (length bytes) count then None else Some (take count bytes, drop count bytes)
+
+-- the calls: how many in two bytes, and then their numbers
+abbrev pub calls_at : List ℕ → Option (List ℕ × List ℕ)
+calls_at [] = None
+calls_at (high ∷ []) = None
+calls_at (high ∷ low ∷ rest) = bytes_at (from_be_bytes w16 (high ∷ low ∷ [])) rest
+
+-- the cards: how many in one byte, and then their numbers
+abbrev pub cards_at : List ℕ → Option (List ℕ × List ℕ)
+cards_at [] = None
+cards_at (count ∷ rest) = bytes_at count rest
+
+-- the seat of that number
+abbrev pub seat_numbered : ℕ → Option Seat
+seat_numbered number =
+    if number == 0 then Some North else if number == 1 then Some East else if number == 2 then Some South
+    else if number == 3 then Some West else None
+
+-- the claim of these numbers: who claims, how many tricks, and who has agreed
+abbrev pub claimed_by : ℕ → ℕ → ℕ → Option Claim
+claimed_by seat tricks bits =
+    if nat_lt 15 bits then None
+    else option_map (λ (claimer : Seat). record { claimer = claimer; tricks = tricks; agreed = agreed_in bits }) (seat_numbered seat)
+
+-- the claim behind its mark
+abbrev pub marked_at : Bool → List ℕ → Option (Option Claim × Bool × List ℕ)
+marked_at agreed [] = None
+marked_at agreed (seat ∷ []) = None
+marked_at agreed (seat ∷ tricks ∷ []) = None
+marked_at agreed (seat ∷ tricks ∷ bits ∷ rest) = option_map (λ (claim : Claim). (Some claim, agreed, rest)) (claimed_by seat tricks bits)
+
+-- the claim, if there is one, and whether it is marked as agreed
+abbrev pub claim_at : List ℕ → Option (Option Claim × Bool × List ℕ)
+claim_at [] = None
+claim_at (mark ∷ rest) =
+    if mark == 0 then Some (None, false, rest) else if mark == 1 then marked_at false rest
+    else if mark == 2 then marked_at true rest else None
+
+-- the ruling of so many tricks, or none where these are too many
+abbrev pub tricks_in : ℕ → Option (Option Ruling)
+tricks_in tricks = if nat_le tricks 13 then Some (Some (ruling.Tricks tricks)) else None
+
+-- the ruling, if there is one, behind which no byte is left
+abbrev pub ruling_at : List ℕ → Option (Option Ruling)
+ruling_at [] = None
+ruling_at (kind ∷ []) = if kind == 0 then Some None else if kind == 2 then Some (Some ruling.Void) else None
+ruling_at (kind ∷ tricks ∷ []) = if kind == 1 then tricks_in tricks else None
+ruling_at (kind ∷ tricks ∷ more ∷ rest) = None
+
+-- the fields behind the calls and the cards
+abbrev pub claims_at : List ℕ → List ℕ → List ℕ → Option Fields
+claims_at calls cards [] = None
+claims_at calls cards (claims ∷ rest) =
+    option_and_then (λ (both : Option Claim × Bool × List ℕ). option_map (λ (ruling : Option Ruling). record {
+      calls = calls;
+      cards = cards;
+      claims = claims;
+      claim = both.0;
+      agreed = both.1;
+      ruling = ruling;
+    }) (ruling_at both.2)) (claim_at rest)
+
+-- the fields of a part
+abbrev pub fields_at : List ℕ → Option Fields
+fields_at bytes =
+    option_and_then (λ (calls : List ℕ × List ℕ). option_and_then (λ (cards : List ℕ × List ℕ). claims_at calls.0 cards.0 cards.1)
+    (cards_at calls.1)) (calls_at bytes)
+
+-- the deal of the four hands of these bytes, if they are one
+abbrev pub dealt_at : List ℕ → Option (Option (List ℕ))
+dealt_at bytes = option_and_then (λ hands. if is_dealt_out hands then Some (Some hands) else None) (hands_in bytes)
+
+-- the deal of a part, or none where the board is not dealt
+abbrev pub deal_at : List ℕ → Option (Option (List ℕ))
+deal_at [] = None
+deal_at (kind ∷ []) = if kind == 0 then Some None else if kind == 1 then dealt_at [] else None
+deal_at (kind ∷ byte ∷ rest) = if kind == 1 then dealt_at (byte ∷ rest) else None
+
+-- Which records these are
+
+abbrev pub some_call : Call → Option Call
+some_call call = Some call
+
+-- what the fields say of a play of that board with those calls
+abbrev pub plain_from : ℕ → List Call → Fields → PlainRecord
+plain_from board calls fields = record {
+  board = board;
+  calls = calls;
+  cards = fields.cards;
+  claims = fields.claims;
+  claim = fields.claim;
+  ruling = fields.ruling;
+}
+
+-- the part that says so
+abbrev pub fields_part : Fields → List ℕ
+fields_part fields =
+    two_bytes (length fields.calls) ++ fields.calls ++ text_bytes fields.cards ++ fields.claims ∷ []
+    ++ claim_bytes fields.agreed fields.claim ++ ruling_bytes fields.ruling
+
+-- the fields of a part: there are no more calls or cards than bytes, each seat has agreed to the claim or not, and a ruling
+-- is of 0 to 13 tricks
+pub record AreFieldsOf (part : List ℕ) (fields : Fields) : Type 0 where
+  pub bytes : fields_part fields ≡ part
+  pub few_calls : length fields.calls ≤ length part
+  pub few_cards : length fields.cards ≤ length part
+  pub answers : IfSome fields.claim IsOfFourSeats
+  pub ruled : IfSome fields.ruling IsRulingInRange
+
+-- the cards and the claims are those of a play by the rules where the calls made a contract, and otherwise there are none
+pub record IsPlayed (hands : List ℕ) (plain : PlainRecord) : Type 0 where
+  pub unplayed : contract_in plain ≡ None → IsUnplayed plain
+  pub play : IfSome (play_of hands plain) IsPlay
+
+-- a ruling of tricks stands only where the play is over
+abbrev pub may_stand : Option PlayValue → Option Ruling → Bool
+may_stand play None = true
+may_stand play (Some (ruling.Tricks tricks)) = option_map_or is_over play false
+may_stand play (Some ruling.Void) = true
+
+-- the ruling may stand, in a later round than the current one nothing has happened, and in an earlier one the play is not open
+abbrev pub is_in_place : ℕ → ℕ → Record → Bool
+is_in_place now round kept =
+    may_stand kept.play kept.ruling && ((nat_le round now || (length kept.auction.calls == 0 && not (is_some kept.ruling)))
+    && (nat_le now round || not (is_kept_open kept)))
+
+-- a record that was read: of the board, of those bytes, valid and within its ranges, and tied to the deal of its board
+pub record IsReadFrom (deals : List (Option (List ℕ))) (now round board : ℕ) (part : List ℕ) (kept : Record) : Type 0 where
+  pub board_is : kept.board ≡ board
+  pub bytes : record_part (plain_of kept) ≡ part
+  pub valid : IsValidRecord deals now round (plain_of kept)
+  pub in_range : IsRecordInRange (plain_of kept)
+  pub tied : IsTiedIn deals kept
+
+-- The parts of all boards and all plays
+
+-- the bytes of a part that the code keeps
+abbrev pub items_of : ArrayVec ℕ → List ℕ
+items_of part = part.items
+
+-- the part of a record that the code keeps
+abbrev pub part_kept : Record → List ℕ
+part_kept kept = record_part (plain_of kept)
+
+-- the records of a table, as contracts see them
+abbrev pub plains_of : Vec Record → List PlainRecord
+plains_of table = map plain_of table.items
+
+-- each is a deal of four hands, or none
+pub record AreDeals (deals : List (Option (List ℕ))) : Type 0 where
+  pub dealt : All IsDealOrNone deals
+  pub hands : All AreHandsOrNone deals
+
+-- records of a round, of those boards, valid and within their ranges
+pub record AreRecords (deals : List (Option (List ℕ))) (now round : ℕ) (boards : List ℕ) (records : List PlainRecord) : Type 0 where
+  pub boards_are : map board_of records ≡ boards
+  pub valid : All (IsValidRecord deals now round) records
+  pub in_range : All IsRecordInRange records
+
+-- the records of the boards of a row
+abbrev pub IsRowOf : List (Option (List ℕ)) → ℕ → ℕ → Row → List PlainRecord → Type 0
+IsRowOf deals now boards row records = AreRecords deals now row.round (row_boards boards row) records
+
+-- the records of all rows
+pub record AreRows (deals : List (Option (List ℕ))) (now boards : ℕ) (rows : List Row) (records : List (List PlainRecord)) : Type 0 where
+  pub count : length records ≡ length rows
+  pub each : (index : ℕ) (row : Row) (own : List PlainRecord) → slice_get rows index ≡ Some row → slice_get records index ≡ Some own →
+      IsRowOf deals now boards row own
+
+-- the part of a play in which nothing has happened
+abbrev pub is_empty_part : List ℕ → Bool
+is_empty_part bytes = length bytes == 6 && list_all (λ byte. byte == 0) bytes

@@ -1,0 +1,334 @@
+//! The configuration and the round, read from the parts before those of the boards.
+ghost use Rattle.std.specs.Prelude.{◌≡◌, ◌≢◌, ◌↔◌, ◌+◌, ◌*◌, ◌<◌, ◌≤◌, ◌++◌, ℕ, List, length, map, drop, take, slice_index, IfSome, IfNone, IsTrue, All, Any};
+ghost use Rattle.bridge_movement.specs.declared.row.Row.{Row as RowType};
+ghost use Rattle.bridge_movement.specs.Shape.{IsShape, row_count};
+ghost use Rattle.bridge_config.specs.ConfigValue.{ConfigValue, Pair, pair_of};
+ghost use Rattle.bridge_config.specs.Limits.{IsConfiguration, IsPair};
+ghost use Rattle.session_bytes.specs.Parts.{configuration_part, movement_part, pair_part};
+ghost use Rattle.session_bytes.specs.PartsRead.{text_in, after_text, scoring_at, numbers_in, shape_in, key_in, row_in, rows_in, pair_in, configuration_in};
+ghost use Rattle.session_bytes.specs.Reading.{items_of};
+ghost use Rattle.session_bytes.specs.Head.{head_parts, IsHeadingOf, IsHeadingPart, IsPairPart, IsMovementPart, AreHeadParts, HasHeading, IsHead, NoHead, IsRound};
+
+use crate::config_bytes::{write_configuration, write_movement, write_pair};
+use arrayvec::{ArrayString, ArrayVec};
+use bridge_config::{
+    Config, ConfigFields, DATE_BYTES, Key, NAME_BYTES, PairFields, read_date, read_name,
+};
+use bridge_movement::{MOST_PAIRS, MOST_ROWS, Movement, Row, Shape};
+use bridge_score::Scoring;
+use session_store::PAYLOAD_BYTES;
+
+/// What the first part states.
+#[derive(Clone, Copy)]
+pub struct Heading {
+    pub event: ArrayString<NAME_BYTES>,
+    pub site: ArrayString<NAME_BYTES>,
+    pub date: ArrayString<DATE_BYTES>,
+    pub scoring: Scoring,
+    pub boards: u8,
+    pub shape: Shape,
+    pub director: Key,
+    pub round: u8,
+}
+
+/// What the parts before those of the boards state.
+#[derive(Drop)]
+pub struct Head {
+    pub config: Config,
+    /// From 1 to one more than the last round.
+    pub round: u8,
+}
+
+/// The text that bytes begin with, by its length, and what comes after it.
+fn split_text(bytes: &[u8]) -> (&[u8], &[u8])
+    ensures text { result.0.now ≡ text_in bytes.now }
+    ensures rest { result.1.now ≡ after_text bytes.now }
+{
+    let Some((count, rest)) = bytes.split_first() else {
+        return (bytes, bytes);
+    };
+    rest.split_at(usize::from(*count).min(rest.len()))
+}
+
+fn scoring_of(number: u8) -> Option<Scoring>
+    ensures some { IfSome result (λ scoring. scoring ≡ scoring_at number) }
+    ensures none { IfNone result (2 ≤ number) }
+{
+    match number {
+        0 => Some(Scoring::MatchPoints),
+        1 => Some(Scoring::Imps),
+        _ => None,
+    }
+}
+
+/// The shape in the twelve bytes behind the date.
+fn shape_of(numbers: &[u8]) -> Shape
+    requires { length numbers.now ≡ 12 }
+    ensures { result ≡ shape_in numbers.now }
+{
+    Shape {
+        tables: numbers[2],
+        rounds: numbers[3],
+        sets: numbers[4],
+        pairs: numbers[5],
+        split: numbers[6],
+    }
+}
+
+/// The key that the bytes begin with.
+fn key_of(bytes: &[u8]) -> Key
+    requires { 4 ≤ length bytes.now }
+    ensures { result.0 ≡ key_in bytes.now }
+{
+    let (key, _) = bytes.split_at(4);
+    Key(u32::from_be_bytes([key[0], key[1], key[2], key[3]]))
+}
+
+/// What the first part states, if it is in form.
+fn read_heading(part: &[u8]) -> Option<Heading>
+    ensures some { IfSome result (IsHeadingOf part.now) }
+    ensures none { IfNone result (¬ IsHeadingPart part.now) }
+{
+    let (event, rest) = split_text(part);
+    let (site, rest) = split_text(rest);
+    let Some(event) = read_name(event) else {
+        return None;
+    };
+    let Some(site) = read_name(site) else {
+        return None;
+    };
+    if rest.len() != 22 {
+        return None;
+    }
+    let (date, numbers) = rest.split_at(DATE_BYTES);
+    let Some(date) = read_date(date) else {
+        return None;
+    };
+    let (_, key) = numbers.split_at(7);
+    let Some(scoring) = scoring_of(numbers[0]) else {
+        return None;
+    };
+    Some(Heading {
+        event,
+        site,
+        date,
+        scoring,
+        boards: numbers[1],
+        shape: shape_of(numbers),
+        director: key_of(key),
+        round: numbers[11],
+    })
+}
+
+/// The row of an index, whose pairs and set stand there.
+fn row_at(shape: Shape, part: &[u8], index: usize) -> Row
+    requires shape { IsShape shape }
+    requires within { index < row_count shape }
+    requires bytes { length part.now ≡ row_count shape * 3 }
+    ensures { result ≡ row_in shape.tables part.now index }
+{
+    let tables = usize::from(shape.tables);
+    Row {
+        round: (index / tables) as u8 + 1,
+        table: (index % tables) as u8 + 1,
+        ns: part[index * 3],
+        ew: part[index * 3 + 1],
+        set: part[index * 3 + 2],
+    }
+}
+
+/// The rows of a movement of that shape, if there are as many bytes as it takes.
+fn read_rows(shape: Shape, part: &[u8]) -> Option<ArrayVec<Row, MOST_ROWS>>
+    requires { IsShape shape }
+    ensures some { IfSome result (λ rows. rows.items ≡ rows_in shape part.now) }
+    ensures none { IfNone result (length part.now ≢ row_count shape * 3) }
+{
+    let count = shape.row_count();
+    if part.len() != count * 3 {
+        return None;
+    }
+    let mut rows = ArrayVec::new();
+    for index in 0..count {
+        rows.push(row_at(shape, part, index));
+    }
+    Some(rows)
+}
+
+/// The pair that a part states, if it is in form.
+fn read_pair(part: &[u8]) -> Option<PairFields>
+    ensures some { IfSome result (λ pair. pair_of pair ≡ pair_in part.now) }
+    ensures none { IfNone result (¬ IsPairPart part.now) }
+{
+    let (first, rest) = split_text(part);
+    let Some(first) = read_name(first) else {
+        return None;
+    };
+    if rest.len() < 4 {
+        return None;
+    }
+    let (key, rest) = rest.split_at(4);
+    let (second, rest) = split_text(rest);
+    let Some(second) = read_name(second) else {
+        return None;
+    };
+    if rest.len() != 4 {
+        return None;
+    }
+    Some(PairFields {
+        names: [first, second],
+        keys: [key_of(key), key_of(rest)],
+    })
+}
+
+/// The pairs that parts state, if each is in form.
+fn read_pairs(parts: &[ArrayVec<u8, PAYLOAD_BYTES>]) -> Option<ArrayVec<PairFields, MOST_PAIRS>>
+    requires { length parts.now ≤ 24 }
+    ensures some { IfSome result (λ pairs. map pair_of pairs.items ≡ map pair_in (map items_of parts.now)) }
+    ensures none { IfNone result (Any (λ part. ¬ IsPairPart part.items) parts.now) }
+{
+    let mut pairs = ArrayVec::new();
+    for part in parts {
+        pairs.push(read_pair(part.as_slice())?);
+    }
+    Some(pairs)
+}
+
+/// The movement of that shape that a part states, if it is one.
+fn movement_of(shape: Shape, part: &[u8]) -> Option<Movement>
+    requires { IsShape shape }
+    ensures some { IfSome result (λ movement. movement ≡ record { shape = shape; rows = rows_in shape part.now }) }
+    ensures none { IfNone result (¬ IsMovementPart shape part.now) }
+{
+    let rows = read_rows(shape, part)?;
+    match Movement::from_rows(shape, rows.as_slice()) {
+        Ok(movement) => Some(movement),
+        Err(_) => None,
+    }
+}
+
+/// The configuration and the round that the first part, the second, and those of the pairs state.
+fn read_parts(first: &[u8], second: &[u8], rest: &[ArrayVec<u8, PAYLOAD_BYTES>]) -> Option<Head>
+    ensures config { IfSome result (λ head. head.config ≡ configuration_in first.now second.now (map items_of rest.now)) }
+    ensures round { IfSome result (λ head. head.round ≡ slice_index (numbers_in first.now) 11) }
+    ensures none { IfNone result (¬ AreHeadParts first.now second.now (map items_of rest.now)) }
+{
+    let Some(heading) = read_heading(first) else {
+        return None;
+    };
+    if !heading.shape.is_within_limits() {
+        return None;
+    }
+    let Some(movement) = movement_of(heading.shape, second) else {
+        return None;
+    };
+    let count = usize::from(heading.shape.pairs);
+    if rest.len() < count {
+        return None;
+    }
+    let (pairs, _) = rest.split_at(count);
+    let Some(pairs) = read_pairs(pairs) else {
+        return None;
+    };
+    let config = Config::from_fields(ConfigFields {
+        event: heading.event,
+        site: heading.site,
+        date: heading.date,
+        scoring: heading.scoring,
+        boards: heading.boards,
+        movement,
+        director: heading.director,
+        pairs,
+    });
+    match config {
+        Some(config) => Some(Head {
+            config,
+            round: heading.round,
+        }),
+        None => None,
+    }
+}
+
+/// Whether the first part and the second are those of the configuration and the round.
+fn has_heading(head: &Head, first: &[u8], second: &[u8]) -> bool
+    ensures { IsTrue result ↔ HasHeading head.now.config head.now.round first.now second.now }
+{
+    let mut part = ArrayVec::new();
+    write_configuration(&head.config, head.round, &mut part);
+    if part.as_slice() != first {
+        return false;
+    }
+    part.clear();
+    write_movement(head.config.fields().movement.rows(), &mut part);
+    part.as_slice() == second
+}
+
+/// Whether the part is that of the pair.
+fn is_part_of(pair: &PairFields, part: &[u8]) -> bool
+    ensures { IsTrue result ↔ pair_part (pair_of pair.now) ≡ part.now }
+{
+    let mut written = ArrayVec::new();
+    write_pair(pair, &mut written);
+    written.as_slice() == part
+}
+
+/// Whether the parts begin with those of the pairs.
+fn have_pairs(pairs: &[PairFields], parts: &[ArrayVec<u8, PAYLOAD_BYTES>]) -> bool
+    ensures { IsTrue result ↔ map (λ pair. pair_part (pair_of pair)) pairs.now ≡ take (length pairs.now) (map items_of parts.now) }
+{
+    if parts.len() < pairs.len() {
+        return false;
+    }
+    for (index, pair) in pairs.iter().enumerate() {
+        if !is_part_of(pair, parts[index].as_slice()) {
+            return false;
+        }
+    }
+    true
+}
+
+/// Whether the round is one of the configuration or the one after the last, and the parts begin with those of the head.
+fn is_head(head: &Head, first: &[u8], second: &[u8], rest: &[ArrayVec<u8, PAYLOAD_BYTES>]) -> bool
+    ensures { IsTrue result ↔ IsHead head.now.config head.now.round first.now second.now (map items_of rest.now) }
+{
+    let fields = head.config.fields();
+    let last = fields.movement.shape().rounds + 1;
+    if head.round < 1 || last < head.round {
+        return false;
+    }
+    if !has_heading(head, first, second) {
+        return false;
+    }
+    have_pairs(fields.pairs.as_slice(), rest)
+}
+
+/// The same of the first part, the second, and the rest.
+fn head_of(first: &[u8], second: &[u8], rest: &[ArrayVec<u8, PAYLOAD_BYTES>]) -> Option<Head>
+    ensures written { IfSome result (λ head. IsHead head.config head.round first.now second.now (map items_of rest.now)) }
+    ensures other { IfNone result (NoHead first.now second.now (map items_of rest.now)) }
+{
+    let Some(head) = read_parts(first, second, rest) else {
+        return None;
+    };
+    if is_head(&head, first, second, rest) {
+        Some(head)
+    } else {
+        None
+    }
+}
+
+/// What the parts before those of the boards state, where these are the parts of a configuration and a round; `None` where
+/// they are those of none.
+pub fn read_head(parts: &[ArrayVec<u8, PAYLOAD_BYTES>]) -> Option<Head>
+    ensures written { IfSome result (λ head. head_parts head.config head.round ≡ take (2 + length head.config.pairs) (map items_of parts.now)) }
+    ensures round { IfSome result (λ head. IsRound head.config head.round) }
+    ensures other { IfNone result ((configuration : ConfigValue) (round : ℕ) (boards : List (List ℕ)) → IsConfiguration configuration →
+        IsRound configuration round → head_parts configuration round ++ boards ≢ map items_of parts.now) }
+{
+    let Some((first, rest)) = parts.split_first() else {
+        return None;
+    };
+    let Some((second, rest)) = rest.split_first() else {
+        return None;
+    };
+    head_of(first.as_slice(), second.as_slice(), rest)
+}

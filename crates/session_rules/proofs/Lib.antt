@@ -1,0 +1,14 @@
+pub mod Lists
+pub mod SameAnswer
+pub mod Shown
+pub mod SameView
+pub mod StaysValid
+pub mod ValidRuling
+pub mod ValidRound
+pub mod ValidDeed
+pub mod ValidPlayer
+pub mod ValidStep
+pub mod PlainParts
+pub mod PlainStep
+pub mod PlainLaw
+pub mod PlainRecords

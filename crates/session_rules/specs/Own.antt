@@ -1,0 +1,164 @@
+-- The record of a play as its own actions make it, whatever other tables do in between.
+use Rattle.std.specs.Prelude.{◌≡◌, ℕ, ◌+◌, ◌==◌, Bool, true, false, ◌&&◌, if◌then◌else◌, List, [], ◌∷◌, length, map, option_and_then, Option, Some, None, Result, Ok, Err}
+use Rattle.std.specs.List.{cons_option, filter_map, list_any}
+use Rattle.std.specs.Option.{option_map, option_or}
+use Rattle.bridge_cards.specs.declared.seat.Seat.{Seat}
+use Rattle.bridge_cards.specs.declared.seat.Seat.TheVariants.{North, East, South, West}
+use Rattle.bridge_cards.specs.Seat.{same_seat}
+use Rattle.bridge_auction.specs.declared.call.Call.{Call as CallType}
+use Rattle.bridge_config.specs.ConfigValue.{ConfigValue}
+use Rattle.bridge_play.specs.declared.claim.Claim.{Claim as ClaimType}
+use Rattle.session_rules.specs.declared.action.Action.{Action}
+use Rattle.session_rules.specs.declared.action.Action.TheVariants.{Deal, Call, Card, Claim, Agree, Refuse, NextRound, Tricks, Void, Restore}
+use Rattle.session_rules.specs.declared.action.PlayId.{PlayId}
+use Rattle.session_rules.specs.declared.correction.Correction.{Correction}
+use Rattle.session_rules.specs.declared.correction.Correction.TheVariants as correction
+use Rattle.session_rules.specs.declared.deed.Deed.{Deed}
+use Rattle.session_rules.specs.declared.deed.Deed.TheVariants as deed
+use Rattle.session_rules.specs.declared.refused.Refused.{Refused}
+use Rattle.session_rules.specs.declared.seating.Seating.{Seating}
+use Rattle.session_rules.specs.Correction.{ruling_by}
+use Rattle.session_rules.specs.Record.{PlainRecord}
+use Rattle.session_rules.specs.State.{SessionValue, index_of_row, seating_of}
+use Rattle.session_rules.specs.Step.{step_answer, changed}
+use Rattle.session_rules.specs.Valid.{IsAction}
+
+-- A list of accepted actions
+
+-- the session after the actions
+abbrev pub after : SessionValue → List Action → SessionValue
+after s [] = s
+after s (action ∷ actions) = after (changed s action) actions
+
+-- each action is accepted in its turn
+abbrev pub AreAccepted : SessionValue → List Action → Type 0
+AreAccepted s [] = Unit {0}
+AreAccepted s (action ∷ actions) = IsAction action × (step_answer s action ≡ Ok tt) × AreAccepted (changed s action) actions
+
+-- The actions that concern a play
+
+-- what is done in a play: by a player in a seat, or by the director
+pub data Done : Type 0 where
+  ByPlayer : (seat : Seat) (done : Deed) → Done
+  ByDirector : (made : Correction) → Done
+
+-- by a player who sits at the table of the play in its round, and names its board
+abbrev pub done_by : ConfigValue → PlayId → ℕ → ℕ → Deed → Result Seating Refused → Option Done
+done_by configuration play board named done (Err refused) = None
+done_by configuration play board named done (Ok seating) =
+    if (seating.row == index_of_row configuration.movement.shape play.round play.table) && (named == board) then Some (ByPlayer seating.seat done) else None
+
+abbrev pub same_play : PlayId → PlayId → Bool
+same_play a b = (a.round == b.round) && ((a.table == b.table) && (a.index == b.index))
+
+abbrev pub ruled_in : PlayId → PlayId → Correction → Option Done
+ruled_in play named made = if same_play named play then Some (ByDirector made) else None
+
+-- what an action in that round does in the play of the board, if it concerns it
+abbrev pub done_in : ConfigValue → PlayId → ℕ → ℕ → Action → Option Done
+done_in configuration play board round (Deal key of_board hands) = None
+done_in configuration play board round (Call key named at call) = done_by configuration play board named (deed.Call call) (seating_of configuration round key.0)
+done_in configuration play board round (Card key named at card) = done_by configuration play board named (deed.Card card) (seating_of configuration round key.0)
+done_in configuration play board round (Claim key named at tricks) = done_by configuration play board named (deed.Claim tricks) (seating_of configuration round key.0)
+done_in configuration play board round (Agree key named at) = done_by configuration play board named deed.Agree (seating_of configuration round key.0)
+done_in configuration play board round (Refuse key named at) = done_by configuration play board named deed.Refuse (seating_of configuration round key.0)
+done_in configuration play board round (NextRound key of_round) = None
+done_in configuration play board round (Tricks key named tricks) = ruled_in play named (correction.Tricks tricks)
+done_in configuration play board round (Void key named) = ruled_in play named correction.Void
+done_in configuration play board round (Restore key named) = ruled_in play named correction.Restore
+
+-- the round after an action: one more after the end of a round
+abbrev pub round_after : ℕ → Action → ℕ
+round_after round (Deal key board hands) = round
+round_after round (Call key board at call) = round
+round_after round (Card key board at card) = round
+round_after round (Claim key board at tricks) = round
+round_after round (Agree key board at) = round
+round_after round (Refuse key board at) = round
+round_after round (NextRound key of_round) = round + 1
+round_after round (Tricks key play tricks) = round
+round_after round (Void key play) = round
+round_after round (Restore key play) = round
+
+-- what the play's own actions do in it, the first of them in that round
+abbrev pub own : ConfigValue → PlayId → ℕ → ℕ → List Action → List Done
+own configuration play board round [] = []
+own configuration play board round (action ∷ actions) =
+    cons_option (done_in configuration play board round action) (own configuration play board (round_after round action) actions)
+
+-- The plain record
+
+abbrev pub call_in : Done → Option CallType
+call_in (ByPlayer seat (deed.Call call)) = Some call
+call_in (ByPlayer seat (deed.Card card)) = None
+call_in (ByPlayer seat (deed.Claim tricks)) = None
+call_in (ByPlayer seat deed.Agree) = None
+call_in (ByPlayer seat deed.Refuse) = None
+call_in (ByDirector made) = None
+
+abbrev pub card_in : Done → Option ℕ
+card_in (ByPlayer seat (deed.Call call)) = None
+card_in (ByPlayer seat (deed.Card card)) = Some card
+card_in (ByPlayer seat (deed.Claim tricks)) = None
+card_in (ByPlayer seat deed.Agree) = None
+card_in (ByPlayer seat deed.Refuse) = None
+card_in (ByDirector made) = None
+
+-- a claim as it is made, to which nobody has agreed
+abbrev pub claim_in : Done → Option ClaimType
+claim_in (ByPlayer seat (deed.Call call)) = None
+claim_in (ByPlayer seat (deed.Card card)) = None
+claim_in (ByPlayer seat (deed.Claim tricks)) =
+    Some (record { claimer = seat; tricks = tricks; agreed = false ∷ false ∷ false ∷ false ∷ [] })
+claim_in (ByPlayer seat deed.Agree) = None
+claim_in (ByPlayer seat deed.Refuse) = None
+claim_in (ByDirector made) = None
+
+abbrev pub is_refusal : Done → Bool
+is_refusal (ByPlayer seat (deed.Call call)) = false
+is_refusal (ByPlayer seat (deed.Card card)) = false
+is_refusal (ByPlayer seat (deed.Claim tricks)) = false
+is_refusal (ByPlayer seat deed.Agree) = false
+is_refusal (ByPlayer seat deed.Refuse) = true
+is_refusal (ByDirector made) = false
+
+-- the seat agrees to the claim
+abbrev pub agrees : Seat → Done → Bool
+agrees one (ByPlayer seat (deed.Call call)) = false
+agrees one (ByPlayer seat (deed.Card card)) = false
+agrees one (ByPlayer seat (deed.Claim tricks)) = false
+agrees one (ByPlayer seat deed.Agree) = same_seat seat one
+agrees one (ByPlayer seat deed.Refuse) = false
+agrees one (ByDirector made) = false
+
+abbrev pub correction_in : Done → Option Correction
+correction_in (ByPlayer seat done) = None
+correction_in (ByDirector made) = Some made
+
+-- the last claim, with what was done after it
+abbrev pub last_claim : List Done → Option (ClaimType × List Done)
+last_claim [] = None
+last_claim (done ∷ later) = option_or (last_claim later) (option_map (λ (claim : ClaimType). (claim, later)) (claim_in done))
+
+-- a claim, agreed by the seats that agree to it later, if no refusal follows it
+abbrev pub claim_after : ClaimType × List Done → Option ClaimType
+claim_after last =
+    if list_any is_refusal last.1 then None
+    else Some (record last.0 { agreed = map (λ seat. list_any (agrees seat) last.1) (North ∷ East ∷ South ∷ West ∷ []) })
+
+-- the last thing that the director did
+abbrev pub last_correction : List Done → Option Correction
+last_correction [] = None
+last_correction (done ∷ later) = option_or (last_correction later) (correction_in done)
+
+-- The record of a play of the board that these make: the calls and the cards, the number of claims, the last claim if no refusal
+-- follows it, agreed by those who agree after it, and the ruling that the director left last.
+abbrev pub plain_record : ℕ → List Done → PlainRecord
+plain_record board dones = record {
+  board = board;
+  calls = filter_map call_in dones;
+  cards = filter_map card_in dones;
+  claims = length (filter_map claim_in dones);
+  claim = option_and_then claim_after (last_claim dones);
+  ruling = option_and_then ruling_by (last_correction dones);
+}

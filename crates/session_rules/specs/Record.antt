@@ -1,0 +1,65 @@
+-- The record of one play, and what follows from it.
+use Rattle.std.specs.Prelude.{ℕ, Bool, true, false, not, ◌&&◌, List, [], Option, None, Some}
+use Rattle.std.specs.Option.{option_map, option_map_or}
+use Rattle.bridge_cards.specs.Board.{dealer_of}
+use Rattle.bridge_auction.specs.declared.call.Call.{Call}
+use Rattle.bridge_auction.specs.declared.contract.Contract.{Contract}
+use Rattle.bridge_auction.specs.Auction.{AuctionValue}
+use Rattle.bridge_auction.specs.Contract.{contract_of}
+use Rattle.bridge_auction.specs.Legal.{is_ended}
+use Rattle.bridge_play.specs.declared.claim.Claim.{Claim}
+use Rattle.bridge_play.specs.Play.{PlayValue, is_over}
+use Rattle.session_rules.specs.declared.ruling.Ruling.{Ruling}
+use Rattle.session_rules.specs.declared.ruling.Ruling.TheVariants as ruling
+
+-- the board of a play, its calls and cards, how many claims were made, the claim that stands or was agreed, and the
+-- director's ruling
+pub record PlainRecord : Type 0 where
+  pub board : ℕ
+  pub calls : List Call
+  pub cards : List ℕ
+  pub claims : ℕ
+  pub claim : Option Claim
+  pub ruling : Option Ruling
+
+-- nothing has happened in the play of the board
+abbrev pub empty_record : ℕ → PlainRecord
+empty_record board = record { board = board; calls = []; cards = []; claims = 0; claim = None; ruling = None }
+
+abbrev pub bidding_of : PlainRecord → AuctionValue
+bidding_of plain = record { dealer = dealer_of plain.board; calls = plain.calls }
+
+-- the contract of the calls
+abbrev pub contract_in : PlainRecord → Option Contract
+contract_in plain = contract_of (dealer_of plain.board) plain.calls
+
+-- the cards and claims of a record, of those hands in that contract
+abbrev pub playing_in : List ℕ → PlainRecord → Contract → PlayValue
+playing_in hands plain contract = record {
+  hands = hands;
+  contract = contract;
+  cards = plain.cards;
+  claims = plain.claims;
+  claim = plain.claim;
+}
+
+-- the play of those hands, once there is a contract
+abbrev pub play_of : List ℕ → PlainRecord → Option PlayValue
+play_of hands plain = option_map (playing_in hands plain) (contract_in plain)
+
+-- a play is finished when it is over, or passed out where the auction ended without a contract
+abbrev pub is_done : List Call → Option PlayValue → Bool
+is_done calls play = option_map_or is_over play (is_ended calls)
+
+-- whether the record is of a finished play; the hands do not matter to it
+abbrev pub is_finished : PlainRecord → Bool
+is_finished plain = is_done plain.calls (play_of [] plain)
+
+abbrev pub is_void : Option Ruling → Bool
+is_void None = false
+is_void (Some (ruling.Tricks tricks)) = false
+is_void (Some ruling.Void) = true
+
+-- whether the play is neither finished nor void
+abbrev pub is_open : PlainRecord → Bool
+is_open plain = not (is_void plain.ruling) && not (is_finished plain)

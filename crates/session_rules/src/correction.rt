@@ -1,0 +1,28 @@
+ghost use Rattle.std.specs.Prelude.{◌≡◌};
+ghost use Rattle.session_rules.specs.Correction.{ruling_by};
+ghost use Rattle.session_rules.specs.StateRange.{IsCorrectionInRange};
+
+use crate::numbers::TrickCount;
+use crate::ruling::Ruling;
+
+/// What the director does to the ruling on a play.
+#[derive(Clone, Copy, Debug, PartialEq, Eq)]
+pub enum Correction {
+    Tricks(TrickCount),
+    Void,
+    Restore,
+}
+
+impl Correction {
+    /// The ruling that is left.
+    pub fn ruling(self) -> Option<Ruling>
+        ensures ruling { result ≡ ruling_by self }
+        ensures range { IsCorrectionInRange self }
+    {
+        match self {
+            Correction::Tricks(tricks) => Some(Ruling::Tricks(tricks)),
+            Correction::Void => Some(Ruling::Void),
+            Correction::Restore => None,
+        }
+    }
+}
