@@ -1,3 +1,4 @@
+mod accepting;
 mod connections;
 mod evening;
 mod refused;
@@ -6,7 +7,7 @@ mod script;
 use bridge_cards::BoardNumber;
 use club_commands::{refuse, run_words, status_of};
 use command_line::{Command, WordsFault, read_words};
-use std::alloc::Global;
+use std::alloc::{AllocError, Global};
 use std::fmt::Debug;
 use std::fs;
 use std::fs::File;
@@ -65,6 +66,15 @@ fn expect_run<T: Abort + Files<File = File> + Net<Listener = TcpListener, Stream
     expect_eq(rt, status, due.0, words);
 }
 
+/// The text of a configuration with this movement.
+pub fn club_with(alloc: Global, movement: &str) -> Result<String, AllocError> {
+    let mut text = String::new(alloc);
+    for part in [HEADING, movement, PEOPLE] {
+        text.push_str(part)?;
+    }
+    Ok(text)
+}
+
 /// Writes a configuration with this movement to a file.
 fn write_config<T: Files<File = File>>(
     rt: &T,
@@ -72,8 +82,7 @@ fn write_config<T: Files<File = File>>(
     config: &str,
     movement: &str,
 ) -> Result<(), Fail> {
-    let text = format!(in alloc; "{HEADING}{movement}{PEOPLE}")?;
-    fs::write(rt, config, text)?;
+    fs::write(rt, config, club_with(alloc, movement)?)?;
     Ok(())
 }
 

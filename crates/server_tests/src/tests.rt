@@ -1,7 +1,6 @@
 //! The forms of a line, endings and their cache, seeds and epochs. When what is written is shown, over a store and for an
-//! auction, and streams, connections and disks that fail. Worked lines with their replies stand in examples/sessions.
+//! auction, and streams and disks that fail. Worked lines with their replies stand in examples/sessions.
 mod commands;
-mod connections;
 mod disk;
 mod endings;
 mod faults;

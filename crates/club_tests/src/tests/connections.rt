@@ -1,5 +1,5 @@
 //! Connections to a listener of the same process.
-use super::script::{failing_disk, solved_board};
+use super::script::{SOLVED_BOARD, failing_disk};
 use super::{MOVEMENT, expect_eq, expect_formatted, expect_run};
 use bridge_endings::Cache;
 use club_commands::{RunFault, open_session, serve_connections};
@@ -14,27 +14,39 @@ use std::test::Fail;
 use std::{fs, io};
 
 /// A listener at a port that is free.
-fn listening(rt: &HostRuntime) -> Result<TcpListener, Fail> {
+pub fn listening(rt: &HostRuntime) -> Result<TcpListener, Fail> {
     Ok(TcpListener::bind(rt, SocketAddr::from((Ipv4Addr::LOCALHOST, 0)))?)
 }
 
 /// A client that sent this text and sends no more.
-fn sent(rt: &HostRuntime, listener: &TcpListener, text: &str) -> Result<TcpStream, Fail> {
+pub fn sent(rt: &HostRuntime, listener: &TcpListener, text: &str) -> Result<TcpStream, Fail> {
     let mut client = TcpStream::connect(rt, listener.local_addr()?)?;
     client.write_all(text.as_bytes())?;
     client.shutdown(Shutdown::Write)?;
     Ok(client)
 }
 
+/// Fails where another text was written to a client than is due.
+pub fn expect_written(
+    rt: &impl Abort,
+    alloc: Global,
+    client: TcpStream,
+    due: &str,
+) -> Result<(), Fail> {
+    let written = io::read_to_string(alloc, client)?;
+    expect_eq(rt, written.as_str(), due, "written");
+    Ok(())
+}
+
 /// Serves at most two connections over a disk of which all calls after so many fail.
-fn serve_two<N: Net>(
+fn serve_two<N: Net + Abort>(
     rt: &N,
     listener: &N::Listener,
     alloc: Global,
     passes: u64,
 ) -> Result<Result<(), RunFault>, Fail> {
     let mut cache = Cache::new(alloc, 1)?;
-    match open_session(alloc, failing_disk(alloc, passes)?) {
+    match open_session(alloc, failing_disk(rt, alloc, passes)?) {
         Ok(mut store) => Ok(serve_connections(rt, listener, 2, &mut store, &mut cache)),
         Err(fault) => Ok(Err(RunFault::Store(fault))),
     }
@@ -51,11 +63,8 @@ fn connections_share_the_session(rt: HostRuntime) -> Result<(), Fail> {
     let second = sent(&rt, &listener, "SEE 11\n")?;
     let result = serve_two(&rt, &listener, rt.alloc(), u64::MAX)?;
     expect_eq(&rt, result, Ok(()), "served");
-    for (client, reply) in [(first, "OK\nOK\n"), (second, "ERR 7 NotCurrent\n")] {
-        let written = io::read_to_string(rt.alloc(), client)?;
-        expect_eq(&rt, written.as_str(), reply, "written");
-    }
-    Ok(())
+    expect_written(&rt, rt.alloc(), first, "OK\nOK\n")?;
+    expect_written(&rt, rt.alloc(), second, "ERR 7 NotCurrent\n")
 }
 
 // The disk is opened by its first 25 calls, and fails in the first connection. The second one is still to be accepted.
@@ -71,17 +80,10 @@ fn a_store_that_fails_ends_the_run(rt: HostRuntime) -> Result<(), Fail> {
         Err(RunFault::Store(StoreFault::Disk)),
         "served",
     );
-    let written = io::read_to_string(rt.alloc(), first)?;
-    expect_eq(
-        &rt,
-        written.as_str(),
-        "ERR 40 Disk\nERR 40 Disk\n",
-        "written",
-    );
+    expect_written(&rt, rt.alloc(), first, "ERR 40 Disk\nERR 40 Disk\n")?;
     listener.set_nonblocking(true)?;
     let (next, _) = listener.accept()?;
-    let waiting = io::read_to_string(rt.alloc(), next)?;
-    expect_eq(&rt, waiting.as_str(), "SEE 11\n", "not served");
+    expect_written(&rt, rt.alloc(), next, "SEE 11\n")?;
     drop(second);
     Ok(())
 }
@@ -91,9 +93,9 @@ fn a_store_that_fails_ends_the_run(rt: HostRuntime) -> Result<(), Fail> {
 fn a_connection_uses_the_cache(rt: HostRuntime) -> Result<(), Fail> {
     let alloc = rt.alloc();
     let listener = listening(&rt)?;
-    let client = sent(&rt, &listener, solved_board(alloc)?.as_str())?;
+    let client = sent(&rt, &listener, SOLVED_BOARD)?;
     let mut cache = Cache::new(alloc, 1)?;
-    let Ok(mut store) = open_session(alloc, failing_disk(alloc, u64::MAX)?) else {
+    let Ok(mut store) = open_session(alloc, failing_disk(&rt, alloc, u64::MAX)?) else {
         return Err(Fail::from("a session"));
     };
     let result = serve_connections(&rt, &listener, 1, &mut store, &mut cache);

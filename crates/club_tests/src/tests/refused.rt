@@ -1,7 +1,5 @@
 //! Disks and configurations that are refused, and streams that fail.
-use super::{
-    Broken, HEADING, MOVEMENT, PEOPLE, expect_eq, expect_formatted, expect_run, write_config,
-};
+use super::{Broken, MOVEMENT, club_with, expect_eq, expect_formatted, expect_run, write_config};
 use club_commands::{lock, run_words};
 use std::alloc::Global;
 use std::fs;
@@ -38,7 +36,8 @@ fn a_bad_configuration_leaves_the_disk(rt: HostRuntime) -> Result<(), Fail> {
     fs::write(&rt, config, b"")?;
     expect_run(&rt, rt.alloc(), words, "", (3, "", "config line 1: Form\n"));
     fs::write(&rt, disk, b"kept")?;
-    let text = format!(in rt.alloc(); "{HEADING}{MOVEMENT}{PEOPLE}PAIR 5 Ida 51 Jan 52\n")?;
+    let mut text = club_with(rt.alloc(), MOVEMENT)?;
+    text.push_str("PAIR 5 Ida 51 Jan 52\n")?;
     fs::write(&rt, config, text)?;
     expect_run(
         &rt,
@@ -49,9 +48,7 @@ fn a_bad_configuration_leaves_the_disk(rt: HostRuntime) -> Result<(), Fail> {
     );
     // Past the bytes that are read a configuration stands, which is not looked for.
     let mut long = vec![in rt.alloc(); b'A'; 16_385]?;
-    for part in [HEADING, MOVEMENT, PEOPLE] {
-        long.extend_from_slice(part.as_bytes())?;
-    }
+    long.extend_from_slice(club_with(rt.alloc(), MOVEMENT)?.as_bytes())?;
     fs::write(&rt, config, long)?;
     expect_run(
         &rt,

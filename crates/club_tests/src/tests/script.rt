@@ -1,44 +1,63 @@
 //! A script over a disk that fails.
-use super::{Broken, HEADING, MOVEMENT, PEOPLE, expect_eq};
+use super::{Broken, MOVEMENT, club_with, expect_eq};
 use bridge_endings::Cache;
+use bridge_session::Session;
 use club_commands::{RunFault, open_session, read_session, serve_store};
 use sector_disk::{Fail as FailOf, Fuse, MemoryDisk};
 use session_store::{StoreFault, format};
-use std::alloc::Global;
+use std::alloc::{AllocError, Global};
 use std::io::Write;
+use std::process::Abort;
 use std::test::Fail;
 
 /// A board of one suit to each hand, seven spades by North, seven tricks of the highest cards, and what is left solved.
-pub fn solved_board(alloc: Global) -> Result<String, Fail> {
-    let mut lines = String::new(alloc);
-    lines.push_str(
-        "DEAL 100 1 N:AKQJT98765432... .AKQJT98765432.. ..AKQJT98765432. ...AKQJT98765432\n",
-    )?;
-    lines.push_str("CALL 11 1 0 7S\nCALL 31 1 1 PASS\nCALL 12 1 2 PASS\nCALL 32 1 3 PASS\n")?;
-    lines.push_str("CARD 31 1 0 HA\nCARD 11 1 1 DA\nCARD 32 1 2 CA\nCARD 11 1 3 SA\n")?;
-    let mut at = 4u8;
-    for rank in ['K', 'Q', 'J', 'T', '9', '8'] {
-        for (key, suit) in [(11u8, 'S'), (31, 'H'), (11, 'D'), (32, 'C')] {
-            let line = format!(in alloc; "CARD {key} 1 {at} {suit}{rank}\n")?;
-            lines.push_str(line.as_str())?;
-            at = at.saturating_add(1);
-        }
-    }
-    lines.push_str("SOLVE 100 1 1 1 28\n")?;
-    Ok(lines)
-}
+pub const SOLVED_BOARD: &str =
+    "DEAL 100 1 N:AKQJT98765432... .AKQJT98765432.. ..AKQJT98765432. ...AKQJT98765432
+CALL 11 1 0 7S
+CALL 31 1 1 PASS
+CALL 12 1 2 PASS
+CALL 32 1 3 PASS
+CARD 31 1 0 HA
+CARD 11 1 1 DA
+CARD 32 1 2 CA
+CARD 11 1 3 SA
+CARD 11 1 4 SK
+CARD 31 1 5 HK
+CARD 11 1 6 DK
+CARD 32 1 7 CK
+CARD 11 1 8 SQ
+CARD 31 1 9 HQ
+CARD 11 1 10 DQ
+CARD 32 1 11 CQ
+CARD 11 1 12 SJ
+CARD 31 1 13 HJ
+CARD 11 1 14 DJ
+CARD 32 1 15 CJ
+CARD 11 1 16 ST
+CARD 31 1 17 HT
+CARD 11 1 18 DT
+CARD 32 1 19 CT
+CARD 11 1 20 S9
+CARD 31 1 21 H9
+CARD 11 1 22 D9
+CARD 32 1 23 C9
+CARD 11 1 24 S8
+CARD 31 1 25 H8
+CARD 11 1 26 D8
+CARD 32 1 27 C8
+SOLVE 100 1 1 1 28
+";
 
 // What is left is solved with the cache.
 #[test]
 fn a_script_uses_the_cache(rt: HostRuntime) -> Result<(), Fail> {
     let alloc = rt.alloc();
-    let lines = solved_board(alloc)?;
     let mut cache = Cache::new(alloc, 1)?;
-    let mut input = lines.as_bytes();
-    let mut output = Vec::new(alloc);
-    let Ok(mut store) = open_session(alloc, failing_disk(alloc, u64::MAX)?) else {
+    let Ok(mut store) = open_session(alloc, failing_disk(&rt, alloc, u64::MAX)?) else {
         return Err(Fail::from("a session"));
     };
+    let mut input = SOLVED_BOARD.as_bytes();
+    let mut output = Vec::new(alloc);
     let result = serve_store(&mut store, &mut cache, &mut input, &mut output);
     expect_eq(&rt, result, Ok(()), "served");
     expect_eq(&rt, output.ends_with(b"OK\nOK 6 0\n"), true, "solved");
@@ -49,22 +68,33 @@ fn a_script_uses_the_cache(rt: HostRuntime) -> Result<(), Fail> {
 /// How a run ended.
 type Run = Result<(), RunFault>;
 
+/// A new session.
+fn new_session(rt: &impl Abort, alloc: Global) -> Result<Session, AllocError> {
+    let text = club_with(alloc, MOVEMENT)?;
+    let session = read_session(alloc, &mut text.as_bytes()).ok();
+    Ok(session.expect(rt, "a session"))
+}
+
 /// A disk of a new session, all of whose calls after so many fail.
-pub fn failing_disk(alloc: Global, passes: u64) -> Result<Fuse<MemoryDisk>, Fail> {
-    let text = format!(in alloc; "{HEADING}{MOVEMENT}{PEOPLE}")?;
-    let mut reader = text.as_bytes();
-    let Ok(session) = read_session(alloc, &mut reader) else {
-        return Err(Fail::from("a session"));
-    };
-    match format(MemoryDisk::new(alloc, 2048)?, &session) {
-        Ok(disk) => Ok(Fuse::new(disk, passes, FailOf::Always, false)),
-        Err(_) => Err(Fail::from("a formatted disk")),
-    }
+pub fn failing_disk(
+    rt: &impl Abort,
+    alloc: Global,
+    passes: u64,
+) -> Result<Fuse<MemoryDisk>, AllocError> {
+    let session = new_session(rt, alloc)?;
+    let disk = format(MemoryDisk::new(alloc, 2048)?, &session).ok();
+    let disk = disk.expect(rt, "a formatted disk");
+    Ok(Fuse::new(disk, passes, FailOf::Always, false))
 }
 
 /// Serves lines over a disk of which all calls after so many fail.
-fn serve_failing<W: Write>(alloc: Global, passes: u64, output: &mut W) -> Result<Run, Fail> {
-    let disk = failing_disk(alloc, passes)?;
+fn serve_failing<W: Write>(
+    rt: &impl Abort,
+    alloc: Global,
+    passes: u64,
+    output: &mut W,
+) -> Result<Run, Fail> {
+    let disk = failing_disk(rt, alloc, passes)?;
     let mut cache = Cache::new(alloc, 1)?;
     let mut input: &[u8] = b"VOID 100 1 1 1\nSYNC\n";
     match open_session(alloc, disk) {
@@ -85,11 +115,11 @@ fn a_store_that_fails_ends_the_script(rt: HostRuntime) -> Result<(), Fail> {
         (27, Ok(()), "OK\nOK\n"),
     ] {
         let mut output = Vec::new(alloc);
-        let result = serve_failing(alloc, passes, &mut output)?;
+        let result = serve_failing(&rt, alloc, passes, &mut output)?;
         expect_eq(&rt, result, due, passes);
         expect_eq(&rt, output.as_slice(), replies.as_bytes(), passes);
     }
-    let result = serve_failing(alloc, 25, &mut Broken)?;
+    let result = serve_failing(&rt, alloc, 25, &mut Broken)?;
     expect_eq(&rt, result, fault, "a store and a writer that fail");
     Ok(())
 }

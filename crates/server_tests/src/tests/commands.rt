@@ -1,140 +1,225 @@
 //! Lines and the commands that they state: each form of a line at the ends of its ranges.
 use super::expect_eq;
-use arrayvec::ArrayString;
-use bridge_cards::{Deal, Seat, print_deal};
+use bridge_auction::Call;
+use bridge_cards::{BoardNumber, Card, CardSet};
 use bridge_config::Key;
-use bridge_session::{Field, PlayId};
-use std::alloc::Global;
-use std::io::Write;
-use std::test::Fail;
+use bridge_session::{BoardIndex, Field, MadeCount, PlayId, RoundNumber, TableNumber, TrickCount};
+use std::process::Abort;
 use table_server::{Command, read_line_command};
 
-const GOOD: [&str; 27] = [
-    "DEAL 100 1 N:AKQJT98765432... .AKQJT98765432.. ..AKQJT98765432. ...AKQJT98765432",
-    "DEAL 0 36 N:AKQJ.T98.765.432 T98.765.432.AKQJ 765.432.AKQJ.T98 432.AKQJ.T98.765",
-    "SHUFFLE 100 1 000102030405060708090a0b0c0d0e0f101112131415161718191a1b1c1d1e1f",
-    "SHUFFLE 4294967295 36 fedcba9876543210ffffffffffffffff0000000000000000a9a9a9a9a9a9a9a9",
-    "CALL 0 1 0 PASS",
-    "CALL 4294967295 36 999 7NT",
-    "CARD 31 36 999 SA",
-    "CARD 7 36 51 DT",
-    "CLAIM 11 1 0 0",
-    "CLAIM 11 36 999 13",
-    "AGREE 31 36 999",
-    "REFUSE 31 36 999",
-    "NEXT 100 12",
-    "TRICKS 100 1 1 1 0",
-    "TRICKS 100 12 12 3 13",
-    "TRICKS 4294967295 12 11 3 13",
-    "VOID 100 12 11 2",
-    "RESTORE 100 11 12 1",
-    "SYNC",
-    "SEE 0",
-    "SEE 4294967295",
-    "RANK 0 1",
-    "RANK 4294967295 2",
-    "SOLVE 100 1 1 1 0",
-    "SOLVE 100 12 11 3 52",
-    "PBN 0",
-    "PBN 4294967295",
-];
-
-/// The line of a command, with hands from North.
-fn line_of(alloc: Global, command: Command) -> Result<Vec<u8>, Fail> {
-    let mut line = Vec::new(alloc);
-    match command {
-        Command::Deal { key, board, hands } => {
-            let deal = Deal::from_hands(hands).map_err(|_| "a deal")?;
-            let mut hands = ArrayString::new();
-            print_deal(&deal, Seat::North, &mut hands);
-            write!(line, "DEAL {} {board} {}", key.0, hands.as_str())?;
-        }
-        Command::Shuffle { key, board, seed } => {
-            write!(line, "SHUFFLE {} {board} ", key.0)?;
-            for byte in seed {
-                write!(line, "{byte:02x}")?;
-            }
-        }
-        Command::Call {
-            key,
-            board,
-            at,
-            call,
-        } => write!(line, "CALL {} {board} {} {call}", key.0, at.number())?,
-        Command::Card {
-            key,
-            board,
-            at,
-            card,
-        } => write!(line, "CARD {} {board} {} {card}", key.0, at.number())?,
-        Command::Claim {
-            key,
-            board,
-            at,
-            tricks,
-        } => write!(
-            line,
-            "CLAIM {} {board} {} {}",
-            key.0,
-            at.number(),
-            tricks.number()
-        )?,
-        Command::Agree { key, board, at } => write!(
-            line,
-            "AGREE {} {board} {}",
-            key.0,
-            at.number()
-        )?,
-        Command::Refuse { key, board, at } => write!(
-            line,
-            "REFUSE {} {board} {}",
-            key.0,
-            at.number()
-        )?,
-        Command::Next { key, round } => write!(line, "NEXT {} {}", key.0, round.number())?,
-        Command::Tricks { key, play, tricks } => {
-            write_play(&mut line, "TRICKS", key, play)?;
-            write!(line, " {}", tricks.number())?;
-        }
-        Command::Void { key, play } => write_play(&mut line, "VOID", key, play)?,
-        Command::Restore { key, play } => write_play(&mut line, "RESTORE", key, play)?,
-        Command::Sync => write!(line, "SYNC")?,
-        Command::See { key } => write!(line, "SEE {}", key.0)?,
-        Command::Rank { key, field } => {
-            let number = if field == Field::First { 1 } else { 2 };
-            write!(line, "RANK {} {number}", key.0)?;
-        }
-        Command::Solve { key, play, cards } => {
-            write_play(&mut line, "SOLVE", key, play)?;
-            write!(line, " {cards}")?;
-        }
-        Command::Pbn { key } => write!(line, "PBN {}", key.0)?,
-    }
-    Ok(line)
+/// Fails where a line does not state the command that is due.
+fn expect_command(rt: &impl Abort, line: &str, due: Option<Command>) {
+    let found = read_line_command(line.as_bytes()).ok();
+    expect_eq(rt, found.is_some() && found == due, true, line);
 }
 
-/// A word, the key and the play.
-fn write_play(line: &mut Vec<u8>, word: &str, key: Key, play: PlayId) -> Result<(), Fail> {
-    let (round, table, index) = (
-        play.round.number(),
-        play.table.number(),
-        play.index.number(),
-    );
-    write!(line, "{word} {} {round} {table} {index}", key.0)?;
-    Ok(())
+fn deal(key: u32, board: u8, hands: [u64; 4]) -> Option<Command> {
+    Some(Command::Deal {
+        key: Key(key),
+        board: BoardNumber::new(board)?,
+        hands: [
+            CardSet::from_bits(hands[0])?,
+            CardSet::from_bits(hands[1])?,
+            CardSet::from_bits(hands[2])?,
+            CardSet::from_bits(hands[3])?,
+        ],
+    })
 }
 
-// Each number and word stands in its place of the command.
+fn shuffle(key: u32, board: u8, seed: &[u8; 32]) -> Option<Command> {
+    Some(Command::Shuffle {
+        key: Key(key),
+        board: BoardNumber::new(board)?,
+        seed: *seed,
+    })
+}
+
+fn call(key: u32, board: u8, at: u16, number: u8) -> Option<Command> {
+    Some(Command::Call {
+        key: Key(key),
+        board: BoardNumber::new(board)?,
+        at: MadeCount::new(at)?,
+        call: Call::from_number(number)?,
+    })
+}
+
+fn card(key: u32, board: u8, at: u16, number: u8) -> Option<Command> {
+    Some(Command::Card {
+        key: Key(key),
+        board: BoardNumber::new(board)?,
+        at: MadeCount::new(at)?,
+        card: Card::new(number)?,
+    })
+}
+
+fn claim(key: u32, board: u8, at: u16, tricks: u8) -> Option<Command> {
+    Some(Command::Claim {
+        key: Key(key),
+        board: BoardNumber::new(board)?,
+        at: MadeCount::new(at)?,
+        tricks: TrickCount::new(tricks)?,
+    })
+}
+
+fn agree(key: u32, board: u8, at: u16) -> Option<Command> {
+    Some(Command::Agree {
+        key: Key(key),
+        board: BoardNumber::new(board)?,
+        at: MadeCount::new(at)?,
+    })
+}
+
+fn refuse(key: u32, board: u8, at: u16) -> Option<Command> {
+    Some(Command::Refuse {
+        key: Key(key),
+        board: BoardNumber::new(board)?,
+        at: MadeCount::new(at)?,
+    })
+}
+
+fn play(round: u8, table: u8, index: u8) -> Option<PlayId> {
+    Some(PlayId {
+        round: RoundNumber::new(round)?,
+        table: TableNumber::new(table)?,
+        index: BoardIndex::new(index)?,
+    })
+}
+
+fn tricks(key: u32, play: Option<PlayId>, tricks: u8) -> Option<Command> {
+    Some(Command::Tricks {
+        key: Key(key),
+        play: play?,
+        tricks: TrickCount::new(tricks)?,
+    })
+}
+
+// Each hand's cards by their bits: 13 clubs from the lowest bit on, then diamonds, hearts and spades.
 #[test]
-fn each_form_is_its_command(rt: HostRuntime) -> Result<(), Fail> {
-    for text in GOOD {
-        match read_line_command(text.as_bytes()) {
-            Ok(command) => {
-                let line = line_of(rt.alloc(), command)?;
-                expect_eq(&rt, line.as_slice(), text.as_bytes(), text);
-            }
-            Err(_) => expect_eq(&rt, "no command", text, text),
-        }
+fn boards_are_dealt(rt: HostRuntime) {
+    expect_command(
+        &rt,
+        "DEAL 100 1 N:AKQJT98765432... .AKQJT98765432.. ..AKQJT98765432. ...AKQJT98765432",
+        deal(100, 1, [0xfff8000000000, 0x7ffc000000, 0x3ffe000, 0x1fff]),
+    );
+    expect_command(
+        &rt,
+        "DEAL 0 36 N:AKQJ.T98.765.432 T98.765.432.AKQJ 765.432.AKQJ.T98 432.AKQJ.T98.765",
+        deal(
+            0,
+            36,
+            [
+                0xf000700070007,
+                0xe000e000fe00,
+                0x1c001fc001c0,
+                0x3f800380038,
+            ],
+        ),
+    );
+    let mut seed = [0; 32];
+    for (byte, value) in seed.iter_mut().zip(0..32) {
+        *byte = value;
     }
-    Ok(())
+    expect_command(
+        &rt,
+        "SHUFFLE 100 1 000102030405060708090a0b0c0d0e0f101112131415161718191a1b1c1d1e1f",
+        shuffle(100, 1, &seed),
+    );
+    expect_command(
+        &rt,
+        "SHUFFLE 4294967295 36 fedcba9876543210ffffffffffffffff0000000000000000a9a9a9a9a9a9a9a9",
+        shuffle(
+            u32::MAX,
+            36,
+            b"\xfe\xdc\xba\x98\x76\x54\x32\x10\xff\xff\xff\xff\xff\xff\xff\xff\0\0\0\0\0\0\0\0\xa9\xa9\xa9\xa9\xa9\xa9\xa9\xa9",
+        ),
+    );
+}
+
+// Passes are number 0, 7NT is 37; the ace of spades is card 51, the ten of diamonds 21.
+#[test]
+fn players_act(rt: HostRuntime) {
+    for (line, due) in [
+        ("CALL 0 1 0 PASS", call(0, 1, 0, 0)),
+        ("CALL 4294967295 36 999 7NT", call(u32::MAX, 36, 999, 37)),
+        ("CARD 31 36 999 SA", card(31, 36, 999, 51)),
+        ("CARD 7 36 51 DT", card(7, 36, 51, 21)),
+        ("CLAIM 11 1 0 0", claim(11, 1, 0, 0)),
+        ("CLAIM 11 36 999 13", claim(11, 36, 999, 13)),
+        ("AGREE 31 36 999", agree(31, 36, 999)),
+        ("REFUSE 31 36 999", refuse(31, 36, 999)),
+    ] {
+        expect_command(&rt, line, due);
+    }
+}
+
+#[test]
+fn the_director_rules(rt: HostRuntime) {
+    let key = Key(100);
+    for (line, due) in [
+        ("TRICKS 100 1 1 1 0", tricks(100, play(1, 1, 1), 0)),
+        ("TRICKS 100 12 12 3 13", tricks(100, play(12, 12, 3), 13)),
+        (
+            "TRICKS 4294967295 12 11 3 13",
+            tricks(u32::MAX, play(12, 11, 3), 13),
+        ),
+        (
+            "NEXT 100 12",
+            RoundNumber::new(12).map(|round| Command::Next { key, round }),
+        ),
+        (
+            "VOID 100 12 11 2",
+            play(12, 11, 2).map(|play| Command::Void { key, play }),
+        ),
+        (
+            "RESTORE 100 11 12 1",
+            play(11, 12, 1).map(|play| Command::Restore { key, play }),
+        ),
+    ] {
+        expect_command(&rt, line, due);
+    }
+}
+
+#[test]
+fn questions_are_asked(rt: HostRuntime) {
+    let (least, most, key) = (Key(0), Key(u32::MAX), Key(100));
+    let (first, second) = (Field::First, Field::Second);
+    for (line, due) in [
+        ("SYNC", Some(Command::Sync)),
+        ("SEE 0", Some(Command::See { key: least })),
+        ("SEE 4294967295", Some(Command::See { key: most })),
+        (
+            "RANK 0 1",
+            Some(Command::Rank {
+                key: least,
+                field: first,
+            }),
+        ),
+        (
+            "RANK 4294967295 2",
+            Some(Command::Rank {
+                key: most,
+                field: second,
+            }),
+        ),
+        (
+            "SOLVE 100 1 1 1 0",
+            play(1, 1, 1).map(|play| Command::Solve {
+                key,
+                play,
+                cards: 0,
+            }),
+        ),
+        (
+            "SOLVE 100 12 11 3 52",
+            play(12, 11, 3).map(|play| Command::Solve {
+                key,
+                play,
+                cards: 52,
+            }),
+        ),
+        ("PBN 0", Some(Command::Pbn { key: least })),
+        ("PBN 4294967295", Some(Command::Pbn { key: most })),
+    ] {
+        expect_command(&rt, line, due);
+    }
 }

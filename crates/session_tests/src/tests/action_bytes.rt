@@ -26,7 +26,7 @@ const ROWS: [(&str, &[u8]); 11] = [
 #[test]
 fn each_action_has_its_bytes(rt: HostRuntime) -> Result<(), Fail> {
     for (line, due) in ROWS {
-        let action = script::action(line)?;
+        let action = script::action(&rt, line);
         let mut bytes = ArrayVec::new();
         write_action(&action, &mut bytes);
         expect_eq(&rt, bytes.as_slice(), due, line);

@@ -1,10 +1,10 @@
 //! A session's store on a disk: worked power cuts, disks that are refused, and a disk in a file.
 use super::expect_eq;
 use super::script::{CLUB, action, after, session_of, written};
-use bridge_session::Session;
+use bridge_session::{Action, Session};
 use sector_disk::{Fail as FailOf, FileDisk, Fuse, MemoryDisk, SectorDisk};
 use session_store::{Store, StoreFault, SubmitFault, format};
-use std::alloc::Global;
+use std::alloc::{AllocError, Global};
 use std::fs;
 use std::process::Abort;
 use std::test::Fail;
@@ -19,19 +19,17 @@ const DEAL: &str =
 const OPENING_CALLS: u64 = 25;
 
 /// The disk as it is formatted with a session, at a second try where memory is refused to the first.
-pub fn with_format(disk: MemoryDisk, session: &Session) -> Result<MemoryDisk, Fail> {
+pub fn with_format(rt: &impl Abort, disk: MemoryDisk, session: &Session) -> MemoryDisk {
     match format(disk, session) {
-        Ok(disk) => Ok(disk),
-        Err((disk, _)) => match format(disk, session) {
-            Ok(disk) => Ok(disk),
-            Err(_) => Err(Fail::from("a formatted disk")),
-        },
+        Ok(disk) => disk,
+        Err((disk, _)) => format(disk, session).ok().expect(rt, "a formatted disk"),
     }
 }
 
 /// A disk of 2,048 sectors with the club's opening session.
-pub fn formatted(alloc: Global) -> Result<MemoryDisk, Fail> {
-    with_format(MemoryDisk::new(alloc, 2048)?, &session_of(alloc, CLUB)?)
+pub fn formatted(rt: &impl Abort, alloc: Global) -> Result<MemoryDisk, AllocError> {
+    let session = session_of(rt, alloc, CLUB)?;
+    Ok(with_format(rt, MemoryDisk::new(alloc, 2048)?, &session))
 }
 
 /// Four lists of what a power cut picks: what was synced, what was written first since, and two mixed ones.
@@ -44,12 +42,14 @@ pub fn picks() -> [[u32; 2048]; 4] {
     lists
 }
 
+/// The store on this disk.
+pub fn opened<D: SectorDisk + Drop>(rt: &impl Abort, alloc: Global, disk: D) -> Store<D, Session> {
+    Store::open(alloc, disk).ok().expect(rt, "an opened store")
+}
+
 /// The store on this disk, whose calls after so many fail.
-fn opened_for(alloc: Global, disk: MemoryDisk, passes: u64) -> Result<ClubStore, Fail> {
-    match Store::open(alloc, Fuse::new(disk, passes, FailOf::Always, false)) {
-        Ok(store) => Ok(store),
-        Err(_) => Err(Fail::from("an opened store")),
-    }
+fn opened_for(rt: &impl Abort, alloc: Global, disk: MemoryDisk, passes: u64) -> ClubStore {
+    opened(rt, alloc, Fuse::new(disk, passes, FailOf::Always, false))
 }
 
 /// The disk of a store after a power cut that picks these values.
@@ -60,15 +60,15 @@ fn cut(store: ClubStore, picks: &[u32]) -> MemoryDisk {
 }
 
 /// Submits the actions of a text, each of which is accepted.
-fn submit<D: SectorDisk + Drop>(
-    rt: &impl Abort,
-    store: &mut Store<D, Session>,
-    text: &str,
-) -> Result<(), Fail> {
+fn submit<D: SectorDisk + Drop>(rt: &impl Abort, store: &mut Store<D, Session>, text: &str) {
     for line in text.split('/') {
-        expect_eq(rt, store.submit(&action(line)?).is_ok(), true, line);
+        expect_eq(rt, store.submit(&action(rt, line)).is_ok(), true, line);
     }
-    Ok(())
+}
+
+/// Confirms what is pending.
+fn confirm<D: SectorDisk + Drop>(rt: &impl Abort, store: &mut Store<D, Session>) {
+    expect_eq(rt, store.confirm().is_ok(), true, "confirm");
 }
 
 /// Fails where the store's session is not that after those actions, or its epoch another.
@@ -78,12 +78,12 @@ fn expect_state<D: SectorDisk + Drop>(
     store: &Store<D, Session>,
     texts: &[&str],
     epoch: u64,
-) -> Result<(), Fail> {
-    let due = written(alloc, &after(rt, alloc, texts)?)?;
-    let found = written(alloc, store.state())?;
+) {
+    let session = after(rt, alloc, texts).ok().expect(rt, "a session");
+    let due = written(alloc, &session).ok().expect(rt, "parts");
+    let found = written(alloc, store.state()).ok().expect(rt, "parts");
     expect_eq(rt, found.as_slice() == due.as_slice(), true, texts);
     expect_eq(rt, store.epoch(), epoch, texts);
-    Ok(())
 }
 
 /// Fails where a sector has other bytes than these and zeros behind them.
@@ -101,13 +101,13 @@ fn expect_sector(rt: &impl Abort, disk: &mut MemoryDisk, at: u32, due: &[u8]) ->
 // 2,048 writes, a sync, 9 writes, a sync, a write and a sync.
 #[test]
 fn formatting_takes_2061_calls(rt: HostRuntime) -> Result<(), Fail> {
-    let session = session_of(rt.alloc(), CLUB)?;
+    let session = session_of(&rt, rt.alloc(), CLUB)?;
     for (passes, is_done) in [(2060, false), (2061, true)] {
         let disk = MemoryDisk::new(rt.alloc(), 2048)?;
         let fuse = Fuse::new(disk, passes, FailOf::Always, false);
         expect_eq(&rt, format(fuse, &session).is_ok(), is_done, passes);
     }
-    let mut disk = formatted(rt.alloc())?;
+    let mut disk = formatted(&rt, rt.alloc())?;
     expect_sector(&rt, &mut disk, 0, b"BD1H\0\0\0\0\0\0\0\x01\0\0\0\x09")?;
     expect_sector(
         &rt,
@@ -121,13 +121,13 @@ fn formatting_takes_2061_calls(rt: HostRuntime) -> Result<(), Fail> {
 #[test]
 fn confirmed_actions_are_there_after_a_power_cut(rt: HostRuntime) -> Result<(), Fail> {
     for picks in &picks() {
-        let mut store = opened_for(rt.alloc(), formatted(rt.alloc())?, u64::MAX)?;
-        expect_state(&rt, rt.alloc(), &store, &[], 2)?;
-        submit(&rt, &mut store, DEAL)?;
-        submit(&rt, &mut store, "CALL 11 1 0 7S")?;
-        expect_eq(&rt, store.confirm(), Ok(()), "confirm");
-        let store = opened_for(rt.alloc(), cut(store, picks), u64::MAX)?;
-        expect_state(&rt, rt.alloc(), &store, &[DEAL, "CALL 11 1 0 7S"], 3)?;
+        let mut store = opened_for(&rt, rt.alloc(), formatted(&rt, rt.alloc())?, u64::MAX);
+        expect_state(&rt, rt.alloc(), &store, &[], 2);
+        submit(&rt, &mut store, DEAL);
+        submit(&rt, &mut store, "CALL 11 1 0 7S");
+        confirm(&rt, &mut store);
+        let store = opened_for(&rt, rt.alloc(), cut(store, picks), u64::MAX);
+        expect_state(&rt, rt.alloc(), &store, &[DEAL, "CALL 11 1 0 7S"], 3);
     }
     Ok(())
 }
@@ -138,10 +138,10 @@ fn confirmed_actions_are_there_after_a_power_cut(rt: HostRuntime) -> Result<(), 
 fn a_record_behind_a_lost_one_is_lost(rt: HostRuntime) -> Result<(), Fail> {
     let mut only_record_2 = [0; 1027];
     only_record_2[1026] = 1;
-    let mut store = opened_for(rt.alloc(), formatted(rt.alloc())?, u64::MAX)?;
-    submit(&rt, &mut store, DEAL)?;
-    expect_eq(&rt, store.confirm(), Ok(()), "confirm");
-    submit(&rt, &mut store, "CALL 11 1 0 7S/CALL 31 1 1 PASS")?;
+    let mut store = opened_for(&rt, rt.alloc(), formatted(&rt, rt.alloc())?, u64::MAX);
+    submit(&rt, &mut store, DEAL);
+    confirm(&rt, &mut store);
+    submit(&rt, &mut store, "CALL 11 1 0 7S/CALL 31 1 1 PASS");
     let mut disk = store.into_disk().into_inner();
     expect_sector(
         &rt,
@@ -150,47 +150,47 @@ fn a_record_behind_a_lost_one_is_lost(rt: HostRuntime) -> Result<(), Fail> {
         b"BD1R\0\0\0\0\0\0\0\x02\0\0\0\x01\0\x09\x02\0\0\0\x0b\x01\0\0\x24",
     )?;
     disk.crash(&only_record_2);
-    let mut store = opened_for(rt.alloc(), disk, u64::MAX)?;
-    expect_state(&rt, rt.alloc(), &store, &[DEAL], 3)?;
-    submit(&rt, &mut store, "CALL 11 1 0 PASS")?;
-    expect_eq(&rt, store.confirm(), Ok(()), "confirm");
-    let store = opened_for(rt.alloc(), cut(store, &[]), u64::MAX)?;
-    expect_state(&rt, rt.alloc(), &store, &[DEAL, "CALL 11 1 0 PASS"], 4)
+    let mut store = opened_for(&rt, rt.alloc(), disk, u64::MAX);
+    expect_state(&rt, rt.alloc(), &store, &[DEAL], 3);
+    submit(&rt, &mut store, "CALL 11 1 0 PASS");
+    confirm(&rt, &mut store);
+    let store = opened_for(&rt, rt.alloc(), cut(store, &[]), u64::MAX);
+    expect_state(&rt, rt.alloc(), &store, &[DEAL, "CALL 11 1 0 PASS"], 4);
+    Ok(())
 }
 
 /// Submits an action 1,024 times, and confirms after each 64: the 65th would be one too many.
-fn fill(rt: &impl Abort, store: &mut ClubStore, text: &str) -> Result<(), Fail> {
+fn fill(rt: &impl Abort, store: &mut ClubStore, action: &Action) {
     for count in 0..1024 {
-        submit(rt, store, text)?;
+        expect_eq(rt, store.submit(action).is_ok(), true, count);
         if count % 64 == 63 {
-            let answer = store.submit(&action(text)?);
-            let is_full = matches!(answer, Err(SubmitFault::Batch));
+            let is_full = matches!(store.submit(action), Err(SubmitFault::Batch));
             expect_eq(rt, is_full, true, count);
-            expect_eq(rt, store.confirm(), Ok(()), count);
+            confirm(rt, store);
         }
     }
-    Ok(())
 }
 
 // 1,024 actions and 16 confirms are one call of the disk each. The 1,025th action makes a checkpoint of 12 calls, of which
 // the 11th writes the header.
 #[test]
 fn a_full_journal_goes_over_to_a_checkpoint(rt: HostRuntime) -> Result<(), Fail> {
-    let last = action("VOID 100 1 2 1")?;
+    let first = action(&rt, "VOID 100 1 1 1");
+    let last = action(&rt, "VOID 100 1 2 1");
     for calls in 0..13 {
         for is_kept in [false, true] {
             let passes = OPENING_CALLS + 1024 + 16 + calls;
-            let mut store = opened_for(rt.alloc(), formatted(rt.alloc())?, passes)?;
-            fill(&rt, &mut store, "VOID 100 1 1 1")?;
+            let mut store = opened_for(&rt, rt.alloc(), formatted(&rt, rt.alloc())?, passes);
+            fill(&rt, &mut store, &first);
             expect_eq(&rt, store.submit(&last).is_ok(), calls == 12, calls);
             expect_eq(&rt, store.epoch(), if calls < 12 { 2 } else { 3 }, calls);
             let disk = cut(store, if is_kept { &[1; 2048] } else { &[] });
-            let store = opened_for(rt.alloc(), disk, u64::MAX)?;
+            let store = opened_for(&rt, rt.alloc(), disk, u64::MAX);
             if calls == 12 || (calls == 11 && is_kept) {
                 let texts = ["VOID 100 1 1 1/VOID 100 1 2 1"];
-                expect_state(&rt, rt.alloc(), &store, &texts, 4)?;
+                expect_state(&rt, rt.alloc(), &store, &texts, 4);
             } else {
-                expect_state(&rt, rt.alloc(), &store, &["VOID 100 1 1 1"], 3)?;
+                expect_state(&rt, rt.alloc(), &store, &["VOID 100 1 1 1"], 3);
             }
         }
     }
@@ -199,6 +199,7 @@ fn a_full_journal_goes_over_to_a_checkpoint(rt: HostRuntime) -> Result<(), Fail>
 
 /// A formatted disk, on which the bytes of these sectors from one to before another have that value.
 fn changed(
+    rt: &impl Abort,
     alloc: Global,
     sectors: u32,
     first: u32,
@@ -206,7 +207,7 @@ fn changed(
     end: usize,
     value: u8,
 ) -> Result<MemoryDisk, Fail> {
-    let mut disk = formatted(alloc)?;
+    let mut disk = formatted(rt, alloc)?;
     for at in first..first.saturating_add(sectors) {
         let mut bytes = [0; 512];
         if at < disk.count() {
@@ -230,15 +231,15 @@ fn disks_that_are_not_opened(rt: HostRuntime) -> Result<(), Fail> {
         (MemoryDisk::new(rt.alloc(), 2047)?, StoreFault::TooSmall),
         (MemoryDisk::new(rt.alloc(), 2048)?, StoreFault::NotFormatted),
         (
-            changed(rt.alloc(), 1, 4, 0, 512, 0)?,
+            changed(&rt, rt.alloc(), 1, 4, 0, 512, 0)?,
             StoreFault::Damaged(4),
         ),
         (
-            changed(rt.alloc(), 1, 4, 19, 20, b' ')?,
+            changed(&rt, rt.alloc(), 1, 4, 19, 20, b' ')?,
             StoreFault::Damaged(0),
         ),
         (
-            changed(rt.alloc(), 10, 0, 4, 12, 255)?,
+            changed(&rt, rt.alloc(), 10, 0, 4, 12, 255)?,
             StoreFault::EpochsSpent,
         ),
     ] {
@@ -249,7 +250,7 @@ fn disks_that_are_not_opened(rt: HostRuntime) -> Result<(), Fail> {
         expect_eq(&rt, fault, Some(due), due);
     }
     let disk = MemoryDisk::new(rt.alloc(), 2047)?;
-    let fault = format(disk, &session_of(rt.alloc(), CLUB)?).err();
+    let fault = format(disk, &session_of(&rt, rt.alloc(), CLUB)?).err();
     let fault = fault.map(|(_, fault)| fault);
     expect_eq(&rt, fault, Some(StoreFault::TooSmall), "format");
     Ok(())
@@ -258,23 +259,17 @@ fn disks_that_are_not_opened(rt: HostRuntime) -> Result<(), Fail> {
 // The file is made, formatted, opened twice and taken away.
 #[test]
 fn a_session_is_kept_in_a_file(rt: HostRuntime) -> Result<(), Fail> {
+    let session = session_of(&rt, rt.alloc(), CLUB)?;
     let name = "bridge_session_test.disk";
     let disk = FileDisk::create(&rt, name)?;
-    let Ok(disk) = format(disk, &session_of(rt.alloc(), CLUB)?) else {
-        return Err(Fail::from("a formatted file"));
-    };
-    drop(disk);
-    let Ok(mut store) = Store::open(rt.alloc(), FileDisk::open(&rt, name)?) else {
-        return Err(Fail::from("an opened store"));
-    };
-    expect_state(&rt, rt.alloc(), &store, &[], 2)?;
-    submit(&rt, &mut store, DEAL)?;
-    expect_eq(&rt, store.confirm(), Ok(()), "confirm");
+    drop(format(disk, &session).ok().expect(&rt, "a formatted file"));
+    let mut store = opened(&rt, rt.alloc(), FileDisk::open(&rt, name)?);
+    expect_state(&rt, rt.alloc(), &store, &[], 2);
+    submit(&rt, &mut store, DEAL);
+    confirm(&rt, &mut store);
     drop(store);
-    let Ok(store) = Store::open(rt.alloc(), FileDisk::open(&rt, name)?) else {
-        return Err(Fail::from("an opened store"));
-    };
-    expect_state(&rt, rt.alloc(), &store, &[DEAL], 3)?;
+    let store = opened(&rt, rt.alloc(), FileDisk::open(&rt, name)?);
+    expect_state(&rt, rt.alloc(), &store, &[DEAL], 3);
     drop(store);
     fs::remove_file(&rt, name)?;
     Ok(())

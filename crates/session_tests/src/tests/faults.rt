@@ -1,12 +1,11 @@
 //! A fault and a power cut at every call of the disk while the first actions of a worked session are taken.
-use super::disk::{formatted, picks, with_format};
+use super::disk::{formatted, opened, picks, with_format};
 use super::expect_eq;
 use super::script::{CLUB, action, run, session_of, written};
-use arrayvec::ArrayVec;
 use bridge_session::Session;
 use sector_disk::{Fail as FailOf, Fuse, MemoryDisk, SectorDisk};
 use session_store::{ConfirmFault, Store, StoreFault, SubmitFault, format};
-use std::alloc::Global;
+use std::alloc::{AllocError, Global};
 use std::process::Abort;
 use std::test::Fail;
 
@@ -20,9 +19,6 @@ const THEN: &str =
 
 /// Opening with three records takes 28 calls; then come seven records and four syncs.
 const CALLS: u64 = 39;
-
-/// The parts of a session.
-type Parts = Vec<ArrayVec<u8, 480>>;
 
 /// How many actions were accepted, how many of these are confirmed, and whether a call of the disk failed.
 #[derive(Clone, Copy, Default)]
@@ -43,48 +39,58 @@ impl Tally {
     }
 }
 
+/// Submits the action of a line, which is accepted.
+fn submit<D: SectorDisk + Drop>(
+    rt: &impl Abort,
+    store: &mut Store<D, Session>,
+    tally: &mut Tally,
+    line: &str,
+) {
+    match store.submit(&action(rt, line)) {
+        Ok(()) => tally.accept(),
+        Err(SubmitFault::Disk) => {
+            tally.accept();
+            tally.fault(rt);
+        }
+        Err(SubmitFault::Failed) => expect_eq(rt, tally.failed, true, line),
+        Err(_) => assert!(rt; false, "{line} is accepted"),
+    }
+}
+
+/// Confirms what is pending.
+fn confirm<D: SectorDisk + Drop>(
+    rt: &impl Abort,
+    store: &mut Store<D, Session>,
+    tally: &mut Tally,
+) {
+    match store.confirm() {
+        Ok(()) => tally.confirmed = tally.accepted,
+        Err(ConfirmFault::Disk) => tally.fault(rt),
+        Err(ConfirmFault::Failed) => expect_eq(rt, tally.failed, true, "confirm"),
+    }
+}
+
 /// Submits the actions of a text, and confirms where it says so.
 fn take<D: SectorDisk + Drop>(
     rt: &impl Abort,
     store: &mut Store<D, Session>,
     tally: &mut Tally,
     text: &str,
-) -> Result<(), Fail> {
+) {
     for line in text.split('/') {
         if line == "CONFIRM" {
-            match store.confirm() {
-                Ok(()) => tally.confirmed = tally.accepted,
-                Err(ConfirmFault::Disk) => tally.fault(rt),
-                Err(ConfirmFault::Failed) => expect_eq(rt, tally.failed, true, line),
-            }
+            confirm(rt, store, tally);
         } else {
-            match store.submit(&action(line)?) {
-                Ok(()) => tally.accept(),
-                Err(SubmitFault::Disk) => {
-                    tally.accept();
-                    tally.fault(rt);
-                }
-                Err(SubmitFault::Failed) => expect_eq(rt, tally.failed, true, line),
-                Err(_) => return Err(Fail::from("an action that is accepted")),
-            }
+            submit(rt, store, tally, line);
         }
-    }
-    Ok(())
-}
-
-/// The store on a disk that no call fails.
-fn opened(alloc: Global, disk: MemoryDisk) -> Result<Store<MemoryDisk, Session>, Fail> {
-    match Store::open(alloc, disk) {
-        Ok(store) => Ok(store),
-        Err(_) => Err(Fail::from("an opened store")),
     }
 }
 
 /// The disk with the first actions, and what is due of it.
-fn prepared(rt: &impl Abort, alloc: Global) -> Result<(MemoryDisk, Tally), Fail> {
-    let mut store = opened(alloc, formatted(alloc)?)?;
+fn prepared(rt: &impl Abort, alloc: Global) -> Result<(MemoryDisk, Tally), AllocError> {
+    let mut store = opened(rt, alloc, formatted(rt, alloc)?);
     let mut tally = Tally::default();
-    take(rt, &mut store, &mut tally, FIRST)?;
+    take(rt, &mut store, &mut tally, FIRST);
     Ok((store.into_disk(), tally))
 }
 
@@ -96,37 +102,34 @@ fn go_on(
     tally: &mut Tally,
     texts: &[&str],
     causes: &[StoreFault],
-) -> Result<MemoryDisk, Fail> {
+) -> MemoryDisk {
     match Store::open(alloc, disk) {
         Err((disk, fault)) => {
             expect_eq(rt, causes.contains(&fault), true, fault);
             tally.fault(rt);
-            Ok(disk.into_inner())
+            disk.into_inner()
         }
         Ok(mut store) => {
             tally.confirmed = tally.accepted;
             for text in texts {
-                take(rt, &mut store, tally, text)?;
+                take(rt, &mut store, tally, text);
             }
-            Ok(store.into_disk().into_inner())
+            store.into_disk().into_inner()
         }
     }
 }
 
-/// The parts of the sessions after none, one .. of the actions.
-fn prefixes(rt: &impl Abort, alloc: Global) -> Result<Vec<Parts>, Fail> {
-    let mut session = session_of(alloc, CLUB)?;
-    let mut prefixes = Vec::new(alloc);
-    prefixes.push(written(alloc, &session)?)?;
-    for text in [FIRST, THEN] {
-        for line in text.split('/') {
-            if line != "CONFIRM" {
-                run(rt, &mut session, &[line])?;
-                prefixes.push(written(alloc, &session)?)?;
-            }
+/// The session after so many of the actions.
+fn after_first(rt: &impl Abort, alloc: Global, count: usize) -> Result<Session, AllocError> {
+    let mut session = session_of(rt, alloc, CLUB)?;
+    let mut taken = 0;
+    for line in FIRST.split('/').chain(THEN.split('/')) {
+        if line != "CONFIRM" && taken < count {
+            run(rt, &mut session, &[line]);
+            taken += 1;
         }
     }
-    Ok(prefixes)
+    Ok(session)
 }
 
 /// Fails where the session has not the confirmed actions and, of the others accepted, some of the first.
@@ -135,29 +138,33 @@ fn expect_prefix(
     alloc: Global,
     session: &Session,
     tally: Tally,
-    prefixes: &[Parts],
-) -> Result<(), Fail> {
+) -> Result<(), AllocError> {
     let found = written(alloc, session)?;
-    let index = prefixes
-        .iter()
-        .position(|due| due.as_slice() == found.as_slice());
-    let is_due = index.is_some_and(|at| tally.confirmed <= at && at <= tally.accepted);
-    expect_eq(rt, is_due, true, (index, tally.confirmed, tally.accepted));
+    let mut is_due = false;
+    for count in tally.confirmed..=tally.accepted {
+        let due = written(alloc, &after_first(rt, alloc, count)?)?;
+        is_due = is_due || due.as_slice() == found.as_slice();
+    }
+    expect_eq(rt, is_due, true, (tally.confirmed, tally.accepted));
     Ok(())
 }
 
 /// Whatever call fails, and whatever a power cut then leaves.
-fn fail_every_call(rt: &impl Abort, alloc: Global, fail: FailOf, effect: bool) -> Result<(), Fail> {
-    let prefixes = prefixes(rt, alloc)?;
+fn fail_every_call(
+    rt: &impl Abort,
+    alloc: Global,
+    fail: FailOf,
+    effect: bool,
+) -> Result<(), AllocError> {
     for passes in 0..=CALLS {
         for picks in &picks() {
             let (disk, mut tally) = prepared(rt, alloc)?;
             let fuse = Fuse::new(disk, passes, fail, effect);
-            let mut disk = go_on(rt, alloc, fuse, &mut tally, &[THEN], &[StoreFault::Disk])?;
+            let mut disk = go_on(rt, alloc, fuse, &mut tally, &[THEN], &[StoreFault::Disk]);
             expect_eq(rt, tally.failed, passes < CALLS, passes);
             disk.crash(picks);
-            let store = opened(alloc, disk)?;
-            expect_prefix(rt, alloc, store.state(), tally, prefixes.as_slice())?;
+            let store = opened(rt, alloc, disk);
+            expect_prefix(rt, alloc, store.state(), tally)?;
         }
     }
     Ok(())
@@ -166,13 +173,15 @@ fn fail_every_call(rt: &impl Abort, alloc: Global, fail: FailOf, effect: bool) -
 #[test]
 fn one_fault_at_every_call(rt: HostRuntime) -> Result<(), Fail> {
     fail_every_call(&rt, rt.alloc(), FailOf::Once, false)?;
-    fail_every_call(&rt, rt.alloc(), FailOf::Once, true)
+    fail_every_call(&rt, rt.alloc(), FailOf::Once, true)?;
+    Ok(())
 }
 
 #[test]
 fn faults_from_every_call_on(rt: HostRuntime) -> Result<(), Fail> {
     fail_every_call(&rt, rt.alloc(), FailOf::Always, false)?;
-    fail_every_call(&rt, rt.alloc(), FailOf::Always, true)
+    fail_every_call(&rt, rt.alloc(), FailOf::Always, true)?;
+    Ok(())
 }
 
 const FUSES: [(FailOf, bool); 4] = [
@@ -201,14 +210,19 @@ fn half_formatted(
 }
 
 /// Formats a disk again after each 17th of these calls and each of those that write the snapshot.
-fn fail_formatting(rt: &impl Abort, alloc: Global, from: usize, to: usize) -> Result<(), Fail> {
-    let session = session_of(alloc, CLUB)?;
+fn fail_formatting(
+    rt: &impl Abort,
+    alloc: Global,
+    from: usize,
+    to: usize,
+) -> Result<(), AllocError> {
+    let session = session_of(rt, alloc, CLUB)?;
     let due = written(alloc, &session)?;
     let mut disk = prepared(rt, alloc)?.0;
     for calls in from..to {
         disk = half_formatted(rt, disk, &session, calls);
         if calls % 17 == 0 || calls > 2047 {
-            let store = opened(alloc, with_format(disk, &session)?)?;
+            let store = opened(rt, alloc, with_format(rt, disk, &session));
             let found = written(alloc, store.state())?;
             expect_eq(rt, found.as_slice() == due.as_slice(), true, calls);
             disk = store.into_disk();
@@ -219,29 +233,31 @@ fn fail_formatting(rt: &impl Abort, alloc: Global, from: usize, to: usize) -> Re
 
 #[test]
 fn a_fault_at_each_of_the_first_calls_of_formatting(rt: HostRuntime) -> Result<(), Fail> {
-    fail_formatting(&rt, rt.alloc(), 0, 1400)
+    fail_formatting(&rt, rt.alloc(), 0, 1400)?;
+    Ok(())
 }
 
 #[test]
 fn a_fault_at_each_of_the_last_calls_of_formatting(rt: HostRuntime) -> Result<(), Fail> {
-    fail_formatting(&rt, rt.alloc(), 1400, 2061)
+    fail_formatting(&rt, rt.alloc(), 1400, 2061)?;
+    Ok(())
 }
 
 // `rt try --test --fail-alloc N` refuses the Nth allocation, and every other run none.
 #[test]
 fn a_store_whose_memory_may_be_refused(rt: HostRuntime) -> Result<(), Fail> {
-    let prefixes = prefixes(&rt, rt.alloc())?;
     let causes = [StoreFault::Disk, StoreFault::NoMemory];
     let mut tally = Tally::default();
-    let fuse = Fuse::new(formatted(rt.alloc())?, u64::MAX, FailOf::Once, false);
-    let mut disk = go_on(&rt, rt.alloc(), fuse, &mut tally, &[FIRST, THEN], &causes)?;
+    let fuse = Fuse::new(formatted(&rt, rt.alloc())?, u64::MAX, FailOf::Once, false);
+    let mut disk = go_on(&rt, rt.alloc(), fuse, &mut tally, &[FIRST, THEN], &causes);
     disk.crash(&[1; 2048]);
     let store = match Store::open(rt.alloc(), disk) {
         Ok(store) => store,
         Err((disk, fault)) => {
             expect_eq(&rt, causes.contains(&fault), true, fault);
-            opened(rt.alloc(), disk)?
+            opened(&rt, rt.alloc(), disk)
         }
     };
-    expect_prefix(&rt, rt.alloc(), store.state(), tally, prefixes.as_slice())
+    expect_prefix(&rt, rt.alloc(), store.state(), tally)?;
+    Ok(())
 }

@@ -43,12 +43,12 @@ fn pass_out(rt: &impl Abort, alloc: Global, session: &mut Session) -> Result<(),
         let deal = format!(in alloc;
             "DEAL 100 {board} N:AKQJT98765432... .AKQJT98765432.. ..AKQJT98765432. ...AKQJT98765432"
         )?;
-        expect_eq(rt, session.step(&action(deal.as_str())?), Ok(()), table);
+        expect_eq(rt, session.step(&action(rt, deal.as_str())), Ok(()), table);
         let players = [100 + table, 112 + table, 200 + table, 212 + table];
         for at in 0..4 {
             let key = players[(board - 1 + at) % 4];
             let call = format!(in alloc; "CALL {key} {board} {at} PASS")?;
-            expect_eq(rt, session.step(&action(call.as_str())?), Ok(()), table);
+            expect_eq(rt, session.step(&action(rt, call.as_str())), Ok(()), table);
         }
     }
     Ok(())
@@ -58,7 +58,7 @@ fn pass_out(rt: &impl Abort, alloc: Global, session: &mut Session) -> Result<(),
 #[test]
 fn a_session_of_432_plays(rt: HostRuntime) -> Result<(), Fail> {
     let text = configuration(rt.alloc())?;
-    let mut session = session_of(rt.alloc(), text.as_str())?;
+    let mut session = session_of(&rt, rt.alloc(), text.as_str())?;
     pass_out(&rt, rt.alloc(), &mut session)?;
     let parts = written(rt.alloc(), &session)?;
     expect_eq(&rt, parts.len(), 494, "parts");

@@ -19,7 +19,7 @@ fn expect_part(rt: &impl Abort, session: &Session, index: u32, bytes: &[u8]) -> 
 
 #[test]
 fn parts_of_a_new_session(rt: HostRuntime) -> Result<(), Fail> {
-    let session = session_of(rt.alloc(), CLUB)?;
+    let session = session_of(&rt, rt.alloc(), CLUB)?;
     expect_eq(&rt, session.parts(), 9, "parts");
     for (index, bytes) in [
         (1, b"\x01\x03\x01\x02\x04\x01".as_slice()),
@@ -64,7 +64,7 @@ fn parts_of_a_session_that_goes_on(rt: HostRuntime) -> Result<(), Fail> {
         &rt,
         &mut session,
         &["AGREE 32 1 1/TRICKS 100 1 1 1 11/NEXT 100 1"],
-    )?;
+    );
     let agreed = b"\x00\x04\x24\x00\x00\x00\x04\x26\x19\x0c\x33\x01\x02\x00\x0c\x0a\x01\x0b";
     expect_part(&rt, &session, 7, agreed)
 }

@@ -3,9 +3,8 @@ use super::expect_eq;
 use arrayvec::ArrayVec;
 use bridge_config::read_config;
 use bridge_session::{Action, Session};
-use std::alloc::Global;
+use std::alloc::{AllocError, Global};
 use std::process::Abort;
-use std::test::Fail;
 use table_server::{Asked, asked_by};
 
 /// Two tables, one round, one board: pairs 1 and 3 at table 1, pairs 2 and 4 at table 2.
@@ -35,40 +34,38 @@ pub const A_CLAIM: &str = "CLAIM 11 1 0 13/AGREE 31 1 1/AGREE 32 1 1";
 pub const A_PASS: &str = "CALL 21 1 0 PASS/CALL 41 1 1 PASS/CALL 22 1 2 PASS/CALL 42 1 3 PASS";
 
 /// The opening session of a configuration's text.
-pub fn session_of(alloc: Global, text: &str) -> Result<Session, Fail> {
-    let Ok(config) = read_config(text.as_bytes()) else {
-        return Err(Fail::from("a configuration"));
-    };
-    Ok(Session::new(alloc, config)?)
+pub fn session_of(rt: &impl Abort, alloc: Global, text: &str) -> Result<Session, AllocError> {
+    let config = read_config(text.as_bytes()).ok();
+    Session::new(alloc, config.expect(rt, "a configuration"))
 }
 
 /// The action that a line of the protocol states.
-pub fn action(line: &str) -> Result<Action, Fail> {
-    match asked_by(line.as_bytes()) {
-        Asked::Change(action) => Ok(action),
-        _ => Err(Fail::from("the line of an action")),
-    }
+pub fn action(rt: &impl Abort, line: &str) -> Action {
+    let action = match asked_by(line.as_bytes()) {
+        Asked::Change(action) => Some(action),
+        _ => None,
+    };
+    action.expect(rt, "the line of an action")
 }
 
 /// Takes the actions of each text, with `/` between two, none of which is refused.
-pub fn run(rt: &impl Abort, session: &mut Session, texts: &[&str]) -> Result<(), Fail> {
+pub fn run(rt: &impl Abort, session: &mut Session, texts: &[&str]) {
     for text in texts {
         for line in text.split('/') {
-            expect_eq(rt, session.step(&action(line)?).is_ok(), true, line);
+            expect_eq(rt, session.step(&action(rt, line)).is_ok(), true, line);
         }
     }
-    Ok(())
 }
 
 /// The session of the club after those actions.
-pub fn after(rt: &impl Abort, alloc: Global, texts: &[&str]) -> Result<Session, Fail> {
-    let mut session = session_of(alloc, CLUB)?;
-    run(rt, &mut session, texts)?;
+pub fn after(rt: &impl Abort, alloc: Global, texts: &[&str]) -> Result<Session, AllocError> {
+    let mut session = session_of(rt, alloc, CLUB)?;
+    run(rt, &mut session, texts);
     Ok(session)
 }
 
 /// The parts of a session.
-pub fn written(alloc: Global, session: &Session) -> Result<Vec<ArrayVec<u8, 480>>, Fail> {
+pub fn written(alloc: Global, session: &Session) -> Result<Vec<ArrayVec<u8, 480>>, AllocError> {
     let mut parts = Vec::new(alloc);
     for index in 0..session.parts() {
         let mut part = ArrayVec::new();

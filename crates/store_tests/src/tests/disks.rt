@@ -183,6 +183,33 @@ fn an_opening_whose_barrier_fails(rt: HostRuntime) -> Result<(), Failure> {
     Ok(())
 }
 
+// No header, a header of the last epoch, and one whose first part is missing: the calls that opening makes. Where one of them
+// fails, that is the answer, and not what was found.
+#[test]
+fn a_call_that_fails_is_answered_first(rt: HostRuntime) -> Result<(), Failure> {
+    for (epoch, calls, due) in [
+        (0, 3, StoreFault::NotFormatted),
+        (u64::MAX, 3, StoreFault::EpochsSpent),
+        (1, 4, StoreFault::Damaged(1)),
+    ] {
+        for passes in 0..=calls {
+            let mut disk = MemoryDisk::new(rt.alloc(), 2048)?;
+            if epoch > 0 {
+                put(&mut disk, written(0, HEADER, epoch, 9, &[]))?;
+            }
+            let fuse = Fuse::new(disk, passes, Fail::Once, false);
+            let found = opened_behind(rt.alloc(), fuse).1;
+            let due = if passes < calls {
+                StoreFault::Disk
+            } else {
+                due
+            };
+            expect_eq(&rt, found, Err(due), (epoch, passes));
+        }
+    }
+    Ok(())
+}
+
 // The 24th call of opening 9 parts writes the header.
 #[test]
 fn an_opening_that_is_stopped_ten_times(rt: HostRuntime) -> Result<(), Failure> {
