@@ -4,7 +4,7 @@ use super::expect_eq;
 use super::script::{CLUB, action, run, session_of, written};
 use bridge_session::Session;
 use sector_disk::{Fail as FailOf, Fuse, MemoryDisk, SectorDisk};
-use session_store::{ConfirmFault, Store, StoreFault, SubmitFault, format};
+use session_store::{CheckpointFault, ConfirmFault, Store, StoreFault, SubmitFault, format};
 use std::alloc::{AllocError, Global};
 use std::process::Abort;
 use std::test::Fail;
@@ -15,10 +15,10 @@ const FIRST: &str =
 
 /// What follows.
 const THEN: &str =
-    "CALL 12 1 2 PASS/CONFIRM/CALL 32 1 3 PASS/CLAIM 11 1 0 13/CONFIRM/AGREE 31 1 1/AGREE 32 1 1/CONFIRM/CALL 21 1 0 PASS/CALL 41 1 1 PASS/CONFIRM";
+    "CALL 12 1 2 PASS/CONFIRM/CALL 32 1 3 PASS/CLAIM 11 1 0 13/CONFIRM/AGREE 31 1 1/AGREE 32 1 1/CONFIRM/CALL 21 1 0 PASS/CONFIRM/CALL 41 1 1 PASS/CHECKPOINT";
 
-/// Opening with three records takes 28 calls; then come seven records and four syncs.
-const CALLS: u64 = 39;
+/// Opening with three records takes 28 calls; then come seven records, four syncs, and twelve calls of a checkpoint.
+const CALLS: u64 = 51;
 
 /// How many actions were accepted, how many of these are confirmed, and whether a call of the disk failed.
 #[derive(Clone, Copy, Default)]
@@ -70,7 +70,21 @@ fn confirm<D: SectorDisk + Drop>(
     }
 }
 
-/// Submits the actions of a text, and confirms where it says so.
+/// Makes a checkpoint.
+fn checkpoint<D: SectorDisk + Drop>(
+    rt: &impl Abort,
+    store: &mut Store<D, Session>,
+    tally: &mut Tally,
+) {
+    match store.checkpoint() {
+        Ok(()) => tally.confirmed = tally.accepted,
+        Err(CheckpointFault::Disk) => tally.fault(rt),
+        Err(CheckpointFault::Failed) => expect_eq(rt, tally.failed, true, "checkpoint"),
+        Err(CheckpointFault::EpochsSpent) => assert!(rt; false, "epochs are left"),
+    }
+}
+
+/// Submits the actions of a text, and confirms and makes a checkpoint where it says so.
 fn take<D: SectorDisk + Drop>(
     rt: &impl Abort,
     store: &mut Store<D, Session>,
@@ -80,6 +94,8 @@ fn take<D: SectorDisk + Drop>(
     for line in text.split('/') {
         if line == "CONFIRM" {
             confirm(rt, store, tally);
+        } else if line == "CHECKPOINT" {
+            checkpoint(rt, store, tally);
         } else {
             submit(rt, store, tally, line);
         }
@@ -124,7 +140,8 @@ fn after_first(rt: &impl Abort, alloc: Global, count: usize) -> Result<Session, 
     let mut session = session_of(rt, alloc, CLUB)?;
     let mut taken = 0;
     for line in FIRST.split('/').chain(THEN.split('/')) {
-        if line != "CONFIRM" && taken < count {
+        let is_action = line != "CONFIRM" && line != "CHECKPOINT";
+        if is_action && taken < count {
             run(rt, &mut session, &[line]);
             taken += 1;
         }
