@@ -16,9 +16,9 @@ pub cause-from : {X Y : Type 0} (inner outer : Type 0) (mid before now : ℕ) (f
     → IsCause inner mid now found fault → IsCause outer before now all fault
 cause-from inner outer mid before now found all fault honest same so (inl failed) =
     inl (failed.0, subst (λ (n : ℕ). Rose n now) same failed.1)
-cause-from inner outer mid before now found all fault honest same so (inr (inl none)) = inr (inl none)
-cause-from inner outer mid before now found all fault honest same so (inr (inr is)) =
-    inr (inr (is.0, λ holds. so holds (is.1 (honest holds))))
+cause-from inner outer mid before now found all fault honest same so (inr (none_rose, inl none)) = inr (none_rose ∙ same, inl none)
+cause-from inner outer mid before now found all fault honest same so (inr (none_rose, inr is)) =
+    inr (none_rose ∙ same, inr (is.0, is.1, λ holds. so holds (is.2 (honest holds))))
 
 module _ {S A R : Type 0} (kept : Keeping S A R) (image : Image) (h : Header) where
   pub after_parts-err : (parts : Result (List (List ℕ)) StoreFault) (fault : StoreFault) → parts ≡ Err fault
@@ -76,8 +76,8 @@ module _ {S A R : Type 0} (kept : Keeping S A R) (image : Image) where
       → IsCause honest before now (reading kept image) fault
       → (fault ≡ DiskFailed) ⊎ ((fault ≡ EpochsSpent) ⊎ (fault ≡ NoMemory))
   cause-stands s honest before now fault holds stands (inl failed) = inl failed.0
-  cause-stands s honest before now fault holds stands (inr (inl none)) = inr (inr none)
-  cause-stands s honest before now fault holds stands (inr (inr is)) = inr (inl (reading-stands s fault stands (is.1 holds)))
+  cause-stands s honest before now fault holds stands (inr (none_rose, inl none)) = inr (inr none)
+  cause-stands s honest before now fault holds stands (inr (none_rose, inr is)) = inr (inl (reading-stands s fault stands (is.2 holds)))
 
   -- what is read of an image is what it stands for
   pub reading-ok : (s : S) → reading kept image ≡ Ok s → recovered kept image ≡ Ok s

@@ -5,18 +5,19 @@ use Rattle.sector_disk.specs.Runs.{EveryMoment, Remains}
 use Rattle.session_store.specs.Keeping.{Keeping, fold}
 use Rattle.session_store.specs.declared.reading.Header.{Header}
 use Rattle.session_store.specs.declared.fault.StoreFault.{StoreFault}
-use Rattle.session_store.specs.declared.fault.StoreFault.TheVariants.{Disk as DiskFailed, NotFormatted, EpochsSpent, NoMemory}
+use Rattle.session_store.specs.declared.fault.StoreFault.TheVariants.{Disk as DiskFailed, TooSmall, NotFormatted, EpochsSpent, NoMemory}
 use Rattle.session_store.specs.Stands.{header_in, recovered, IsInOrder}
 use Rattle.session_store.specs.Sound.{IsSoundDisk}
 use Rattle.session_store.specs.Value.{StoreValue}
 use Rattle.session_store.specs.Store.{IsSoundStore}
 
--- Why a call of a disk that is honest, or not, answered this fault: the disk's faults rose in it, memory was refused,
--- or it is what was found.
+-- Why a call of a disk that is honest, or not, answered this fault: the disk's faults rose in it; or they did not, and
+-- memory was refused, or it is what was found.
 abbrev pub IsCause : {X : Type 0} → Type 0 → ℕ → ℕ → Result X StoreFault → StoreFault → Type 0
 IsCause honest before now found fault =
     ((fault ≡ DiskFailed) × Rose before now)
-    ⊎ ((fault ≡ NoMemory) ⊎ ((fault ≢ DiskFailed) × (honest → found ≡ Err fault)))
+    ⊎ ((now ≡ before)
+    × ((fault ≡ NoMemory) ⊎ ((fault ≢ DiskFailed) × (fault ≢ TooSmall) × (honest → found ≡ Err fault))))
 
 -- the header that counts is of an epoch before the last, so that its parts are read
 abbrev pub HasNext : Image → Type 0

@@ -27,8 +27,8 @@ fn read_part<D: SectorDisk>(
         payload_in part_mark epoch i (D.disk.reads disk.old (place epoch + 1 + i)) ≡ Some part.items) }
     ensures fault { IfErr result (λ fault.
         ((fault ≡ StoreFault.Disk) × Rose (D.disk.faults disk.old) (D.disk.faults disk.new))
-        ⊎ ((fault ≡ StoreFault.Damaged (place epoch + 1 + i)) × (D.disk.honest disk.old
-        → payload_in part_mark epoch i (D.disk.reads disk.old (place epoch + 1 + i)) ≡ None))) }
+        ⊎ ((fault ≡ StoreFault.Damaged (place epoch + 1 + i)) × (D.disk.faults disk.new ≡ D.disk.faults disk.old)
+        × (D.disk.honest disk.old → payload_in part_mark epoch i (D.disk.reads disk.old (place epoch + 1 + i)) ≡ None))) }
 {
     let at = place_of(epoch) + 1 + i;
     let mut bytes = [0; SECTOR_BYTES];

@@ -17,6 +17,7 @@ returns-in-None-clause-quiet g c =
 pub returns-in-None-clause-fault : goal.returns-in-None-clause-fault
 returns-in-None-clause-fault g c = inr (
   ap (λ at. Damaged (at + 1 + c.args.i)) c.place_of.ensures.place,
+  c.in-Ok.ensures.called.faults_ok,
   λ honest. rw (← c.place_of.ensures.place, ← (c.in-Ok.ensures.reads honest).given) (sym c.in-None.ensures.payload),
 )
 

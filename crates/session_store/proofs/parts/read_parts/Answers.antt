@@ -20,15 +20,19 @@ returns-in-Err-read_part-clause-fault g c =
     let disk = g.D.SectorDisk.disk in
     elim c.in-Err-read_part.ensures.fault [
       | inl failed ↦ inl (failed.0, omega (arith, failed.1, c.loop-i.invariant.no_fault))
-      | inr damaged ↦ inr (inr (
-        λ same. let never = sym damaged.0 ∙ same in cc,
-        λ honest.
-            let reads = (c.loop-i.invariant.quiet.only_read honest).reads (place c.args.header.epoch + 1 + c.loop-i.i) in
-            c.loop-i.invariant.read honest
-            ∙ parts-damaged (disk.reads c.args.disk.now) c.args.header.epoch c.loop-i.i c.args.header.parts _ _ c.loop-i-test.true reads
-            (damaged.1 (c.loop-i.invariant.quiet.remains.stays_honest honest))
-            ∙ ap (λ fault. Err fault) (sym damaged.0),
-      ))
+      | inr damaged ↦ inr (
+        damaged.1 ∙ c.loop-i.invariant.no_fault,
+        inr (
+          λ same. let never = sym damaged.0 ∙ same in cc,
+          λ same. let never = sym damaged.0 ∙ same in cc,
+          λ honest.
+              let reads = (c.loop-i.invariant.quiet.only_read honest).reads (place c.args.header.epoch + 1 + c.loop-i.i) in
+              c.loop-i.invariant.read honest
+              ∙ parts-damaged (disk.reads c.args.disk.now) c.args.header.epoch c.loop-i.i c.args.header.parts _ _ c.loop-i-test.true reads
+              (damaged.2 (c.loop-i.invariant.quiet.remains.stays_honest honest))
+              ∙ ap (λ fault. Err fault) (sym damaged.0),
+        ),
+      )
     ]
 
 pub loop-i-preserved : goal.loop-i-preserved

@@ -5,18 +5,26 @@ use Rattle.session_store.proofs.OpeningLemmas.{cause-from, reading-none, reading
 use Rattle.session_store.proofs.recovering.recover.Goals as goal
 
 pub returns-then-header-clause-fault : goal.returns-then-header-clause-fault
-returns-then-header-clause-fault g c = inr (inr (
-  λ same. cc,
-  λ honest.
-      reading-spent g.K.Kept.kept _ c.in-Some.header (sym c.in-Some.is ∙ c.in-Ok.ensures.found honest) c.if-header.true,
-))
+returns-then-header-clause-fault g c = inr (
+  c.in-Ok.ensures.no_fault,
+  inr (
+    λ same. cc,
+    λ same. cc,
+    λ honest.
+        reading-spent g.K.Kept.kept _ c.in-Some.header (sym c.in-Some.is ∙ c.in-Ok.ensures.found honest) c.if-header.true,
+  ),
+)
 
 pub returns-in-None-clause-fault : goal.returns-in-None-clause-fault
-returns-in-None-clause-fault g c = inr (inr (
-  λ same. cc,
-  λ honest.
-      reading-none g.K.Kept.kept _ (sym c.in-None.is ∙ c.in-Ok.ensures.found honest),
-))
+returns-in-None-clause-fault g c = inr (
+  c.in-Ok.ensures.no_fault,
+  inr (
+    λ same. cc,
+    λ same. cc,
+    λ honest.
+        reading-none g.K.Kept.kept _ (sym c.in-None.is ∙ c.in-Ok.ensures.found honest),
+  ),
+)
 
 pub returns-in-Err-recover_from-clause-fault : goal.returns-in-Err-recover_from-clause-fault
 returns-in-Err-recover_from-clause-fault g c =

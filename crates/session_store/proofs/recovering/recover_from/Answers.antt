@@ -11,13 +11,17 @@ returns-in-Err-clause-fault g c =
     (λ honest is. after_parts-err g.K.Kept.kept _ c.args.header _ _ is) c.in-Err.ensures.fault
 
 pub returns-in-Err-Bad-clause-fault : goal.returns-in-Err-Bad-clause-fault
-returns-in-Err-Bad-clause-fault g c = inr (inr (
-  λ same. cc,
-  λ honest.
-      let payloads = c.in-Ok.ensures.parts honest ∙ ap (λ xs. Ok (map (λ part. part.items) xs)) (sym c.as_slice.ensures.value) in
-      after_parts-bad g.K.Kept.kept _ c.args.header _ _ payloads (c.in-Err-Bad.ensures.bad (ap (λ fault. Err fault) c.in-Err-Bad.field-0-is))
-      ∙ ap (λ at. Err (Damaged at)) (sym c.place_of.ensures.place),
-))
+returns-in-Err-Bad-clause-fault g c = inr (
+  c.in-Ok.ensures.no_fault,
+  inr (
+    λ same. cc,
+    λ same. cc,
+    λ honest.
+        let payloads = c.in-Ok.ensures.parts honest ∙ ap (λ xs. Ok (map (λ part. part.items) xs)) (sym c.as_slice.ensures.value) in
+        after_parts-bad g.K.Kept.kept _ c.args.header _ _ payloads (c.in-Err-Bad.ensures.bad (ap (λ fault. Err fault) c.in-Err-Bad.field-0-is))
+        ∙ ap (λ at. Err (Damaged at)) (sym c.place_of.ensures.place),
+  ),
+)
 
 pub returns-in-Err-replay_records-clause-fault : goal.returns-in-Err-replay_records-clause-fault
 returns-in-Err-replay_records-clause-fault g c =
