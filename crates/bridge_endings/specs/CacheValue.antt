@@ -1,6 +1,6 @@
 -- What a contract sees of a cache: for endings by their keys two bounds of the worth, those used last first; how many endings
 -- it may keep; and how many cards were tried.
-use Rattle.std.specs.Prelude.{◌≡◌, ℕ, ◌+◌, ◌≤◌, ◌⊎◌, List, length, [], ◌∷◌, ◌++◌, Option, Some, None, Contains, nat_eq}
+use Rattle.std.specs.Prelude.{◌≡◌, ℕ, ◌+◌, ◌≤◌, ◌⊎◌, List, length, [], ◌∷◌, ◌++◌, Option, Some, None, IsSome, Contains, nat_eq}
 use Rattle.std.proofs.Common.{inl, inr}
 use Rattle.std.specs.Map.{lookup}
 use Rattle.std.specs.Cmp.Lexicographic.{pointwise}
@@ -53,6 +53,24 @@ Keeps cache ending worth = bounds_of cache ending ≡ Some (record { least = wor
 abbrev pub entries_with : CacheValue → EndingValue → ℕ → List (List ℕ × Bounds)
 entries_with cache ending worth =
     put_entries (pointwise nat_eq) (lru_cache cache.entries cache.capacity) (key_of ending) (record { least = worth; most = worth })
+
+-- what the keeping of an ending that comes to that worth does to a cache
+pub record Keeping (ending : EndingValue) (worth : ℕ) (old new : CacheValue) : Type 0 where
+  -- both bounds are the worth, unless memory was refused
+  pub kept : Keeps new ending worth ⊎ (new.entries ≡ old.entries)
+  -- the others are kept too, as many as may be, and an ending that was kept becomes the one used last
+  pub others : (new.entries ≡ entries_with old ending worth) ⊎ (new.entries ≡ old.entries)
+  pub again : IsSome (bounds_of old ending) → new.entries ≡ entries_with old ending worth
+  pub capacity : new.capacity ≡ old.capacity
+  pub room : length new.entries ≤ new.capacity
+  pub true_bounds : EachIsTrue new.entries
+
+-- what the solving of an ending that comes to that worth does to a cache
+pub record Solving (ending : EndingValue) (worth : ℕ) (old new : CacheValue) : Type 0 where
+  pub keeping : Keeping ending worth old new
+  -- the cards tried are counted, none for an ending that was kept with its worth
+  pub tried : old.tried ≤ new.tried
+  pub known : (kept : ℕ) → Keeps old ending kept → new.tried ≡ old.tried
 
 -- what holds of a cache that is lent, before and after
 abbrev pub OfCache : Option (MutBor CacheValue) → Unit {0} ⊎ ((MutBor CacheValue × Unit {0}) ⊎ ⊥) → (CacheValue → CacheValue → Type 0) → Type 0

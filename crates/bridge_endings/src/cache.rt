@@ -1,7 +1,7 @@
-ghost use Rattle.std.specs.Prelude.{◌≡◌, ℕ, ◌≤◌, ◌⊎◌, [], length, IfOk, IfSome, IsSome};
+ghost use Rattle.std.specs.Prelude.{◌≡◌, ℕ, ◌≤◌, [], IfOk, IfSome, IsSome};
 ghost use Rattle.bridge_endings.specs.Ending.{IsEnding};
 ghost use Rattle.bridge_endings.specs.Worth.{worth_of};
-ghost use Rattle.bridge_endings.specs.CacheValue.{bounds_of, entries_with, EachIsTrue, Keeps, key_of};
+ghost use Rattle.bridge_endings.specs.CacheValue.{bounds_of, Keeping, Keeps, key_of};
 ghost use Rattle.bridge_endings.specs.Between.{IsBetween};
 
 use crate::bounds::Bounds;
@@ -85,12 +85,7 @@ impl Cache {
     /// none is asked for. So many cards were tried by now.
     pub(crate) fn keep(&mut self, ending: &Ending, worth: u8, tried: u64)
         requires { worth ≡ worth_of ending.now }
-        ensures kept { Keeps self.new ending.now worth ⊎ (self.new.entries ≡ self.old.entries) }
-        ensures others { (self.new.entries ≡ entries_with self.old ending.now worth) ⊎ (self.new.entries ≡ self.old.entries) }
-        ensures again { IsSome (bounds_of self.old ending.now) → self.new.entries ≡ entries_with self.old ending.now worth }
-        ensures capacity { self.new.capacity ≡ self.old.capacity }
-        ensures room { length self.new.entries ≤ self.new.capacity }
-        ensures true_bounds { EachIsTrue self.new.entries }
+        ensures keeping { Keeping ending.now worth self.old self.new }
         ensures tried { self.new.tried ≡ tried }
     {
         self.tried = tried;

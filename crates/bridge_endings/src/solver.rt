@@ -1,7 +1,7 @@
-ghost use Rattle.std.specs.Prelude.{◌≡◌, ℕ, ◌≤◌, ◌⊎◌, length, IsSome};
+ghost use Rattle.std.specs.Prelude.{◌≡◌, ◌≤◌, length};
 ghost use Rattle.bridge_endings.specs.Worth.{dealt, worth_of};
 ghost use Rattle.bridge_endings.specs.Left.{left_to};
-ghost use Rattle.bridge_endings.specs.CacheValue.{bounds_of, entries_with, EachIsTrue, Keeps, OfCache};
+ghost use Rattle.bridge_endings.specs.CacheValue.{OfCache, Solving};
 
 use crate::cache::Cache;
 use crate::ending::Ending;
@@ -14,22 +14,7 @@ use bridge_cards::CardSet;
 pub fn solve(ending: &Ending, cache: Option<&mut Cache>) -> u8
     ensures worth { result ≡ worth_of ending.now }
     ensures few { result ≤ 6 }
-
-    // A cache counts the cards tried, and none for an ending that it keeps.
-    ensures tried { OfCache cache.entry cache.exit (λ old new. old.tried ≤ new.tried) }
-    ensures known { OfCache cache.entry cache.exit (λ old new. (worth : ℕ) → Keeps old ending.now worth → new.tried ≡ old.tried) }
-    ensures kept { OfCache cache.entry cache.exit (λ old new. Keeps new ending.now result ⊎ (new.entries ≡ old.entries)) }
-
-    // It keeps the others too, as many as it may; an ending that it kept becomes the one used last.
-    ensures others { OfCache cache.entry cache.exit (λ old new.
-        (new.entries ≡ entries_with old ending.now result) ⊎ (new.entries ≡ old.entries)) }
-    ensures again { OfCache cache.entry cache.exit (λ old new.
-        IsSome (bounds_of old ending.now) → new.entries ≡ entries_with old ending.now result) }
-    ensures capacity { OfCache cache.entry cache.exit (λ old new. new.capacity ≡ old.capacity) }
-    ensures room { OfCache cache.entry cache.exit (λ old new. length new.entries ≤ new.capacity) }
-
-    // What it keeps of an ending are bounds of that ending's worth.
-    ensures true_bounds { OfCache cache.entry cache.exit (λ old new. EachIsTrue new.entries) }
+    ensures cache { OfCache cache.entry cache.exit (Solving ending.now result) }
 {
     match cache {
         Some(cache) => solve_with(ending, cache),
@@ -41,14 +26,7 @@ pub fn solve(ending: &Ending, cache: Option<&mut Cache>) -> u8
 fn solve_with(ending: &Ending, cache: &mut Cache) -> u8
     ensures worth { result ≡ worth_of ending.now }
     ensures few { result ≤ 6 }
-    ensures tried { cache.old.tried ≤ cache.new.tried }
-    ensures known { (worth : ℕ) → Keeps cache.old ending.now worth → cache.new.tried ≡ cache.old.tried }
-    ensures kept { Keeps cache.new ending.now result ⊎ (cache.new.entries ≡ cache.old.entries) }
-    ensures others { (cache.new.entries ≡ entries_with cache.old ending.now result) ⊎ (cache.new.entries ≡ cache.old.entries) }
-    ensures again { IsSome (bounds_of cache.old ending.now) → cache.new.entries ≡ entries_with cache.old ending.now result }
-    ensures capacity { cache.new.capacity ≡ cache.old.capacity }
-    ensures room { length cache.new.entries ≤ cache.new.capacity }
-    ensures true_bounds { EachIsTrue cache.new.entries }
+    ensures cache { Solving ending.now result cache.old cache.new }
 {
     let tried = cache.tried();
     if let Some(worth) = cache.worth(ending) {

@@ -20,6 +20,19 @@ cause-from inner outer mid before now found all fault honest same so (inr (none_
 cause-from inner outer mid before now found all fault honest same so (inr (none_rose, inr is)) =
     inr (none_rose ∙ same, inr (is.0, is.1, λ holds. so holds (is.2 (honest holds))))
 
+-- what is found is neither a fault of the disk nor of its size
+module _ {X : Type 0} (honest : Type 0) (before now : ℕ) (found : Result X StoreFault) (no_fault : now ≡ before) where
+  pub found-not_formatted : (honest → found ≡ Err NotFormatted) → IsCause honest before now found NotFormatted
+  found-not_formatted is = inr (no_fault, inr (λ same. cc, λ same. cc, is))
+
+  pub found-spent : (honest → found ≡ Err EpochsSpent) → IsCause honest before now found EpochsSpent
+  found-spent is = inr (no_fault, inr (λ same. cc, λ same. cc, is))
+
+  pub found-damaged : (at : ℕ) (fault : StoreFault) → fault ≡ Damaged at → (honest → found ≡ Err (Damaged at))
+      → IsCause honest before now found fault
+  found-damaged at fault same is =
+      inr (no_fault, inr (λ other. cc, λ other. cc, λ holds. is holds ∙ ap (λ it. Err it) (sym same)))
+
 module _ {S A R : Type 0} (kept : Keeping S A R) (image : Image) (h : Header) where
   pub after_parts-err : (parts : Result (List (List ℕ)) StoreFault) (fault : StoreFault) → parts ≡ Err fault
       → after_parts kept image h parts ≡ Err fault

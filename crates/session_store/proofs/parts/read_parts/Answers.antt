@@ -1,9 +1,10 @@
-use Rattle.std.proofs.Common.{◌≡◌, ◌+◌, ◌-◌, map, Err, refl, sym, ap, ◌∙◌, inl, inr, arith}
+use Rattle.std.proofs.Common.{◌≡◌, ◌+◌, ◌-◌, map, refl, sym, ap, ◌∙◌, inl, inr, arith}
 use Rattle.std.proofs.lemmas.List.{map-append}
 use Rattle.sector_disk.proofs.RunLaws.{quiet, quiet_joins}
 use Rattle.session_store.specs.Form.{place}
 use Rattle.session_store.specs.Stands.{parts_from}
 use Rattle.session_store.proofs.PartsLemmas.{with_parts, parts-none, parts-more, parts-damaged, parts-all}
+use Rattle.session_store.proofs.OpeningLemmas.{found-damaged}
 use Rattle.session_store.proofs.parts.read_parts.Goals as goal
 
 pub loop-i-init : goal.loop-i-init
@@ -20,19 +21,13 @@ returns-in-Err-read_part-clause-fault g c =
     let disk = g.D.SectorDisk.disk in
     elim c.in-Err-read_part.ensures.fault [
       | inl failed ↦ inl (failed.0, omega (arith, failed.1, c.loop-i.invariant.no_fault))
-      | inr damaged ↦ inr (
-        damaged.1 ∙ c.loop-i.invariant.no_fault,
-        inr (
-          λ same. let never = sym damaged.0 ∙ same in cc,
-          λ same. let never = sym damaged.0 ∙ same in cc,
-          λ honest.
-              let reads = (c.loop-i.invariant.quiet.only_read honest).reads (place c.args.header.epoch + 1 + c.loop-i.i) in
-              c.loop-i.invariant.read honest
-              ∙ parts-damaged (disk.reads c.args.disk.now) c.args.header.epoch c.loop-i.i c.args.header.parts _ _ c.loop-i-test.true reads
-              (damaged.2 (c.loop-i.invariant.quiet.remains.stays_honest honest))
-              ∙ ap (λ fault. Err fault) (sym damaged.0),
-        ),
-      )
+      | inr damaged ↦
+          found-damaged _ _ _ _ (damaged.1 ∙ c.loop-i.invariant.no_fault) _ _ damaged.0
+          (λ honest.
+          let reads = (c.loop-i.invariant.quiet.only_read honest).reads (place c.args.header.epoch + 1 + c.loop-i.i) in
+          c.loop-i.invariant.read honest
+          ∙ parts-damaged (disk.reads c.args.disk.now) c.args.header.epoch c.loop-i.i c.args.header.parts _ _ c.loop-i-test.true reads
+          (damaged.2 (c.loop-i.invariant.quiet.remains.stays_honest honest)))
     ]
 
 pub loop-i-preserved : goal.loop-i-preserved

@@ -1,30 +1,18 @@
-use Rattle.std.proofs.Common.{sym, ap, ◌∙◌, inr}
+use Rattle.std.proofs.Common.{sym, ap, ◌∙◌}
 use Rattle.sector_disk.proofs.ImageLaws.{image_is}
 use Rattle.session_store.specs.Stands.{after_parts, parts_from}
-use Rattle.session_store.proofs.OpeningLemmas.{cause-from, reading-none, reading-spent, reading-some}
+use Rattle.session_store.proofs.OpeningLemmas.{cause-from, found-not_formatted, found-spent, reading-none, reading-spent, reading-some}
 use Rattle.session_store.proofs.recovering.recover.Goals as goal
 
 pub returns-then-header-clause-fault : goal.returns-then-header-clause-fault
-returns-then-header-clause-fault g c = inr (
-  c.in-Ok.ensures.no_fault,
-  inr (
-    λ same. cc,
-    λ same. cc,
-    λ honest.
-        reading-spent g.K.Kept.kept _ c.in-Some.header (sym c.in-Some.is ∙ c.in-Ok.ensures.found honest) c.if-header.true,
-  ),
-)
+returns-then-header-clause-fault g c =
+    found-spent _ _ _ _ c.in-Ok.ensures.no_fault
+    (λ honest. reading-spent g.K.Kept.kept _ c.in-Some.header (sym c.in-Some.is ∙ c.in-Ok.ensures.found honest) c.if-header.true)
 
 pub returns-in-None-clause-fault : goal.returns-in-None-clause-fault
-returns-in-None-clause-fault g c = inr (
-  c.in-Ok.ensures.no_fault,
-  inr (
-    λ same. cc,
-    λ same. cc,
-    λ honest.
-        reading-none g.K.Kept.kept _ (sym c.in-None.is ∙ c.in-Ok.ensures.found honest),
-  ),
-)
+returns-in-None-clause-fault g c =
+    found-not_formatted _ _ _ _ c.in-Ok.ensures.no_fault
+    (λ honest. reading-none g.K.Kept.kept _ (sym c.in-None.is ∙ c.in-Ok.ensures.found honest))
 
 pub returns-in-Err-recover_from-clause-fault : goal.returns-in-Err-recover_from-clause-fault
 returns-in-Err-recover_from-clause-fault g c =

@@ -1,8 +1,8 @@
-use Rattle.std.proofs.Common.{Ok, Err, refl, sym, ap, ◌∙◌, inr, map}
+use Rattle.std.proofs.Common.{Ok, Err, refl, sym, ap, ◌∙◌, map}
 use Rattle.sector_disk.proofs.ImageLaws.{image_is}
 use Rattle.session_store.specs.Stands.{replay}
 use Rattle.session_store.specs.declared.fault.StoreFault.TheVariants.{Damaged}
-use Rattle.session_store.proofs.OpeningLemmas.{cause-from, after_parts-err, after_parts-bad, after_parts-ok}
+use Rattle.session_store.proofs.OpeningLemmas.{cause-from, found-damaged, after_parts-err, after_parts-bad, after_parts-ok}
 use Rattle.session_store.proofs.recovering.recover_from.Goals as goal
 
 pub returns-in-Err-clause-fault : goal.returns-in-Err-clause-fault
@@ -11,17 +11,12 @@ returns-in-Err-clause-fault g c =
     (λ honest is. after_parts-err g.K.Kept.kept _ c.args.header _ _ is) c.in-Err.ensures.fault
 
 pub returns-in-Err-Bad-clause-fault : goal.returns-in-Err-Bad-clause-fault
-returns-in-Err-Bad-clause-fault g c = inr (
-  c.in-Ok.ensures.no_fault,
-  inr (
-    λ same. cc,
-    λ same. cc,
-    λ honest.
-        let payloads = c.in-Ok.ensures.parts honest ∙ ap (λ xs. Ok (map (λ part. part.items) xs)) (sym c.as_slice.ensures.value) in
-        after_parts-bad g.K.Kept.kept _ c.args.header _ _ payloads (c.in-Err-Bad.ensures.bad (ap (λ fault. Err fault) c.in-Err-Bad.field-0-is))
-        ∙ ap (λ at. Err (Damaged at)) (sym c.place_of.ensures.place),
-  ),
-)
+returns-in-Err-Bad-clause-fault g c =
+    found-damaged _ _ _ _ c.in-Ok.ensures.no_fault _ _ refl
+    (λ honest.
+    let payloads = c.in-Ok.ensures.parts honest ∙ ap (λ xs. Ok (map (λ part. part.items) xs)) (sym c.as_slice.ensures.value) in
+    after_parts-bad g.K.Kept.kept _ c.args.header _ _ payloads (c.in-Err-Bad.ensures.bad (ap (λ fault. Err fault) c.in-Err-Bad.field-0-is))
+    ∙ ap (λ at. Err (Damaged at)) (sym c.place_of.ensures.place))
 
 pub returns-in-Err-replay_records-clause-fault : goal.returns-in-Err-replay_records-clause-fault
 returns-in-Err-replay_records-clause-fault g c =

@@ -1,6 +1,7 @@
-use Rattle.std.proofs.Common.{◌+◌, sym, ◌∙◌, inr, arith}
+use Rattle.std.proofs.Common.{◌+◌, refl, sym, ◌∙◌, arith}
 use Rattle.sector_disk.proofs.RunLaws.{quiet_joins}
 use Rattle.session_store.proofs.ReplayLemmas.{record-missing, record-damaged, record-refused, record-taken, records-end}
+use Rattle.session_store.proofs.OpeningLemmas.{found-damaged}
 use Rattle.session_store.proofs.replaying.replay_records.Goals as goal
 
 pub returns-in-Err-clause-quiet : goal.returns-in-Err-clause-quiet
@@ -21,36 +22,26 @@ pub returns-in-Damaged-clause-quiet : goal.returns-in-Damaged-clause-quiet
 returns-in-Damaged-clause-quiet g c = quiet_joins g.D.SectorDisk.disk _ _ _ c.loop-number.invariant.quiet c.read_record.ensures.quiet
 
 pub returns-in-Damaged-clause-fault : goal.returns-in-Damaged-clause-fault
-returns-in-Damaged-clause-fault g c = inr (
-  c.in-Ok.ensures.no_fault ∙ c.loop-number.invariant.no_fault,
-  inr (
-    λ same. cc,
-    λ same. cc,
-    λ honest.
-        let so_far = c.loop-number.invariant in
-        let reads = (so_far.quiet.only_read honest).reads (1024 + c.loop-number.number) in
-        let entry = sym c.in-Damaged.is ∙ c.in-Ok.ensures.entry (so_far.quiet.remains.stays_honest honest) in
-        so_far.replayed honest
-        ∙ record-damaged g.K.Kept.kept (g.D.SectorDisk.disk.reads c.args.disk.now) c.args.epoch c.loop-number.number c.loop-number.state _ reads
-        c.loop-number-test.true entry,
-  ),
-)
+returns-in-Damaged-clause-fault g c =
+    found-damaged _ _ _ _ (c.in-Ok.ensures.no_fault ∙ c.loop-number.invariant.no_fault) _ _ refl
+    (λ honest.
+    let so_far = c.loop-number.invariant in
+    let reads = (so_far.quiet.only_read honest).reads (1024 + c.loop-number.number) in
+    let entry = sym c.in-Damaged.is ∙ c.in-Ok.ensures.entry (so_far.quiet.remains.stays_honest honest) in
+    so_far.replayed honest
+    ∙ record-damaged g.K.Kept.kept (g.D.SectorDisk.disk.reads c.args.disk.now) c.args.epoch c.loop-number.number c.loop-number.state _ reads
+    c.loop-number-test.true entry)
 
 pub returns-in-Err-step_both-clause-fault : goal.returns-in-Err-step_both-clause-fault
-returns-in-Err-step_both-clause-fault g c = inr (
-  c.in-Ok.ensures.no_fault ∙ c.loop-number.invariant.no_fault,
-  inr (
-    λ same. cc,
-    λ same. cc,
-    λ honest.
-        let so_far = c.loop-number.invariant in
-        let reads = (so_far.quiet.only_read honest).reads (1024 + c.loop-number.number) in
-        let entry = sym c.in-Holds.is ∙ c.in-Ok.ensures.entry (so_far.quiet.remains.stays_honest honest) in
-        so_far.replayed honest
-        ∙ record-refused g.K.Kept.kept (g.D.SectorDisk.disk.reads c.args.disk.now) c.args.epoch c.loop-number.number c.loop-number.state _ reads
-        c.loop-number-test.true c.in-Holds.action entry _ c.in-Err-step_both.ensures.step,
-  ),
-)
+returns-in-Err-step_both-clause-fault g c =
+    found-damaged _ _ _ _ (c.in-Ok.ensures.no_fault ∙ c.loop-number.invariant.no_fault) _ _ refl
+    (λ honest.
+    let so_far = c.loop-number.invariant in
+    let reads = (so_far.quiet.only_read honest).reads (1024 + c.loop-number.number) in
+    let entry = sym c.in-Holds.is ∙ c.in-Ok.ensures.entry (so_far.quiet.remains.stays_honest honest) in
+    so_far.replayed honest
+    ∙ record-refused g.K.Kept.kept (g.D.SectorDisk.disk.reads c.args.disk.now) c.args.epoch c.loop-number.number c.loop-number.state _ reads
+    c.loop-number-test.true c.in-Holds.action entry _ c.in-Err-step_both.ensures.step)
 
 pub loop-number-preserved : goal.loop-number-preserved
 loop-number-preserved g c =

@@ -6,26 +6,17 @@ pub invariant_of-self : goal.invariant_of-self
 invariant_of-self c =
     still_kept c.self.inside.known c.put.new.self c.key.result (record { least = c.args.worth; most = c.args.worth }) c.args.ending.now c.key.ensures.key c.put.result c.put.ensures.entries c.put.ensures.err c.self.invariant c.key.ensures.ending (record { least = omega arith; most = omega arith })
 
-pub returns-clause-kept : goal.returns-clause-kept
-returns-clause-kept c =
-    rw (← c.self.view_is) (kept_or_same c.self.inside.known c.put.new.self c.key.result (record { least = c.args.worth; most = c.args.worth }) c.args.ending.now c.key.ensures.key c.put.result c.put.ensures.entries c.put.ensures.err)
-
-pub returns-clause-others : goal.returns-clause-others
-returns-clause-others c =
-    rw (← c.self.view_is) (with_or_same c.self.inside.known c.put.new.self c.key.result (record { least = c.args.worth; most = c.args.worth }) c.args.ending.now c.key.ensures.key c.put.result c.put.ensures.entries c.put.ensures.err)
-
-pub returns-clause-again : goal.returns-clause-again
-returns-clause-again c =
-    rw (← c.self.view_is) (with_again c.self.inside.known c.put.new.self c.key.result (record { least = c.args.worth; most = c.args.worth }) c.args.ending.now c.key.ensures.key c.put.result c.put.ensures.entries c.put.ensures.succeeds)
-
-pub returns-clause-capacity : goal.returns-clause-capacity
-returns-clause-capacity c =
-    rw (← c.self.view_is) (same_capacity c.self.inside.known c.put.new.self c.key.result (record { least = c.args.worth; most = c.args.worth }) c.args.ending.now c.key.ensures.key c.put.result c.put.ensures.entries c.put.ensures.err)
-
-pub returns-clause-room : goal.returns-clause-room
-returns-clause-room c =
-    (still_kept c.self.inside.known c.put.new.self c.key.result (record { least = c.args.worth; most = c.args.worth }) c.args.ending.now c.key.ensures.key c.put.result c.put.ensures.entries c.put.ensures.err c.self.invariant c.key.ensures.ending (record { least = omega arith; most = omega arith })).few
-
-pub returns-clause-true_bounds : goal.returns-clause-true_bounds
-returns-clause-true_bounds c =
-    (still_kept c.self.inside.known c.put.new.self c.key.result (record { least = c.args.worth; most = c.args.worth }) c.args.ending.now c.key.ensures.key c.put.result c.put.ensures.entries c.put.ensures.err c.self.invariant c.key.ensures.ending (record { least = omega arith; most = omega arith })).each_true
+pub returns-clause-keeping : goal.returns-clause-keeping
+returns-clause-keeping c =
+    let old = c.self.inside.known in
+    let new = c.put.new.self in
+    let ending = c.args.ending.now in
+    let kept = still_kept old new c.key.result (record { least = c.args.worth; most = c.args.worth }) ending c.key.ensures.key c.put.result c.put.ensures.entries c.put.ensures.err c.self.invariant c.key.ensures.ending (record { least = omega arith; most = omega arith }) in
+    rw (← c.self.view_is) (record {
+      kept = kept_or_same old new c.key.result (record { least = c.args.worth; most = c.args.worth }) ending c.key.ensures.key c.put.result c.put.ensures.entries c.put.ensures.err;
+      others = with_or_same old new c.key.result (record { least = c.args.worth; most = c.args.worth }) ending c.key.ensures.key c.put.result c.put.ensures.entries c.put.ensures.err;
+      again = with_again old new c.key.result (record { least = c.args.worth; most = c.args.worth }) ending c.key.ensures.key c.put.result c.put.ensures.entries c.put.ensures.succeeds;
+      capacity = same_capacity old new c.key.result (record { least = c.args.worth; most = c.args.worth }) ending c.key.ensures.key c.put.result c.put.ensures.entries c.put.ensures.err;
+      room = kept.few;
+      true_bounds = kept.each_true;
+    })

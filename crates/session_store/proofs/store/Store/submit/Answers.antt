@@ -1,4 +1,4 @@
-use Rattle.std.proofs.Common.{◌≡◌, ◌<◌, ◌-◌, ◌^◌, length, sym, arith, ◌∙◌, refl}
+use Rattle.std.proofs.Common.{rules, ◌≡◌, ◌<◌, ◌-◌, ◌^◌, length, sym, arith, ◌∙◌, refl}
 use Rattle.std.proofs.lemmas.Bool.{eqb-false}
 use Rattle.session_store.proofs.CallLaws.{continues_begins}
 use Rattle.session_store.proofs.RecordLemmas.{room-spent}
@@ -20,3 +20,8 @@ returns-then-self-2-clause-answer g c =
     let full : c.self.inside.records ≡ 1024 = omega (arith, c.if-self-lt-RECORDS.false, c.self.invariant.records) in
     let last : c.self.inside.epoch ≡ 2 ^ 64 - 1 = omega (arith, c.if-self-2.true) in
     rw (← c.self.view_is) (c.if-self.false, below, room-spent _ full last, refl)
+
+pub submit_record-requires : goal.submit_record-requires
+submit_record-requires g c =
+    let short : length c.self.inside.pending.items ≡ 64 → ⊥ = eqb-false _ _ (sym c.is_full.ensures.value ∙ c.if-is_full.false) in
+    (search rules, rw (← c.self.view_is) (c.if-self.false, (omega (arith, short, c.self.invariant.few), omega (arith, c.if-self-lt-RECORDS.true))))
