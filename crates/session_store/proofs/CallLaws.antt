@@ -5,7 +5,7 @@ use Rattle.std.proofs.Common.{refl, sym, ap, subst, ◌∙◌, arith, append_ass
 use Rattle.std.proofs.Math.Seq.{take-add}
 use Rattle.std.proofs.lemmas.List.{drop-drop, drop-append-le, take-append-le, length-drop}
 use Rattle.sector_disk.specs.Disk.{Image, Disk}
-use Rattle.sector_disk.proofs.RunLaws.{begins, weakens, joins}
+use Rattle.sector_disk.proofs.RunLaws.{begins, weakens, joins, remains, remains_joins}
 use Rattle.session_store.specs.Keeping.{Keeping, fold}
 use Rattle.session_store.specs.Base.{StandsForPrefix}
 use Rattle.session_store.specs.Value.{StoreValue}
@@ -70,6 +70,7 @@ module _ {D S A R : Type 0} (kept : Keeping S A R) (disk : Disk D) where
   pub continues_begins : (old : StoreValue D S A) → Continues kept disk old [] old
   unfolding fold
   continues_begins old = record {
+    remains = remains disk old.disk;
     confirmed = 0;
     few = omega arith;
     base = refl;
@@ -94,6 +95,7 @@ module _ {D S A R : Type 0} (kept : Keeping S A R) (disk : Disk D) where
       = ap (fold kept old.base) (sym (ap (take a.confirmed) split) ∙ take-append-le a.confirmed (old.pending ++ first) second a.few) ∙ a.base in
       let few : b.confirmed ≤ length (drop a.confirmed all) = subst (λ (xs : List A). b.confirmed ≤ length xs) behind b.few in
       let rest = length-drop a.confirmed all in record {
+        remains = remains_joins disk old.disk mid.disk new.disk a.remains b.remains;
         confirmed = a.confirmed + b.confirmed;
         few = omega (arith, within, few, rest);
         base = fold-behind kept old.base mid.base new.base all a.confirmed b.confirmed made

@@ -111,7 +111,7 @@ module _ {D S A R : Type 0} (kept : Keeping S A R) (disk : Disk D) where
         → (disk.honest old.disk → (c : Image) → disk.may_leave new c → WithSnapshot kept (disk.may_leave old.disk) (old.epoch + 1) s c)
         → Continues kept disk old more (after_snapshot taken new)
     snapshot-continues remains run written =
-        continues_all kept disk old (after_snapshot taken new) more made refl
+        continues_all kept disk old (after_snapshot taken new) more made refl remains
         (snapshot-keeps_sound remains written) (λ sound. snapshot-moments sound run)
 
     -- one that failed confirms nothing
@@ -119,7 +119,7 @@ module _ {D S A R : Type 0} (kept : Keeping S A R) (disk : Disk D) where
         → (disk.honest old.disk → EveryMoment disk old.disk new (IsSnapshotting kept (disk.may_leave old.disk) (old.epoch + 1) s))
         → Continues kept disk old more (after_fault taken new)
     snapshot_fault-continues remains run =
-        continues_none kept disk old (after_fault taken new) more refl refl
+        continues_none kept disk old (after_fault taken new) more refl refl remains
         (λ sound. fault-sound kept disk taken new (remains.stays_honest sound.honest)
         (now_has disk old.disk new (StandsForPrefix kept old.base (old.pending ++ more)) (snapshot-moments sound run)))
         (λ sound. snapshot-moments sound run)

@@ -3,7 +3,6 @@ use Rattle.std.proofs.Common.{◌≡◌, ◌≤◌, ◌+◌, ◌-◌, ℕ, List,
 use Rattle.std.proofs.lemmas.List.{drop-drop, drop-append-le, take-append-le, take-take, drop_all, length-drop, length-take-le}
 use Rattle.sector_disk.specs.Disk.{Image, Disk}
 use Rattle.sector_disk.proofs.ImageLaws.{image_is}
-use Rattle.sector_disk.specs.Runs.{Remains}
 use Rattle.sector_disk.proofs.RunLaws.{now_has}
 use Rattle.session_store.specs.Keeping.{Keeping, fold}
 use Rattle.session_store.specs.Stands.{recovered, IsInOrder}
@@ -96,9 +95,9 @@ module _ {D S A R : Type 0} (kept : Keeping S A R) (disk : Disk D) (start : S) w
         prefix_at_least (accepted ++ more) confirmed v.base c within base_of
         (subst (λ (xs : List A). StandsForPrefix kept v.base xs c) behind ((call.any_moment good.sound).each c left))
 
-    call_good : (now : ℕ) → Remains disk v.disk w.disk → now + length w.pending ≡ length (accepted ++ more)
+    call_good : (now : ℕ) → now + length w.pending ≡ length (accepted ++ more)
         → IsGoodStore w (accepted ++ more) now
-    call_good now remains counted =
+    call_good now counted =
         let all = accepted ++ more in
         let n = call.confirmed in
         let is_pending : w.pending ≡ drop (confirmed + n) all
@@ -109,7 +108,7 @@ module _ {D S A R : Type 0} (kept : Keeping S A R) (disk : Disk D) (start : S) w
         let same : confirmed + n ≡ now = omega (arith, within, few, long, left, counted) in
         record {
           sound = call.sound good.sound;
-          large = omega (arith, remains.count, good.large);
+          large = omega (arith, call.remains.count, good.large);
           few = omega (arith, counted);
           base = subst (λ (k : ℕ). fold kept start (take k all) ≡ Some w.base) same
               (fold-behind kept start v.base w.base all confirmed n base_of
@@ -188,8 +187,8 @@ module _ {D S A R : Type 0} (kept : Keeping S A R) (disk : Disk D) (start : S) w
       → IsGood place accepted confirmed → Does kept disk start place accepted confirmed x t → IsGood t.place t.accepted t.confirmed
   unfolding IsGood
   done (AtWork v) accepted confirmed (Calls actions w) t good did =
-      at t (AtWork w) (accepted ++ actions) t.confirmed did.2 did.3 refl
-      (call_good v w accepted actions confirmed good did.0 t.confirmed did.1 (did.4 ∙ ap length did.3))
+      at t (AtWork w) (accepted ++ actions) t.confirmed did.1 did.2 refl
+      (call_good v w accepted actions confirmed good did.0 t.confirmed (did.3 ∙ ap length did.2))
   done (AtWork v) accepted confirmed Waits t good did = at t (AtWork v) accepted confirmed did.0 did.1 did.2 good
   done (AtWork v) accepted confirmed Closes t good did =
       at t (AtRest v.disk) accepted confirmed did.0 did.1 did.2 (record {

@@ -4,7 +4,7 @@ use Rattle.sector_disk.specs.Disk.{Image, Disk}
 use Rattle.sector_disk.specs.Calls.{WriteCall}
 use Rattle.sector_disk.proofs.CallLaws.{write_here, write_elsewhere}
 use Rattle.sector_disk.specs.Runs.{EveryMoment}
-use Rattle.sector_disk.proofs.RunLaws.{begins, goes_on, now_has, write_is}
+use Rattle.sector_disk.proofs.RunLaws.{begins, goes_on, now_has, write_is, remains, remains_on}
 use Rattle.session_store.specs.Keeping.{Keeping, IsLawful, fold}
 use Rattle.session_store.specs.Form.{record_sector, entry_in}
 use Rattle.session_store.specs.declared.reading.Entry.TheVariants.{Holds}
@@ -82,6 +82,7 @@ module _ {D S A R : Type 0} (kept : Keeping S A R) (disk : Disk D) (old : StoreV
     pub record_fault-continues : Continues kept disk old (a ∷ []) (after_fault (with_record old a s) new)
     record_fault-continues =
         continues_none kept disk old (after_fault (with_record old a s) new) (a ∷ []) refl refl
+        (remains_on disk old.disk old.disk new result (remains disk old.disk) call.called)
         (λ sound. fault-sound kept disk (with_record old a s) new (call.called.stays_honest sound.honest)
         (now_has disk old.disk new (StandsForPrefix kept old.base more) (record-moments sound)))
         record-moments
@@ -115,7 +116,8 @@ module _ {D S A R : Type 0} (kept : Keeping S A R) (disk : Disk D) (old : StoreV
 
     pub record-continues : Continues kept disk old (a ∷ []) (record (with_record old a s) { disk = new })
     record-continues =
-        continues_none kept disk old (record (with_record old a s) { disk = new }) (a ∷ []) refl refl record-sound
+        continues_none kept disk old (record (with_record old a s) { disk = new }) (a ∷ []) refl refl
+        (remains_on disk old.disk old.disk new (Ok x) (remains disk old.disk) call.called) record-sound
         (record-moments lawful new (Ok x) works few is_action call)
 
 -- the room for actions falls by one with each

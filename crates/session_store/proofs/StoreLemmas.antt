@@ -5,8 +5,8 @@ use Rattle.std.proofs.lemmas.List.{drop_all}
 use Rattle.sector_disk.specs.Disk.{Image, Disk}
 use Rattle.sector_disk.proofs.ImageLaws.{image_is}
 use Rattle.sector_disk.specs.Calls.{Called, Syncs}
-use Rattle.sector_disk.specs.Runs.{EveryMoment}
-use Rattle.sector_disk.proofs.RunLaws.{begins, now_has, syncs_on}
+use Rattle.sector_disk.specs.Runs.{EveryMoment, Remains}
+use Rattle.sector_disk.proofs.RunLaws.{begins, now_has, syncs_on, remains, remains_on}
 use Rattle.session_store.specs.Keeping.{Keeping, fold}
 use Rattle.session_store.specs.Form.{entry_in}
 use Rattle.session_store.specs.Stands.{recovered, IsInOrder}
@@ -94,10 +94,12 @@ module _ {S A R : Type 0} (kept : Keeping S A R) where
 module _ {D S A R : Type 0} (kept : Keeping S A R) (disk : Disk D) where
   -- a call that confirms nothing
   pub continues_none : (old new : StoreValue D S A) (accepted : List A) → new.base ≡ old.base
-      → new.pending ≡ old.pending ++ accepted → (IsSoundStore kept disk old → IsSoundStore kept disk new)
+      → new.pending ≡ old.pending ++ accepted → Remains disk old.disk new.disk
+      → (IsSoundStore kept disk old → IsSoundStore kept disk new)
       → (IsSoundStore kept disk old → EveryMoment disk old.disk new.disk (StandsForPrefix kept old.base (old.pending ++ accepted)))
       → Continues kept disk old accepted new
-  continues_none old new accepted same_base is_pending sound moments = record {
+  continues_none old new accepted same_base is_pending remain sound moments = record {
+    remains = remain;
     confirmed = 0;
     few = omega arith;
     base = fold-nil kept old.base ∙ ap (λ (s : S). Some s) (sym same_base);
@@ -109,11 +111,12 @@ module _ {D S A R : Type 0} (kept : Keeping S A R) (disk : Disk D) where
   -- a call that confirms all
   pub continues_all : (old new : StoreValue D S A) (accepted : List A)
       → fold kept old.base (old.pending ++ accepted) ≡ Some new.base → new.pending ≡ []
-      → (IsSoundStore kept disk old → IsSoundStore kept disk new)
+      → Remains disk old.disk new.disk → (IsSoundStore kept disk old → IsSoundStore kept disk new)
       → (IsSoundStore kept disk old → EveryMoment disk old.disk new.disk (StandsForPrefix kept old.base (old.pending ++ accepted)))
       → Continues kept disk old accepted new
-  continues_all old new accepted made none sound moments =
+  continues_all old new accepted made none remain sound moments =
       let actions = old.pending ++ accepted in record {
+        remains = remain;
         confirmed = length actions;
         few = omega arith;
         base = ap (fold kept old.base) (take-length actions) ∙ made;
@@ -229,6 +232,7 @@ module _ {D S A R : Type 0} (kept : Keeping S A R) (disk : Disk D) where
     confirmed-continues {T} {E} x store works called did =
         subst (Continues kept disk v []) confirmed-same
         (continues_all v (after_confirm v new) [] (ap (fold kept v.base) (append-nil v.pending) ∙ store.accepted) refl
+        (remains_on disk v.disk v.disk new (Ok x) (remains disk v.disk) called)
         (λ sound. sync-confirms v new x store works called did sound)
         (λ sound. sync-moments v new (Ok x) [] called did sound))
 

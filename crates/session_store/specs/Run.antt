@@ -1,7 +1,6 @@
 -- Runs: what stores, their disks and power cuts make of the actions that were accepted.
 use Rattle.std.specs.Prelude.{◌≡◌, ◌≤◌, ◌+◌, ℕ, List, [], ◌∷◌, ◌++◌, length, take, Some, Ok}
 use Rattle.sector_disk.specs.Disk.{Image, IsSame, Disk}
-use Rattle.sector_disk.specs.Runs.{Remains}
 use Rattle.session_store.specs.Keeping.{Keeping, fold}
 use Rattle.session_store.specs.Stands.{recovered, IsInOrder}
 use Rattle.session_store.specs.Sound.{IsSoundDisk, StandsOnlyFor}
@@ -64,7 +63,7 @@ module _ {D S A R : Type 0} (kept : Keeping S A R) (disk : Disk D) where
 
   -- A call that confirms leaves unconfirmed what is pending; opening confirms what the disk reads, and the rest is lost.
   abbrev pub Does : S → Place D S A → List A → ℕ → Doing D S A → Standing D S A → Type 0
-  Does start (AtWork v) accepted confirmed (Calls actions w) t = Continues kept disk v actions w × Remains disk v.disk w.disk
+  Does start (AtWork v) accepted confirmed (Calls actions w) t = Continues kept disk v actions w
       × (t.place ≡ AtWork w) × (t.accepted ≡ accepted ++ actions) × (t.confirmed + length w.pending ≡ length t.accepted)
   Does start (AtWork v) accepted confirmed Waits t =
       (t.place ≡ AtWork v) × (t.accepted ≡ accepted) × (t.confirmed ≡ confirmed)

@@ -1,7 +1,7 @@
 -- Sound stores.
 use Rattle.std.specs.Prelude.{◌≡◌, ◌≤◌, ◌+◌, ℕ, List, ◌++◌, length, take, drop, false, Some}
 use Rattle.sector_disk.specs.Disk.{Image, Disk}
-use Rattle.sector_disk.specs.Runs.{EveryMoment}
+use Rattle.sector_disk.specs.Runs.{EveryMoment, Remains}
 use Rattle.session_store.specs.Keeping.{Keeping, fold}
 use Rattle.session_store.specs.Base.{IsSettled, HoldsAll, StandsForPrefix}
 use Rattle.session_store.specs.Value.{StoreValue}
@@ -23,6 +23,7 @@ module _ {D S A R : Type 0} (kept : Keeping S A R) (disk : Disk D) where
   -- What a call does that accepted these actions, none or one: some of the first of what was pending and is accepted are
   -- confirmed, and a power cut at any moment leaves the old base with a prefix of them.
   pub record Continues (old : StoreValue D S A) (accepted : List A) (new : StoreValue D S A) : Type 0 where
+    pub remains : Remains disk old.disk new.disk
     pub confirmed : ℕ
     pub few : confirmed ≤ length (old.pending ++ accepted)
     pub base : fold kept old.base (take confirmed (old.pending ++ accepted)) ≡ Some new.base

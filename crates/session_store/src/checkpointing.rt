@@ -48,7 +48,6 @@ impl<D: SectorDisk + Drop, K: Kept> Store<D, K> {
     pub fn checkpoint(&mut self) -> Result<(), CheckpointFault>
         ensures answer { Checkpoints K.kept D.disk self.old self.new result }
         ensures continues { Continues K.kept D.disk self.old [] self.new }
-        ensures remains { Remains D.disk self.old.disk self.new.disk }
         ensures no_fault { OnOk result (D.disk.faults self.new.disk ≡ D.disk.faults self.old.disk) }
         ensures stands { IsSoundStore K.kept D.disk self.old
             → OnOk result (StandsOnlyFor K.kept D.disk self.new.state self.new.disk) }

@@ -1,6 +1,5 @@
 //! Confirming what is pending.
 ghost use Rattle.std.specs.Prelude.{◌≡◌, [], OnOk, Some, IsSome};
-ghost use Rattle.sector_disk.specs.Runs.{Remains};
 ghost use Rattle.session_store.specs.Keeping.{fold};
 ghost use Rattle.session_store.specs.Answers.{Confirms};
 ghost use Rattle.session_store.specs.Sound.{StandsOnlyFor};
@@ -26,7 +25,6 @@ impl<D: SectorDisk + Drop, K: Kept> Store<D, K> {
     pub fn confirm(&mut self) -> Result<(), ConfirmFault>
         ensures answer { Confirms K.kept D.disk self.old self.new result }
         ensures continues { Continues K.kept D.disk self.old [] self.new }
-        ensures remains { Remains D.disk self.old.disk self.new.disk }
         ensures no_fault { OnOk result (D.disk.faults self.new.disk ≡ D.disk.faults self.old.disk) }
         ensures stands { IsSoundStore K.kept D.disk self.old
             → OnOk result (StandsOnlyFor K.kept D.disk self.new.state self.new.disk) }

@@ -1,7 +1,6 @@
 //! Taking actions.
 ghost use Rattle.std.specs.Prelude.{◌≡◌, ◌<◌, ◌≤◌, ◌+◌, ◌-◌, ◌^◌, length, false, OnOk};
 ghost use Rattle.sector_disk.specs.Calls.{WriteCall};
-ghost use Rattle.sector_disk.specs.Runs.{Remains};
 ghost use Rattle.session_store.specs.Form.{record_sector};
 ghost use Rattle.session_store.specs.Answers.{Submits, accepted_by};
 ghost use Rattle.session_store.specs.Sound.{StandsOnlyFor};
@@ -45,7 +44,6 @@ impl<D: SectorDisk + Drop, K: Kept> Store<D, K> {
         requires room { self.old.records < 1024 }
         ensures answer { Submits K.kept D.disk self.old action.now self.new result }
         ensures continues { Continues K.kept D.disk self.old (accepted_by action.now result) self.new }
-        ensures remains { Remains D.disk self.old.disk self.new.disk }
         ensures no_fault { OnOk result (D.disk.faults self.new.disk ≡ D.disk.faults self.old.disk) }
     {
         match self.state.step(action) {
@@ -73,7 +71,6 @@ impl<D: SectorDisk + Drop, K: Kept> Store<D, K> {
         requires room { self.old.epoch < 2 ^ 64 - 1 }
         ensures answer { Submits K.kept D.disk self.old action.now self.new result }
         ensures continues { Continues K.kept D.disk self.old (accepted_by action.now result) self.new }
-        ensures remains { Remains D.disk self.old.disk self.new.disk }
         ensures no_fault { OnOk result (D.disk.faults self.new.disk ≡ D.disk.faults self.old.disk) }
         ensures stands { IsSoundStore K.kept D.disk self.old
             → OnOk result (StandsOnlyFor K.kept D.disk self.new.state self.new.disk) }
@@ -98,7 +95,6 @@ impl<D: SectorDisk + Drop, K: Kept> Store<D, K> {
     pub fn submit(&mut self, action: &K::Action) -> Result<(), SubmitFault<K::Refusal>>
         ensures answer { Submits K.kept D.disk self.old action.now self.new result }
         ensures continues { Continues K.kept D.disk self.old (accepted_by action.now result) self.new }
-        ensures remains { Remains D.disk self.old.disk self.new.disk }
         ensures no_fault { OnOk result (D.disk.faults self.new.disk ≡ D.disk.faults self.old.disk) }
         ensures checkpointed { IsSoundStore K.kept D.disk self.old → self.old.records ≡ 1024
             → OnOk result (StandsOnlyFor K.kept D.disk self.new.state self.new.disk) }

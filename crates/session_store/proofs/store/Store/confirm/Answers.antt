@@ -24,6 +24,7 @@ returns-in-Err-clause-continues g c =
     let disk = g.D.SectorDisk.disk in
     rw (← c.self.view_is)
     (continues_none kept disk _ _ [] refl (sym (append-nil c.self.inside.pending.items))
+    (remains_on disk _ _ _ _ (remains disk c.self.inside.disk) c.sync.ensures.called)
     (λ sound. sync-fault kept disk _ c.sync.new.self _ c.sync.ensures.called c.sync.ensures.syncs sound)
     (λ sound. sync-moments kept disk _ c.sync.new.self _ [] c.sync.ensures.called c.sync.ensures.syncs sound))
 
@@ -48,12 +49,6 @@ returns-in-Ok-clause-stands g c =
 
 pub returns-then-self-clause-answer : goal.returns-then-self-clause-answer
 returns-then-self-clause-answer g c = rw (← c.self.view_is) (c.if-self.true, refl)
-
-pub returns-then-self-clause-remains : goal.returns-then-self-clause-remains
-returns-then-self-clause-remains g c = remains g.D.SectorDisk.disk _
-
-pub returns-then-is_empty-clause-remains : goal.returns-then-is_empty-clause-remains
-returns-then-is_empty-clause-remains g c = remains g.D.SectorDisk.disk _
 
 pub catch_up-requires : goal.catch_up-requires
 catch_up-requires g c =
@@ -92,11 +87,6 @@ returns-in-Ok-clause-answer g c =
       λ none. absurd (some (ap length none)),
     )
 
-pub returns-in-Ok-clause-remains : goal.returns-in-Ok-clause-remains
-returns-in-Ok-clause-remains g c =
-    let disk = g.D.SectorDisk.disk in
-    rw (← c.self.view_is) (remains_on disk _ _ _ _ (remains disk c.self.inside.disk) c.sync.ensures.called)
-
 pub returns-in-Ok-clause-no_fault : goal.returns-in-Ok-clause-no_fault
 returns-in-Ok-clause-no_fault g c = rw (← c.self.view_is) c.in-Ok.ensures.called.faults_ok
 
@@ -104,8 +94,3 @@ pub returns-in-Err-clause-answer : goal.returns-in-Err-clause-answer
 returns-in-Err-clause-answer g c =
     let some = eqb-false _ _ (sym c.is_empty.ensures ∙ c.if-is_empty.false) in
     rw (← c.self.view_is) (c.if-self.false, λ none. some (ap length none), refl, omega (arith, c.in-Err.ensures.called.faults_err))
-
-pub returns-in-Err-clause-remains : goal.returns-in-Err-clause-remains
-returns-in-Err-clause-remains g c =
-    let disk = g.D.SectorDisk.disk in
-    rw (← c.self.view_is) (remains_on disk _ _ _ _ (remains disk c.self.inside.disk) c.sync.ensures.called)

@@ -3,8 +3,6 @@ use Rattle.session_store.specs.Value.{StoreValue, IsStore}
 use Rattle.session_store.specs.Store.{Continues}
 use Rattle.session_store.proofs.CallLaws.{continues_begins}
 use Rattle.sector_disk.specs.Disk.{one_more}
-use Rattle.sector_disk.specs.Runs.{Remains}
-use Rattle.sector_disk.proofs.RunLaws.{remains, remains_on}
 use Rattle.session_store.proofs.RecordLemmas.{WritesRecord, record-store, record-continues, record_fault-continues, record-view, fault-view, refused-view, after_submit-record, after_failed-record, room-record, room-some}
 use Rattle.session_store.proofs.store.Store.submit_record.Goals as goal
 
@@ -68,12 +66,6 @@ returns-in-Ok-write_record-clause-continues g c =
     (record-continues kept disk old a c.step.new.self store accepted g.met.K.Kept.lawful c.write_record.new.disk c.in-Ok-write_record.field-0
     c.requires.works c.requires.room c.write_record.ensures.action call)
 
-pub returns-in-Ok-write_record-clause-remains : goal.returns-in-Ok-write_record-clause-remains
-returns-in-Ok-write_record-clause-remains g c =
-    let disk = g.D.SectorDisk.disk in
-    subst (λ d. Remains disk d c.write_record.new.disk) (ap (λ v. v.disk) c.self.view_is)
-    (remains_on disk _ _ _ _ (remains disk c.self.inside.disk) c.write_record.ensures.call.called)
-
 pub returns-in-Err-write_record-clause-answer : goal.returns-in-Err-write_record-clause-answer
 returns-in-Err-write_record-clause-answer g c =
     let disk = g.D.SectorDisk.disk in
@@ -100,12 +92,6 @@ returns-in-Err-write_record-clause-continues g c =
     (record_fault-continues kept disk old a c.step.new.self store accepted g.met.K.Kept.lawful c.write_record.new.disk c.write_record.result
     c.requires.works c.requires.room c.write_record.ensures.action call)
 
-pub returns-in-Err-write_record-clause-remains : goal.returns-in-Err-write_record-clause-remains
-returns-in-Err-write_record-clause-remains g c =
-    let disk = g.D.SectorDisk.disk in
-    subst (λ d. Remains disk d c.write_record.new.disk) (ap (λ v. v.disk) c.self.view_is)
-    (remains_on disk _ _ _ _ (remains disk c.self.inside.disk) c.write_record.ensures.call.called)
-
 pub invariant_of-self : goal.invariant_of-self
 invariant_of-self g c = rw c.in-Err.ensures.refused c.self.invariant
 
@@ -120,9 +106,6 @@ write_record-requires-clause-sectors g c = c.self.invariant.large
 
 pub write_record-requires-clause-room : goal.write_record-requires-clause-room
 write_record-requires-clause-room g c = rw (← c.self.view_is) at c.requires.room
-
-pub returns-in-Err-clause-remains : goal.returns-in-Err-clause-remains
-returns-in-Err-clause-remains g c = rw (← c.self.view_is) (remains g.D.SectorDisk.disk c.self.inside.disk)
 
 pub returns-in-Ok-write_record-clause-no_fault : goal.returns-in-Ok-write_record-clause-no_fault
 returns-in-Ok-write_record-clause-no_fault g c = rw (← c.self.view_is) c.in-Ok-write_record.ensures.call.called.faults_ok

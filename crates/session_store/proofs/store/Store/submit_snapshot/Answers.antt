@@ -1,7 +1,6 @@
 use Rattle.std.proofs.Common.{◌≡◌, Ok, [], ◌∷◌, ◌∙◌, sym, ap, subst, arith}
 use Rattle.sector_disk.specs.Disk.{Rose}
 use Rattle.sector_disk.specs.Runs.{Remains}
-use Rattle.sector_disk.proofs.RunLaws.{remains}
 use Rattle.session_store.specs.Value.{StoreValue, IsStore}
 use Rattle.session_store.specs.Answers.{after_submit, after_failed_submit, after_snapshot, after_fault, with_action}
 use Rattle.session_store.specs.Store.{Continues}
@@ -70,10 +69,6 @@ returns-in-Ok-take_snapshot-clause-continues g c =
     (snapshot-continues kept disk g.met.K.Kept.lawful old (a ∷ []) t new.disk store c.requires.works c.requires.room
     c.take_snapshot.ensures.state (more-made kept disk old a t store accepted) remains run written)
 
-pub returns-in-Ok-take_snapshot-clause-remains : goal.returns-in-Ok-take_snapshot-clause-remains
-returns-in-Ok-take_snapshot-clause-remains g c =
-    subst (λ v. Remains g.D.SectorDisk.disk v.disk c.take_snapshot.new.self.disk) c.self.view_is c.take_snapshot.ensures.remains
-
 pub returns-in-Ok-take_snapshot-clause-stands : goal.returns-in-Ok-take_snapshot-clause-stands
 returns-in-Ok-take_snapshot-clause-stands g c =
     let kept = g.K.Kept.kept in
@@ -127,10 +122,6 @@ returns-in-Err-take_snapshot-clause-continues g c =
     (snapshot_fault-continues kept disk g.met.K.Kept.lawful old (a ∷ []) t new.disk store c.requires.works c.requires.room
     c.take_snapshot.ensures.state (more-made kept disk old a t store accepted) remains run)
 
-pub returns-in-Err-take_snapshot-clause-remains : goal.returns-in-Err-take_snapshot-clause-remains
-returns-in-Err-take_snapshot-clause-remains g c =
-    subst (λ v. Remains g.D.SectorDisk.disk v.disk c.take_snapshot.new.self.disk) c.self.view_is c.take_snapshot.ensures.remains
-
 pub invariant_of-self : goal.invariant_of-self
 invariant_of-self g c = rw c.in-Err.ensures.refused c.self.invariant
 
@@ -139,9 +130,6 @@ push-requires g c = let few = rw (← c.self.view_is) at c.requires.batch in ome
 
 pub take_snapshot-requires : goal.take_snapshot-requires
 take_snapshot-requires g c = let room = rw (← c.self.view_is) at c.requires.room in omega (arith, room)
-
-pub returns-in-Err-clause-remains : goal.returns-in-Err-clause-remains
-returns-in-Err-clause-remains g c = rw (← c.self.view_is) (remains g.D.SectorDisk.disk c.self.inside.disk)
 
 pub returns-in-Ok-take_snapshot-clause-no_fault : goal.returns-in-Ok-take_snapshot-clause-no_fault
 returns-in-Ok-take_snapshot-clause-no_fault g c = rw (← c.self.view_is) c.in-Ok-take_snapshot.ensures.fault
