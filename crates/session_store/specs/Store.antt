@@ -20,8 +20,8 @@ module _ {D S A R : Type 0} (kept : Keeping S A R) (disk : Disk D) where
     pub images : (c : Image) → disk.may_leave v.disk c → StandsForPrefix kept v.base v.pending c
     pub working : v.failed ≡ false → IsWorking v
 
-  -- What a call does that accepted these actions, none or one: some of the first of what was pending and is accepted are
-  -- confirmed, and a power cut at any moment leaves the old base with a prefix of them.
+  -- What a call does that accepted these actions, none or one: the disk stays as honest and as large, some of the first of
+  -- what was pending and is accepted are confirmed, and a power cut at any moment leaves the old base with a prefix of them.
   pub record Continues (old : StoreValue D S A) (accepted : List A) (new : StoreValue D S A) : Type 0 where
     pub remains : Remains disk old.disk new.disk
     pub confirmed : ℕ
