@@ -48,3 +48,11 @@ pub returns-after-loop-i-clause-parts : goal.returns-after-loop-i-clause-parts
 returns-after-loop-i-clause-parts g c = λ honest.
     c.loop-i.invariant.read honest
     ∙ parts-all (g.D.SectorDisk.disk.reads c.args.disk.now) c.args.header.epoch c.loop-i.i c.args.header.parts _ (omega (arith, c.loop-i-test.false))
+
+pub returns-in-Err-read_part-clause-quiet : goal.returns-in-Err-read_part-clause-quiet
+returns-in-Err-read_part-clause-quiet g c =
+    quiet_joins g.D.SectorDisk.disk _ _ _ c.loop-i.invariant.quiet c.read_part.ensures.quiet
+
+pub returns-in-Err-push-clause-quiet : goal.returns-in-Err-push-clause-quiet
+returns-in-Err-push-clause-quiet g c =
+    quiet_joins g.D.SectorDisk.disk _ _ _ c.loop-i.invariant.quiet c.read_part.ensures.quiet

@@ -2,6 +2,7 @@ use Rattle.std.proofs.Common.{sym, ap, ◌∙◌}
 use Rattle.sector_disk.proofs.ImageLaws.{image_is}
 use Rattle.session_store.specs.Stands.{after_parts, parts_from}
 use Rattle.session_store.proofs.OpeningLemmas.{cause-from, found-not_formatted, found-spent, reading-none, reading-spent, reading-some}
+use Rattle.sector_disk.proofs.RunLaws.{quiet_joins}
 use Rattle.session_store.proofs.recovering.recover.Goals as goal
 
 pub returns-then-header-clause-fault : goal.returns-then-header-clause-fault
@@ -40,3 +41,9 @@ returns-in-Ok-recover_from-clause-found g c = λ honest.
 pub returns-in-Err-recover_from-clause-memory : goal.returns-in-Err-recover_from-clause-memory
 returns-in-Err-recover_from-clause-memory g c = λ honest refused.
     (c.in-Some.header, sym (sym c.in-Some.is ∙ c.in-Ok.ensures.found honest), c.if-header.false)
+
+pub returns-in-Err-recover_from-clause-quiet : goal.returns-in-Err-recover_from-clause-quiet
+returns-in-Err-recover_from-clause-quiet g c = quiet_joins g.D.SectorDisk.disk _ _ _ c.find_header.ensures.quiet c.recover_from.ensures.quiet
+
+pub returns-in-Ok-recover_from-clause-quiet : goal.returns-in-Ok-recover_from-clause-quiet
+returns-in-Ok-recover_from-clause-quiet g c = quiet_joins g.D.SectorDisk.disk _ _ _ c.find_header.ensures.quiet c.recover_from.ensures.quiet

@@ -3,6 +3,7 @@ use Rattle.sector_disk.proofs.ImageLaws.{image_is}
 use Rattle.session_store.specs.Stands.{replay}
 use Rattle.session_store.specs.declared.fault.StoreFault.TheVariants.{Damaged}
 use Rattle.session_store.proofs.OpeningLemmas.{cause-from, found-damaged, after_parts-err, after_parts-bad, after_parts-ok}
+use Rattle.sector_disk.proofs.RunLaws.{quiet_joins}
 use Rattle.session_store.proofs.recovering.recover_from.Goals as goal
 
 pub returns-in-Err-clause-fault : goal.returns-in-Err-clause-fault
@@ -40,3 +41,9 @@ returns-clause-found g c = λ honest.
 
 pub returns-clause-epoch : goal.returns-clause-epoch
 returns-clause-epoch g c = refl
+
+pub returns-in-Err-replay_records-clause-quiet : goal.returns-in-Err-replay_records-clause-quiet
+returns-in-Err-replay_records-clause-quiet g c = quiet_joins g.D.SectorDisk.disk _ _ _ c.read_parts.ensures.quiet c.replay_records.ensures.quiet
+
+pub returns-clause-quiet : goal.returns-clause-quiet
+returns-clause-quiet g c = quiet_joins g.D.SectorDisk.disk _ _ _ c.read_parts.ensures.quiet c.replay_records.ensures.quiet

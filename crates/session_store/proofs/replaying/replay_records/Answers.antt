@@ -63,3 +63,6 @@ returns-clause-replayed g c = λ honest.
     c.loop-number.invariant.replayed honest
     ∙ records-end g.K.Kept.kept (g.D.SectorDisk.disk.reads c.args.disk.now) c.args.epoch c.loop-number.number c.loop-number.state
     (omega (arith, c.loop-number-test.false))
+
+pub returns-in-Err-step_both-clause-quiet : goal.returns-in-Err-step_both-clause-quiet
+returns-in-Err-step_both-clause-quiet g c = quiet_joins g.D.SectorDisk.disk _ _ _ c.loop-number.invariant.quiet c.read_record.ensures.quiet

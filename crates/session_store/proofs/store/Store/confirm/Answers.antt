@@ -1,10 +1,10 @@
-use Rattle.std.proofs.Common.{[], length, IsSome, refl, sym, ap, subst, ◌∙◌, arith, append-nil}
+use Rattle.std.proofs.Common.{◌≡◌, [], Some, length, IsSome, refl, sym, ap, subst, ◌∙◌, arith, append-nil}
 use Rattle.std.proofs.lemmas.Bool.{eqb-true, eqb-false}
 use Rattle.sector_disk.proofs.RunLaws.{remains, remains_on}
 use Rattle.session_store.specs.Keeping.{fold}
 use Rattle.session_store.specs.Value.{StoreValue}
 use Rattle.session_store.proofs.CallLaws.{continues_begins}
-use Rattle.session_store.proofs.StoreLemmas.{continues_none, sync-moments, sync-fault, idle-same, empty_list, some_is, confirmed-same, confirmed-store, confirmed-continues, confirmed-stands}
+use Rattle.session_store.proofs.StoreLemmas.{of_nil, sound-stands, continues_none, sync-moments, sync-fault, idle-same, empty_list, some_is, confirmed-same, confirmed-store, confirmed-continues, confirmed-stands}
 use Rattle.session_store.proofs.store.Store.confirm.Goals as goal
 
 pub returns-then-self-clause-continues : goal.returns-then-self-clause-continues
@@ -94,3 +94,11 @@ pub returns-in-Err-clause-answer : goal.returns-in-Err-clause-answer
 returns-in-Err-clause-answer g c =
     let some = eqb-false _ _ (sym c.is_empty.ensures ∙ c.if-is_empty.false) in
     rw (← c.self.view_is) (c.if-self.false, λ none. some (ap length none), refl, omega (arith, c.in-Err.ensures.called.faults_err))
+
+pub returns-then-is_empty-clause-stands : goal.returns-then-is_empty-clause-stands
+returns-then-is_empty-clause-stands g c =
+    let kept = g.K.Kept.kept in
+    let s = c.self.inside in
+    let none = empty_list s.pending.items (eqb-true _ _ (sym c.is_empty.ensures ∙ c.if-is_empty.true)) in
+    let same = of_nil kept s.base s.state (subst (λ xs. fold kept s.base xs ≡ Some s.state) none c.self.invariant.accepted) in
+    rw (← c.self.view_is) (sound-stands kept g.D.SectorDisk.disk _ none same)

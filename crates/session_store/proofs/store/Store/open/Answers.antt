@@ -1,6 +1,6 @@
-use Rattle.std.proofs.Common.{◌≤◌, refl, arith}
+use Rattle.std.proofs.Common.{◌≤◌, Err, inl, refl, ap, ◌∙◌, arith}
 use Rattle.sector_disk.proofs.RunLaws.{none_read, quiet, remains, remains_joins}
-use Rattle.session_store.proofs.OpeningLemmas.{cause-stands}
+use Rattle.session_store.proofs.OpeningLemmas.{cause-stands, too_small-not_memory, disk-not_memory}
 use Rattle.session_store.proofs.OpenLemmas.{quiet-still, still-sound, snapshot-still, opened-sound, opened-stands, opened-store, opened-view}
 use Rattle.session_store.proofs.store.Store.open.Goals as goal
 
@@ -95,3 +95,48 @@ returns-in-Ok-write_snapshot-clause-stands g c = λ sound.
     opened-stands g.K.Kept.kept g.D.SectorDisk.disk _ _ c.in-Ok.found.epoch c.in-Ok.found.state sound
     (c.in-Ok.ensures.settled sound.honest) found.1 found.2 g.met.K.Kept.lawful c.in-Ok.ensures.epoch c.write_snapshot.ensures.state
     quietly c.write_snapshot.new.disk honest c.in-Ok-write_snapshot.ensures.written
+
+pub returns-then-count-lt-SECTORS-clause-fault : goal.returns-then-count-lt-SECTORS-clause-fault
+returns-then-count-lt-SECTORS-clause-fault g c = λ large. absurd (omega (arith, large, c.if-count-lt-SECTORS.true, c.count.ensures.count))
+
+pub returns-then-count-lt-SECTORS-clause-memory : goal.returns-then-count-lt-SECTORS-clause-memory
+returns-then-count-lt-SECTORS-clause-memory g c = λ honest same. too_small-not_memory same
+
+pub returns-then-count-lt-SECTORS-clause-at_rest : goal.returns-then-count-lt-SECTORS-clause-at_rest
+returns-then-count-lt-SECTORS-clause-at_rest g c = λ honest large.
+    absurd (omega (arith, large, c.if-count-lt-SECTORS.true, c.count.ensures.count))
+
+pub returns-then-count-lt-SECTORS-clause-opens : goal.returns-then-count-lt-SECTORS-clause-opens
+returns-then-count-lt-SECTORS-clause-opens g c = λ sound.
+    absurd (omega (arith, sound.large, c.if-count-lt-SECTORS.true, c.count.ensures.count))
+
+pub returns-in-Err-clause-fault : goal.returns-in-Err-clause-fault
+returns-in-Err-clause-fault g c = λ large. c.in-Err.ensures.fault
+
+pub returns-in-Err-clause-only_read : goal.returns-in-Err-clause-only_read
+returns-in-Err-clause-only_read g c = λ other honest. c.recover_behind_barrier.ensures.quiet.only_read honest
+
+pub returns-in-Err-clause-memory : goal.returns-in-Err-clause-memory
+returns-in-Err-clause-memory g c = λ honest same. c.in-Err.ensures.memory honest (ap (λ fault. Err fault) same)
+
+pub returns-in-Err-clause-at_rest : goal.returns-in-Err-clause-at_rest
+returns-in-Err-clause-at_rest g c = λ honest large other. c.in-Err.ensures.at_rest honest other
+
+pub returns-in-Err-write_snapshot-clause-fault : goal.returns-in-Err-write_snapshot-clause-fault
+returns-in-Err-write_snapshot-clause-fault g c = λ large.
+    inl (refl, omega (arith, c.in-Ok.ensures.no_fault, c.in-Err-write_snapshot.ensures.fault))
+
+pub returns-in-Err-write_snapshot-clause-only_read : goal.returns-in-Err-write_snapshot-clause-only_read
+returns-in-Err-write_snapshot-clause-only_read g c = λ other. absurd (other refl)
+
+pub returns-in-Err-write_snapshot-clause-memory : goal.returns-in-Err-write_snapshot-clause-memory
+returns-in-Err-write_snapshot-clause-memory g c = λ honest same. disk-not_memory same
+
+pub returns-in-Err-write_snapshot-clause-at_rest : goal.returns-in-Err-write_snapshot-clause-at_rest
+returns-in-Err-write_snapshot-clause-at_rest g c = λ honest large other. absurd (other refl)
+
+pub returns-in-Err-write_snapshot-clause-opens : goal.returns-in-Err-write_snapshot-clause-opens
+returns-in-Err-write_snapshot-clause-opens g c = λ sound. inl refl
+
+pub returns-in-Ok-write_snapshot-clause-no_fault : goal.returns-in-Ok-write_snapshot-clause-no_fault
+returns-in-Ok-write_snapshot-clause-no_fault g c = c.in-Ok-write_snapshot.ensures.no_fault ∙ c.in-Ok.ensures.no_fault
