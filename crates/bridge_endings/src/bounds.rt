@@ -3,7 +3,7 @@ ghost use Rattle.std.specs.Prelude.{◌≡◌, ℕ, ◌<◌, nat_le};
 ghost use Rattle.bridge_endings.specs.Between.{IsBetween};
 
 /// Two bounds of the worth of an ending.
-#[derive(Clone, Copy, Debug, PartialEq, Eq)]
+#[derive(Clone, Copy)]
 pub struct Bounds {
     /// At least so many tricks of North and South.
     pub least: u8,

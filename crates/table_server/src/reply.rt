@@ -10,7 +10,7 @@ use line_text::push_refusal;
 pub const REPLY_BYTES: usize = 29;
 
 /// The reply to a line.
-#[derive(Clone, Copy, Debug, PartialEq, Eq)]
+#[derive(Clone, Copy)]
 pub enum Reply {
     /// The line's call was made.
     Accepted,

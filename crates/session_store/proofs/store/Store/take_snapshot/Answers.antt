@@ -91,3 +91,9 @@ returns-in-Err-clause-written g c = λ _. tt
 
 pub returns-in-Err-clause-state : goal.returns-in-Err-clause-state
 returns-in-Err-clause-state g c = rw (← c.self.view_is) c.write_snapshot.ensures.state
+
+pub write_snapshot-requires : goal.write_snapshot-requires
+write_snapshot-requires g c = c.self.invariant.large
+
+pub overflow_add-self : goal.overflow_add-self
+overflow_add-self g c = let room = rw (← c.self.view_is) at c.requires in omega (arith, room)
