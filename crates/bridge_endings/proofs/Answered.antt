@@ -1,8 +1,7 @@
 -- The loop over the cards that may be played: each that is no longer to be tried was answered against the side in turn.
-use Rattle.std.proofs.Common.{◌≡◌, ℕ, Bool, true, false, not, ◌&&◌, ◌==◌, List, Option, refl, sym, ap, ◌∙◌, subst}
+use Rattle.std.proofs.Common.{◌≡◌, ℕ, Bool, true, false, not, ◌&&◌, ◌==◌, refl, sym, ap, ◌∙◌}
 use mathlib.Core.Bool.{beq}
 use Rattle.std.proofs.lemmas.Bool.{eqb-true, and_parts}
-use Rattle.bridge_cards.specs.declared.suit.Suit.{Suit}
 use Rattle.bridge_cards.specs.CardSet.{has_card}
 
 pub record IsAnswered (legal rest : ℕ) (answer : ℕ → Bool) (against : Bool) : Type 0 where
@@ -45,8 +44,3 @@ other_answer true true other = cc
 other_answer true false other = refl
 other_answer false true other = refl
 other_answer false false other = cc
-
--- what was told of the hands and the trump suit holds of those that equal them
-pub answer_kept : (hands : List ℕ) (trump : Option Suit) (before : List ℕ) (suit : Option Suit) (P : List ℕ → Option Suit → Type 0) → hands ≡ before → trump ≡ suit → P hands trump → P before suit
-answer_kept hands trump before suit P same_hands same_trump holds =
-    subst (P before) same_trump (subst (λ h. P h trump) same_hands holds)

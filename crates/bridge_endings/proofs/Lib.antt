@@ -3,6 +3,7 @@ pub mod LegalCards
 pub mod Minimax
 pub mod WorthSteps
 pub mod Answered
+pub mod GoingOn
 pub mod SearchSteps
 pub mod Root
 pub mod Kept
@@ -17,7 +18,6 @@ pub mod Runs
 pub mod Owners
 pub mod EqualSteps
 pub mod Winning
-pub mod LastTrick
 pub mod TrickWon
 pub mod SureTrick
 pub mod SureCard

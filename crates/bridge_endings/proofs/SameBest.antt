@@ -28,7 +28,7 @@ both : (a b : Bool) → a ≡ true → b ≡ true → (a && b) ≡ true
 both true b p q = q
 both false b p q = cc
 
-pub same_needs : (a b : ℕ) → ((need : ℕ) → nat_le need a ≡ nat_le need b) → a ≡ b
+same_needs : (a b : ℕ) → ((need : ℕ) → nat_le need a ≡ nat_le need b) → a ≡ b
 same_needs a b same =
     let up : a ≤ b = leb-true a b (sym (same a) ∙ le-leb a a (omega arith)) in
     let down : b ≤ a = leb-true b a (same b ∙ le-leb b b (omega arith)) in

@@ -1,5 +1,5 @@
 -- What a contract sees of a search, and what its table says: bounds of what is left at the start of a trick.
-use Rattle.std.specs.Prelude.{◌≡◌, ℕ, ◌*◌, List, [], All, Option}
+use Rattle.std.specs.Prelude.{◌≡◌, ℕ, ◌*◌, ◌≤◌, List, [], All, Option}
 use Rattle.bridge_cards.specs.declared.suit.Suit.{Suit}
 use Rattle.bridge_endings.specs.declared.found.Found.{Found}
 use Rattle.bridge_endings.specs.Ending.{IsEnding}
@@ -13,6 +13,12 @@ pub record SearchValue : Type 0 where
   pub hands : List ℕ
   pub trump : Option Suit
   pub tried : ℕ
+
+-- a search after some cards were tried: of the same hands and trump suit, and no fewer were tried
+pub record GoesOn (old new : SearchValue) : Type 0 where
+  pub hands : new.hands ≡ old.hands
+  pub trump : new.trump ≡ old.trump
+  pub tried : old.tried ≤ new.tried
 
 -- the bounds are true of the cards left and their leader
 abbrev pub IsFound : List ℕ → Option Suit → Found → Type 0

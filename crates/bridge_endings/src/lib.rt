@@ -14,8 +14,10 @@ pub mod ending;
 mod equal;
 mod found;
 mod move_order;
+mod reaching;
 mod search;
 pub mod solver;
+mod sure_card;
 mod trick;
 
 pub use cache::Cache;

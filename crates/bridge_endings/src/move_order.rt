@@ -3,16 +3,52 @@ ghost use Rattle.std.specs.Prelude.{◌≡◌, ◌<◌, ◌↔◌, ℕ, true, Is
 ghost use Rattle.bridge_cards.specs.Card.{IsCard};
 ghost use Rattle.bridge_cards.specs.CardSet.{has_card};
 
+use crate::search::Search;
 use crate::trick::Trick;
-use bridge_cards::{Card, CardSet};
+use bridge_cards::{Card, CardSet, Suit};
 
 /// Which cards are good to lead.
-#[derive(Default, Drop)]
+#[derive(Clone, Copy, Default)]
 pub struct Leads {
     /// Those of suits that no opponent ruffs.
     pub safe: CardSet,
     /// Those of them whose suit's highest card left is on the leader's side.
     pub high: CardSet,
+}
+
+impl Search {
+    /// Which cards are good to lead; none once one is led.
+    pub fn leads(&self, left: CardSet, trick: &Trick) -> Leads {
+        let mut leads = Leads::default();
+        if trick.len() > 0 {
+            return leads;
+        }
+        let leader = trick.turn();
+        let side = self
+            .held(left, leader)
+            .union(self.held(left, leader.partner()));
+        let next = self.held(left, leader.left());
+        let last = self.held(left, leader.clockwise(3));
+        for suit in Suit::ALL {
+            if self.ruffs(next, suit) || self.ruffs(last, suit) {
+                continue;
+            }
+            let cards = left.of_suit(suit);
+            leads.safe = leads.safe.union(cards);
+            if cards.highest().is_some_and(|card| side.has(card)) {
+                leads.high = leads.high.union(cards);
+            }
+        }
+        leads
+    }
+
+    /// Whether a hand has trumps and none of the suit.
+    fn ruffs(&self, hand: CardSet, suit: Suit) -> bool {
+        hand.of_suit(suit).is_empty()
+            && self
+                .trump()
+                .is_some_and(|trump| !hand.of_suit(trump).is_empty())
+    }
 }
 
 /// One of the cards, the one that the hand in turn tries first; `None` where there is none.

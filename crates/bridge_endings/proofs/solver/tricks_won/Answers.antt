@@ -13,9 +13,9 @@ loop-left-preserved c =
     record {
       reached = reached;
       few = omega (arith, reached, worth_of_le ending, c.tricks-tricks.ensures);
-      hands = c.reaches_from.ensures.hands ∙ c.loop-left.invariant.hands;
-      trump = c.reaches_from.ensures.trump ∙ c.loop-left.invariant.trump;
-      tried = omega (arith, c.reaches_from.ensures.tried, c.loop-left.invariant.tried);
+      hands = c.reaches_from.ensures.later.hands ∙ c.loop-left.invariant.hands;
+      trump = c.reaches_from.ensures.later.trump ∙ c.loop-left.invariant.trump;
+      tried = omega (arith, c.reaches_from.ensures.later.tried, c.loop-left.invariant.tried);
     }
 
 pub returns-clause-worth : goal.returns-clause-worth
