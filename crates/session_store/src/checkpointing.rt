@@ -29,8 +29,7 @@ impl<D: SectorDisk + Drop, K: Kept> Store<D, K> {
     {
         match write_snapshot(&mut self.disk, self.epoch + 1, &self.state) {
             Ok(()) => {
-                catch_up(&mut self.base, self.pending.as_slice());
-                self.pending.clear();
+                catch_up(&mut self.base, &mut self.pending);
                 self.epoch += 1;
                 self.records = 0;
                 Ok(())

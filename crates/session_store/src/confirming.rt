@@ -5,17 +5,20 @@ ghost use Rattle.session_store.specs.Answers.{Confirms};
 ghost use Rattle.session_store.specs.Sound.{StandsOnlyFor};
 ghost use Rattle.session_store.specs.Store.{Continues, IsSoundStore};
 
-use crate::{ConfirmFault, Kept, Store};
+use crate::{ConfirmFault, Kept, MOST_PENDING, Store};
+use arrayvec::ArrayVec;
 use sector_disk::SectorDisk;
 
-/// Takes these actions on the base, each of which it accepts.
-pub(crate) fn catch_up<K: Kept>(base: &mut K, actions: &[K::Action])
-    requires { IsSome (fold K.kept base.old actions.now) }
-    ensures { fold K.kept base.old actions.now ≡ Some base.new }
+/// Takes the pending actions on the base, which accepts each of them; none is pending then.
+pub(crate) fn catch_up<K: Kept>(base: &mut K, pending: &mut ArrayVec<K::Action, MOST_PENDING>)
+    requires { IsSome (fold K.kept base.old pending.old.items) }
+    ensures base { fold K.kept base.old pending.old.items ≡ Some base.new }
+    ensures none { pending.new.items ≡ [] }
 {
-    for action in actions {
+    for action in pending.as_slice() {
         let _ = base.step(action);
     }
+    pending.clear();
 }
 
 impl<D: SectorDisk + Drop, K: Kept> Store<D, K> {
@@ -37,8 +40,7 @@ impl<D: SectorDisk + Drop, K: Kept> Store<D, K> {
         }
         match self.disk.sync() {
             Ok(()) => {
-                catch_up(&mut self.base, self.pending.as_slice());
-                self.pending.clear();
+                catch_up(&mut self.base, &mut self.pending);
                 Ok(())
             }
             Err(_) => {

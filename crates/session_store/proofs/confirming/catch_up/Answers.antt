@@ -4,10 +4,10 @@ use Rattle.session_store.proofs.confirming.catch_up.Goals as goal
 
 pub loop-action-preserved : goal.loop-action-preserved
 loop-action-preserved g c =
-    caught_up g.K.Kept.kept _ c.args.actions.now c.loop-action.action-index c.loop-action.base c.step.new.self _ _ c.requires
+    caught_up g.K.Kept.kept _ c.as_slice-action-items.result.now c.loop-action.action-index c.loop-action.base c.step.new.self _ _ c.requires
     c.loop-action.invariant c.loop-action-test.true c.action-item.is c.step.ensures.step
 
-pub returns : goal.returns
-returns g c =
-    caught_up-end g.K.Kept.kept _ c.args.actions.now c.loop-action.action-index c.loop-action.base c.loop-action.invariant
+pub returns-clause-base : goal.returns-clause-base
+returns-clause-base g c =
+    caught_up-end g.K.Kept.kept _ c.as_slice-action-items.result.now c.loop-action.action-index c.loop-action.base c.loop-action.invariant
     (omega (arith, c.loop-action-test.false))

@@ -1,4 +1,4 @@
-use Rattle.std.proofs.Common.{◌≡◌, [], Some, length, IsSome, refl, sym, ap, subst, ◌∙◌, arith, append-nil}
+use Rattle.std.proofs.Common.{◌≡◌, [], Some, length, refl, sym, ap, subst, ◌∙◌, arith, append-nil}
 use Rattle.std.proofs.lemmas.Bool.{eqb-true, eqb-false}
 use Rattle.sector_disk.proofs.RunLaws.{remains, remains_on}
 use Rattle.session_store.specs.Keeping.{fold}
@@ -30,30 +30,25 @@ returns-in-Err-clause-continues g c =
 
 pub invariant_of-self : goal.invariant_of-self
 invariant_of-self g c =
-    let caught_up = some_is _ _ (sym c.catch_up.ensures ∙ ap (fold g.K.Kept.kept c.self.inside.base) c.as_slice.ensures.value ∙ c.self.invariant.accepted) in
-    confirmed-store g.K.Kept.kept g.D.SectorDisk.disk _ c.sync.new.self _ _ caught_up c.clear.ensures _ c.sync.ensures.called c.self.invariant
+    let caught_up = some_is _ _ (sym c.catch_up.ensures.base ∙ c.self.invariant.accepted) in
+    confirmed-store g.K.Kept.kept g.D.SectorDisk.disk _ c.sync.new.self _ _ caught_up c.catch_up.ensures.none _ c.sync.ensures.called c.self.invariant
 
 pub returns-in-Ok-clause-continues : goal.returns-in-Ok-clause-continues
 returns-in-Ok-clause-continues g c =
-    let caught_up = some_is _ _ (sym c.catch_up.ensures ∙ ap (fold g.K.Kept.kept c.self.inside.base) c.as_slice.ensures.value ∙ c.self.invariant.accepted) in
+    let caught_up = some_is _ _ (sym c.catch_up.ensures.base ∙ c.self.invariant.accepted) in
     rw (← c.self.view_is)
-    (confirmed-continues g.K.Kept.kept g.D.SectorDisk.disk _ c.sync.new.self _ _ caught_up c.clear.ensures _ c.self.invariant
+    (confirmed-continues g.K.Kept.kept g.D.SectorDisk.disk _ c.sync.new.self _ _ caught_up c.catch_up.ensures.none _ c.self.invariant
     c.if-self.false c.in-Ok.ensures.called c.in-Ok.ensures.syncs)
 
 pub returns-in-Ok-clause-stands : goal.returns-in-Ok-clause-stands
 returns-in-Ok-clause-stands g c =
-    let caught_up = some_is _ _ (sym c.catch_up.ensures ∙ ap (fold g.K.Kept.kept c.self.inside.base) c.as_slice.ensures.value ∙ c.self.invariant.accepted) in
+    let caught_up = some_is _ _ (sym c.catch_up.ensures.base ∙ c.self.invariant.accepted) in
     rw (← c.self.view_is)
-    (confirmed-stands g.K.Kept.kept g.D.SectorDisk.disk _ c.sync.new.self _ _ caught_up c.clear.ensures _ c.self.invariant
+    (confirmed-stands g.K.Kept.kept g.D.SectorDisk.disk _ c.sync.new.self _ _ caught_up c.catch_up.ensures.none _ c.self.invariant
     c.if-self.false c.in-Ok.ensures.called c.in-Ok.ensures.syncs)
 
 pub returns-then-self-clause-answer : goal.returns-then-self-clause-answer
 returns-then-self-clause-answer g c = rw (← c.self.view_is) (c.if-self.true, refl)
-
-pub catch_up-requires : goal.catch_up-requires
-catch_up-requires g c =
-    let made = ap (fold g.K.Kept.kept c.self.inside.base) c.as_slice.ensures.value ∙ c.self.invariant.accepted in
-    subst IsSome (sym made) refl
 
 pub invariant_of-self-in-Err : goal.invariant_of-self-in-Err
 invariant_of-self-in-Err g c = record {
@@ -79,11 +74,11 @@ returns-in-Ok-clause-answer g c =
       records = s.records;
       failed = s.failed;
     } in
-    let caught_up = some_is _ _ (sym c.catch_up.ensures ∙ ap (fold kept s.base) c.as_slice.ensures.value ∙ c.self.invariant.accepted) in
+    let caught_up = some_is _ _ (sym c.catch_up.ensures.base ∙ c.self.invariant.accepted) in
     let some = eqb-false _ _ (sym c.is_empty.ensures ∙ c.if-is_empty.false) in
     rw (← c.self.view_is) (
       c.if-self.false,
-      sym (confirmed-same kept g.D.SectorDisk.disk v c.sync.new.self _ _ caught_up c.clear.ensures),
+      sym (confirmed-same kept g.D.SectorDisk.disk v c.sync.new.self _ _ caught_up c.catch_up.ensures.none),
       λ none. absurd (some (ap length none)),
     )
 

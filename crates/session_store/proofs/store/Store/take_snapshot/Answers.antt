@@ -1,5 +1,4 @@
-use Rattle.std.proofs.Common.{◌∙◌, refl, sym, ap, subst, IsSome, arith}
-use Rattle.session_store.specs.Keeping.{fold}
+use Rattle.std.proofs.Common.{◌∙◌, refl, sym, subst, arith}
 use Rattle.session_store.specs.Value.{StoreValue, IsStore}
 use Rattle.session_store.proofs.StoreLemmas.{some_is}
 use Rattle.session_store.proofs.CheckpointLemmas.{snapshot-same, snapshot-store}
@@ -7,11 +6,6 @@ use Rattle.session_store.proofs.store.Store.take_snapshot.Goals as goal
 
 pub overflow_add-self-inside : goal.overflow_add-self-inside
 overflow_add-self-inside g c = let room = rw (← c.self.view_is) at c.requires in omega (arith, room)
-
-pub catch_up-requires : goal.catch_up-requires
-catch_up-requires g c =
-    let made = ap (fold g.K.Kept.kept c.self.inside.base) c.as_slice.ensures.value ∙ c.self.invariant.accepted in
-    subst IsSome (sym made) refl
 
 pub invariant_of-self : goal.invariant_of-self
 invariant_of-self g c =
@@ -27,9 +21,9 @@ invariant_of-self g c =
       records = s.records;
       failed = s.failed;
     } in
-    let caught_up = some_is _ _ (sym c.catch_up.ensures ∙ ap (fold kept s.base) c.as_slice.ensures.value ∙ c.self.invariant.accepted) in
+    let caught_up = some_is _ _ (sym c.catch_up.ensures.base ∙ c.self.invariant.accepted) in
     let room = rw (← c.self.view_is) at c.requires in
-    subst (IsStore kept disk) (snapshot-same kept disk v c.write_snapshot.new.disk _ _ caught_up c.clear.ensures)
+    subst (IsStore kept disk) (snapshot-same kept disk v c.write_snapshot.new.disk _ _ caught_up c.catch_up.ensures.none)
     (snapshot-store kept disk v c.write_snapshot.new.disk c.write_snapshot.ensures.remains.count room c.self.invariant)
 
 pub invariant_of-self-in-Err : goal.invariant_of-self-in-Err
@@ -56,8 +50,8 @@ returns-in-Ok-clause-answer g c =
       records = s.records;
       failed = s.failed;
     } in
-    let caught_up = some_is _ _ (sym c.catch_up.ensures ∙ ap (fold kept s.base) c.as_slice.ensures.value ∙ c.self.invariant.accepted) in
-    rw (← c.self.view_is) (sym (snapshot-same kept g.D.SectorDisk.disk v c.write_snapshot.new.disk _ _ caught_up c.clear.ensures))
+    let caught_up = some_is _ _ (sym c.catch_up.ensures.base ∙ c.self.invariant.accepted) in
+    rw (← c.self.view_is) (sym (snapshot-same kept g.D.SectorDisk.disk v c.write_snapshot.new.disk _ _ caught_up c.catch_up.ensures.none))
 
 pub returns-in-Ok-clause-fault : goal.returns-in-Ok-clause-fault
 returns-in-Ok-clause-fault g c = rw (← c.self.view_is) c.in-Ok.ensures.no_fault
