@@ -15,16 +15,16 @@ use Rattle.table_server.specs.Answered.{after, accepted, after_all, accepted_all
 use Rattle.table_server.specs.Served.{IsServed}
 use Rattle.table_server.specs.Serving.{FailsTaking, Holding}
 use Rattle.table_server.specs.Standing.{Standing, standing_of, after_change, accepted_change}
-use Rattle.table_server.proofs.Folds.{after_append, accepted_append, accepted_one, all_held_one, errors_append}
+use Rattle.table_server.proofs.Folds.{after_append, accepted_append, accepted_one, room_left, all_held_one, errors_append}
 use Rattle.table_server.proofs.ServingLemmas.{confirmed_enough, joined}
 
 module _ {D : Type 0} (disk : Disk D) where
   -- the store failed as the lines that were held were to be confirmed
   pub failed_settling : (start store new : StoreValue D SessionValue Action) (asked : List Asked) (text : List ℕ) (count : ℕ) (written : List ℕ)
-      → Holding disk start asked store text count written → new.failed ≡ true → new.state ≡ store.state
+      → Holding disk start asked store text count written → new.failed ≡ true → standing_of new ≡ standing_of store
       → Continues session_keeping disk store [] new
       → IsServed disk start asked new (written ++ disk_errors count) (length (accepted_all (standing_of start) asked))
-  failed_settling start store new asked text count written h failed state call =
+  failed_settling start store new asked text count written h failed same call =
       let from = standing_of start in
       let before = after_all from h.answered in
       let lines : List Asked = h.answered ++ h.waiting in
@@ -41,10 +41,11 @@ module _ {D : Type 0} (disk : Disk D) where
         replies = written;
         are_replies = h.are_replies;
         says = ap (λ n. written ++ disk_errors n) (sym h.count_is ∙ ap length (sym none));
-        state = state ∙ ap (λ (t : Standing). t.state) h.standing ∙ ap (λ (xs : List Asked). (after_all from xs).state) h.all;
+        state = ap (λ (t : Standing). t.state) (same ∙ h.standing) ∙ ap (λ (xs : List Asked). (after_all from xs).state) h.all;
         standing = λ works. absurd (true≢false (sym failed ∙ works));
         continues = calls;
         counted = ap (λ (xs : List Asked). length (accepted_all from xs)) h.all;
+        fewer = let left = room_left from asked in let here = ap (λ (t : Standing). t.room) (same ∙ h.standing) in (omega (arith, left, here), omega (arith, left, here));
         confirmed = confirmed_enough disk start new (accepted_all from lines) (length (accepted_all from h.answered))
             (length (accepted_all before h.waiting)) calls (omega (arith, few, h.pending)) split;
         works = λ works. absurd (true≢false (sym failed ∙ works));
@@ -99,6 +100,7 @@ module _ {D : Type 0} (disk : Disk D) where
         standing = λ works. absurd (true≢false (sym f.failed ∙ works));
         continues = calls;
         counted = counted;
+        fewer = let left = room_left from asked in let here = ap (λ (t : Standing). t.room) h.standing in (omega (arith, left, here, f.fewer.0, f.fewer.1), omega (arith, left, here, f.fewer.0, f.fewer.1));
         confirmed = confirmed_enough disk start new (accepted_all from lines) (length (accepted_all from h.answered))
             (length (accepted_all before group)) calls (omega (arith, few, h.pending, count_waits)) split;
         works = λ works. absurd (true≢false (sym f.failed ∙ works));
@@ -131,6 +133,7 @@ module _ {D : Type 0} (disk : Disk D) where
         standing = s.standing;
         continues = s.continues;
         counted = s.counted;
+        fewer = s.fewer;
         confirmed = s.confirmed;
         works = λ works. absurd (true≢false (sym failed ∙ works));
         group = s.group;
@@ -153,6 +156,7 @@ module _ {D : Type 0} (disk : Disk D) where
     standing = λ works. refl;
     continues = continues_begins session_keeping disk store;
     counted = refl;
+    fewer = (omega arith, omega arith);
     confirmed = omega arith;
     works = λ works. absurd (true≢false (sym failed ∙ works));
     group = λ it. refl;

@@ -1,17 +1,20 @@
 -- Lines one after another: what they make of a session, their replies, and the groups in which they are answered.
-use Rattle.std.proofs.Common.{◌≡◌, ℕ, zero, suc, ◌+◌, ◌≤◌, ◌∙◌, Bool, true, false, ◌&&◌, List, [], ◌∷◌, ◌++◌, length, refl, sym, ap, arith, append_assoc, append-nil}
+use Rattle.std.proofs.Common.{◌≡◌, ℕ, zero, suc, ◌+◌, ◌≤◌, ◌∙◌, Bool, true, false, ◌&&◌, List, [], ◌∷◌, ◌++◌, length, Result, Ok, Err, refl, sym, ap, arith, append_assoc, append-nil, length-append}
 use Rattle.std.specs.Prelude.{nat_eq, ◌≢◌, if◌then◌else◌}
 use Rattle.std.specs.List.{list_all}
 use Rattle.std.proofs.lemmas.Bool.{eqb-true, eqb-false}
 use Rattle.std.proofs.lemmas.List.{nil_from_length}
 use Rattle.std.proofs.lemmas.List.Folds.{list_all-append}
+use Rattle.session_rules.specs.declared.action.Action.{Action}
+use Rattle.session_rules.specs.declared.refused.Refused.{Refused as SessionRefused}
+use Rattle.session_rules.specs.State.{SessionValue}
 use Rattle.table_server.specs.declared.asked.Asked.{Asked}
-use Rattle.table_server.specs.declared.asked.Asked.TheVariants.{Told}
+use Rattle.table_server.specs.declared.asked.Asked.TheVariants.{Change, Told, BadLine, LongLine}
 use Rattle.table_server.specs.declared.asked.Question.{Question}
 use Rattle.table_server.specs.declared.short_reply.ShortReply.TheVariants as short
 use Rattle.table_server.specs.Answered.{IsReply, after, accepted, after_all, accepted_all, AreReplies, is_held, held_with, held_from, held_after, disk_errors}
 use Rattle.table_server.specs.ReplyTexts.{short_text}
-use Rattle.table_server.specs.Standing.{Standing}
+use Rattle.table_server.specs.Standing.{Standing, answer_in, standing_within, accepted_within}
 
 -- the session after some lines and others
 pub after_append : (s : Standing) (xs ys : List Asked) → after_all s (xs ++ ys) ≡ after_all (after_all s xs) ys
@@ -39,6 +42,24 @@ replies_append s (x ∷ xs) ys text more first second = (
   replies_append (after s x) xs ys first.1 more first.3 second,
   rw first.4 (append_assoc first.0 first.1 more),
 )
+
+-- each action that is accepted leaves room for one fewer
+room_within : (s : Standing) (n : ℕ) (action : Action) (answer : Result SessionValue SessionRefused) → s.room ≡ n → (standing_within s n answer).room + length (accepted_within n action answer) ≡ s.room
+room_within s zero action answer is = omega arith
+room_within s (suc n) action (Ok state) is = omega (arith, is)
+room_within s (suc n) action (Err refused) is = omega arith
+
+room_one : (s : Standing) (x : Asked) → (after s x).room + length (accepted s x) ≡ s.room
+room_one s (Change action) = room_within s s.room action (answer_in s action) refl
+room_one s (Told question) = omega arith
+room_one s BadLine = omega arith
+room_one s LongLine = omega arith
+
+pub room_left : (s : Standing) (xs : List Asked) → (after_all s xs).room + length (accepted_all s xs) ≡ s.room
+room_left s [] = omega arith
+room_left s (x ∷ xs) =
+    let both = length-append (accepted s x) (accepted_all (after s x) xs) in
+    omega (arith, both, room_one s x, room_left (after s x) xs)
 
 -- and to one line more
 pub replies_one : (s : Standing) (xs : List Asked) (x : Asked) (text more : List ℕ) → AreReplies s xs text → IsReply (after_all s xs) x more → AreReplies s (xs ++ x ∷ []) (text ++ more)

@@ -22,7 +22,7 @@ use Rattle.table_server.specs.Answered.{AreReplies, accepted_all, held_after, di
 use Rattle.table_server.specs.Served.{IsServed}
 use Rattle.table_server.specs.Serving.{AreAnswers, AreTogether, Holding, Settled, Failed, ServingBy, IsStopped, Serves, SettlesBy, Ends}
 use Rattle.table_server.specs.Standing.{Standing, standing_of}
-use Rattle.table_server.proofs.ServingLemmas.{settled, holding, served}
+use Rattle.table_server.proofs.ServingLemmas.{failed_standing, settled, holding, served}
 use Rattle.table_server.proofs.FailureLemmas.{failed_settling, failed_more}
 
 module _ {D : Type 0} (disk : Disk D) where
@@ -229,7 +229,14 @@ module _ {D : Type 0} (disk : Disk D) where
         is ∙ sym all.works,
       )
 
-  -- with nothing pending `confirm` fails only where the store had failed
+  -- where `confirm` fails the store has failed, and its session and its room stay
+  pub confirm_stands : (old new : StoreValue D SessionValue Action) (fault : ConfirmFault) → Confirms session_keeping disk old new (Err fault)
+      → (new.failed ≡ true) × (standing_of new ≡ standing_of old)
+  confirm_stands old new ConfirmFailed answer = (ap (λ (v : StoreValue D SessionValue Action). v.failed) answer.1 ∙ answer.0, ap standing_of answer.1)
+  confirm_stands old new ConfirmDisk answer =
+      (ap (λ (v : StoreValue D SessionValue Action). v.failed) answer.2, ap standing_of answer.2 ∙ failed_standing old new.disk)
+
+  -- with nothing pending it fails only where the store had failed
   pub had_failed : (old new : StoreValue D SessionValue Action) (fault : ConfirmFault) → Confirms session_keeping disk old new (Err fault)
       → (old.failed ≡ false → old.pending ≡ []) → (old.failed ≡ true) × (new ≡ old)
   had_failed old new ConfirmFailed answer none = answer

@@ -3,7 +3,7 @@ use Rattle.std.proofs.Common.{◌≡◌, ℕ, ◌+◌, ◌<◌, ◌≤◌, ◌�
 use Rattle.std.proofs.lemmas.Bool.{true≢false}
 use Rattle.std.proofs.lemmas.List.{length-drop}
 use Rattle.sector_disk.specs.Disk.{Disk}
-use Rattle.session_store.specs.Answers.{after_confirm, room}
+use Rattle.session_store.specs.Answers.{after_confirm, after_fault, room}
 use Rattle.session_store.proofs.CallLaws.{few_pending, continues_joins}
 use Rattle.session_store.specs.Store.{Continues}
 use Rattle.session_store.specs.Value.{StoreValue}
@@ -18,13 +18,18 @@ use Rattle.table_server.specs.Served.{IsServed}
 use Rattle.table_server.specs.Serving.{Holding, Settled}
 use Rattle.table_server.specs.Standing.{Standing, standing_of}
 use Rattle.table_server.specs.Told.{Tells}
-use Rattle.table_server.proofs.Folds.{after_append, accepted_one, replies_append, replies_one, all_held_one}
+use Rattle.table_server.proofs.Folds.{after_append, accepted_one, room_left, replies_append, replies_one, all_held_one}
 
 module _ {D : Type 0} where
   -- confirming changes neither the session nor how many actions can be taken
   confirmed_standing : (v : StoreValue D SessionValue Action) (d : D) → standing_of (after_confirm v d) ≡ standing_of v
   unfolding room
   confirmed_standing v d = refl
+
+  -- nor does a failed call
+  pub failed_standing : (v : StoreValue D SessionValue Action) (d : D) → standing_of (after_fault v d) ≡ standing_of v
+  unfolding room
+  failed_standing v d = refl
 
   module _ (disk : Disk D) where
     -- actions accepted that are no longer pending are confirmed
@@ -99,6 +104,7 @@ module _ {D : Type 0} where
           standing = λ works. s.standing ∙ ap (after_all from) (sym same);
           continues = calls;
           counted = ap length (sym all);
+          fewer = let left = room_left from asked in let here = ap (λ (t : Standing). t.room) s.standing in (omega (arith, left, here), omega (arith, left, here));
           confirmed = confirmed_enough start store (accepted_all from (asked ++ [])) (length (accepted_all from asked)) 0 calls
               (rw s.pending (omega arith)) (ap length all ∙ omega arith);
           works = λ works. (refl, s.pending);

@@ -1,7 +1,8 @@
 -- What a store and its replies are, once lines were served.
-use Rattle.std.specs.Prelude.{◌≡◌, ◌≤◌, ℕ, true, false, List, [], ◌++◌, length}
+use Rattle.std.specs.Prelude.{◌≡◌, ◌≤◌, ◌+◌, ℕ, true, false, List, [], ◌++◌, length}
 use Rattle.std.specs.List.{list_all}
 use Rattle.sector_disk.specs.Disk.{Disk}
+use Rattle.session_store.specs.Answers.{room}
 use Rattle.session_store.specs.Store.{Continues}
 use Rattle.session_store.specs.Value.{StoreValue}
 use Rattle.session_rules.specs.declared.action.Action.{Action}
@@ -28,6 +29,8 @@ module _ {D : Type 0} (disk : Disk D) where
     pub standing : store.failed ≡ false → standing_of store ≡ after_all (standing_of start) (answered ++ taken)
     pub continues : Continues session_keeping disk start (accepted_all (standing_of start) (answered ++ taken)) store
     pub counted : actions ≡ length (accepted_all (standing_of start) (answered ++ taken))
+    -- each action accepted leaves room for one fewer, but for one that failed as a checkpoint
+    pub fewer : (room start ≤ room store + actions) × (room store + actions ≤ room start + 1)
     -- what was accepted of the lines answered is confirmed
     pub confirmed : length (accepted_all (standing_of start) answered) ≤ continues.confirmed
     -- where the store works, all are answered, and nothing is pending

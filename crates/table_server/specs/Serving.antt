@@ -1,8 +1,8 @@
 -- What holds between two lines that are served.
-use Rattle.std.specs.Prelude.{◌≡◌, ◌<◌, ◌≤◌, ◌*◌, ◌⊎◌, ℕ, Bool, true, false, List, [], ◌∷◌, ◌++◌, length, Option, Some, None, Result, Ok, Err}
+use Rattle.std.specs.Prelude.{◌≡◌, ◌+◌, ◌<◌, ◌≤◌, ◌*◌, ◌⊎◌, ℕ, Bool, true, false, List, [], ◌∷◌, ◌++◌, length, Option, Some, None, Result, Ok, Err}
 use Rattle.std.specs.List.{list_all}
 use Rattle.sector_disk.specs.Disk.{Disk}
-use Rattle.session_store.specs.Answers.{after_confirm}
+use Rattle.session_store.specs.Answers.{after_confirm, room}
 use Rattle.session_store.specs.Store.{Continues}
 use Rattle.session_store.specs.Value.{StoreValue}
 use Rattle.session_rules.specs.declared.action.Action.{Action}
@@ -68,6 +68,8 @@ module _ {D : Type 0} (disk : Disk D) where
     pub failed : new.failed ≡ true
     pub accepted : accepted_change (standing_of old) action ≡ action ∷ []
     pub state : new.state ≡ (after_change (standing_of old) action).state
+    -- it leaves room for one fewer, or for as many where it failed as a checkpoint
+    pub fewer : (room new ≤ room old) × (room old ≤ room new + 1)
     pub continues : Continues session_keeping disk old (accepted_change (standing_of old) action) new
 
   -- a reply, where the store did not fail
@@ -78,7 +80,7 @@ module _ {D : Type 0} (disk : Disk D) where
   -- what was accepted is confirmed, and the replies are written; or the store has failed, and for each the error is
   abbrev pub SettlesBy : {E : Type 0} → Bool → StoreValue D SessionValue Action → StoreValue D SessionValue Action → List ℕ → ℕ → Stream → Result (Unit {0}) E → Type 0
   SettlesBy true old new text count writer result =
-      (new.failed ≡ true) × (new.state ≡ old.state) × Written writer (disk_errors count) result
+      (new.failed ≡ true) × (standing_of new ≡ standing_of old) × Written writer (disk_errors count) result
   SettlesBy false old new text count writer result = (new ≡ after_confirm old new.disk) × Written writer text result
 
   -- Lines were answered in whole groups, with what is written; and others are held, with this text of replies.
