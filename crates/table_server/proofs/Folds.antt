@@ -32,17 +32,6 @@ accepted_append s (x ∷ xs) ys =
 pub accepted_one : (s : Standing) (xs : List Asked) (x : Asked) → accepted_all s (xs ++ x ∷ []) ≡ accepted_all s xs ++ accepted (after_all s xs) x
 accepted_one s xs x = accepted_append s xs (x ∷ []) ∙ ap (λ more. accepted_all s xs ++ more) (append-nil (accepted (after_all s xs) x))
 
--- the replies to some lines and others
-pub replies_append : (s : Standing) (xs ys : List Asked) (text more : List ℕ) → AreReplies s xs text → AreReplies (after_all s xs) ys more → AreReplies s (xs ++ ys) (text ++ more)
-replies_append s [] ys text more first second = rw first second
-replies_append s (x ∷ xs) ys text more first second = (
-  first.0,
-  first.1 ++ more,
-  first.2,
-  replies_append (after s x) xs ys first.1 more first.3 second,
-  rw first.4 (append_assoc first.0 first.1 more),
-)
-
 -- each action that is accepted leaves room for one fewer
 room_within : (s : Standing) (n : ℕ) (action : Action) (answer : Result SessionValue SessionRefused) → s.room ≡ n → (standing_within s n answer).room + length (accepted_within n action answer) ≡ s.room
 room_within s zero action answer is = omega arith
@@ -60,6 +49,17 @@ room_left s [] = omega arith
 room_left s (x ∷ xs) =
     let both = length-append (accepted s x) (accepted_all (after s x) xs) in
     omega (arith, both, room_one s x, room_left (after s x) xs)
+
+-- the replies to some lines and others
+pub replies_append : (s : Standing) (xs ys : List Asked) (text more : List ℕ) → AreReplies s xs text → AreReplies (after_all s xs) ys more → AreReplies s (xs ++ ys) (text ++ more)
+replies_append s [] ys text more first second = rw first second
+replies_append s (x ∷ xs) ys text more first second = (
+  first.0,
+  first.1 ++ more,
+  first.2,
+  replies_append (after s x) xs ys first.1 more first.3 second,
+  rw first.4 (append_assoc first.0 first.1 more),
+)
 
 -- and to one line more
 pub replies_one : (s : Standing) (xs : List Asked) (x : Asked) (text more : List ℕ) → AreReplies s xs text → IsReply (after_all s xs) x more → AreReplies s (xs ++ x ∷ []) (text ++ more)
