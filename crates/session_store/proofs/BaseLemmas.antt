@@ -5,6 +5,7 @@ use Rattle.sector_disk.specs.Disk.{Image, with_sector}
 use Rattle.sector_disk.proofs.ImageLaws.{with_sector-same, with_sector-other}
 use Rattle.session_store.specs.Keeping.{Keeping, IsLawful, fold}
 use Rattle.session_store.specs.Form.{entry_in, record_sector, place}
+use Rattle.session_store.specs.declared.disk_format.DiskFormat.TheVariants.{Two}
 use Rattle.session_store.specs.declared.reading.Header.{Header}
 use Rattle.session_store.specs.declared.reading.Entry.TheVariants.{Holds}
 use Rattle.session_store.specs.Stands.{replay, NoneLater, IsLater}
@@ -38,18 +39,18 @@ module _ {S A R : Type 0} (kept : Keeping S A R) where
 
   -- a record more in the base
   pub base-steps : (epoch n : ℕ) (base next : S) (a : A) (image : Image) → IsBase kept epoch base n image → n < 1024
-      → entry_in kept epoch n (image (1024 + n)) ≡ Holds a → kept.step base a ≡ Ok next
+      → entry_in kept Two epoch n (image (1024 + n)) ≡ Holds a → kept.step base a ≡ Ok next
       → IsBase kept epoch next (n + 1) image
   base-steps epoch n base next a image is_base within holds accepted = record {
     header = λ other agrees. is_base.header other (λ k below used. agrees k (omega arith) used);
     stands = λ other agrees.
         let here : other (1024 + n) ≡ image (1024 + n)
         = agrees (1024 + n) (omega arith) (λ spare. omega (arith, spare_below epoch (1024 + n) spare)) in
-        let there : entry_in kept epoch n (other (1024 + n)) ≡ Holds a = rw here holds in
+        let there : entry_in kept Two epoch n (other (1024 + n)) ≡ Holds a = rw here holds in
         let left : 1024 - n ≡ suc (1024 - (n + 1)) = omega arith in
         is_base.stands other (λ k below used. agrees k (omega arith) used)
-        ∙ ap (λ (m : ℕ). replay kept m other epoch n base) left
-        ∙ replay-holds kept other (1024 - (n + 1)) epoch n base next a there accepted;
+        ∙ ap (λ (m : ℕ). replay kept Two m other epoch n base) left
+        ∙ replay-holds kept Two other (1024 - (n + 1)) epoch n base next a there accepted;
   }
 
   -- all the records that are there
@@ -87,13 +88,13 @@ module _ {S A R : Type 0} (kept : Keeping S A R) where
 
   pub may_hold-written : (pending : List A) (epoch n : ℕ) (x : A) (image : Image) (bytes : List ℕ) (at : ℕ)
       → at ≡ 1024 + (n + length pending) → n + length pending < 1024
-      → entry_in kept epoch (n + length pending) bytes ≡ Holds x
+      → entry_in kept Two epoch (n + length pending) bytes ≡ Holds x
       → MayHold kept epoch n pending image → MayHold kept epoch n (pending ++ x ∷ []) (with_sector image at bytes)
   unfolding MayHold
   may_hold-written [] epoch n x image bytes at is_at room holds may =
       let here : 1024 + n ≡ at = omega (arith, is_at) in
       let number : n + 0 ≡ n = omega arith in (
-        inl (rw here (rw (with_sector-same image at bytes) (subst (λ (k : ℕ). entry_in kept epoch k bytes ≡ Holds x) number holds))),
+        inl (rw here (rw (with_sector-same image at bytes) (subst (λ (k : ℕ). entry_in kept Two epoch k bytes ≡ Holds x) number holds))),
         λ j above below.
             let other : 1024 + j ≢ at = omega arith in
             rw (with_sector-other image at bytes (1024 + j) other) (may j (omega arith) below),
@@ -103,7 +104,7 @@ module _ {S A R : Type 0} (kept : Keeping S A R) where
       let number : n + suc (length pending) ≡ n + 1 + length pending = omega arith in (
         rw (with_sector-other image at bytes (1024 + n) other) may.0,
         may_hold-written pending epoch (n + 1) x image bytes at (omega arith) (omega arith)
-            (subst (λ (k : ℕ). entry_in kept epoch k bytes ≡ Holds x) number holds) may.1,
+            (subst (λ (k : ℕ). entry_in kept Two epoch k bytes ≡ Holds x) number holds) may.1,
       )
 
   -- behind the pending actions there is no record
@@ -118,19 +119,19 @@ module _ {S A R : Type 0} (kept : Keeping S A R) where
   pub replay-prefix : (pending : List A) (epoch n left : ℕ) (base end : S) (image : Image)
       → left ≡ 1024 - n → n + length pending ≤ 1024 → MayHold kept epoch n pending image → fold kept base pending ≡ Some end
       → (count : ℕ) × (count ≤ length pending) × (s : S) × (fold kept base (take count pending) ≡ Some s)
-      × (replay kept left image epoch n base ≡ Ok s)
+      × (replay kept Two left image epoch n base ≡ Ok s)
   unfolding MayHold
   replay-prefix [] epoch n left base end image is_left within may made = (
     0,
     omega arith,
     base,
     fold-nil kept base,
-    replay-missing kept image left epoch n base (λ some. may n (omega arith) (omega arith)),
+    replay-missing kept Two image left epoch n base (λ some. may n (omega arith) (omega arith)),
   )
   replay-prefix (a ∷ pending) epoch n left base end image is_left within may made =
       elim may.0 [
         | inr missing ↦
-            (0, omega arith, base, fold-nil kept base, replay-missing kept image left epoch n base (λ some. missing))
+            (0, omega arith, base, fold-nil kept base, replay-missing kept Two image left epoch n base (λ some. missing))
         | inl holds ↦
             let first = fold-cons kept base a pending end made in
             let rest = replay-prefix pending epoch (n + 1) (1024 - (n + 1)) first.0 end image refl (omega arith) may.1 first.2 in
@@ -139,8 +140,8 @@ module _ {S A R : Type 0} (kept : Keeping S A R) where
               omega (arith, rest.1),
               rest.2,
               fold-step kept base first.0 a (take rest.0 pending) first.1 ∙ rest.3,
-              ap (λ (m : ℕ). replay kept m image epoch n base) more
-                  ∙ replay-holds kept image (1024 - (n + 1)) epoch n base first.0 a holds first.1 ∙ rest.4,
+              ap (λ (m : ℕ). replay kept Two m image epoch n base) more
+                  ∙ replay-holds kept Two image (1024 - (n + 1)) epoch n base first.0 a holds first.1 ∙ rest.4,
             )
       ]
 
@@ -191,7 +192,7 @@ module _ {S A R : Type 0} (kept : Keeping S A R) where
   settled-written lawful epoch n number base pending x image is_number room small is_action settled =
       let bytes = record_sector kept epoch number x in
       let at = 1024 + number in
-      let holds = subst (λ (k : ℕ). entry_in kept epoch k bytes ≡ Holds x) is_number (entry_in-record kept lawful epoch number x is_action) in
+      let holds = subst (λ (k : ℕ). entry_in kept Two epoch k bytes ≡ Holds x) is_number (entry_in-record kept lawful epoch number x is_action) in
       record {
         is_base = base-same epoch n base image (with_sector image at bytes) settled.is_base
             (λ k below used. let other : k ≢ at = omega arith in with_sector-other image at bytes k other);

@@ -11,7 +11,7 @@ use Rattle.session_store.specs.Sound.{IsSoundDisk}
 use Rattle.session_store.specs.Opening.{IsStillSound, IsOpened}
 use Rattle.session_store.specs.Value.{StoreValue}
 use Rattle.session_store.specs.Store.{IsSoundStore, Continues}
-use Rattle.session_store.specs.Run.{Place, AtRest, AtWork, Doing, Calls, Waits, Closes, Opens, Fails, Event, Done, Cut, Standing, accepts, StandsForAtLeast, IsLongest, Does, MayLeave, HoldsOnly, Happens, Runs, CrashLaw}
+use Rattle.session_store.specs.Run.{Place, AtRest, AtWork, Doing, Calls, Waits, Closes, Opens, Fails, Event, Done, Cut, Standing, accepts, StandsForAtLeast, IsLongest, Does, MayLeave, HoldsOnly, Happens, Runs, FormattedLaw, CrashLaw}
 use Rattle.session_store.proofs.CallLaws.{fold-behind}
 use Rattle.session_store.proofs.StandsLemmas.{fold-nil}
 use Rattle.session_store.proofs.StoreLemmas.{of_nil}
@@ -242,20 +242,33 @@ module _ {D S A R : Type 0} (kept : Keeping S A R) (disk : Disk D) (start : S) w
   runs [] s t good same = subst (λ (m : Standing D S A). IsGood m.place m.accepted m.confirmed) same good
   runs (e ∷ events) s t good went = runs events went.0 t (happens s e went.0 good went.1) went.2
 
+-- a formatted disk is a beginning
+pub formatted : {D S A R : Type 0} (kept : Keeping S A R) (disk : Disk D) → FormattedLaw kept disk
+formatted kept disk start d sound stands = record {
+  honest = sound.honest;
+  large = sound.large;
+  images = λ image may. record {
+    count = 0;
+    enough = omega arith;
+    few = omega arith;
+    state = start;
+    made = fold-nil kept start;
+    stands = stands image may;
+    in_order = sound.in_order image may;
+  };
+}
+
 pub crash_law : {D S A R : Type 0} (kept : Keeping S A R) (disk : Disk D) → CrashLaw kept disk
 unfolding IsGood
-crash_law kept disk start d sound stands events s went x t did c left =
-    let first : IsGoodDisk kept disk start d [] 0 = record {
-      sound = sound;
-      images = λ image may. record {
-        count = 0;
-        enough = omega arith;
-        few = omega arith;
-        state = start;
-        made = fold-nil kept start;
-        stands = stands image may;
-        in_order = sound.in_order image may;
+crash_law kept disk start accepted confirmed d beginning events s went x t did c left =
+    let first : IsGoodDisk kept disk start d accepted confirmed = record {
+      sound = record {
+        honest = beginning.honest;
+        large = beginning.large;
+        stands = λ image may. ((beginning.images image may).state, (beginning.images image may).stands);
+        in_order = λ image may. (beginning.images image may).in_order;
       };
+      images = beginning.images;
     } in
     images kept disk start s.place s.accepted s.confirmed x t
-    (runs kept disk start events (record { place = AtRest d; accepted = []; confirmed = 0 }) s first went) did c left
+    (runs kept disk start events (record { place = AtRest d; accepted = accepted; confirmed = confirmed }) s first went) did c left

@@ -9,15 +9,20 @@ use Rattle.sector_disk.proofs.RunLaws.{begins, writes_on, syncs_on, joins, weake
 use Rattle.sector_disk.proofs.CallLaws.{write_here, write_elsewhere}
 use Rattle.session_store.specs.Keeping.{Keeping, IsLawful, fold}
 use Rattle.session_store.specs.Form.{header_of, place}
+use Rattle.session_store.specs.declared.disk_format.DiskFormat.TheVariants.{Two}
 use Rattle.session_store.specs.declared.reading.Header.{Header}
 use Rattle.session_store.specs.Stands.{placed, header_at, IsLater, recovered, IsInOrder}
-use Rattle.session_store.specs.Base.{HasEpoch, IsSettled}
+use Rattle.session_store.specs.Base.{HasEpoch, HasFormat, IsSettled}
 use Rattle.session_store.specs.Snapshot.{ButForParts, NothingLater, WithSnapshot, IsSnapshotting, SameBehind, header_sector}
 use Rattle.session_store.specs.Sound.{IsSoundDisk, StandsOnlyFor}
 use Rattle.session_store.proofs.FormLemmas.{header_of-zeros, zeros_not_later}
 use Rattle.session_store.proofs.StandsLemmas.{fold-nil}
 use Rattle.session_store.proofs.BaseLemmas.{settled-stands}
-use Rattle.session_store.proofs.SnapshotLemmas.{with_snapshot-settled}
+use Rattle.session_store.proofs.SnapshotLemmas.{with_snapshot-settled, with_snapshot-format}
+
+place-low : (epoch : ℕ) → place epoch ≤ 512
+unfolding place
+place-low epoch = omega arith
 
 no_header : (at : ℕ) (bytes : List ℕ) (h : Header) → bytes ≡ replicate 512 0 → header_at at bytes ≡ Some h → h.epoch ≤ 0
 unfolding placed
@@ -56,7 +61,16 @@ module _ {S A R : Type 0} (kept : Keeping S A R) where
       with_snapshot-settled kept lawful (disk.may_leave old) 0 1 s c refl (omega arith) is_state
       (λ d before. zeros-nothing_later d (zeros d before)) (written c left)
 
-  -- its header is of epoch 1
+  -- its header is of the second format
+  pub first_format : {D : Type 0} (disk : Disk D) → IsLawful kept → (old new : D) (s : S) → kept.IsState s
+      → ((c : Image) → disk.may_leave old c → (k : ℕ) → k < 2048 → c k ≡ replicate 512 0)
+      → ((c : Image) → disk.may_leave new c → WithSnapshot kept (disk.may_leave old) 1 s c)
+      → (c : Image) → disk.may_leave new c → HasFormat Two c
+  first_format disk lawful old new s is_state zeros written c left =
+      with_snapshot-format kept lawful (disk.may_leave old) 0 1 s c refl (omega arith) is_state
+      (λ d before g is. no_header (place 0) (d (place 0)) g (zeros d before (place 0) (omega (arith, place-low 0))) is) (written c left)
+
+  -- and of epoch 1
   pub settled-epoch : (epoch n : ℕ) (s : S) (image : Image) → IsSettled kept epoch s n [] image → HasEpoch epoch image
   settled-epoch epoch n s image settled = settled.is_base.header image (λ k below spare. refl)
 
@@ -75,10 +89,6 @@ module _ {S A R : Type 0} (kept : Keeping S A R) where
         },
         λ c left. (settled-only 1 0 s c (omega arith) (settled c left)).0,
       )
-
-place-low : (epoch : ℕ) → place epoch ≤ 512
-unfolding place
-place-low epoch = omega arith
 
 module _ {D : Type 0} (disk : Disk D) where
   -- before the first call

@@ -15,3 +15,4 @@ pub mod ReplayLemmas
 pub mod OpeningLemmas
 pub mod OpenLemmas
 pub mod CrashLemmas
+pub mod FormerLemmas

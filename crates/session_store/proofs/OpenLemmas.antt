@@ -3,16 +3,17 @@ use Rattle.std.proofs.Common.{◌≡◌, ◌<◌, ◌≤◌, ◌+◌, ◌-◌, �
 use Rattle.sector_disk.specs.Disk.{Image, Disk}
 use Rattle.sector_disk.specs.Runs.{EveryMoment, Quiet, Remains}
 use Rattle.sector_disk.proofs.RunLaws.{now_has, weakens, joins}
+use Rattle.session_store.specs.declared.disk_format.DiskFormat.TheVariants.{Two}
 use Rattle.session_store.specs.Keeping.{Keeping, IsLawful, fold}
 use Rattle.session_store.specs.Stands.{recovered}
-use Rattle.session_store.specs.Base.{HasEpoch, IsSettled, StandsForPrefix}
+use Rattle.session_store.specs.Base.{HasEpoch, HasFormat, IsSettled, StandsForPrefix}
 use Rattle.session_store.specs.Snapshot.{IsSnapshotting, WithSnapshot}
 use Rattle.session_store.specs.Sound.{IsSoundDisk, StandsOnlyFor}
 use Rattle.session_store.specs.Value.{StoreValue, IsStore}
 use Rattle.session_store.specs.Store.{IsSoundStore}
 use Rattle.session_store.specs.Opening.{IsStillSound}
 use Rattle.session_store.proofs.StandsLemmas.{fold-nil}
-use Rattle.session_store.proofs.SnapshotLemmas.{stands-settled, settled-nothing_later}
+use Rattle.session_store.proofs.SnapshotLemmas.{stands-settled, settled-nothing_later, has_epoch-none_later, with_snapshot-format}
 use Rattle.session_store.proofs.StoreLemmas.{some_is, sound-stands}
 use Rattle.session_store.proofs.CheckpointLemmas.{snapshotting-stands, snapshot-sound}
 
@@ -108,6 +109,15 @@ module _ {D S A R : Type 0} (kept : Keeping S A R) (disk : Disk D) where
       opened-stands honest written =
           sound-stands kept disk (record { disk = new; base = s; pending = []; state = s; epoch = epoch + 1; records = 0; failed = false })
           refl refl (opened-sound honest written)
+
+  -- a disk at rest, once the next snapshot was written, is of the second format
+  pub opened-format : IsLawful kept → (old mid new : D) (epoch : ℕ) (s : S) → epoch < 2 ^ 64 - 1 → kept.IsState s
+      → HasEpoch epoch (disk.reads old) → ((c : Image) → disk.may_leave mid c → c ≡ disk.reads old)
+      → ((c : Image) → disk.may_leave new c → WithSnapshot kept (disk.may_leave mid) (epoch + 1) s c)
+      → (c : Image) → disk.may_leave new c → HasFormat Two c
+  opened-format lawful old mid new epoch s room is_state has_epoch settled written c left =
+      with_snapshot-format kept lawful (disk.may_leave mid) epoch (epoch + 1) s c refl (omega (arith, room)) is_state
+      (λ d before. has_epoch-none_later kept epoch d (subst (HasEpoch epoch) (sym (settled d before)) has_epoch)) (written c left)
 
   -- the new store is one
   pub opened-store : (new : D) (base s : S) (pending : List A) (epoch : ℕ) → base ≡ s → pending ≡ [] → 2048 ≤ disk.count new

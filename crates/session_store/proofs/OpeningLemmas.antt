@@ -47,12 +47,12 @@ module _ {S A R : Type 0} (kept : Keeping S A R) (image : Image) (h : Header) wh
   after_parts-err parts fault is = rw is refl
 
   pub after_parts-bad : (parts : Result (List (List ℕ)) StoreFault) (payloads : List (List ℕ)) → parts ≡ Ok payloads
-      → kept.state_of payloads ≡ None → after_parts kept image h parts ≡ Err (Damaged (place h.epoch))
+      → kept.state_of h.format payloads ≡ None → after_parts kept image h parts ≡ Err (Damaged (place h.epoch))
   unfolding after_parts after_state
   after_parts-bad parts payloads is none = rw (is, none) refl
 
   pub after_parts-ok : (parts : Result (List (List ℕ)) StoreFault) (payloads : List (List ℕ)) (s : S) → parts ≡ Ok payloads
-      → kept.state_of payloads ≡ Some s → after_parts kept image h parts ≡ replay kept 1024 image h.epoch 0 s
+      → kept.state_of h.format payloads ≡ Some s → after_parts kept image h parts ≡ replay kept h.format 1024 image h.epoch 0 s
   unfolding after_parts after_state
   after_parts-ok parts payloads s is some = rw (is, some) refl
 
@@ -67,7 +67,7 @@ module _ {S A R : Type 0} (kept : Keeping S A R) (image : Image) where
 
   pub reading-some : (h : Header) → Some h ≡ header_in image → (h.epoch ≡ 2 ^ 64 - 1 → ⊥)
       → (reading kept image ≡ recovered kept image)
-      × (recovered kept image ≡ after_parts kept image h (parts_from image h.epoch 0 h.parts))
+      × (recovered kept image ≡ after_parts kept image h (parts_from h.format image h.epoch 0 h.parts))
   unfolding reading reading_from recovered after_header
   reading-some h some more = (
     (let head : reading_from kept image (header_in image) ≡ reading_from kept image (Some h) = ap (reading_from kept image) (sym some) in

@@ -5,6 +5,7 @@ use Rattle.sector_disk.specs.Calls.{Called, Reads}
 use Rattle.sector_disk.specs.Runs.{Quiet}
 use Rattle.sector_disk.proofs.RunLaws.{remains, remains_on, none_read, reads_on}
 use Rattle.session_store.specs.Form.{payload_in, part_mark, place}
+use Rattle.session_store.specs.declared.disk_format.DiskFormat.{DiskFormat}
 use Rattle.session_store.specs.declared.fault.StoreFault.{StoreFault}
 use Rattle.session_store.specs.declared.fault.StoreFault.TheVariants.{Damaged}
 use Rattle.session_store.specs.Stands.{with_part, after_part, parts_from}
@@ -26,34 +27,34 @@ unfolding with_parts
 parts-none (Ok parts) = refl
 parts-none (Err fault) = refl
 
-module _ (image : Image) (epoch i count : ℕ) (before : List (List ℕ)) where
+module _ (format : DiskFormat) (image : Image) (epoch i count : ℕ) (before : List (List ℕ)) where
   -- one more
-  pub parts-more : (at : List ℕ) (part : List ℕ) → i < count → at ≡ image (place epoch + 1 + i) → payload_in part_mark epoch i at ≡ Some part
-      → with_parts before (parts_from image epoch i (count - i)) ≡ with_parts (before ++ part ∷ []) (parts_from image epoch (i + 1) (count - (i + 1)))
+  pub parts-more : (at : List ℕ) (part : List ℕ) → i < count → at ≡ image (place epoch + 1 + i) → payload_in (part_mark format) epoch i at ≡ Some part
+      → with_parts before (parts_from format image epoch i (count - i)) ≡ with_parts (before ++ part ∷ []) (parts_from format image epoch (i + 1) (count - (i + 1)))
   unfolding parts_from after_part
   parts-more at part within same read =
       let left : count - i ≡ suc (count - (i + 1)) = omega arith in
-      let here : payload_in part_mark epoch i (image (place epoch + 1 + i)) ≡ Some part = ap (payload_in part_mark epoch i) (sym same) ∙ read in
-      ap (λ (n : ℕ). with_parts before (parts_from image epoch i n)) left
-      ∙ ap (λ (o : Option (List ℕ)). with_parts before (after_part (place epoch + 1 + i) o (parts_from image epoch (i + 1) (count - (i + 1))))) here
-      ∙ with_parts-one before part (parts_from image epoch (i + 1) (count - (i + 1)))
+      let here : payload_in (part_mark format) epoch i (image (place epoch + 1 + i)) ≡ Some part = ap (payload_in (part_mark format) epoch i) (sym same) ∙ read in
+      ap (λ (n : ℕ). with_parts before (parts_from format image epoch i n)) left
+      ∙ ap (λ (o : Option (List ℕ)). with_parts before (after_part (place epoch + 1 + i) o (parts_from format image epoch (i + 1) (count - (i + 1))))) here
+      ∙ with_parts-one before part (parts_from format image epoch (i + 1) (count - (i + 1)))
 
   -- one that is out of form
-  pub parts-damaged : (at : List ℕ) → i < count → at ≡ image (place epoch + 1 + i) → payload_in part_mark epoch i at ≡ None
-      → with_parts before (parts_from image epoch i (count - i)) ≡ Err (Damaged (place epoch + 1 + i))
+  pub parts-damaged : (at : List ℕ) → i < count → at ≡ image (place epoch + 1 + i) → payload_in (part_mark format) epoch i at ≡ None
+      → with_parts before (parts_from format image epoch i (count - i)) ≡ Err (Damaged (place epoch + 1 + i))
   unfolding parts_from after_part with_parts
   parts-damaged at within same read =
       let left : count - i ≡ suc (count - (i + 1)) = omega arith in
-      let here : payload_in part_mark epoch i (image (place epoch + 1 + i)) ≡ None = ap (payload_in part_mark epoch i) (sym same) ∙ read in
-      ap (λ (n : ℕ). with_parts before (parts_from image epoch i n)) left
-      ∙ ap (λ (o : Option (List ℕ)). with_parts before (after_part (place epoch + 1 + i) o (parts_from image epoch (i + 1) (count - (i + 1))))) here
+      let here : payload_in (part_mark format) epoch i (image (place epoch + 1 + i)) ≡ None = ap (payload_in (part_mark format) epoch i) (sym same) ∙ read in
+      ap (λ (n : ℕ). with_parts before (parts_from format image epoch i n)) left
+      ∙ ap (λ (o : Option (List ℕ)). with_parts before (after_part (place epoch + 1 + i) o (parts_from format image epoch (i + 1) (count - (i + 1))))) here
 
   -- all of them
-  pub parts-all : count ≤ i → with_parts before (parts_from image epoch i (count - i)) ≡ Ok before
+  pub parts-all : count ≤ i → with_parts before (parts_from format image epoch i (count - i)) ≡ Ok before
   unfolding parts_from with_parts
   parts-all past =
       let none : count - i ≡ 0 = omega arith in
-      ap (λ (n : ℕ). with_parts before (parts_from image epoch i n)) none ∙ ap (λ (xs : List (List ℕ)). Ok xs) (append-nil before)
+      ap (λ (n : ℕ). with_parts before (parts_from format image epoch i n)) none ∙ ap (λ (xs : List (List ℕ)). Ok xs) (append-nil before)
 
 -- one read is quiet
 pub quiet_read : {D T E : Type 0} (disk : Disk D) (old new : D) (i : ℕ) (bytes : List ℕ) (result : Result T E)

@@ -7,6 +7,7 @@ use Rattle.sector_disk.specs.Runs.{EveryMoment}
 use Rattle.sector_disk.proofs.RunLaws.{begins, goes_on, now_has, write_is, remains, remains_on}
 use Rattle.session_store.specs.Keeping.{Keeping, IsLawful, fold}
 use Rattle.session_store.specs.Form.{record_sector, entry_in}
+use Rattle.session_store.specs.declared.disk_format.DiskFormat.TheVariants.{Two}
 use Rattle.session_store.specs.declared.reading.Entry.TheVariants.{Holds}
 use Rattle.session_store.specs.Base.{IsSettled, HoldsAll, StandsForPrefix}
 use Rattle.session_store.specs.Value.{StoreValue, IsStore}
@@ -97,7 +98,7 @@ module _ {D S A R : Type 0} (kept : Keeping S A R) (disk : Disk D) (old : StoreV
         let bytes = record_sector kept old.epoch old.records a in
         let at = 1024 + old.records in
         let did = call.writes sound.honest in
-        let holds : entry_in kept old.epoch old.records (disk.reads new at) ≡ Holds a
+        let holds : entry_in kept Two old.epoch old.records (disk.reads new at) ≡ Holds a
         = rw (write_here disk old.disk new at bytes x did) (entry_in-record kept lawful old.epoch old.records a is_action) in
         holds_all-more kept old.pending old.epoch n old.records a (disk.reads old.disk) (disk.reads new) (sym count)
         (λ k other. write_elsewhere disk old.disk new at bytes (Ok x) did k other) holds

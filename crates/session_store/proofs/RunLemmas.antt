@@ -8,6 +8,7 @@ use Rattle.sector_disk.proofs.CallLaws.{write_here, write_elsewhere}
 use Rattle.sector_disk.specs.Runs.{EveryMoment}
 use Rattle.sector_disk.proofs.RunLaws.{writes_on, goes_on, weakens, now_has, write_is}
 use Rattle.session_store.specs.Keeping.{Keeping}
+use Rattle.session_store.specs.declared.disk_format.DiskFormat.TheVariants.{Two}
 use Rattle.session_store.specs.Form.{place, sector, part_mark}
 use Rattle.session_store.specs.Snapshot.{ButForParts, HasParts, header_sector, WithSnapshot, IsSnapshotting}
 
@@ -33,19 +34,19 @@ module _ {D T E : Type 0} (disk : Disk D) (images : Image → Type 0) (epoch : �
 
   -- and the part is there with those before it
   pub part_there : (mid new : D) (i : ℕ) (parts : List (List ℕ)) (v : T)
-      → disk.honest mid → WriteCall {T = T} {E = E} disk mid new (place epoch + 1 + i) (sector part_mark epoch i (get_or parts i [])) (Ok v)
-      → ((k : ℕ) → k < i → disk.reads mid (place epoch + 1 + k) ≡ sector part_mark epoch k (get_or parts k []))
-      → (k : ℕ) → k < i + 1 → disk.reads new (place epoch + 1 + k) ≡ sector part_mark epoch k (get_or parts k [])
+      → disk.honest mid → WriteCall {T = T} {E = E} disk mid new (place epoch + 1 + i) (sector (part_mark Two) epoch i (get_or parts i [])) (Ok v)
+      → ((k : ℕ) → k < i → disk.reads mid (place epoch + 1 + k) ≡ sector (part_mark Two) epoch k (get_or parts k []))
+      → (k : ℕ) → k < i + 1 → disk.reads new (place epoch + 1 + k) ≡ sector (part_mark Two) epoch k (get_or parts k [])
   part_there mid new i parts v honest call before k below =
       let at = place epoch + 1 + i in
       let did = call.writes honest in
       elim (cases_eq k i) [
         | inl here ↦
-            subst (λ (n : ℕ). disk.reads new (place epoch + 1 + n) ≡ sector part_mark epoch n (get_or parts n [])) (sym here)
-            (write_here disk mid new at (sector part_mark epoch i (get_or parts i [])) v did)
+            subst (λ (n : ℕ). disk.reads new (place epoch + 1 + n) ≡ sector (part_mark Two) epoch n (get_or parts n [])) (sym here)
+            (write_here disk mid new at (sector (part_mark Two) epoch i (get_or parts i [])) v did)
         | inr other ↦
             let away : place epoch + 1 + k ≢ at = λ same. other (omega (arith, same)) in
-            write_elsewhere disk mid new at (sector part_mark epoch i (get_or parts i [])) (Ok v) did (place epoch + 1 + k) away
+            write_elsewhere disk mid new at (sector (part_mark Two) epoch i (get_or parts i [])) (Ok v) did (place epoch + 1 + k) away
             ∙ before k (omega (arith, below, other))
       ]
 

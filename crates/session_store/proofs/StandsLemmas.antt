@@ -4,6 +4,7 @@ use Rattle.std.proofs.lemmas.Bool.{ltb-true, ltb-false, lt-ltb, le-ltb, cases_Bo
 use Rattle.sector_disk.specs.Disk.{Image}
 use Rattle.session_store.specs.Keeping.{Keeping, fold}
 use Rattle.session_store.specs.Form.{entry_in, place}
+use Rattle.session_store.specs.declared.disk_format.DiskFormat.{DiskFormat}
 use Rattle.session_store.specs.declared.reading.Header.{Header}
 use Rattle.session_store.specs.declared.reading.Entry.TheVariants.{Missing, Holds}
 use Rattle.session_store.specs.declared.fault.StoreFault.{StoreFault}
@@ -81,39 +82,39 @@ unfolding header_in
 header_in-same a b first second = rw (first, second) refl
 
 -- images with the same parts give the same parts
-pub parts_from-same : (a b : Image) (epoch i left : ℕ)
+pub parts_from-same : (format : DiskFormat) (a b : Image) (epoch i left : ℕ)
     → ((k : ℕ) → i ≤ k → k < i + left → b (place epoch + 1 + k) ≡ a (place epoch + 1 + k))
-    → parts_from b epoch i left ≡ parts_from a epoch i left
+    → parts_from format b epoch i left ≡ parts_from format a epoch i left
 unfolding parts_from
-parts_from-same a b epoch i zero same = refl
-parts_from-same a b epoch i (suc left) same =
+parts_from-same format a b epoch i zero same = refl
+parts_from-same format a b epoch i (suc left) same =
     let here = same i (omega arith) (omega arith) in
-    let rest = parts_from-same a b epoch (i + 1) left (λ k above below. same k (omega arith) (omega arith)) in
+    let rest = parts_from-same format a b epoch (i + 1) left (λ k above below. same k (omega arith) (omega arith)) in
     rw (here, rest) refl
 
 module _ {S A R : Type 0} (kept : Keeping S A R) where
   -- images with the same journal give the same state
-  pub replay-same : (a b : Image) → ((k : ℕ) → k < 1024 → b (1024 + k) ≡ a (1024 + k))
-      → (left epoch k : ℕ) (s : S) → k + left ≤ 1024 → replay kept left b epoch k s ≡ replay kept left a epoch k s
+  pub replay-same : (format : DiskFormat) (a b : Image) → ((k : ℕ) → k < 1024 → b (1024 + k) ≡ a (1024 + k))
+      → (left epoch k : ℕ) (s : S) → k + left ≤ 1024 → replay kept format left b epoch k s ≡ replay kept format left a epoch k s
   unfolding replay
-  replay-same a b same zero epoch k s within = refl
-  replay-same a b same (suc left) epoch k s within =
+  replay-same format a b same zero epoch k s within = refl
+  replay-same format a b same (suc left) epoch k s within =
       let here = same k (omega arith) in
-      rw here (ap (λ (next : S → Result S StoreFault). after_entry kept k s next (entry_in kept epoch k (a (1024 + k))))
-      (λ i t. replay-same a b same left epoch (k + 1) t (omega arith) i))
+      rw here (ap (λ (next : S → Result S StoreFault). after_entry kept k s next (entry_in kept format epoch k (a (1024 + k))))
+      (λ i t. replay-same format a b same left epoch (k + 1) t (omega arith) i))
 
   -- the records end at one that is missing, and go on over one whose action is accepted
-  pub replay-missing : (image : Image) (left epoch k : ℕ) (s : S)
-      → (0 < left → entry_in kept epoch k (image (1024 + k)) ≡ Missing) → replay kept left image epoch k s ≡ Ok s
+  pub replay-missing : (format : DiskFormat) (image : Image) (left epoch k : ℕ) (s : S)
+      → (0 < left → entry_in kept format epoch k (image (1024 + k)) ≡ Missing) → replay kept format left image epoch k s ≡ Ok s
   unfolding replay after_entry
-  replay-missing image zero epoch k s missing = refl
-  replay-missing image (suc left) epoch k s missing = rw (missing (omega arith)) refl
+  replay-missing format image zero epoch k s missing = refl
+  replay-missing format image (suc left) epoch k s missing = rw (missing (omega arith)) refl
 
-  pub replay-holds : (image : Image) (left epoch k : ℕ) (s t : S) (a : A)
-      → entry_in kept epoch k (image (1024 + k)) ≡ Holds a → kept.step s a ≡ Ok t
-      → replay kept (suc left) image epoch k s ≡ replay kept left image epoch (k + 1) t
+  pub replay-holds : (format : DiskFormat) (image : Image) (left epoch k : ℕ) (s t : S) (a : A)
+      → entry_in kept format epoch k (image (1024 + k)) ≡ Holds a → kept.step s a ≡ Ok t
+      → replay kept format (suc left) image epoch k s ≡ replay kept format left image epoch (k + 1) t
   unfolding replay after_entry after_step
-  replay-holds image left epoch k s t a holds accepted = rw (holds, accepted) refl
+  replay-holds format image left epoch k s t a holds accepted = rw (holds, accepted) refl
 
   -- the first of some accepted actions is accepted, and then the others
   fold_on : List A → Result S R → Option S
@@ -153,7 +154,7 @@ module _ {S A R : Type 0} (kept : Keeping S A R) where
 
   -- what an image with this header, these parts of this state, stands for
   pub recovered-is : (image : Image) (h : Header) (parts : List (List ℕ)) (s : S) → header_in image ≡ Some h
-      → parts_from image h.epoch 0 h.parts ≡ Ok parts → kept.state_of parts ≡ Some s
-      → recovered kept image ≡ replay kept 1024 image h.epoch 0 s
+      → parts_from h.format image h.epoch 0 h.parts ≡ Ok parts → kept.state_of h.format parts ≡ Some s
+      → recovered kept image ≡ replay kept h.format 1024 image h.epoch 0 s
   unfolding recovered after_header after_parts after_state
   recovered-is image h parts s has_header has_parts is_state = rw (has_header, has_parts, is_state) refl

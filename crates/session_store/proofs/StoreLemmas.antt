@@ -10,6 +10,7 @@ use Rattle.sector_disk.proofs.RunLaws.{begins, now_has, syncs_on, remains, remai
 use Rattle.session_store.specs.Keeping.{Keeping, fold}
 use Rattle.session_store.specs.Form.{entry_in}
 use Rattle.session_store.specs.Stands.{recovered, IsInOrder}
+use Rattle.session_store.specs.declared.disk_format.DiskFormat.TheVariants.{Two}
 use Rattle.session_store.specs.declared.reading.Entry.TheVariants.{Holds}
 use Rattle.session_store.specs.Base.{IsSettled, HoldsAll, StandsForPrefix}
 use Rattle.session_store.specs.Sound.{StandsOnlyFor}
@@ -79,12 +80,12 @@ module _ {S A R : Type 0} (kept : Keeping S A R) where
 
   -- the journal holds one action more
   pub holds_all-more : (pending : List A) (epoch n number : ℕ) (a : A) (old new : Image) → number ≡ n + length pending
-      → ((k : ℕ) → k ≢ 1024 + number → new k ≡ old k) → entry_in kept epoch number (new (1024 + number)) ≡ Holds a
+      → ((k : ℕ) → k ≢ 1024 + number → new k ≡ old k) → entry_in kept Two epoch number (new (1024 + number)) ≡ Holds a
       → HoldsAll kept epoch n pending old → HoldsAll kept epoch n (pending ++ a ∷ []) new
   unfolding HoldsAll
   holds_all-more [] epoch n number a old new is_number others holds before =
       let same : number ≡ n = omega (arith, is_number) in
-      (subst (λ (k : ℕ). entry_in kept epoch k (new (1024 + k)) ≡ Holds a) same holds, tt)
+      (subst (λ (k : ℕ). entry_in kept Two epoch k (new (1024 + k)) ≡ Holds a) same holds, tt)
   holds_all-more (x ∷ pending) epoch n number a old new is_number others holds before =
       let away : 1024 + n ≢ 1024 + number = omega (arith, is_number) in (
         rw (others (1024 + n) away) before.0,

@@ -1,7 +1,9 @@
--- What an image stands for whatever becomes of the sectors that are not in use.
+-- What an image stands for whatever becomes of the sectors that are not in use. What a store writes is of the second format.
 use Rattle.std.specs.Prelude.{◌≡◌, ◌⊎◌, ◌<◌, ◌≤◌, ◌+◌, ◌-◌, ℕ, List, [], ◌∷◌, length, take, Some, Ok}
 use Rattle.sector_disk.specs.Disk.{Image}
 use Rattle.session_store.specs.Keeping.{Keeping, fold}
+use Rattle.session_store.specs.declared.disk_format.DiskFormat.{DiskFormat}
+use Rattle.session_store.specs.declared.disk_format.DiskFormat.TheVariants.{Two}
 use Rattle.session_store.specs.declared.reading.Header.{Header}
 use Rattle.session_store.specs.Form.{entry_in, place}
 use Rattle.session_store.specs.Stands.{header_in, recovered, replay, NoneLater, IsInOrder}
@@ -19,26 +21,30 @@ Agrees epoch n a b = (k : ℕ) → k < 1024 + n → (IsSpare epoch k → ⊥) �
 abbrev pub HasEpoch : ℕ → Image → Type 0
 HasEpoch epoch image = (h : Header) × (header_in image ≡ Some h) × (h.epoch ≡ epoch)
 
+-- the header that counts is of this format
+abbrev pub HasFormat : DiskFormat → Image → Type 0
+HasFormat format image = (h : Header) × (header_in image ≡ Some h) × (h.format ≡ format)
+
 module _ {S A R : Type 0} (kept : Keeping S A R) where
   -- Whatever stands in the spare sectors and in the journal from record n on, the image stands for what its records
   -- from n on make of the base.
   pub record IsBase (epoch : ℕ) (base : S) (n : ℕ) (image : Image) : Type 0 where
     pub header : (other : Image) → Agrees epoch n image other → HasEpoch epoch other
     pub stands : (other : Image) → Agrees epoch n image other
-        → recovered kept other ≡ replay kept (1024 - n) other epoch n base
+        → recovered kept other ≡ replay kept Two (1024 - n) other epoch n base
 
   -- from record k on these actions stand in the journal, each there or missing, and then no record
   unfoldable pub MayHold : ℕ → ℕ → List A → Image → Type 0
-  MayHold epoch k [] image = (j : ℕ) → k ≤ j → j < 1024 → entry_in kept epoch j (image (1024 + j)) ≡ Missing
+  MayHold epoch k [] image = (j : ℕ) → k ≤ j → j < 1024 → entry_in kept Two epoch j (image (1024 + j)) ≡ Missing
   MayHold epoch k (a ∷ actions) image =
-      ((entry_in kept epoch k (image (1024 + k)) ≡ Holds a) ⊎ (entry_in kept epoch k (image (1024 + k)) ≡ Missing))
+      ((entry_in kept Two epoch k (image (1024 + k)) ≡ Holds a) ⊎ (entry_in kept Two epoch k (image (1024 + k)) ≡ Missing))
       × MayHold epoch (k + 1) actions image
 
   -- from record k on these actions stand in the journal
   unfoldable pub HoldsAll : ℕ → ℕ → List A → Image → Type 0
   HoldsAll epoch k [] image = Unit {0}
   HoldsAll epoch k (a ∷ actions) image =
-      (entry_in kept epoch k (image (1024 + k)) ≡ Holds a) × HoldsAll epoch (k + 1) actions image
+      (entry_in kept Two epoch k (image (1024 + k)) ≡ Holds a) × HoldsAll epoch (k + 1) actions image
 
   -- the image of a store at work: its base is that of n records, and its pending actions are there or missing
   pub record IsSettled (epoch : ℕ) (base : S) (n : ℕ) (pending : List A) (image : Image) : Type 0 where

@@ -1,21 +1,32 @@
 -- The form of sectors: a label of mark, epoch and number, the payload's length, the payload, and zeros.
 use Rattle.std.specs.Prelude.{◌+◌, ◌-◌, ◌*◌, ◌%◌, ◌&&◌, nat_le, ℕ, List, [], ◌∷◌, ◌++◌, length, take, drop, replicate, if◌then◌else◌, Option, Some, None}
+use Rattle.std.specs.Option.{option_or}
 use Rattle.std.specs.Int.{w16, w32, w64, to_be_bytes, from_be_bytes}
 use Rattle.std.specs.Str.{bytes_eq}
 use Rattle.session_store.specs.Keeping.{Keeping}
+use Rattle.session_store.specs.declared.disk_format.DiskFormat.{DiskFormat}
+use Rattle.session_store.specs.declared.disk_format.DiskFormat.TheVariants.{One, Two}
 use Rattle.session_store.specs.declared.reading.Header.{Header}
 use Rattle.session_store.specs.declared.reading.Entry.{Entry}
 use Rattle.session_store.specs.declared.reading.Entry.TheVariants.{Missing, Damaged, Holds}
 
--- the marks, in ASCII: BD1H, BD1P and BD1R
-abbrev pub header_mark : List ℕ
-header_mark = 66 ∷ 68 ∷ 49 ∷ 72 ∷ []
+-- the digit of a format, in ASCII
+abbrev pub digit : DiskFormat → ℕ
+digit One = 49
+digit Two = 50
 
-abbrev pub part_mark : List ℕ
-part_mark = 66 ∷ 68 ∷ 49 ∷ 80 ∷ []
+-- the marks, in ASCII: BD1H, BD1P and BD1R in the first format, BD2H, BD2P and BD2R in the second
+abbrev pub mark : DiskFormat → ℕ → List ℕ
+mark format kind = 66 ∷ 68 ∷ digit format ∷ kind ∷ []
 
-abbrev pub record_mark : List ℕ
-record_mark = 66 ∷ 68 ∷ 49 ∷ 82 ∷ []
+abbrev pub header_mark : DiskFormat → List ℕ
+header_mark format = mark format 72
+
+abbrev pub part_mark : DiskFormat → List ℕ
+part_mark format = mark format 80
+
+abbrev pub record_mark : DiskFormat → List ℕ
+record_mark format = mark format 82
 
 -- the first 16 bytes of a sector
 unfoldable pub label : List ℕ → ℕ → ℕ → List ℕ
@@ -42,29 +53,33 @@ payload_in mark epoch number bytes =
     if nat_le (length (payload_field bytes)) 480 && bytes_eq (sector mark epoch number (payload_field bytes)) bytes
     then Some (payload_field bytes) else None
 
--- what a header states: an epoch from 1 on, and a number of parts from 1 to 494
-unfoldable pub header_of : List ℕ → Option Header
-header_of bytes =
+-- what a header of a format states: an epoch from 1 on, and a number of parts from 1 to 494
+unfoldable pub header_as : DiskFormat → List ℕ → Option Header
+header_as format bytes =
     if nat_le 1 (epoch_field bytes) && nat_le 1 (number_field bytes) && nat_le (number_field bytes) 494
-    && bytes_eq (sector header_mark (epoch_field bytes) (number_field bytes) []) bytes
-    then Some (record { epoch = epoch_field bytes; parts = number_field bytes }) else None
+    && bytes_eq (sector (header_mark format) (epoch_field bytes) (number_field bytes) []) bytes
+    then Some (record { format = format; epoch = epoch_field bytes; parts = number_field bytes }) else None
+
+-- of either format; no sector is a header of both
+unfoldable pub header_of : List ℕ → Option Header
+header_of bytes = option_or (header_as Two bytes) (header_as One bytes)
 
 -- where the snapshot of an epoch stands: at 0 where it is odd, at 512 where it is even
 unfoldable pub place : ℕ → ℕ
 place epoch = 512 * ((epoch + 1) % 2)
 
 module _ {S A R : Type 0} (kept : Keeping S A R) where
-  -- what a sector of the journal is to the epoch's record of this number: without its label it is missing; with it, it
-  -- is damaged or holds an action
-  unfoldable pub entry_in : ℕ → ℕ → List ℕ → Entry A
-  entry_in epoch number bytes =
-      if bytes_eq (take 16 bytes) (label record_mark epoch number) then
-      (elim (payload_in record_mark epoch number bytes) [
+  -- what a sector of the journal is to the epoch's record of this number and format: without its label it is missing;
+  -- with it, it is damaged or holds an action
+  unfoldable pub entry_in : DiskFormat → ℕ → ℕ → List ℕ → Entry A
+  entry_in format epoch number bytes =
+      if bytes_eq (take 16 bytes) (label (record_mark format) epoch number) then
+      (elim (payload_in (record_mark format) epoch number bytes) [
         | None ↦ Damaged
-        | Some payload ↦ elim (kept.action_of payload) [ None ↦ Damaged | Some a ↦ Holds a ]
+        | Some payload ↦ elim (kept.action_of format payload) [ None ↦ Damaged | Some a ↦ Holds a ]
       ])
       else Missing
 
-  -- the sector of a record
+  -- the sector of a record, as it is written
   unfoldable pub record_sector : ℕ → ℕ → A → List ℕ
-  record_sector epoch number a = sector record_mark epoch number (kept.action_bytes a)
+  record_sector epoch number a = sector (record_mark Two) epoch number (kept.action_bytes a)

@@ -4,6 +4,7 @@ pub mod Stands
 pub mod Base
 pub mod Snapshot
 pub mod Sound
+pub mod Former
 pub mod Frame
 pub mod Value
 pub mod Store

@@ -3,6 +3,7 @@ use Rattle.std.specs.Prelude.{◌≡◌, ◌≤◌, ◌+◌, ℕ, List, [], ◌�
 use Rattle.sector_disk.specs.Disk.{Image, IsSame, Disk}
 use Rattle.session_store.specs.Keeping.{Keeping, fold}
 use Rattle.session_store.specs.Stands.{recovered, IsInOrder}
+use Rattle.session_store.specs.Former.{IsFormer, WasInOrder, formerly}
 use Rattle.session_store.specs.Sound.{IsSoundDisk, StandsOnlyFor}
 use Rattle.session_store.specs.Opening.{IsOpened, IsNotOpened}
 use Rattle.session_store.specs.Value.{StoreValue}
@@ -51,6 +52,13 @@ module _ {D S A R : Type 0} (kept : Keeping S A R) (disk : Disk D) where
     pub made : fold kept start (take count accepted) ≡ Some state
     pub stands : recovered kept image ≡ Ok state
     pub in_order : IsInOrder image
+
+  -- a disk at rest, of either format, at which a run may begin: these actions were accepted from the starting state on, and so
+  -- many of them are confirmed
+  pub record IsBeginning (start : S) (accepted : List A) (confirmed : ℕ) (d : D) : Type 0 where
+    pub honest : disk.honest d
+    pub large : 2048 ≤ disk.count d
+    pub images : (c : Image) → disk.may_leave d c → StandsForAtLeast start accepted confirmed c
 
   -- these are the most of the first actions whose state the image stands for
   pub record IsLongest (start : S) (accepted : List A) (image : Image) (count : ℕ) : Type 0 where
@@ -117,8 +125,29 @@ module _ {D S A R : Type 0} (kept : Keeping S A R) (disk : Disk D) where
   -- After any events, at every moment of what is done next, a power cut leaves an image that stands for what some of the
   -- first accepted actions make of the starting state, with all that are confirmed.
   abbrev pub CrashLaw : Type 0
-  CrashLaw = (start : S) (d : D) → IsSoundDisk kept disk d → StandsOnlyFor kept disk start d
+  CrashLaw = (start : S) (accepted : List A) (confirmed : ℕ) (d : D) → IsBeginning start accepted confirmed d
       → (events : List (Event D S A)) (s : Standing D S A)
-      → Runs start (record { place = AtRest d; accepted = []; confirmed = 0 }) events s
+      → Runs start (record { place = AtRest d; accepted = accepted; confirmed = confirmed }) events s
       → (x : Doing D S A) (t : Standing D S A) → Does start s.place s.accepted s.confirmed x t
       → (c : Image) → MayLeave s.place x c → StandsForAtLeast start (s.accepted ++ accepts x) s.confirmed c
+
+  -- a disk that was formatted with a state is a beginning: no action was accepted
+  abbrev pub FormattedLaw : Type 0
+  FormattedLaw = (start : S) (d : D) → IsSoundDisk kept disk d → StandsOnlyFor kept disk start d → IsBeginning start [] 0 d
+
+  -- for a store that knew the first format alone: the image stood for what some of the first of these actions make of the
+  -- starting state, at least so many of them
+  pub record StoodForAtLeast (start : S) (accepted : List A) (confirmed : ℕ) (image : Image) : Type 0 where
+    pub former : IsFormer image
+    pub count : ℕ
+    pub enough : confirmed ≤ count
+    pub few : count ≤ length accepted
+    pub state : S
+    pub made : fold kept start (take count accepted) ≡ Some state
+    pub stood : formerly kept image ≡ Ok state
+    pub in_order : WasInOrder image
+
+  -- a disk that a store of the first format left, after any run of its own, is one
+  abbrev pub FormerRunLaw : Type 0
+  FormerRunLaw = (start : S) (accepted : List A) (confirmed : ℕ) (d : D) → disk.honest d → 2048 ≤ disk.count d
+      → ((c : Image) → disk.may_leave d c → StoodForAtLeast start accepted confirmed c) → IsBeginning start accepted confirmed d

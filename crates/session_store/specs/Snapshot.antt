@@ -1,7 +1,8 @@
--- What the writing of a snapshot does to an image.
+-- What the writing of a snapshot, of the second format, does to an image.
 use Rattle.std.specs.Prelude.{◌≡◌, ◌⊎◌, ◌<◌, ◌≤◌, ◌+◌, ℕ, List, [], length, slice_index_or, Some}
 use Rattle.sector_disk.specs.Disk.{Image, with_sector}
 use Rattle.session_store.specs.Keeping.{Keeping}
+use Rattle.session_store.specs.declared.disk_format.DiskFormat.TheVariants.{Two}
 use Rattle.session_store.specs.declared.reading.Header.{Header}
 use Rattle.session_store.specs.Form.{sector, header_mark, part_mark, place}
 use Rattle.session_store.specs.Stands.{header_at, NoneLater}
@@ -29,11 +30,11 @@ module _ {S A R : Type 0} (kept : Keeping S A R) where
   -- the parts of this state stand in this epoch's snapshot
   abbrev pub HasParts : ℕ → S → Image → Type 0
   HasParts epoch state image = (i : ℕ) → i < length (kept.parts state)
-      → image (place epoch + 1 + i) ≡ sector part_mark epoch i (slice_index_or (kept.parts state) i [])
+      → image (place epoch + 1 + i) ≡ sector (part_mark Two) epoch i (slice_index_or (kept.parts state) i [])
 
   -- the header of a snapshot of this state
   abbrev pub header_sector : ℕ → S → List ℕ
-  header_sector epoch state = sector header_mark epoch (length (kept.parts state)) []
+  header_sector epoch state = sector (header_mark Two) epoch (length (kept.parts state)) []
 
   -- one of these images with a new snapshot of this state: all its parts, and over them its header
   abbrev pub WithSnapshot : (Image → Type 0) → ℕ → S → Image → Type 0

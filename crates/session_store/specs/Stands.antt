@@ -1,7 +1,9 @@
--- What an image of a disk stands for: the snapshot with the greater epoch, and then that epoch's records in turn.
+-- What an image of a disk stands for: the snapshot with the greater epoch, and then that epoch's records in turn. The header
+-- says in which format its parts and records are read.
 use Rattle.std.specs.Prelude.{◌≡◌, ◌<◌, ◌≤◌, ◌+◌, ◌==◌, nat_lt, ℕ, zero, suc, List, [], ◌∷◌, take, if◌then◌else◌, Option, Some, None, Result, Ok, Err}
 use Rattle.sector_disk.specs.Disk.{Image}
 use Rattle.session_store.specs.Keeping.{Keeping}
+use Rattle.session_store.specs.declared.disk_format.DiskFormat.{DiskFormat}
 use Rattle.session_store.specs.declared.reading.Header.{Header}
 use Rattle.session_store.specs.Form.{header_of, payload_in, part_mark, record_mark, entry_in, epoch_field, place}
 use Rattle.session_store.specs.declared.reading.Entry.{Entry}
@@ -37,11 +39,11 @@ after_part at None rest = Err (Damaged at)
 after_part at (Some payload) rest = with_part payload rest
 
 -- the payloads of parts i, i + 1, .., so many of them; or the first sector out of form
-unfoldable pub parts_from : Image → ℕ → ℕ → ℕ → Result (List (List ℕ)) StoreFault
-parts_from image epoch i zero = Ok []
-parts_from image epoch i (suc left) =
-    after_part (place epoch + 1 + i) (payload_in part_mark epoch i (image (place epoch + 1 + i)))
-    (parts_from image epoch (i + 1) left)
+unfoldable pub parts_from : DiskFormat → Image → ℕ → ℕ → ℕ → Result (List (List ℕ)) StoreFault
+parts_from format image epoch i zero = Ok []
+parts_from format image epoch i (suc left) =
+    after_part (place epoch + 1 + i) (payload_in (part_mark format) epoch i (image (place epoch + 1 + i)))
+    (parts_from format image epoch (i + 1) left)
 
 module _ {S A R : Type 0} (kept : Keeping S A R) where
   -- after record k's step, and after its sector: the records go on where it is accepted
@@ -56,31 +58,31 @@ module _ {S A R : Type 0} (kept : Keeping S A R) where
 
   -- the state after records k, k + 1, .. up to the first that is missing, of at most so many; or the first sector that
   -- is damaged or whose action is refused
-  unfoldable pub replay : ℕ → Image → ℕ → ℕ → S → Result S StoreFault
-  replay zero image epoch k s = Ok s
-  replay (suc left) image epoch k s =
-      after_entry k s (λ t. replay left image epoch (k + 1) t) (entry_in kept epoch k (image (1024 + k)))
+  unfoldable pub replay : DiskFormat → ℕ → Image → ℕ → ℕ → S → Result S StoreFault
+  replay format zero image epoch k s = Ok s
+  replay format (suc left) image epoch k s =
+      after_entry k s (λ t. replay format left image epoch (k + 1) t) (entry_in kept format epoch k (image (1024 + k)))
 
   -- after the parts, and after the header: the state of its parts and of its epoch's records
   unfoldable pub after_state : Image → Header → Option S → Result S StoreFault
   after_state image h None = Err (Damaged (place h.epoch))
-  after_state image h (Some s) = replay 1024 image h.epoch 0 s
+  after_state image h (Some s) = replay h.format 1024 image h.epoch 0 s
 
   unfoldable pub after_parts : Image → Header → Result (List (List ℕ)) StoreFault → Result S StoreFault
   after_parts image h (Err fault) = Err fault
-  after_parts image h (Ok parts) = after_state image h (kept.state_of parts)
+  after_parts image h (Ok parts) = after_state image h (kept.state_of h.format parts)
 
   unfoldable pub after_header : Image → Option Header → Result S StoreFault
   after_header image None = Err NotFormatted
-  after_header image (Some h) = after_parts image h (parts_from image h.epoch 0 h.parts)
+  after_header image (Some h) = after_parts image h (parts_from h.format image h.epoch 0 h.parts)
 
   -- the state that an image stands for, or why it stands for none
   unfoldable pub recovered : Image → Result S StoreFault
   recovered image = after_header image (header_in image)
 
--- a record's mark, and an epoch above this one
+-- a record's mark, of either format, and an epoch above this one
 abbrev pub IsLater : ℕ → List ℕ → Type 0
-IsLater epoch bytes = (take 4 bytes ≡ record_mark) × (epoch < epoch_field bytes)
+IsLater epoch bytes = ((format : DiskFormat) × (take 4 bytes ≡ record_mark format)) × (epoch < epoch_field bytes)
 
 -- no sector of the journal is of an epoch above this one
 abbrev pub NoneLater : ℕ → Image → Type 0

@@ -2,14 +2,15 @@
 ghost use Rattle.std.specs.Prelude.{◌≡◌, ◌<◌, [], length, map, slice_index_or, None, Some, Ok, Err, IfOk, IsErrOf, OnErr, MatchResult};
 ghost use Rattle.session_store.specs.Keeping.{Keeping, IsLawful};
 
-use crate::PartsFault;
+use crate::{DiskFormat, PartsFault};
 use arrayvec::ArrayVec;
 use std::alloc::Global;
 
 /// Bytes of a part or of an action, at most.
 pub const PAYLOAD_BYTES: usize = 480;
 
-/// A state that a store can keep: written as parts, read from them, and changed by actions.
+/// A state that a store can keep: written as parts, read from them, and changed by actions. What is written is of the second
+/// format; what is read may be of either.
 pub trait Kept: Sized + Drop {
     /// What changes a state.
     type Action: Copy + Default;
@@ -29,20 +30,24 @@ pub trait Kept: Sized + Drop {
         requires { i < length (kept.parts self.now) }
         ensures { part.new.items ≡ slice_index_or (kept.parts self.now) i [] };
 
-    /// The state of these parts. `Bad` where they are not exactly those of a state, `Memory` where it is out of
-    /// memory.
-    fn from_parts(alloc: Global, parts: &[ArrayVec<u8, PAYLOAD_BYTES>]) -> Result<Self, PartsFault>
-        ensures state { IfOk result (λ s. kept.state_of (map (λ part. part.items) parts.now) ≡ Some s) }
-        ensures bad { IsErrOf result PartsFault.Bad → kept.state_of (map (λ part. part.items) parts.now) ≡ None };
+    /// The state of these parts of a format. `Bad` where they are not exactly those of a state, `Memory` where it is out
+    /// of memory.
+    fn from_parts(
+        alloc: Global,
+        format: DiskFormat,
+        parts: &[ArrayVec<u8, PAYLOAD_BYTES>],
+    ) -> Result<Self, PartsFault>
+        ensures state { IfOk result (λ s. kept.state_of format (map (λ part. part.items) parts.now) ≡ Some s) }
+        ensures bad { IsErrOf result PartsFault.Bad → kept.state_of format (map (λ part. part.items) parts.now) ≡ None };
 
     /// Clears `bytes`, and writes the action into it.
     fn write_action(action: &Self::Action, bytes: &mut ArrayVec<u8, PAYLOAD_BYTES>)
         ensures bytes { bytes.new.items ≡ kept.action_bytes action.now }
         ensures action { kept.IsAction action.now };
 
-    /// The action that these bytes were written of, if they are those of one.
-    fn read_action(bytes: &[u8]) -> Option<Self::Action>
-        ensures { result ≡ kept.action_of bytes.now };
+    /// The action that these bytes of a format were written of, if they are those of one.
+    fn read_action(format: DiskFormat, bytes: &[u8]) -> Option<Self::Action>
+        ensures { result ≡ kept.action_of format bytes.now };
 
     /// Takes the action, or refuses it and changes nothing.
     fn step(&mut self, action: &Self::Action) -> Result<(), Self::Refusal>

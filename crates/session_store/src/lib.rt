@@ -10,6 +10,7 @@
 
 mod checkpointing;
 mod confirming;
+mod disk_format;
 mod entry;
 mod fault;
 mod formatting;
@@ -26,8 +27,9 @@ mod snapshot;
 mod store;
 mod submitting;
 
+pub use disk_format::DiskFormat;
 pub use fault::{CheckpointFault, ConfirmFault, PartsFault, StoreFault, SubmitFault};
 pub use formatting::format;
 pub use kept::{Kept, PAYLOAD_BYTES};
-pub use laws::{crash_law, frame_law};
+pub use laws::{crash_law, former_law, frame_law};
 pub use store::{MOST_PENDING, Store};

@@ -2,7 +2,8 @@
 ghost use Rattle.std.specs.Prelude.{◌≡◌, ◌≢◌, ◌⊎◌, ◌<◌, ◌≤◌, ◌+◌, ◌-◌, ◌^◌, ℕ, Err, IfErr, IfOk, IsErrOf, Ok, OnErr, OnOk, false};
 ghost use Rattle.sector_disk.specs.Disk.{Image, Rose};
 ghost use Rattle.sector_disk.specs.Runs.{OnlyRead, Quiet};
-ghost use Rattle.session_store.specs.Base.{HasEpoch};
+ghost use Rattle.session_store.specs.declared.disk_format.DiskFormat.TheVariants.{Two};
+ghost use Rattle.session_store.specs.Base.{HasEpoch, HasFormat};
 ghost use Rattle.session_store.specs.Opening.{HasNext, IsCause, IsNotOpened, IsOnly, IsOpened, reading};
 ghost use Rattle.session_store.specs.Sound.{IsSoundDisk, StandsOnlyFor};
 ghost use Rattle.session_store.specs.Stands.{recovered};
@@ -48,8 +49,8 @@ fn recover_behind_barrier<D: SectorDisk, K: Kept>(
 }
 
 impl<D: SectorDisk + Drop, K: Kept> Store<D, K> {
-    /// Opens the store that this disk holds: reads its state, and goes on in the next epoch, of which a snapshot is
-    /// written. The disk comes back at an error. `TooSmall` where it has fewer than 2,048 sectors, and then no call of
+    /// Opens the store that this disk holds, of either format: reads its state, and goes on in the next epoch, of which a
+    /// snapshot is written in the second format; so a disk of the first is brought over. The disk comes back at an error. `TooSmall` where it has fewer than 2,048 sectors, and then no call of
     /// it is made; `Disk` where a call of it failed; `NotFormatted` where neither snapshot has a header; `EpochsSpent`
     /// where the epoch is 2^64 - 1; `Damaged` with the first sector that is out of form or does not fit; `NoMemory`
     /// where it is out of memory, for which only such a disk asks that has a header of an epoch before the last. On each of
@@ -68,6 +69,7 @@ impl<D: SectorDisk + Drop, K: Kept> Store<D, K> {
         ensures no_fault { IfOk result (λ store. D.disk.faults store.disk ≡ D.disk.faults disk) }
         ensures epoch { D.disk.honest disk → IfOk result (λ store.
             (epoch : ℕ) × HasEpoch epoch (D.disk.reads disk) × (store.epoch ≡ epoch + 1)) }
+        ensures format { D.disk.honest disk → IfOk result (λ store. (c : Image) → D.disk.may_leave store.disk c → HasFormat Two c) }
         ensures begins { IfOk result (λ store. (store.records ≡ 0) × (store.failed ≡ false)) }
         ensures not_opened { IfErr result (λ e. IsNotOpened K.kept D.disk disk e.0) }
         ensures stands { IsSoundDisk K.kept D.disk disk

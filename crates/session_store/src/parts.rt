@@ -6,16 +6,17 @@ ghost use Rattle.session_store.specs.Form.{part_mark, payload_in, place};
 ghost use Rattle.session_store.specs.Opening.{IsCause};
 ghost use Rattle.session_store.specs.Stands.{parts_from};
 
-use crate::reading::{Header, PART_MARK, read_payload};
+use crate::reading::{Header, read_payload};
 use crate::snapshot::place_of;
-use crate::{PAYLOAD_BYTES, StoreFault};
+use crate::{DiskFormat, PAYLOAD_BYTES, StoreFault};
 use arrayvec::ArrayVec;
 use sector_disk::{SECTOR_BYTES, SectorDisk};
 use std::alloc::Global;
 
-/// Reads part `i` of this epoch's snapshot.
+/// Reads part `i` of this epoch's snapshot, in a format.
 fn read_part<D: SectorDisk>(
     disk: &mut D,
+    format: DiskFormat,
     epoch: u64,
     i: u32,
 ) -> Result<ArrayVec<u8, PAYLOAD_BYTES>, StoreFault>
@@ -24,17 +25,17 @@ fn read_part<D: SectorDisk>(
     ensures quiet { Quiet D.disk disk.old disk.new }
     ensures no_fault { OnOk result (D.disk.faults disk.new ≡ D.disk.faults disk.old) }
     ensures part { D.disk.honest disk.old → IfOk result (λ part.
-        payload_in part_mark epoch i (D.disk.reads disk.old (place epoch + 1 + i)) ≡ Some part.items) }
+        payload_in (part_mark format) epoch i (D.disk.reads disk.old (place epoch + 1 + i)) ≡ Some part.items) }
     ensures fault { IfErr result (λ fault.
         ((fault ≡ StoreFault.Disk) × Rose (D.disk.faults disk.old) (D.disk.faults disk.new))
         ⊎ ((fault ≡ StoreFault.Damaged (place epoch + 1 + i)) × (D.disk.faults disk.new ≡ D.disk.faults disk.old)
-        × (D.disk.honest disk.old → payload_in part_mark epoch i (D.disk.reads disk.old (place epoch + 1 + i)) ≡ None))) }
+        × (D.disk.honest disk.old → payload_in (part_mark format) epoch i (D.disk.reads disk.old (place epoch + 1 + i)) ≡ None))) }
 {
     let at = place_of(epoch) + 1 + i;
     let mut bytes = [0; SECTOR_BYTES];
     match disk.read(at, &mut bytes) {
         Err(_) => Err(StoreFault::Disk),
-        Ok(()) => match read_payload(&PART_MARK, epoch, i, &bytes) {
+        Ok(()) => match read_payload(&format.part_mark(), epoch, i, &bytes) {
             None => Err(StoreFault::Damaged(at)),
             Some(payload) => {
                 let mut part = ArrayVec::new();
@@ -56,15 +57,15 @@ pub(crate) fn read_parts<D: SectorDisk>(
     ensures quiet { Quiet D.disk disk.old disk.new }
     ensures no_fault { OnOk result (D.disk.faults disk.new ≡ D.disk.faults disk.old) }
     ensures parts { D.disk.honest disk.old → IfOk result (λ parts.
-        parts_from (D.disk.reads disk.old) header.epoch 0 header.parts ≡ Ok (map (λ part. part.items) parts.items)) }
+        parts_from header.format (D.disk.reads disk.old) header.epoch 0 header.parts ≡ Ok (map (λ part. part.items) parts.items)) }
     ensures fault { IfErr result (IsCause (D.disk.honest disk.old) (D.disk.faults disk.old) (D.disk.faults disk.new)
-        (parts_from (D.disk.reads disk.old) header.epoch 0 header.parts)) }
+        (parts_from header.format (D.disk.reads disk.old) header.epoch 0 header.parts)) }
 {
     match Vec::with_capacity(alloc, header.parts as usize) {
         Err(_) => Err(StoreFault::NoMemory),
         Ok(mut parts) => {
             for i in 0..header.parts {
-                match read_part(disk, header.epoch, i) {
+                match read_part(disk, header.format, header.epoch, i) {
                     Err(fault) => return Err(fault),
                     Ok(part) => match parts.push(part) {
                         Ok(()) => {}

@@ -1,23 +1,18 @@
 //! Reading what the bytes of a sector state.
 ghost use Rattle.std.specs.Prelude.{◌≡◌, ◌<◌, ◌≤◌, ◌^◌, IfSome, length};
 ghost use Rattle.std.specs.Option.{option_copied};
-ghost use Rattle.session_store.specs.Form.{epoch_field, number_field, payload_in, header_of};
+ghost use Rattle.session_store.specs.Form.{epoch_field, number_field, payload_in, header_as, header_of};
 
-use crate::PAYLOAD_BYTES;
 use crate::sectors::{HEAD_BYTES, make_sector};
 use crate::snapshot::MOST_PARTS;
+use crate::{DiskFormat, PAYLOAD_BYTES};
 use sector_disk::SECTOR_BYTES;
-
-/// The marks of a header, a part and a record.
-pub(crate) const HEADER_MARK: [u8; 4] = *b"BD1H";
-
-pub(crate) const PART_MARK: [u8; 4] = *b"BD1P";
-
-pub(crate) const RECORD_MARK: [u8; 4] = *b"BD1R";
 
 /// What a header states.
 #[derive(Clone, Copy)]
 pub struct Header {
+    /// The format of the snapshot and of its epoch's records.
+    pub format: DiskFormat,
     /// The snapshot's epoch.
     pub epoch: u64,
     /// The number of its parts.
@@ -73,9 +68,9 @@ pub(crate) fn read_payload<'a>(
     Some(payload)
 }
 
-/// What a sector states as a header, if it is one in form.
-pub(crate) fn read_header(bytes: &[u8; SECTOR_BYTES]) -> Option<Header>
-    ensures { result ≡ header_of bytes.now }
+/// What a sector states as a header of this format, if it is one in form.
+fn read_header_as(format: DiskFormat, bytes: &[u8; SECTOR_BYTES]) -> Option<Header>
+    ensures { result ≡ header_as format bytes.now }
 {
     let epoch = read_epoch(bytes);
     let parts = read_number(bytes);
@@ -88,8 +83,19 @@ pub(crate) fn read_header(bytes: &[u8; SECTOR_BYTES]) -> Option<Header>
     if parts > MOST_PARTS {
         return None;
     }
-    if make_sector(&HEADER_MARK, epoch, parts, &[]) != *bytes {
+    if make_sector(&format.header_mark(), epoch, parts, &[]) != *bytes {
         return None;
     }
-    Some(Header { epoch, parts })
+    Some(Header {
+        format,
+        epoch,
+        parts,
+    })
+}
+
+/// What a sector states as a header of either format, if it is one in form.
+pub(crate) fn read_header(bytes: &[u8; SECTOR_BYTES]) -> Option<Header>
+    ensures { result ≡ header_of bytes.now }
+{
+    read_header_as(DiskFormat::Two, bytes).or(read_header_as(DiskFormat::One, bytes))
 }

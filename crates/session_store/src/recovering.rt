@@ -10,7 +10,7 @@ use crate::parts::read_parts;
 use crate::reading::Header;
 use crate::replaying::replay_records;
 use crate::snapshot::place_of;
-use crate::{Kept, PAYLOAD_BYTES, PartsFault, StoreFault};
+use crate::{DiskFormat, Kept, PAYLOAD_BYTES, PartsFault, StoreFault};
 use arrayvec::ArrayVec;
 use sector_disk::SectorDisk;
 use std::alloc::Global;
@@ -23,18 +23,19 @@ pub(crate) struct Recovered<K: Kept> {
     pub(crate) state: K,
 }
 
-/// Two states of the same parts.
+/// Two states of the same parts of a format.
 fn make_states<K: Kept>(
     alloc: Global,
+    format: DiskFormat,
     parts: &[ArrayVec<u8, PAYLOAD_BYTES>],
 ) -> Result<(K, K), PartsFault>
-    ensures state { IfOk result (λ both. K.kept.state_of (map (λ part. part.items) parts.now) ≡ Some both.1) }
+    ensures state { IfOk result (λ both. K.kept.state_of format (map (λ part. part.items) parts.now) ≡ Some both.1) }
     ensures same { IfOk result (λ both. both.0 ≡ both.1) }
-    ensures bad { IsErrOf result PartsFault.Bad → K.kept.state_of (map (λ part. part.items) parts.now) ≡ None }
+    ensures bad { IsErrOf result PartsFault.Bad → K.kept.state_of format (map (λ part. part.items) parts.now) ≡ None }
 {
-    match K::from_parts(alloc, parts) {
+    match K::from_parts(alloc, format, parts) {
         Err(fault) => Err(fault),
-        Ok(base) => match K::from_parts(alloc, parts) {
+        Ok(base) => match K::from_parts(alloc, format, parts) {
             Err(fault) => Err(fault),
             Ok(state) => Ok((base, state)),
         },
@@ -52,20 +53,20 @@ fn recover_from<D: SectorDisk, K: Kept>(
     ensures quiet { Quiet D.disk disk.old disk.new }
     ensures no_fault { OnOk result (D.disk.faults disk.new ≡ D.disk.faults disk.old) }
     ensures found { D.disk.honest disk.old → IfOk result (λ found. after_parts K.kept (D.disk.reads disk.old) header
-        (parts_from (D.disk.reads disk.old) header.epoch 0 header.parts) ≡ Ok found.state) }
+        (parts_from header.format (D.disk.reads disk.old) header.epoch 0 header.parts) ≡ Ok found.state) }
     ensures epoch { IfOk result (λ found. found.epoch ≡ header.epoch) }
     ensures same { IfOk result (λ found. found.base ≡ found.state) }
     ensures fault { IfErr result (IsCause (D.disk.honest disk.old) (D.disk.faults disk.old) (D.disk.faults disk.new)
         (after_parts K.kept (D.disk.reads disk.old) header
-        (parts_from (D.disk.reads disk.old) header.epoch 0 header.parts))) }
+        (parts_from header.format (D.disk.reads disk.old) header.epoch 0 header.parts))) }
 {
     match read_parts(alloc, disk, header) {
         Err(fault) => Err(fault),
-        Ok(parts) => match make_states::<K>(alloc, parts.as_slice()) {
+        Ok(parts) => match make_states::<K>(alloc, header.format, parts.as_slice()) {
             Err(PartsFault::Bad) => Err(StoreFault::Damaged(place_of(header.epoch))),
             Err(PartsFault::Memory) => Err(StoreFault::NoMemory),
             Ok((mut base, mut state)) => {
-                match replay_records(disk, header.epoch, &mut base, &mut state) {
+                match replay_records(disk, header.format, header.epoch, &mut base, &mut state) {
                     Err(fault) => Err(fault),
                     Ok(()) => Ok(Recovered {
                         epoch: header.epoch,

@@ -9,12 +9,13 @@ ghost use Rattle.session_store.specs.Stands.{replay};
 use crate::entry::read_entry;
 use crate::reading::Entry;
 use crate::submitting::{JOURNAL, RECORDS};
-use crate::{Kept, StoreFault};
+use crate::{DiskFormat, Kept, StoreFault};
 use sector_disk::{DiskFault, SECTOR_BYTES, SectorDisk};
 
-/// Reads what sector of the journal is to the record of this epoch and number.
+/// Reads what its sector of the journal is to the record of this epoch and number, in a format.
 fn read_record<D: SectorDisk, K: Kept>(
     disk: &mut D,
+    format: DiskFormat,
     epoch: u64,
     number: u32,
 ) -> Result<Entry<K::Action>, DiskFault>
@@ -24,12 +25,12 @@ fn read_record<D: SectorDisk, K: Kept>(
     ensures no_fault { OnOk result (D.disk.faults disk.new ≡ D.disk.faults disk.old) }
     ensures fault { IfErr result (λ _. Rose (D.disk.faults disk.old) (D.disk.faults disk.new)) }
     ensures entry { D.disk.honest disk.old → IfOk result (λ entry.
-        entry ≡ entry_in K.kept epoch number (D.disk.reads disk.old (1024 + number))) }
+        entry ≡ entry_in K.kept format epoch number (D.disk.reads disk.old (1024 + number))) }
 {
     let mut bytes = [0; SECTOR_BYTES];
     match disk.read(JOURNAL + number, &mut bytes) {
         Err(fault) => Err(fault),
-        Ok(()) => Ok(read_entry::<K>(epoch, number, &bytes)),
+        Ok(()) => Ok(read_entry::<K>(format, epoch, number, &bytes)),
     }
 }
 
@@ -49,9 +50,10 @@ fn step_both<K: Kept>(base: &mut K, state: &mut K, action: &K::Action) -> Result
     }
 }
 
-/// Takes the actions of this epoch's records, up to the first that is missing, on two equal states.
+/// Takes the actions of this epoch's records, in a format, up to the first that is missing, on two equal states.
 pub(crate) fn replay_records<D: SectorDisk, K: Kept>(
     disk: &mut D,
+    format: DiskFormat,
     epoch: u64,
     base: &mut K,
     state: &mut K,
@@ -61,13 +63,13 @@ pub(crate) fn replay_records<D: SectorDisk, K: Kept>(
     ensures quiet { Quiet D.disk disk.old disk.new }
     ensures no_fault { OnOk result (D.disk.faults disk.new ≡ D.disk.faults disk.old) }
     ensures replayed { D.disk.honest disk.old → OnOk result
-        (replay K.kept 1024 (D.disk.reads disk.old) epoch 0 state.old ≡ Ok state.new) }
+        (replay K.kept format 1024 (D.disk.reads disk.old) epoch 0 state.old ≡ Ok state.new) }
     ensures same { OnOk result (base.new ≡ state.new) }
     ensures fault { IfErr result (IsCause (D.disk.honest disk.old) (D.disk.faults disk.old) (D.disk.faults disk.new)
-        (replay K.kept 1024 (D.disk.reads disk.old) epoch 0 state.old)) }
+        (replay K.kept format 1024 (D.disk.reads disk.old) epoch 0 state.old)) }
 {
     for number in 0..RECORDS {
-        match read_record::<D, K>(disk, epoch, number) {
+        match read_record::<D, K>(disk, format, epoch, number) {
             Err(_) => return Err(StoreFault::Disk),
             Ok(entry) => match entry {
                 Entry::Missing => return Ok(()),

@@ -1,14 +1,14 @@
-//! Writing a snapshot: its parts, and over them, once they are on the disk, its header.
+//! Writing a snapshot, of the second format: its parts, and over them, once they are on the disk, its header.
 ghost use Rattle.std.specs.Prelude.{◌≡◌, ◌<◌, ◌≤◌, ◌+◌, [], length, slice_index_or, OnOk, OnErr};
 ghost use Rattle.sector_disk.specs.Disk.{Image, Rose};
 ghost use Rattle.sector_disk.specs.Calls.{WriteCall};
 ghost use Rattle.sector_disk.specs.Runs.{EveryMoment, Remains};
+ghost use Rattle.session_store.specs.declared.disk_format.DiskFormat.TheVariants.{Two};
 ghost use Rattle.session_store.specs.Form.{sector, part_mark, place};
 ghost use Rattle.session_store.specs.Snapshot.{ButForParts, HasParts, header_sector, IsSnapshotting, WithSnapshot};
 
-use crate::Kept;
-use crate::reading::{HEADER_MARK, PART_MARK};
 use crate::sectors::make_sector;
+use crate::{DiskFormat, Kept};
 use arrayvec::ArrayVec;
 use sector_disk::{DiskFault, SectorDisk};
 
@@ -44,11 +44,11 @@ fn write_part<D: SectorDisk, K: Kept>(
     requires few { i < 494 }
     requires part { i < length (K.kept.parts state.now) }
     ensures { WriteCall D.disk disk.old disk.new (place epoch + 1 + i)
-        (sector part_mark epoch i (slice_index_or (K.kept.parts state.now) i [])) result }
+        (sector (part_mark Two) epoch i (slice_index_or (K.kept.parts state.now) i [])) result }
 {
     let mut part = ArrayVec::new();
     state.write_part(i, &mut part);
-    let bytes = make_sector(&PART_MARK, epoch, i, part.as_slice());
+    let bytes = make_sector(&DiskFormat::Two.part_mark(), epoch, i, part.as_slice());
     disk.write(place_of(epoch) + 1 + i, &bytes)
 }
 
@@ -61,7 +61,7 @@ fn write_header<D: SectorDisk, K: Kept>(
     requires { 2048 ≤ D.disk.count disk.old }
     ensures { WriteCall D.disk disk.old disk.new (place epoch) (header_sector K.kept epoch state.now) result }
 {
-    let bytes = make_sector(&HEADER_MARK, epoch, state.parts(), &[]);
+    let bytes = make_sector(&DiskFormat::Two.header_mark(), epoch, state.parts(), &[]);
     disk.write(place_of(epoch), &bytes)
 }
 

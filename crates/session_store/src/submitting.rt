@@ -6,9 +6,8 @@ ghost use Rattle.session_store.specs.Answers.{Submits, accepted_by};
 ghost use Rattle.session_store.specs.Sound.{StandsOnlyFor};
 ghost use Rattle.session_store.specs.Store.{Continues, IsSoundStore};
 
-use crate::reading::RECORD_MARK;
 use crate::sectors::make_sector;
-use crate::{Kept, Store, SubmitFault};
+use crate::{DiskFormat, Kept, Store, SubmitFault};
 use arrayvec::ArrayVec;
 use sector_disk::{DiskFault, SectorDisk};
 
@@ -18,7 +17,7 @@ pub(crate) const RECORDS: u32 = 1024;
 /// The first sector of the journal.
 pub(crate) const JOURNAL: u32 = 1024;
 
-/// Writes the action as a record of this epoch and number.
+/// Writes the action as a record of this epoch and number, of the second format.
 fn write_record<D: SectorDisk, K: Kept>(
     disk: &mut D,
     epoch: u64,
@@ -32,7 +31,12 @@ fn write_record<D: SectorDisk, K: Kept>(
 {
     let mut bytes = ArrayVec::new();
     K::write_action(action, &mut bytes);
-    let sector = make_sector(&RECORD_MARK, epoch, number, bytes.as_slice());
+    let sector = make_sector(
+        &DiskFormat::Two.record_mark(),
+        epoch,
+        number,
+        bytes.as_slice(),
+    );
     disk.write(JOURNAL + number, &sector)
 }
 

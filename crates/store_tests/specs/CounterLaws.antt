@@ -7,27 +7,29 @@ use Rattle.std.proofs.lemmas.List.Elements.{All-replicate}
 use Rattle.std.specs.List.{list_all}
 use Rattle.std.specs.Str.{bytes_eq}
 use Rattle.session_store.specs.Keeping.{IsLawful}
-use Rattle.store_tests.specs.Counter.{CounterValue, IsCount, total_bytes, total_in, count_from, count_in, add_bytes, add_in, add, counting}
+use Rattle.session_store.specs.declared.disk_format.DiskFormat.{DiskFormat}
+use Rattle.session_store.specs.declared.disk_format.DiskFormat.TheVariants.{One, Two}
+use Rattle.store_tests.specs.Counter.{CounterValue, IsCount, total_bytes, total_of, total_in, count_from, count_in, add_bytes, add_in, add, counting}
 
 -- an action
-read_back : (n : ℕ) → n < 256 → add_in (add_bytes n) ≡ Some n
+read_back : (n : ℕ) → n < 256 → add_in Two (add_bytes n) ≡ Some n
 read_back n small = grind arith
 
-is_action : (bytes : List ℕ) (n : ℕ) → add_in bytes ≡ Some n → n < 256
-is_action [] n is = grind arith
-is_action (k ∷ []) n is = grind arith
-is_action (k ∷ m ∷ []) n is = grind arith
-is_action (k ∷ m ∷ o ∷ rest) n is = grind arith
+is_action : (format : DiskFormat) (bytes : List ℕ) (n : ℕ) → add_in format bytes ≡ Some n → n < 256
+is_action format [] n is = grind arith
+is_action format (k ∷ []) n is = grind arith
+is_action format (k ∷ m ∷ []) n is = grind arith
+is_action format (k ∷ m ∷ o ∷ rest) n is = grind arith
 
 -- a total
-total_read : (n : ℕ) → n < 65536 → total_in (total_bytes n) ≡ Some n
+total_read : (n : ℕ) → n < 65536 → total_in Two (total_bytes n) ≡ Some n
 total_read n small =
     let high : nat_lt (n / 256) 256 ≡ true = lt-ltb (n / 256) 256 (omega (arith, small)) in
     let low : nat_lt (n % 256) 256 ≡ true = lt-ltb (n % 256) 256 (omega arith) in
     let whole : 256 * (n / 256) + n % 256 ≡ n = omega arith in
     rw (high, low, whole) refl
 
-total_is : (bytes : List ℕ) (n : ℕ) → total_in bytes ≡ Some n → (bytes ≡ total_bytes n) × (n < 65536)
+total_is : (bytes : List ℕ) (n : ℕ) → total_in Two bytes ≡ Some n → (bytes ≡ total_bytes n) × (n < 65536)
 total_is [] n is = let e : None ≡ Some n = is in cc
 total_is (h ∷ []) n is = let e : None ≡ Some n = is in cc
 total_is (h ∷ l ∷ m ∷ rest) n is = let e : None ≡ Some n = is in cc
@@ -46,6 +48,27 @@ total_is (h ∷ l ∷ []) n is =
           let stated : None ≡ Some n = sym (cond-false (nat_lt h 256 && nat_lt l 256) (Some (256 * h + l)) None large) ∙ is in cc
     ]
 
+-- a total of either format fits
+total_fits : (format : DiskFormat) (a b : ℕ) → a < 256 → b < 256 → total_of format a b < 65536
+total_fits One a b first second = omega (arith, first, second)
+total_fits Two a b first second = omega (arith, first, second)
+
+total_small : (format : DiskFormat) (bytes : List ℕ) (n : ℕ) → total_in format bytes ≡ Some n → n < 65536
+total_small format [] n is = let e : None ≡ Some n = is in cc
+total_small format (a ∷ []) n is = let e : None ≡ Some n = is in cc
+total_small format (a ∷ b ∷ m ∷ rest) n is = let e : None ≡ Some n = is in cc
+total_small format (a ∷ b ∷ []) n is =
+    elim (cases_Bool (nat_lt a 256 && nat_lt b 256)) [
+      | inl small ↦
+          let both = and_parts _ _ small in
+          let stated : Some (total_of format a b) ≡ Some n
+          = sym (cond-true (nat_lt a 256 && nat_lt b 256) (Some (total_of format a b)) None small) ∙ is in
+          let same : total_of format a b ≡ n = cc in
+          subst (λ (k : ℕ). k < 65536) same (total_fits format a b (ltb-true a 256 both.0) (ltb-true b 256 both.1))
+      | inr large ↦
+          let stated : None ≡ Some n = sym (cond-false (nat_lt a 256 && nat_lt b 256) (Some (total_of format a b)) None large) ∙ is in cc
+    ]
+
 -- parts that are all the same
 all_same : (first : List ℕ) (n : ℕ) → list_all (bytes_eq first) (replicate n first) ≡ true
 all_same first zero = refl
@@ -61,31 +84,32 @@ same_all first (part ∷ rest) all =
     ap (λ (xs : List (List ℕ)). first ∷ xs) behind ∙ ap (λ (x : List ℕ). x ∷ rest) here
 
 restored_from : (n total : ℕ) → n < 494 → total < 65536
-    → count_in (replicate (suc n) (total_bytes total)) ≡ Some (record { parts = n + 1; total = total })
+    → count_in Two (replicate (suc n) (total_bytes total)) ≡ Some (record { parts = n + 1; total = total })
 restored_from n total few small =
     let first : List ℕ = total_bytes total in
     let long : length (replicate n first) ≡ n = length-replicate n first in
     let test : nat_lt (length (replicate n first)) 494 ≡ true = rw long (lt-ltb n 494 few) in
     ap (count_from first (replicate n first)) (total_read total small) ∙ rw (test, all_same first n, long) refl
 
-restored : (c : CounterValue) → IsCount c → count_in (replicate c.parts (total_bytes c.total)) ≡ Some c
+restored : (c : CounterValue) → IsCount c → count_in Two (replicate c.parts (total_bytes c.total)) ≡ Some c
 restored c is = from c.parts refl
   where
-    from : (n : ℕ) → n ≡ c.parts → count_in (replicate c.parts (total_bytes c.total)) ≡ Some c
+    from : (n : ℕ) → n ≡ c.parts → count_in Two (replicate c.parts (total_bytes c.total)) ≡ Some c
     from zero same = absurd (omega (arith, same, is.some))
     from (suc n) same =
         let few : n < 494 = omega (arith, same, is.few) in
         let whole : (record { parts = n + 1; total = c.total }) ≡ c
         = let parts : n + 1 ≡ c.parts = omega (arith, same) in λ i. record { parts = parts i; total = c.total } in
-        ap (λ (m : ℕ). count_in (replicate m (total_bytes c.total))) (sym same) ∙ restored_from n c.total few is.total
+        ap (λ (m : ℕ). count_in Two (replicate m (total_bytes c.total))) (sym same) ∙ restored_from n c.total few is.total
         ∙ ap (λ (d : CounterValue). Some d) whole
 
--- the counter of parts has them
-found_from : (first : List ℕ) (rest : List (List ℕ)) (c : CounterValue) → count_in (first ∷ rest) ≡ Some c
-    → IsCount c × (replicate c.parts (total_bytes c.total) ≡ first ∷ rest)
-found_from first rest c found = of_total (total_in first) refl
+-- the counter of parts has its total in the first of them, and all are as that one
+found_from : (format : DiskFormat) (first : List ℕ) (rest : List (List ℕ)) (c : CounterValue) → count_in format (first ∷ rest) ≡ Some c
+    → IsCount c × ((total_in format first ≡ Some c.total) × (replicate c.parts first ≡ first ∷ rest))
+found_from format first rest c found = of_total (total_in format first) refl
   where
-    of_total : (o : Option ℕ) → o ≡ total_in first → IsCount c × (replicate c.parts (total_bytes c.total) ≡ first ∷ rest)
+    of_total : (o : Option ℕ) → o ≡ total_in format first
+        → IsCount c × ((total_in format first ≡ Some c.total) × (replicate c.parts first ≡ first ∷ rest))
     of_total None is = let none : None ≡ Some c = ap (count_from first rest) is ∙ found in cc
     of_total (Some n) is =
         let test : Bool = nat_lt (length rest) 494 && list_all (bytes_eq first) rest in
@@ -95,26 +119,25 @@ found_from first rest c found = of_total (total_in first) refl
           | inl good ↦
               let both = and_parts (nat_lt (length rest) 494) (list_all (bytes_eq first) rest) good in
               let few : length rest < 494 = ltb-true (length rest) 494 both.0 in
-              let total = total_is first n (sym is) in
               let stated : Some made ≡ Some c = sym (cond-true test (Some made) None good) ∙ known in
               let same : made ≡ c = cc in
               let more : length rest + 1 ≡ suc (length rest) = omega arith in
-              let parts : replicate (length rest + 1) (total_bytes n) ≡ first ∷ rest
-              = ap (λ (m : ℕ). replicate m (total_bytes n)) more
-              ∙ ap (λ (x : List ℕ). replicate (suc (length rest)) x) (sym total.0)
-              ∙ ap (λ (xs : List (List ℕ)). first ∷ xs) (same_all first rest both.1) in
-              subst (λ (d : CounterValue). IsCount d × (replicate d.parts (total_bytes d.total) ≡ first ∷ rest)) same
-              (record { some = omega arith; few = omega (arith, few); total = total.1 }, parts)
+              let parts : replicate (length rest + 1) first ≡ first ∷ rest
+              = ap (λ (m : ℕ). replicate m first) more ∙ ap (λ (xs : List (List ℕ)). first ∷ xs) (same_all first rest both.1) in
+              subst (λ (d : CounterValue). IsCount d × ((total_in format first ≡ Some d.total) × (replicate d.parts first ≡ first ∷ rest))) same
+              (record { some = omega arith; few = omega (arith, few); total = total_small format first n (sym is) }, (sym is, parts))
           | inr bad ↦ let none : None ≡ Some c = sym (cond-false test (Some made) None bad) ∙ known in cc
         ]
 
-is_state : (parts : List (List ℕ)) (c : CounterValue) → count_in parts ≡ Some c → IsCount c
-is_state [] c found = let none : None ≡ Some c = found in cc
-is_state (first ∷ rest) c found = (found_from first rest c found).0
+is_state : (format : DiskFormat) (parts : List (List ℕ)) (c : CounterValue) → count_in format parts ≡ Some c → IsCount c
+is_state format [] c found = let none : None ≡ Some c = found in cc
+is_state format (first ∷ rest) c found = (found_from format first rest c found).0
 
-has_parts : (parts : List (List ℕ)) (c : CounterValue) → count_in parts ≡ Some c → replicate c.parts (total_bytes c.total) ≡ parts
+has_parts : (parts : List (List ℕ)) (c : CounterValue) → count_in Two parts ≡ Some c → replicate c.parts (total_bytes c.total) ≡ parts
 has_parts [] c found = let none : None ≡ Some c = found in cc
-has_parts (first ∷ rest) c found = (found_from first rest c found).1
+has_parts (first ∷ rest) c found =
+    let from = found_from Two first rest c found in
+    ap (λ (x : List ℕ). replicate c.parts x) (sym (total_is first c.total from.1.0).0) ∙ from.1.1
 
 -- a number that is added leads to a counter
 add_is : (c : CounterValue) (n : ℕ) (d : CounterValue) → IsCount c → add c n ≡ Ok d → IsCount d

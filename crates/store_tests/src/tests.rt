@@ -2,12 +2,13 @@
 mod counter;
 mod disks;
 mod faults;
+mod formats;
 mod rows;
 
 use arrayvec::ArrayVec;
 use counter::Counter;
 use sector_disk::{DiskFault, Fail, Fuse, MemoryDisk, SectorDisk};
-use session_store::{Store, StoreFault, format};
+use session_store::{DiskFormat, Store, StoreFault, format};
 use std::alloc::{AllocError, Global};
 use std::array;
 use std::fmt::Debug;
@@ -36,37 +37,77 @@ pub fn sector_of(mark: &[u8; 4], epoch: u64, number: u32, payload: &[u8]) -> [u8
     array::from_fn(|index| written.get(index).copied().unwrap_or(0))
 }
 
-/// A sector that a test writes.
+/// What a sector holds that a test writes.
 #[derive(Clone, Copy)]
-pub struct Sector {
-    at: u32,
-    mark: &'static [u8; 4],
-    epoch: u64,
-    number: u32,
-    payload: &'static [u8],
+pub enum Content {
+    /// A header of that many parts.
+    Header(u32),
+    /// The part of this number, of a counter with this total.
+    Part(u32, u16),
+    /// The record of this number, of the action that adds this much.
+    Record(u32, u8),
+    /// Zeros.
+    Zeros,
+    /// What has this last byte of its mark, this number and this payload.
+    Bytes(u8, u32, &'static [u8]),
 }
 
-/// The sector of this number, with this mark, epoch, number and payload.
-pub fn written(
-    at: u32,
-    mark: &'static [u8; 4],
-    epoch: u64,
-    number: u32,
-    payload: &'static [u8],
-) -> Sector {
-    Sector {
-        at,
-        mark,
-        epoch,
-        number,
-        payload,
-    }
+/// The last byte of its mark, its number, and its payload in this format.
+fn fields_of(format: DiskFormat, content: Content) -> (u8, u32, ArrayVec<u8, 16>) {
+    let mut payload = ArrayVec::new();
+    let (kind, number) = match content {
+        Content::Header(parts) => (b'H', parts),
+        Content::Part(number, total) => {
+            let bytes = match format {
+                DiskFormat::One => total.to_le_bytes(),
+                DiskFormat::Two => total.to_be_bytes(),
+            };
+            let _ = payload.try_extend_from_slice(&bytes);
+            (b'P', number)
+        }
+        Content::Record(number, add) => {
+            let kind = match format {
+                DiskFormat::One => 7,
+                DiskFormat::Two => 1,
+            };
+            let _ = payload.try_extend_from_slice(&[kind, add]);
+            (b'R', number)
+        }
+        Content::Zeros => (0, 0),
+        Content::Bytes(kind, number, bytes) => {
+            let _ = payload.try_extend_from_slice(bytes);
+            (kind, number)
+        }
+    };
+    (kind, number, payload)
 }
 
-/// Writes it.
-pub fn put(disk: &mut MemoryDisk, s: Sector) -> Result<(), DiskFault> {
-    if s.at < disk.count() {
-        disk.write(s.at, &sector_of(s.mark, s.epoch, s.number, s.payload))?;
+/// Writes it in a format, at this sector and of this epoch.
+pub fn put(
+    disk: &mut MemoryDisk,
+    format: DiskFormat,
+    at: u32,
+    epoch: u64,
+    content: Content,
+) -> Result<(), DiskFault> {
+    let digit = match format {
+        DiskFormat::One => b'1',
+        DiskFormat::Two => b'2',
+    };
+    let bytes = match content {
+        Content::Zeros => [0; 512],
+        _ => {
+            let (kind, number, payload) = fields_of(format, content);
+            sector_of(
+                &[b'B', b'D', digit, kind],
+                epoch,
+                number,
+                payload.as_slice(),
+            )
+        }
+    };
+    if at < disk.count() {
+        disk.write(at, &bytes)?;
     }
     Ok(())
 }
@@ -74,27 +115,24 @@ pub fn put(disk: &mut MemoryDisk, s: Sector) -> Result<(), DiskFault> {
 /// Writes a snapshot of 9 parts with this total.
 pub fn put_snapshot(
     disk: &mut MemoryDisk,
+    format: DiskFormat,
     index: u32,
     epoch: u64,
     total: u16,
 ) -> Result<(), DiskFault> {
-    put(disk, written(index, b"BD1H", epoch, 9, &[]))?;
+    put(disk, format, index, epoch, Content::Header(9))?;
     for i in 0..9 {
         let at = index.saturating_add(1 + i);
-        if at < disk.count() {
-            disk.write(at, &sector_of(b"BD1P", epoch, i, &total.to_be_bytes()))?;
-        }
+        put(disk, format, at, epoch, Content::Part(i, total))?;
     }
     Ok(())
 }
 
 /// Writes that many records of epoch 1, each of which adds 1.
-pub fn put_records(disk: &mut MemoryDisk, count: u32) -> Result<(), DiskFault> {
+pub fn put_records(disk: &mut MemoryDisk, format: DiskFormat, count: u32) -> Result<(), DiskFault> {
     for k in 0..count {
-        put(
-            disk,
-            written(1024u32.saturating_add(k), b"BD1R", 1, k, &[1, 1]),
-        )?;
+        let at = 1024u32.saturating_add(k);
+        put(disk, format, at, 1, Content::Record(k, 1))?;
     }
     Ok(())
 }

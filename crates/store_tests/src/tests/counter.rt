@@ -1,11 +1,11 @@
-//! The counter that the tests keep.
+//! The counter that the tests keep. Its bytes differ in the two formats.
 ghost use Rattle.std.specs.Prelude.{◌≡◌, ◌≤◌, ◌<◌, length, map};
 ghost use Rattle.std.specs.List.{list_all};
 ghost use Rattle.std.specs.Str.{bytes_eq};
 ghost use Rattle.store_tests.specs.Counter.{count_in, total_in};
 
 use arrayvec::ArrayVec;
-use session_store::{Kept, PartsFault};
+use session_store::{DiskFormat, Kept, PartsFault};
 use std::alloc::Global;
 use std::marker::Model;
 
@@ -43,14 +43,19 @@ impl Counter {
     }
 }
 
-/// The total of a part.
-fn read_total(part: &[u8]) -> Option<u16>
-    ensures { result ≡ total_in part.now }
+/// The total of a part of a format.
+fn read_total(format: DiskFormat, part: &[u8]) -> Option<u16>
+    ensures { result ≡ total_in format part.now }
 {
     if part.len() != 2 {
         return None;
     }
-    Some(256 * u16::from(part[0]) + u16::from(part[1]))
+    let first = u16::from(part[0]);
+    let second = u16::from(part[1]);
+    Some(match format {
+        DiskFormat::One => 256 * second + first,
+        DiskFormat::Two => 256 * first + second,
+    })
 }
 
 /// Whether all these parts are as the first one.
@@ -60,13 +65,13 @@ fn all_are(parts: &[ArrayVec<u8, 480>], first: &[u8]) -> bool
     parts.iter().all(|part| first == part.as_slice())
 }
 
-/// The counter of these parts.
-fn read_counter(parts: &[ArrayVec<u8, 480>]) -> Option<Counter>
-    ensures { result ≡ count_in (map (λ part. part.items) parts.now) }
+/// The counter of these parts of a format.
+fn read_counter(format: DiskFormat, parts: &[ArrayVec<u8, 480>]) -> Option<Counter>
+    ensures { result ≡ count_in format (map (λ part. part.items) parts.now) }
 {
     match parts.split_first() {
         None => None,
-        Some((first, rest)) => match read_total(first.as_slice()) {
+        Some((first, rest)) => match read_total(format, first.as_slice()) {
             None => None,
             Some(total) => {
                 if rest.len() >= 494 {
@@ -106,12 +111,16 @@ impl Kept for Counter {
         part.push((self.total % 256) as u8);
     }
 
-    fn from_parts(alloc: Global, parts: &[ArrayVec<u8, 480>]) -> Result<Counter, PartsFault> {
+    fn from_parts(
+        alloc: Global,
+        format: DiskFormat,
+        parts: &[ArrayVec<u8, 480>],
+    ) -> Result<Counter, PartsFault> {
         let memory: Result<Vec<u8>, _> = Vec::with_capacity(alloc, 1);
         if memory.is_err() {
             return Err(PartsFault::Memory);
         }
-        match read_counter(parts) {
+        match read_counter(format, parts) {
             None => Err(PartsFault::Bad),
             Some(counter) => Ok(counter),
         }
@@ -123,11 +132,15 @@ impl Kept for Counter {
         bytes.push(*action);
     }
 
-    fn read_action(bytes: &[u8]) -> Option<u8> {
+    fn read_action(format: DiskFormat, bytes: &[u8]) -> Option<u8> {
         if bytes.len() != 2 {
             return None;
         }
-        if bytes[0] != 1 {
+        let kind = match format {
+            DiskFormat::One => 7,
+            DiskFormat::Two => 1,
+        };
+        if bytes[0] != kind {
             return None;
         }
         Some(bytes[1])

@@ -1,21 +1,13 @@
 //! Disks that a test wrote, and what opening them answers.
-use super::{expect_eq, opened, opened_behind, opened_until, put, put_snapshot, written};
+use super::{Content, expect_eq, opened, opened_behind, opened_until, put, put_snapshot};
 use sector_disk::{DiskFault, Fail, Fuse, MemoryDisk};
-use session_store::StoreFault;
+use session_store::{DiskFormat, StoreFault};
 use std::alloc::Global;
 use std::process::Abort;
 use std::test::Fail as Failure;
 
-const HEADER: &[u8; 4] = b"BD1H";
-
-const PART: &[u8; 4] = b"BD1P";
-
-const RECORD: &[u8; 4] = b"BD1R";
-
-const NONE: &[u8; 4] = b"\0\0\0\0";
-
-/// Its sector, its mark, the epoch, its number and the payload.
-type Written = (u32, &'static [u8; 4], u64, u32, &'static [u8]);
+/// Its sector, its epoch, whether it is of the disk's format, and what it holds.
+type Written = (u32, u64, bool, Content);
 
 /// A snapshot of epoch 1 with total 65,000 in which these sectors were written over, and what opening the disk answers: the
 /// total and the epoch.
@@ -25,137 +17,192 @@ type Row = (
     Result<(u16, u64), StoreFault>,
 );
 
-const ROWS: [Row; 20] = [
+const ROWS: [Row; 25] = [
     ("no records", &[], Ok((65_000, 2))),
     (
         "no record 2",
         &[
-            (1024, RECORD, 1, 0, b"\x01\x02"),
-            (1025, RECORD, 1, 1, b"\x01\x03"),
-            (1027, RECORD, 1, 3, b"\x01\x04"),
+            (1024, 1, true, Content::Record(0, 2)),
+            (1025, 1, true, Content::Record(1, 3)),
+            (1027, 1, true, Content::Record(3, 4)),
         ],
         Ok((65_005, 2)),
     ),
     (
         "number 2 on record 1",
         &[
-            (1024, RECORD, 1, 0, b"\x01\x02"),
-            (1025, RECORD, 1, 2, b"\x01\x03"),
+            (1024, 1, true, Content::Record(0, 2)),
+            (1025, 1, true, Content::Record(2, 3)),
         ],
         Ok((65_002, 2)),
     ),
     (
         "a record of another epoch",
-        &[(1024, RECORD, 2, 0, b"\x01\x02")],
+        &[(1024, 2, true, Content::Record(0, 2))],
         Ok((65_000, 2)),
     ),
     (
         "a part in the journal",
-        &[(1024, PART, 1, 0, b"\x01\x02")],
+        &[(1024, 1, true, Content::Bytes(b'P', 0, b"\x01\x02"))],
         Ok((65_000, 2)),
     ),
     (
         "no action",
-        &[(1024, RECORD, 1, 0, b"\x63\x02")],
+        &[(1024, 1, true, Content::Bytes(b'R', 0, b"\x63\x02"))],
         Err(StoreFault::Damaged(1024)),
     ),
     (
         "an action that is refused",
         &[
-            (1024, RECORD, 1, 0, b"\x01\xff"),
-            (1025, RECORD, 1, 1, b"\x01\xff"),
-            (1026, RECORD, 1, 2, b"\x01\xff"),
+            (1024, 1, true, Content::Record(0, 255)),
+            (1025, 1, true, Content::Record(1, 255)),
+            (1026, 1, true, Content::Record(2, 255)),
         ],
         Err(StoreFault::Damaged(1026)),
     ),
     (
+        "a record of the other format",
+        &[
+            (1024, 1, true, Content::Record(0, 2)),
+            (1025, 1, false, Content::Record(1, 3)),
+            (1026, 1, true, Content::Record(2, 4)),
+        ],
+        Ok((65_002, 2)),
+    ),
+    (
+        "no action, and of the other format",
+        &[(1024, 1, false, Content::Bytes(b'R', 0, b"\x63\x02"))],
+        Ok((65_000, 2)),
+    ),
+    (
         "no part 3",
-        &[(4, NONE, 0, 0, b"")],
+        &[(4, 0, true, Content::Zeros)],
         Err(StoreFault::Damaged(4)),
     ),
     (
         "part 3 of another epoch",
-        &[(4, PART, 3, 3, b"\xfd\xe8")],
+        &[(4, 3, true, Content::Part(3, 65_000))],
         Err(StoreFault::Damaged(4)),
     ),
     (
         "number 4 on part 3",
-        &[(4, PART, 1, 4, b"\xfd\xe8")],
+        &[(4, 1, true, Content::Part(4, 65_000))],
         Err(StoreFault::Damaged(4)),
     ),
     (
         "another counter's part 3",
-        &[(4, PART, 1, 3, b"\0\0")],
+        &[(4, 1, true, Content::Part(3, 0))],
         Err(StoreFault::Damaged(0)),
     ),
     (
+        "part 3 of the other format",
+        &[(4, 1, false, Content::Part(3, 65_000))],
+        Err(StoreFault::Damaged(4)),
+    ),
+    (
         "a part, then a record",
-        &[(9, NONE, 0, 0, b""), (1024, RECORD, 1, 0, b"\x63\x02")],
+        &[
+            (9, 0, true, Content::Zeros),
+            (1024, 1, true, Content::Bytes(b'R', 0, b"\x63\x02")),
+        ],
         Err(StoreFault::Damaged(9)),
     ),
     (
         "no header",
-        &[(0, NONE, 0, 0, b"")],
+        &[(0, 0, true, Content::Zeros)],
+        Err(StoreFault::NotFormatted),
+    ),
+    (
+        "a header of the other format",
+        &[(0, 1, false, Content::Header(9))],
+        Err(StoreFault::Damaged(1)),
+    ),
+    (
+        "a header of no format",
+        &[(0, 1, true, Content::Bytes(b'h', 9, b""))],
         Err(StoreFault::NotFormatted),
     ),
     (
         "a header with a payload",
-        &[(0, HEADER, 1, 9, b"\0")],
+        &[(0, 1, true, Content::Bytes(b'H', 9, b"\0"))],
         Err(StoreFault::NotFormatted),
     ),
     (
         "headers in each other's place",
-        &[(0, HEADER, 2, 9, b""), (512, HEADER, 1, 9, b"")],
+        &[
+            (0, 2, true, Content::Header(9)),
+            (512, 1, false, Content::Header(9)),
+        ],
         Err(StoreFault::NotFormatted),
     ),
     (
         "a header of no parts",
-        &[(0, HEADER, 1, 0, b"")],
+        &[(0, 1, true, Content::Header(0))],
         Err(StoreFault::NotFormatted),
     ),
     (
         "a header of 495 parts",
-        &[(0, HEADER, 1, 495, b"")],
+        &[(0, 1, true, Content::Header(495))],
         Err(StoreFault::NotFormatted),
     ),
     (
         "a later header, no parts",
-        &[(512, HEADER, 2, 9, b"")],
+        &[(512, 2, false, Content::Header(9))],
         Err(StoreFault::Damaged(513)),
     ),
     (
         "a header of epoch 0",
-        &[(512, HEADER, 0, 9, b"")],
+        &[(512, 0, true, Content::Header(9))],
         Ok((65_000, 2)),
     ),
     (
         "the last epoch, damaged",
-        &[(0, HEADER, u64::MAX, 9, b"")],
+        &[(0, u64::MAX, true, Content::Header(9))],
         Err(StoreFault::EpochsSpent),
     ),
 ];
 
-fn put_all(disk: &mut MemoryDisk, sectors: &[Written]) -> Result<(), DiskFault> {
-    for (at, mark, epoch, number, payload) in sectors {
-        put(disk, written(*at, mark, *epoch, *number, payload))?;
+fn other(format: DiskFormat) -> DiskFormat {
+    match format {
+        DiskFormat::One => DiskFormat::Two,
+        DiskFormat::Two => DiskFormat::One,
+    }
+}
+
+fn put_all(
+    disk: &mut MemoryDisk,
+    format: DiskFormat,
+    sectors: &[Written],
+) -> Result<(), DiskFault> {
+    for (at, epoch, is_own, content) in sectors {
+        let format = if *is_own { format } else { other(format) };
+        put(disk, format, *at, *epoch, *content)?;
     }
     Ok(())
 }
 
 /// Fails with the name of a row whose disk is opened with another answer.
-fn expect_answers(rt: &impl Abort, alloc: Global, rows: &[Row]) -> Result<(), Failure> {
+fn expect_answers(
+    rt: &impl Abort,
+    alloc: Global,
+    format: DiskFormat,
+    rows: &[Row],
+) -> Result<(), Failure> {
     for (name, sectors, due) in rows {
         let mut disk = MemoryDisk::new(alloc, 2048)?;
-        put_snapshot(&mut disk, 0, 1, 65_000)?;
-        put_all(&mut disk, sectors)?;
-        expect_eq(rt, opened(alloc, disk).1, *due, *name);
+        put_snapshot(&mut disk, format, 0, 1, 65_000)?;
+        put_all(&mut disk, format, sectors)?;
+        expect_eq(rt, opened(alloc, disk).1, *due, (*name, format));
     }
     Ok(())
 }
 
 #[test]
 fn what_opening_answers(rt: HostRuntime) -> Result<(), Failure> {
-    expect_answers(&rt, rt.alloc(), ROWS.as_slice())
+    for format in [DiskFormat::One, DiskFormat::Two] {
+        expect_answers(&rt, rt.alloc(), format, ROWS.as_slice())?;
+    }
+    Ok(())
 }
 
 #[test]
@@ -175,7 +222,7 @@ fn disks_without_a_store(rt: HostRuntime) -> Result<(), Failure> {
 #[test]
 fn an_opening_whose_barrier_fails(rt: HostRuntime) -> Result<(), Failure> {
     let mut disk = MemoryDisk::new(rt.alloc(), 2048)?;
-    put_snapshot(&mut disk, 0, 1, 7)?;
+    put_snapshot(&mut disk, DiskFormat::Two, 0, 1, 7)?;
     let (disk, found) = opened_behind(rt.alloc(), Fuse::new(disk, 0, Fail::Once, false));
     expect_eq(&rt, found, Err(StoreFault::Disk), "first");
     let found = opened(rt.alloc(), disk).1;
@@ -195,7 +242,7 @@ fn a_call_that_fails_is_answered_first(rt: HostRuntime) -> Result<(), Failure> {
         for passes in 0..=calls {
             let mut disk = MemoryDisk::new(rt.alloc(), 2048)?;
             if epoch > 0 {
-                put(&mut disk, written(0, HEADER, epoch, 9, &[]))?;
+                put(&mut disk, DiskFormat::One, 0, epoch, Content::Header(9))?;
             }
             let fuse = Fuse::new(disk, passes, Fail::Once, false);
             let found = opened_behind(rt.alloc(), fuse).1;
@@ -214,7 +261,7 @@ fn a_call_that_fails_is_answered_first(rt: HostRuntime) -> Result<(), Failure> {
 #[test]
 fn an_opening_that_is_stopped_ten_times(rt: HostRuntime) -> Result<(), Failure> {
     let mut disk = MemoryDisk::new(rt.alloc(), 2048)?;
-    put_snapshot(&mut disk, 0, 1, 7)?;
+    put_snapshot(&mut disk, DiskFormat::Two, 0, 1, 7)?;
     let ones = [1; 2048];
     for time in 0..10 {
         let (mut left, found) = opened_until(rt.alloc(), disk, 23);

@@ -3,7 +3,9 @@ use super::counter::Counter;
 use super::{expect_eq, formatted, open, opened, put_snapshot};
 use arrayvec::ArrayVec;
 use sector_disk::{Fail, Fuse, MemoryDisk, SectorDisk};
-use session_store::{CheckpointFault, ConfirmFault, Store, StoreFault, SubmitFault, format};
+use session_store::{
+    CheckpointFault, ConfirmFault, DiskFormat, Store, StoreFault, SubmitFault, format,
+};
 use std::alloc::Global;
 use std::process::Abort;
 use std::test::Fail as Failure;
@@ -131,7 +133,7 @@ fn run(
 /// The disk of `run`, and what it is due to hold.
 fn prepared(rt: &impl Abort, alloc: Global) -> Result<(MemoryDisk, Twin), Failure> {
     let mut disk = MemoryDisk::new(alloc, 2048)?;
-    put_snapshot(&mut disk, 0, 1, 0)?;
+    put_snapshot(&mut disk, DiskFormat::Two, 0, 1, 0)?;
     let mut store = open(rt, alloc, disk);
     let mut twin = Twin {
         totals: ArrayVec::new(),
@@ -146,7 +148,7 @@ fn prepared(rt: &impl Abort, alloc: Global) -> Result<(MemoryDisk, Twin), Failur
 }
 
 /// The lists of values that a power cut picks.
-fn picks() -> [[u32; 2048]; 4] {
+pub fn picks() -> [[u32; 2048]; 4] {
     let mut lists = [[0; 2048], [1; 2048], [0; 2048], [0; 2048]];
     let mixed = [0, 1, 4, 4, 1];
     for i in 0..2048 {
@@ -200,7 +202,7 @@ fn faults_from_every_call_on(rt: HostRuntime) -> Result<(), Failure> {
     Ok(())
 }
 
-const FUSES: [(Fail, bool); 4] = [
+pub const FUSES: [(Fail, bool); 4] = [
     (Fail::Once, false),
     (Fail::Once, true),
     (Fail::Always, false),
@@ -271,7 +273,7 @@ fn a_store_whose_memory_may_be_refused(rt: HostRuntime) {
         failed: false,
     };
     twin.accept(0);
-    if put_snapshot(&mut disk, 0, 1, 0).is_err() {
+    if put_snapshot(&mut disk, DiskFormat::Two, 0, 1, 0).is_err() {
         return;
     }
     let fuse = Fuse::new(disk, u64::MAX, Fail::Once, false);

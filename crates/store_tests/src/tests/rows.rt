@@ -2,7 +2,7 @@
 use super::counter::Counter;
 use super::{expect_eq, formatted, open, opened, opened_until, put_records, put_snapshot};
 use sector_disk::{Fail, Fuse, MemoryDisk, SectorDisk};
-use session_store::{CheckpointFault, Store, StoreFault, SubmitFault, format};
+use session_store::{CheckpointFault, DiskFormat, Store, StoreFault, SubmitFault, format};
 use std::alloc::Global;
 use std::process::Abort;
 use std::test::Fail as Failure;
@@ -17,9 +17,9 @@ fn sectors_are_written_as_in_the_format(rt: HostRuntime) -> Result<(), Failure> 
     let mut disk = store.into_disk();
     let mut bytes = [0; 512];
     for (at, due) in [
-        (0, b"BD1H\0\0\0\0\0\0\0\x01\0\0\0\x09\0\0\0\0"),
-        (9, b"BD1P\0\0\0\0\0\0\0\x01\0\0\0\x08\0\x02\0\0"),
-        (1025, b"BD1R\0\0\0\0\0\0\0\x02\0\0\0\x01\0\x02\x01\x24"),
+        (0, b"BD2H\0\0\0\0\0\0\0\x01\0\0\0\x09\0\0\0\0"),
+        (9, b"BD2P\0\0\0\0\0\0\0\x01\0\0\0\x08\0\x02\0\0"),
+        (1025, b"BD2R\0\0\0\0\0\0\0\x02\0\0\0\x01\0\x02\x01\x24"),
     ] {
         if at < disk.count() {
             disk.read(at, &mut bytes)?;
@@ -137,7 +137,7 @@ fn a_full_journal_goes_over_to_a_checkpoint(rt: HostRuntime) -> Result<(), Failu
 #[test]
 fn the_last_epoch_is_used_up(rt: HostRuntime) -> Result<(), Failure> {
     let mut disk = MemoryDisk::new(rt.alloc(), 2048)?;
-    put_snapshot(&mut disk, 512, u64::MAX - 1, 500)?;
+    put_snapshot(&mut disk, DiskFormat::One, 512, u64::MAX - 1, 500)?;
     let mut store = open(&rt, rt.alloc(), disk);
     expect_eq(&rt, store.epoch(), u64::MAX, "epoch");
     expect_eq(&rt, fill(&mut store), true, "filled");
@@ -169,7 +169,7 @@ fn calls_of_the_disk_are_as_few_as_due(rt: HostRuntime) -> Result<(), Failure> {
     for (records, calls) in [(0, 25), (1, 26), (7, 32), (1023, 1048), (1024, 1048)] {
         for (short, due) in [(0, Ok((records as u16, 2))), (1, Err(StoreFault::Disk))] {
             let mut disk = formatted(&rt, rt.alloc())?;
-            put_records(&mut disk, records)?;
+            put_records(&mut disk, DiskFormat::Two, records)?;
             expect_eq(
                 &rt,
                 opened_until(rt.alloc(), disk, calls - short).1,
@@ -188,7 +188,7 @@ fn calls_of_the_disk_are_as_few_as_due(rt: HostRuntime) -> Result<(), Failure> {
 fn a_disk_with_a_full_journal_is_opened_and_formatted(rt: HostRuntime) -> Result<(), Failure> {
     for again in [false, true] {
         let mut disk = formatted(&rt, rt.alloc())?;
-        put_records(&mut disk, 1024)?;
+        put_records(&mut disk, DiskFormat::Two, 1024)?;
         if again {
             disk = format(disk, &Counter::new(9)).ok().expect(&rt, "formatted");
         }

@@ -1,5 +1,5 @@
 use Rattle.std.proofs.Common.{arith}
-use Rattle.session_store.proofs.FormatLemmas.{behind_snapshot, first_settled, settled-epoch, first_snapshot}
+use Rattle.session_store.proofs.FormatLemmas.{behind_snapshot, first_settled, settled-epoch, first_snapshot, first_format}
 use Rattle.session_store.proofs.formatting.write_first.Goals as goal
 
 pub returns-clause-stands : goal.returns-clause-stands
@@ -17,6 +17,12 @@ returns-clause-sound g c = λ honest.
     (c.write_snapshot.ensures.remains.stays_honest cleared)
     (omega (arith, c.requires, c.in_ok-clear.ensures.remains.count, c.write_snapshot.ensures.remains.count)) (c.in_ok-clear.ensures.cleared honest)
     (c.in_ok-write_snapshot.ensures.written cleared)).0
+
+pub returns-clause-format : goal.returns-clause-format
+returns-clause-format g c = λ honest.
+    let cleared = c.in_ok-clear.ensures.remains.stays_honest honest in
+    first_format g.K.Kept.kept g.D.SectorDisk.disk g.met.K.Kept.lawful _ _ c.args.state.now c.write_snapshot.ensures.state
+    (c.in_ok-clear.ensures.cleared honest) (c.in_ok-write_snapshot.ensures.written cleared)
 
 pub returns-clause-epoch : goal.returns-clause-epoch
 returns-clause-epoch g c = λ honest.

@@ -18,7 +18,7 @@ pub returns-in-None-clause-fault : goal.returns-in-None-clause-fault
 returns-in-None-clause-fault g c = inr (
   ap (λ at. Damaged (at + 1 + c.args.i)) c.place_of.ensures.place,
   c.in-Ok.ensures.called.faults_ok,
-  λ honest. rw (← c.place_of.ensures.place, ← (c.in-Ok.ensures.reads honest).given) (sym c.in-None.ensures.payload),
+  λ honest. rw (← c.place_of.ensures.place, ← (c.in-Ok.ensures.reads honest).given, ← c.part_mark.ensures) (sym c.in-None.ensures.payload),
 )
 
 pub returns-in-Some-clause-quiet : goal.returns-in-Some-clause-quiet
@@ -28,5 +28,5 @@ returns-in-Some-clause-quiet g c =
 pub returns-in-Some-clause-part : goal.returns-in-Some-clause-part
 returns-in-Some-clause-part g c = λ honest.
     let full = filled _ _ _ c.in-Some.payload.now c.new-part.ensures c.in-Some.ensures.fits c.try_extend_from_slice.ensures.variant c.try_extend_from_slice.ensures.ok in
-    rw (← c.place_of.ensures.place, ← (c.in-Ok.ensures.reads honest).given)
+    rw (← c.place_of.ensures.place, ← (c.in-Ok.ensures.reads honest).given, ← c.part_mark.ensures)
     (sym c.in-Some.ensures.payload ∙ ap (λ part. Some part) (sym full))

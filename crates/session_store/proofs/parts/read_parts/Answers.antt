@@ -26,7 +26,7 @@ returns-in-Err-read_part-clause-fault g c =
           (λ honest.
           let reads = (c.loop-i.invariant.quiet.only_read honest).reads (place c.args.header.epoch + 1 + c.loop-i.i) in
           c.loop-i.invariant.read honest
-          ∙ parts-damaged (disk.reads c.args.disk.now) c.args.header.epoch c.loop-i.i c.args.header.parts _ _ c.loop-i-test.true reads
+          ∙ parts-damaged c.args.header.format (disk.reads c.args.disk.now) c.args.header.epoch c.loop-i.i c.args.header.parts _ _ c.loop-i-test.true reads
           (damaged.2 (c.loop-i.invariant.quiet.remains.stays_honest honest)))
     ]
 
@@ -39,15 +39,15 @@ loop-i-preserved g c =
       read = λ honest.
           let reads = (c.loop-i.invariant.quiet.only_read honest).reads (place c.args.header.epoch + 1 + c.loop-i.i) in
           c.loop-i.invariant.read honest
-          ∙ parts-more (disk.reads c.args.disk.now) c.args.header.epoch c.loop-i.i c.args.header.parts _ _ _ c.loop-i-test.true reads
+          ∙ parts-more c.args.header.format (disk.reads c.args.disk.now) c.args.header.epoch c.loop-i.i c.args.header.parts _ _ _ c.loop-i-test.true reads
           (c.in-Ok-read_part.ensures.part (c.loop-i.invariant.quiet.remains.stays_honest honest))
-          ∙ ap (λ xs. with_parts xs (parts_from (disk.reads c.args.disk.now) c.args.header.epoch (c.loop-i.i + 1) (c.args.header.parts - (c.loop-i.i + 1)))) (sym (ap (map (λ part. part.items)) c.in-Ok-push.ensures.items ∙ map-append _ _ _));
+          ∙ ap (λ xs. with_parts xs (parts_from c.args.header.format (disk.reads c.args.disk.now) c.args.header.epoch (c.loop-i.i + 1) (c.args.header.parts - (c.loop-i.i + 1)))) (sym (ap (map (λ part. part.items)) c.in-Ok-push.ensures.items ∙ map-append _ _ _));
     }
 
 pub returns-after-loop-i-clause-parts : goal.returns-after-loop-i-clause-parts
 returns-after-loop-i-clause-parts g c = λ honest.
     c.loop-i.invariant.read honest
-    ∙ parts-all (g.D.SectorDisk.disk.reads c.args.disk.now) c.args.header.epoch c.loop-i.i c.args.header.parts _ (omega (arith, c.loop-i-test.false))
+    ∙ parts-all c.args.header.format (g.D.SectorDisk.disk.reads c.args.disk.now) c.args.header.epoch c.loop-i.i c.args.header.parts _ (omega (arith, c.loop-i-test.false))
 
 pub returns-in-Err-read_part-clause-quiet : goal.returns-in-Err-read_part-clause-quiet
 returns-in-Err-read_part-clause-quiet g c =

@@ -8,6 +8,6 @@ abbrev pub invariant-loop-i : goal.invariant-loop-i
 invariant-loop-i g l = let disk = g.D.SectorDisk.disk in record {
   quiet : Quiet disk l.fn.disk l.disk;
   no_fault : disk.faults l.disk ≡ disk.faults l.fn.disk;
-  read : disk.honest l.fn.disk → parts_from (disk.reads l.fn.disk) l.header.epoch 0 l.header.parts
-      ≡ with_parts (map (λ part. part.items) l.parts.items) (parts_from (disk.reads l.fn.disk) l.header.epoch l.i (l.header.parts - l.i));
+  read : disk.honest l.fn.disk → parts_from l.header.format (disk.reads l.fn.disk) l.header.epoch 0 l.header.parts
+      ≡ with_parts (map (λ part. part.items) l.parts.items) (parts_from l.header.format (disk.reads l.fn.disk) l.header.epoch l.i (l.header.parts - l.i));
 }

@@ -1,29 +1,7 @@
-use Rattle.std.proofs.Common.{sym, ◌∙◌, arith}
-use Rattle.session_store.proofs.ReadLemmas.{header_of-unequal, header_of-equal, header_of-out_of_range, no_epoch, no_parts, many_parts}
+use Rattle.std.proofs.Common.{refl, ◌∙◌}
+use Rattle.session_store.specs.Form.{header_of}
 use Rattle.session_store.proofs.reading.read_header.Goals as goal
 
-pub returns-then-epoch-eq0 : goal.returns-then-epoch-eq0
-returns-then-epoch-eq0 c =
-    sym (header_of-out_of_range c.args.bytes.now _ _ c.read_epoch-epoch.ensures.epoch c.read_number-parts.ensures.number
-    (no_epoch c.args.bytes.now _ _ c.if-epoch-eq0.true))
-
-pub returns-then-parts-eq0 : goal.returns-then-parts-eq0
-returns-then-parts-eq0 c =
-    sym (header_of-out_of_range c.args.bytes.now _ _ c.read_epoch-epoch.ensures.epoch c.read_number-parts.ensures.number
-    (no_parts c.args.bytes.now _ _ c.if-parts-eq0.true))
-
-pub returns-then-parts-gt-MOST_PARTS : goal.returns-then-parts-gt-MOST_PARTS
-returns-then-parts-gt-MOST_PARTS c =
-    sym (header_of-out_of_range c.args.bytes.now _ _ c.read_epoch-epoch.ensures.epoch c.read_number-parts.ensures.number
-    (many_parts c.args.bytes.now _ _ c.if-parts-gt-MOST_PARTS.true))
-
-pub returns-then-ne : goal.returns-then-ne
-returns-then-ne c =
-    let unequal = rw c.make_sector.ensures at (sym c.ne.ensures ∙ c.if-ne.true) in
-    sym (header_of-unequal c.args.bytes.now _ _ c.read_epoch-epoch.ensures.epoch c.read_number-parts.ensures.number unequal)
-
 pub returns : goal.returns
-returns c =
-    let equal = rw c.make_sector.ensures at (sym c.ne.ensures ∙ c.if-ne.false) in
-    sym (header_of-equal c.args.bytes.now _ _ c.read_epoch-epoch.ensures.epoch c.read_number-parts.ensures.number
-    (omega (arith, c.if-epoch-eq0.false)) (omega (arith, c.if-parts-eq0.false)) (omega (arith, c.if-parts-gt-MOST_PARTS.false)) equal)
+unfolding header_of
+returns c = c.or.ensures ∙ rw (c.read_header_as.ensures, c.read_header_as-2.ensures) refl

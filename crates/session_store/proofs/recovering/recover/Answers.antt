@@ -24,7 +24,7 @@ returns-in-Err-recover_from-clause-fault g c =
     let some = sym c.in-Some.is ∙ c.in-Ok.ensures.found honest in
     let read = reading-some kept _ h some c.if-header.false in
     let reads = image_is _ _ (c.in-Ok.ensures.quiet.only_read honest).reads in
-    read.0 ∙ read.1 ∙ ap (λ image. after_parts kept image h (parts_from image h.epoch 0 h.parts)) (sym reads) ∙ is)
+    read.0 ∙ read.1 ∙ ap (λ image. after_parts kept image h (parts_from h.format image h.epoch 0 h.parts)) (sym reads) ∙ is)
     c.in-Err-recover_from.ensures.fault
 
 pub returns-in-Ok-recover_from-clause-found : goal.returns-in-Ok-recover_from-clause-found
@@ -34,7 +34,7 @@ returns-in-Ok-recover_from-clause-found g c = λ honest.
     let some = sym c.in-Some.is ∙ c.in-Ok.ensures.found honest in
     let read = reading-some kept _ h some c.if-header.false in
     let reads = image_is _ _ (c.in-Ok.ensures.quiet.only_read honest).reads in
-    let from = ap (λ image. after_parts kept image h (parts_from image h.epoch 0 h.parts)) (sym reads)
+    let from = ap (λ image. after_parts kept image h (parts_from h.format image h.epoch 0 h.parts)) (sym reads)
     ∙ c.in-Ok-recover_from.ensures.found (c.in-Ok.ensures.quiet.remains.stays_honest honest) in
     (read.0 ∙ read.1 ∙ from, read.1 ∙ from, (h, sym some, sym c.in-Ok-recover_from.ensures.epoch))
 

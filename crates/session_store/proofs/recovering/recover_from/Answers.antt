@@ -27,7 +27,7 @@ returns-in-Err-replay_records-clause-fault g c =
     let payloads = c.in-Ok.ensures.parts honest ∙ ap (λ xs. Ok (map (λ part. part.items) xs)) (sym c.as_slice.ensures.value) in
     let reads = image_is _ _ (c.in-Ok.ensures.quiet.only_read honest).reads in
     after_parts-ok kept _ c.args.header _ _ _ payloads c.in-Ok-make_states.ensures.state
-    ∙ ap (λ image. replay kept 1024 image c.args.header.epoch 0 c.in-Ok-make_states.state) (sym reads) ∙ is)
+    ∙ ap (λ image. replay kept c.args.header.format 1024 image c.args.header.epoch 0 c.in-Ok-make_states.state) (sym reads) ∙ is)
     c.in-Err-replay_records.ensures.fault
 
 pub returns-clause-found : goal.returns-clause-found
@@ -36,7 +36,7 @@ returns-clause-found g c = λ honest.
     let payloads = c.in-Ok.ensures.parts honest ∙ ap (λ xs. Ok (map (λ part. part.items) xs)) (sym c.as_slice.ensures.value) in
     let reads = image_is _ _ (c.in-Ok.ensures.quiet.only_read honest).reads in
     after_parts-ok kept _ c.args.header _ _ _ payloads c.in-Ok-make_states.ensures.state
-    ∙ ap (λ image. replay kept 1024 image c.args.header.epoch 0 c.in-Ok-make_states.state) (sym reads)
+    ∙ ap (λ image. replay kept c.args.header.format 1024 image c.args.header.epoch 0 c.in-Ok-make_states.state) (sym reads)
     ∙ c.in-Ok-replay_records.ensures.replayed (c.in-Ok.ensures.quiet.remains.stays_honest honest)
 
 pub returns-clause-epoch : goal.returns-clause-epoch

@@ -16,4 +16,4 @@ returns-in-Ok-clause-quiet g c =
 
 pub returns-in-Ok-clause-entry : goal.returns-in-Ok-clause-entry
 returns-in-Ok-clause-entry g c = λ honest.
-    c.read_entry.ensures ∙ ap (entry_in g.K.Kept.kept c.args.epoch c.args.number) (c.in-Ok.ensures.reads honest).given
+    c.read_entry.ensures ∙ ap (entry_in g.K.Kept.kept c.args.format c.args.epoch c.args.number) (c.in-Ok.ensures.reads honest).given

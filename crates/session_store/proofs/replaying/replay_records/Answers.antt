@@ -16,7 +16,7 @@ returns-in-Missing-clause-replayed g c = λ honest.
     let reads = (so_far.quiet.only_read honest).reads (1024 + c.loop-number.number) in
     let entry = sym c.in-Missing.is ∙ c.in-Ok.ensures.entry (so_far.quiet.remains.stays_honest honest) in
     so_far.replayed honest
-    ∙ record-missing g.K.Kept.kept (g.D.SectorDisk.disk.reads c.args.disk.now) c.args.epoch c.loop-number.number c.loop-number.state _ reads entry
+    ∙ record-missing g.K.Kept.kept c.args.format (g.D.SectorDisk.disk.reads c.args.disk.now) c.args.epoch c.loop-number.number c.loop-number.state _ reads entry
 
 pub returns-in-Damaged-clause-quiet : goal.returns-in-Damaged-clause-quiet
 returns-in-Damaged-clause-quiet g c = quiet_joins g.D.SectorDisk.disk _ _ _ c.loop-number.invariant.quiet c.read_record.ensures.quiet
@@ -29,7 +29,7 @@ returns-in-Damaged-clause-fault g c =
     let reads = (so_far.quiet.only_read honest).reads (1024 + c.loop-number.number) in
     let entry = sym c.in-Damaged.is ∙ c.in-Ok.ensures.entry (so_far.quiet.remains.stays_honest honest) in
     so_far.replayed honest
-    ∙ record-damaged g.K.Kept.kept (g.D.SectorDisk.disk.reads c.args.disk.now) c.args.epoch c.loop-number.number c.loop-number.state _ reads
+    ∙ record-damaged g.K.Kept.kept c.args.format (g.D.SectorDisk.disk.reads c.args.disk.now) c.args.epoch c.loop-number.number c.loop-number.state _ reads
     c.loop-number-test.true entry)
 
 pub returns-in-Err-step_both-clause-fault : goal.returns-in-Err-step_both-clause-fault
@@ -40,7 +40,7 @@ returns-in-Err-step_both-clause-fault g c =
     let reads = (so_far.quiet.only_read honest).reads (1024 + c.loop-number.number) in
     let entry = sym c.in-Holds.is ∙ c.in-Ok.ensures.entry (so_far.quiet.remains.stays_honest honest) in
     so_far.replayed honest
-    ∙ record-refused g.K.Kept.kept (g.D.SectorDisk.disk.reads c.args.disk.now) c.args.epoch c.loop-number.number c.loop-number.state _ reads
+    ∙ record-refused g.K.Kept.kept c.args.format (g.D.SectorDisk.disk.reads c.args.disk.now) c.args.epoch c.loop-number.number c.loop-number.state _ reads
     c.loop-number-test.true c.in-Holds.action entry _ c.in-Err-step_both.ensures.step)
 
 pub loop-number-preserved : goal.loop-number-preserved
@@ -54,14 +54,14 @@ loop-number-preserved g c =
           let reads = (so_far.quiet.only_read honest).reads (1024 + c.loop-number.number) in
           let entry = sym c.in-Holds.is ∙ c.in-Ok.ensures.entry (so_far.quiet.remains.stays_honest honest) in
           so_far.replayed honest
-          ∙ record-taken g.K.Kept.kept (g.D.SectorDisk.disk.reads c.args.disk.now) c.args.epoch c.loop-number.number c.loop-number.state _ reads
+          ∙ record-taken g.K.Kept.kept c.args.format (g.D.SectorDisk.disk.reads c.args.disk.now) c.args.epoch c.loop-number.number c.loop-number.state _ reads
           c.loop-number-test.true c.in-Holds.action entry _ c.in-Ok-step_both.ensures.step;
     }
 
 pub returns-clause-replayed : goal.returns-clause-replayed
 returns-clause-replayed g c = λ honest.
     c.loop-number.invariant.replayed honest
-    ∙ records-end g.K.Kept.kept (g.D.SectorDisk.disk.reads c.args.disk.now) c.args.epoch c.loop-number.number c.loop-number.state
+    ∙ records-end g.K.Kept.kept c.args.format (g.D.SectorDisk.disk.reads c.args.disk.now) c.args.epoch c.loop-number.number c.loop-number.state
     (omega (arith, c.loop-number-test.false))
 
 pub returns-in-Err-step_both-clause-quiet : goal.returns-in-Err-step_both-clause-quiet

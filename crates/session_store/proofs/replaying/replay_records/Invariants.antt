@@ -8,6 +8,6 @@ invariant-loop-number g l = let disk = g.D.SectorDisk.disk in record {
   quiet : Quiet disk l.fn.disk l.disk;
   no_fault : disk.faults l.disk ≡ disk.faults l.fn.disk;
   same : l.base ≡ l.state;
-  replayed : disk.honest l.fn.disk → replay g.K.Kept.kept 1024 (disk.reads l.fn.disk) l.epoch 0 l.fn.state
-      ≡ replay g.K.Kept.kept (1024 - l.number) (disk.reads l.fn.disk) l.epoch l.number l.state;
+  replayed : disk.honest l.fn.disk → replay g.K.Kept.kept l.format 1024 (disk.reads l.fn.disk) l.epoch 0 l.fn.state
+      ≡ replay g.K.Kept.kept l.format (1024 - l.number) (disk.reads l.fn.disk) l.epoch l.number l.state;
 }

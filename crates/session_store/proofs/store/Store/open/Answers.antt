@@ -1,7 +1,7 @@
 use Rattle.std.proofs.Common.{◌≤◌, Err, inl, refl, ap, ◌∙◌, arith}
 use Rattle.sector_disk.proofs.RunLaws.{none_read, quiet, remains, remains_joins}
 use Rattle.session_store.proofs.OpeningLemmas.{cause-stands, too_small-not_memory, disk-not_memory}
-use Rattle.session_store.proofs.OpenLemmas.{quiet-still, still-sound, snapshot-still, opened-sound, opened-stands, opened-store, opened-view}
+use Rattle.session_store.proofs.OpenLemmas.{quiet-still, still-sound, snapshot-still, opened-sound, opened-stands, opened-format, opened-store, opened-view}
 use Rattle.session_store.proofs.store.Store.open.Goals as goal
 
 pub returns-then-count-lt-SECTORS-clause-only_read : goal.returns-then-count-lt-SECTORS-clause-only_read
@@ -86,6 +86,12 @@ returns-in-Ok-write_snapshot-clause-opened g c =
 
 pub returns-in-Ok-write_snapshot-clause-epoch : goal.returns-in-Ok-write_snapshot-clause-epoch
 returns-in-Ok-write_snapshot-clause-epoch g c = λ honest. (c.in-Ok.found.epoch, (c.in-Ok.ensures.found honest).2, refl)
+
+pub returns-in-Ok-write_snapshot-clause-format : goal.returns-in-Ok-write_snapshot-clause-format
+returns-in-Ok-write_snapshot-clause-format g c = λ honest.
+    opened-format g.K.Kept.kept g.D.SectorDisk.disk g.met.K.Kept.lawful _ _ _ c.in-Ok.found.epoch c.in-Ok.found.state
+    c.in-Ok.ensures.epoch c.write_snapshot.ensures.state (c.in-Ok.ensures.found honest).2 (c.in-Ok.ensures.settled honest)
+    (c.in-Ok-write_snapshot.ensures.written (c.recover_behind_barrier.ensures.quiet.remains.stays_honest honest))
 
 pub returns-in-Ok-write_snapshot-clause-stands : goal.returns-in-Ok-write_snapshot-clause-stands
 returns-in-Ok-write_snapshot-clause-stands g c = λ sound.
