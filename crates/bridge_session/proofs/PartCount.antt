@@ -1,4 +1,5 @@
 -- A session has at most 494 parts.
+use Rattle.session_store.specs.declared.disk_format.DiskFormat.TheVariants.{Two}
 use Rattle.std.proofs.Common.{◌≡◌, ◌+◌, ◌*◌, ◌≤◌, ℕ, List, length, map, ap, ◌∙◌, arith}
 use Rattle.std.specs.Prelude.{Option, nat_le}
 use Rattle.std.proofs.Math.Nat.{mul-le-mul}
@@ -32,7 +33,7 @@ few_of_each configuration round deals tables limits kept =
     }
 
 pub count_kept : (configuration : ConfigValue) (round : ℕ) (deals : List (Option (List ℕ))) (tables : List (List Record)) →
-    length (parts_of (state_of configuration round deals tables)) ≡ 2 + length configuration.pairs + length deals + length tables * configuration.boards
+    length (parts_of Two (state_of configuration round deals tables)) ≡ 2 + length configuration.pairs + length deals + length tables * configuration.boards
 count_kept configuration round deals tables =
     count_parts (state_of configuration round deals tables)
     ∙ ap (λ n. 2 + length configuration.pairs + length deals + n * configuration.boards) (length-map tables (map plain_of))

@@ -1,4 +1,5 @@
 -- The session of the parts that were read.
+use Rattle.session_store.specs.declared.disk_format.DiskFormat.{DiskFormat}
 use Rattle.std.proofs.Common.{◌≡◌, ◌+◌, ◌-◌, ◌*◌, ◌≤◌, ℕ, suc, Bool, true, false, cond, List, [], ◌∷◌, ◌++◌, length, get_or, map, take, drop, All, Option, Some, refl, sym, ap, ◌∙◌, subst, arith}
 use Rattle.std.specs.Prelude.{nat_le, slice_get, slice_index, slice_index_or, flat_map, unwrap_or}
 use Rattle.std.specs.Option.{option_map}
@@ -205,7 +206,7 @@ module _ (configuration : ConfigValue) (round : ℕ) (deals : List (Option (List
 
 -- The parts of a session with that configuration
 
-module _ (s : SessionValue) (is : IsSession s) (configuration : ConfigValue) (same : s.configuration ≡ configuration) (parts : List (List ℕ)) (of : board_parts s ≡ parts) where
+module _ (format : DiskFormat) (s : SessionValue) (is : IsSession s) (configuration : ConfigValue) (same : s.configuration ≡ configuration) (parts : List (List ℕ)) (of : board_parts format s ≡ parts) where
   deals_long : length (map deal_part s.deals) ≡ configuration.movement.shape.sets * configuration.boards
   deals_long =
       length-map s.deals deal_part ∙ is.valid.boards
@@ -213,13 +214,13 @@ module _ (s : SessionValue) (is : IsSession s) (configuration : ConfigValue) (sa
 
   pub board_half : map deal_part s.deals ≡ take (configuration.movement.shape.sets * configuration.boards) parts
   board_half =
-      sym (take_front (configuration.movement.shape.sets * configuration.boards) (map deal_part s.deals) (play_parts s) deals_long)
+      sym (take_front (configuration.movement.shape.sets * configuration.boards) (map deal_part s.deals) (play_parts format s) deals_long)
       ∙ ap (take (configuration.movement.shape.sets * configuration.boards)) of
 
-  pub play_half : flat_map (row_parts configuration.boards) s.records ≡ drop (configuration.movement.shape.sets * configuration.boards) parts
+  pub play_half : flat_map (row_parts format configuration.boards) s.records ≡ drop (configuration.movement.shape.sets * configuration.boards) parts
   play_half =
-      ap (λ (c : ConfigValue). flat_map (row_parts c.boards) s.records) (sym same)
-      ∙ sym (drop_front (configuration.movement.shape.sets * configuration.boards) (map deal_part s.deals) (play_parts s) deals_long)
+      ap (λ (c : ConfigValue). flat_map (row_parts format c.boards) s.records) (sym same)
+      ∙ sym (drop_front (configuration.movement.shape.sets * configuration.boards) (map deal_part s.deals) (play_parts format s) deals_long)
       ∙ ap (drop (configuration.movement.shape.sets * configuration.boards)) of
 
   pub parts_long : length parts ≡ configuration.movement.shape.sets * configuration.boards + length configuration.movement.rows * configuration.boards

@@ -4,7 +4,7 @@ use crate::session::Session;
 use arrayvec::ArrayVec;
 use session_bytes::ranges_of_action;
 use session_rules::{Action, Refused};
-use session_store::{Kept, PAYLOAD_BYTES, PartsFault};
+use session_store::{DiskFormat, Kept, PAYLOAD_BYTES, PartsFault};
 use std::alloc::Global;
 
 impl Kept for Session {
@@ -27,16 +27,17 @@ impl Kept for Session {
 
     fn from_parts(
         alloc: Global,
+        format: DiskFormat,
         parts: &[ArrayVec<u8, PAYLOAD_BYTES>],
     ) -> Result<Session, PartsFault> {
-        Session::from_parts(alloc, parts)
+        Session::from_parts(alloc, format, parts)
     }
 
     fn write_action(action: &Action, bytes: &mut ArrayVec<u8, PAYLOAD_BYTES>) {
         session_bytes::write_action(action, bytes);
     }
 
-    fn read_action(bytes: &[u8]) -> Option<Action> {
+    fn read_action(_format: DiskFormat, bytes: &[u8]) -> Option<Action> {
         session_bytes::read_action(bytes)
     }
 

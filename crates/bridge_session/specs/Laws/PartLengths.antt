@@ -1,4 +1,5 @@
--- Each part of a session has at most 480 bytes, and there are at most 494 parts.
+-- Each part of a session, in the second format, has at most 480 bytes, and there are at most 494 parts.
+use Rattle.session_store.specs.declared.disk_format.DiskFormat.TheVariants.{Two}
 use Rattle.std.proofs.Common.{◌≡◌, ◌-◌, ◌<◌, ◌≤◌, nat_le, ℕ, Bool, true, List, [], ◌∷◌, length, get_or, map, Option, None, Some, All, refl, sym, ap, subst, ◌∙◌, arith, length-append, inl, inr}
 use Rattle.std.specs.Prelude.{IfSome, flat_map, unwrap_or}
 use Rattle.std.specs.List.{range_with_len}
@@ -73,12 +74,12 @@ claim_fits : (agreed : Bool) (claim : Option Claim) → length (claim_bytes agre
 claim_fits agreed None = omega arith
 claim_fits agreed (Some claim) = omega arith
 
-ruling_fits : (made : Option Ruling) → length (ruling_bytes made) ≤ 2
+ruling_fits : (made : Option Ruling) → length (ruling_bytes Two made) ≤ 3
 ruling_fits None = omega arith
 ruling_fits (Some (ruling.Tricks tricks)) = omega arith
 ruling_fits (Some ruling.Void) = omega arith
 
-record_fits : (plain : PlainRecord) → length plain.calls ≤ 319 → length plain.cards ≤ 52 → Fits (record_part plain)
+record_fits : (plain : PlainRecord) → length plain.calls ≤ 319 → length plain.cards ≤ 52 → Fits (record_part Two plain)
 record_fits plain calls cards =
     let numbers = length-map plain.calls call_number in
     let claim = claim_fits (is_agreed_in plain) plain.claim in
@@ -114,7 +115,7 @@ module _ (s : SessionValue) (is : IsSession s) (plain : PlainRecord) (round : �
   cards_few None none = let cards = (valid.unplayed none).cards in subst (λ (cs : List ℕ). length cs ≤ 52) (sym cards) (omega arith)
   cards_few (Some contract) bid = cards_few_in contract (deal_on s.deals plain.board) bid refl
 
-  pub plain_fits : Fits (record_part plain)
+  pub plain_fits : Fits (record_part Two plain)
   plain_fits = record_fits plain (legal_length plain.calls valid.calls) (cards_few (contract_in plain) refl)
 
 -- the parts of a row
@@ -123,21 +124,21 @@ all_flat P f [] all = All-nil P
 all_flat P f (x ∷ xs) all =
     All-append P (f x) (flat_map f xs) (All-head (λ y. All P (f y)) x xs all) (all_flat P f xs (All-tail (λ y. All P (f y)) x xs all))
 
-row_fits : (boards : ℕ) (records : List PlainRecord) → All (λ plain. Fits (record_part plain)) records → All Fits (row_parts boards records)
+row_fits : (boards : ℕ) (records : List PlainRecord) → All (λ plain. Fits (record_part Two plain)) records → All Fits (row_parts Two boards records)
 row_fits boards records all =
-    All-map Fits (λ index. record_part (record_or_empty records index)) (range_with_len 0 boards)
+    All-map Fits (λ index. record_part Two (record_or_empty records index)) (range_with_len 0 boards)
     (λ k d within. at (get_or (range_with_len 0 boards) k d))
   where
-    at : (index : ℕ) → Fits (record_part (record_or_empty records index))
+    at : (index : ℕ) → Fits (record_part Two (record_or_empty records index))
     at index =
         elim (slice_get_cases records index).1 [
           | inl (plain, within, there, read) ↦
               let same : record_or_empty records index ≡ plain = ap (λ o. unwrap_or o (empty_record 0)) there in
-              let here : Fits (record_part plain) = subst (λ (p : PlainRecord). Fits (record_part p)) read (all index plain within) in
-              subst (λ (p : PlainRecord). Fits (record_part p)) (sym same) here
+              let here : Fits (record_part Two plain) = subst (λ (p : PlainRecord). Fits (record_part Two p)) read (all index plain within) in
+              subst (λ (p : PlainRecord). Fits (record_part Two p)) (sym same) here
           | inr (past, none) ↦
               let same : record_or_empty records index ≡ empty_record 0 = ap (λ o. unwrap_or o (empty_record 0)) none in
-              subst (λ (p : PlainRecord). Fits (record_part p)) (sym same) (omega arith)
+              subst (λ (p : PlainRecord). Fits (record_part Two p)) (sym same) (omega arith)
         ]
 
 -- all parts
@@ -154,26 +155,26 @@ module _ (s : SessionValue) (is : IsSession s) where
       ∙ length-map s.configuration.movement.rows (row_boards s.configuration.boards) in
       omega (arith, long, rows_few)
 
-  plays_fit : All (λ records. All (λ plain. Fits (record_part plain)) records) s.records
+  plays_fit : All (λ records. All (λ plain. Fits (record_part Two plain)) records) s.records
   plays_fit row_index d within index e inside =
       let known = each_record s is.valid row_index d within index e inside in
       plain_fits s is (get_or (get_or s.records row_index d) index e) known.0 known.1
 
-  pub parts_fit : All (λ part. length part ≤ 480) (parts_of s)
+  pub parts_fit : All (λ part. length part ≤ 480) (parts_of Two s)
   parts_fit =
       let c : ConfigValue = s.configuration in
-      let plays : All Fits (play_parts s)
-      = all_flat Fits (row_parts c.boards) s.records (λ k records within. row_fits c.boards (get_or s.records k records) (plays_fit k records within)) in
-      let boards : All Fits (board_parts s)
-      = All-append Fits (map deal_part s.deals) (play_parts s)
+      let plays : All Fits (play_parts Two s)
+      = all_flat Fits (row_parts Two c.boards) s.records (λ k records within. row_fits c.boards (get_or s.records k records) (plays_fit k records within)) in
+      let boards : All Fits (board_parts Two s)
+      = All-append Fits (map deal_part s.deals) (play_parts Two s)
       (All-map Fits deal_part s.deals (λ k deal within. deal_fits (get_or s.deals k deal) (is.ranges.deals k deal within))) plays in
-      let pairs : All Fits (pair_parts s)
-      = All-append Fits (map pair_part c.pairs) (board_parts s)
+      let pairs : All Fits (pair_parts Two s)
+      = All-append Fits (map pair_part c.pairs) (board_parts Two s)
       (All-map Fits pair_part c.pairs (λ k pair within. pair_fits (get_or c.pairs k pair) (is.valid.configured.pairs k pair within))) boards in
-      All-cons Fits (configuration_part c s.round) (movement_part c.movement.rows ∷ pair_parts s) (heading_fits c s.round is.valid.configured)
-      (All-cons Fits (movement_part c.movement.rows) (pair_parts s) (movement_fits c.movement.rows rows_few) pairs)
+      All-cons Fits (configuration_part c s.round) (movement_part c.movement.rows ∷ pair_parts Two s) (heading_fits c s.round is.valid.configured)
+      (All-cons Fits (movement_part c.movement.rows) (pair_parts Two s) (movement_fits c.movement.rows rows_few) pairs)
 
-  pub few_parts : length (parts_of s) ≤ 494
+  pub few_parts : length (parts_of Two s) ≤ 494
   few_parts =
       let limits = is.valid.configured in
       let boards = leb-true s.configuration.boards 3 (and_parts (nat_le 1 s.configuration.boards) (nat_le s.configuration.boards 3) limits.boards).1 in

@@ -1,6 +1,7 @@
 -- What a store asks of a session holds.
 use Rattle.std.proofs.Common.{◌≡◌, Result, Ok, Err, refl, sym, subst, arith}
 use Rattle.session_store.specs.Keeping.{IsLawful}
+use Rattle.session_store.specs.declared.disk_format.DiskFormat.TheVariants.{Two}
 use Rattle.session_rules.specs.declared.action.Action.{Action}
 use Rattle.session_rules.specs.declared.refused.Refused.{Refused}
 use Rattle.session_bytes.specs.ActionRange.{IsInRange}
@@ -27,12 +28,12 @@ steps_by s a t (Err refused) given is ranges stepped = let wrong : Err refused �
 pub session_is_lawful : IsLawful session_keeping
 session_is_lawful = record {
   read_back = read_back;
-  is_action = read_in_range;
+  is_action = λ format. read_in_range;
   action_fits = action_fits;
-  restored = λ s is. session_of_is s (parts_of s) is refl;
-  is_state = λ parts s found. (has_parts parts s found).0;
-  has_parts = λ parts s found. (has_parts parts s found).1;
-  some_part = λ s is. omega (arith, count_parts s);
+  restored = λ s is. session_of_is Two s (parts_of Two s) is refl;
+  is_state = λ format parts s found. (has_parts format parts s found).0;
+  has_parts = λ parts s found. (has_parts Two parts s found).1;
+  some_part = λ s is. omega (arith, count_parts Two s);
   few_parts = few_parts;
   parts_fit = parts_fit;
   steps_to_state = λ s a t is ranges stepped. steps_by s a t (step_answer s a) refl is ranges stepped;

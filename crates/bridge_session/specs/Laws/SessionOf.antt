@@ -1,6 +1,7 @@
 -- The session of parts.
 use Rattle.std.proofs.Common.{◌≡◌, ◌≢◌, ℕ, List, None, Some, inl, inr, refl, sym, ap, subst, ◌∙◌}
 use Rattle.bridge_session.specs.Decided.{Decided}
+use Rattle.session_store.specs.declared.disk_format.DiskFormat.{DiskFormat}
 use Rattle.session_bytes.specs.Parts.{parts_of}
 use Rattle.session_bytes.specs.PartsRead.{state_read}
 use Rattle.bridge_session.specs.SessionKeeping.{HasParts, decided_has_parts, with_parts, session_of}
@@ -8,30 +9,30 @@ use Rattle.session_rules.specs.State.{SessionValue}
 use Rattle.session_rules.specs.StateRange.{IsSession}
 use Rattle.session_bytes.proofs.SessionBack.{session_back}
 
-with_own_parts : (s : SessionValue) (parts : List (List ℕ)) (known : Decided (HasParts s parts)) → HasParts s parts → with_parts s parts known ≡ Some s
-with_own_parts s parts (inl has) is = refl
-with_own_parts s parts (inr has_not) is = absurd (has_not is)
+with_own_parts : (format : DiskFormat) (s : SessionValue) (parts : List (List ℕ)) (known : Decided (HasParts format s parts)) → HasParts format s parts → with_parts format s parts known ≡ Some s
+with_own_parts format s parts (inl has) is = refl
+with_own_parts format s parts (inr has_not) is = absurd (has_not is)
 
-with_other_parts : (s : SessionValue) (parts : List (List ℕ)) (known : Decided (HasParts s parts)) → ¬ HasParts s parts → with_parts s parts known ≡ None
-with_other_parts s parts (inl has) is_not = absurd (is_not has)
-with_other_parts s parts (inr has_not) is_not = refl
+with_other_parts : (format : DiskFormat) (s : SessionValue) (parts : List (List ℕ)) (known : Decided (HasParts format s parts)) → ¬ HasParts format s parts → with_parts format s parts known ≡ None
+with_other_parts format s parts (inl has) is_not = absurd (is_not has)
+with_other_parts format s parts (inr has_not) is_not = refl
 
-found_parts : (s t : SessionValue) (parts : List (List ℕ)) (known : Decided (HasParts s parts)) → with_parts s parts known ≡ Some t → HasParts t parts
-found_parts s t parts (inl has) found = let same : s ≡ t = let stated : Some s ≡ Some t = found in cc in subst (λ u. HasParts u parts) same has
-found_parts s t parts (inr has_not) found = let none : None ≡ Some t = found in absurd cc
+found_parts : (format : DiskFormat) (s t : SessionValue) (parts : List (List ℕ)) (known : Decided (HasParts format s parts)) → with_parts format s parts known ≡ Some t → HasParts format t parts
+found_parts format s t parts (inl has) found = let same : s ≡ t = let stated : Some s ≡ Some t = found in cc in subst (λ u. HasParts format u parts) same has
+found_parts format s t parts (inr has_not) found = let none : None ≡ Some t = found in absurd cc
 
 -- a session is that of its parts
-pub session_of_is : (s : SessionValue) (parts : List (List ℕ)) → IsSession s → parts_of s ≡ parts → session_of parts ≡ Some s
-session_of_is s parts is same =
-    let read : state_read parts ≡ s = ap state_read (sym same) ∙ session_back s is in
-    let has : HasParts (state_read parts) parts = subst (λ t. HasParts t parts) (sym read) (is, same) in
-    with_own_parts (state_read parts) parts (decided_has_parts (state_read parts) parts) has ∙ ap Some read
+pub session_of_is : (format : DiskFormat) (s : SessionValue) (parts : List (List ℕ)) → IsSession s → parts_of format s ≡ parts → session_of format parts ≡ Some s
+session_of_is format s parts is same =
+    let read : state_read parts ≡ s = ap state_read (sym same) ∙ session_back format s is in
+    let has : HasParts format (state_read parts) parts = subst (λ t. HasParts format t parts) (sym read) (is, same) in
+    with_own_parts format (state_read parts) parts (decided_has_parts format (state_read parts) parts) has ∙ ap Some read
 
 -- parts that no session has are those of none
-pub no_session : (parts : List (List ℕ)) → ((s : SessionValue) → IsSession s → parts_of s ≢ parts) → session_of parts ≡ None
-no_session parts none =
-    with_other_parts (state_read parts) parts (decided_has_parts (state_read parts) parts) (λ has. none (state_read parts) has.0 has.1)
+pub no_session : (format : DiskFormat) (parts : List (List ℕ)) → ((s : SessionValue) → IsSession s → parts_of format s ≢ parts) → session_of format parts ≡ None
+no_session format parts none =
+    with_other_parts format (state_read parts) parts (decided_has_parts format (state_read parts) parts) (λ has. none (state_read parts) has.0 has.1)
 
 -- a session of parts has them
-pub has_parts : (parts : List (List ℕ)) (s : SessionValue) → session_of parts ≡ Some s → HasParts s parts
-has_parts parts s found = found_parts (state_read parts) s parts (decided_has_parts (state_read parts) parts) found
+pub has_parts : (format : DiskFormat) (parts : List (List ℕ)) (s : SessionValue) → session_of format parts ≡ Some s → HasParts format s parts
+has_parts format parts s found = found_parts format (state_read parts) s parts (decided_has_parts format (state_read parts) parts) found

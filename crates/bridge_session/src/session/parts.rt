@@ -5,6 +5,7 @@ ghost use Rattle.bridge_cards.specs.Board.{dealer_of};
 ghost use Rattle.session_rules.specs.Record.{empty_record};
 ghost use Rattle.session_rules.specs.StateRange.{IsSession};
 ghost use Rattle.bridge_table.specs.Kept.{plain_of};
+ghost use Rattle.session_store.specs.declared.disk_format.DiskFormat.TheVariants.{Two};
 ghost use Rattle.session_bytes.specs.Parts.{parts_of, pair_parts, board_parts, play_parts, record_part};
 
 use super::Session;
@@ -19,7 +20,7 @@ impl Session {
     /// The number of the session's parts, 1 to 494: the configuration, the movement, one for each pair, one for each board,
     /// and one for each board of each row's set.
     pub fn parts(&self) -> u32
-        ensures count { result ≡ length (parts_of self.now) }
+        ensures count { result ≡ length (parts_of Two self.now) }
         ensures some { 1 ≤ result }
         ensures few { result ≤ 494 }
         ensures session { IsSession self.now }
@@ -32,8 +33,8 @@ impl Session {
 
     /// The record of a play by its index among the plays, if its row is live.
     fn play_at(&self, index: usize) -> Option<&Record>
-        requires { index < length (play_parts self.now) }
-        ensures part { record_part (unwrap_or (option_map plain_of (option_copied result)) (empty_record 0)) ≡ slice_index_or (play_parts self.now) index [] }
+        requires { index < length (play_parts Two self.now) }
+        ensures part { record_part Two (unwrap_or (option_map plain_of (option_copied result)) (empty_record 0)) ≡ slice_index_or (play_parts Two self.now) index [] }
         ensures dealer { IfSome (option_copied result) (λ kept. kept.auction.dealer ≡ dealer_of kept.board) }
     {
         let boards = usize::from(self.config.fields().boards);
@@ -43,9 +44,9 @@ impl Session {
 
     /// Writes the part of a play by its index among the plays into an empty list.
     fn write_play(&self, index: usize, part: &mut ArrayVec<u8, PAYLOAD_BYTES>)
-        requires within { index < length (play_parts self.now) }
+        requires within { index < length (play_parts Two self.now) }
         requires empty { part.old.items ≡ [] }
-        ensures { part.new.items ≡ slice_index_or (play_parts self.now) index [] }
+        ensures { part.new.items ≡ slice_index_or (play_parts Two self.now) index [] }
     {
         match self.play_at(index) {
             Some(kept) => write_record(kept, part),
@@ -55,9 +56,9 @@ impl Session {
 
     /// Writes the part of a board or a play by its index among these into an empty list.
     fn write_from_boards(&self, index: usize, part: &mut ArrayVec<u8, PAYLOAD_BYTES>)
-        requires within { index < length (board_parts self.now) }
+        requires within { index < length (board_parts Two self.now) }
         requires empty { part.old.items ≡ [] }
-        ensures { part.new.items ≡ slice_index_or (board_parts self.now) index [] }
+        ensures { part.new.items ≡ slice_index_or (board_parts Two self.now) index [] }
     {
         let boards = self.deals.len();
         if index < boards {
@@ -69,9 +70,9 @@ impl Session {
 
     /// Writes the part of a pair, a board or a play by its index among these into an empty list.
     fn write_from_pairs(&self, index: usize, part: &mut ArrayVec<u8, PAYLOAD_BYTES>)
-        requires within { index < length (pair_parts self.now) }
+        requires within { index < length (pair_parts Two self.now) }
         requires empty { part.old.items ≡ [] }
-        ensures { part.new.items ≡ slice_index_or (pair_parts self.now) index [] }
+        ensures { part.new.items ≡ slice_index_or (pair_parts Two self.now) index [] }
     {
         let pairs = self.config.fields().pairs.as_slice();
         if index < pairs.len() {
@@ -83,8 +84,8 @@ impl Session {
 
     /// Clears `part`, and writes the part of the session of that index into it, counted from 0.
     pub fn write_part(&self, index: u32, part: &mut ArrayVec<u8, PAYLOAD_BYTES>)
-        requires { index < length (parts_of self.now) }
-        ensures { part.new.items ≡ slice_index_or (parts_of self.now) index [] }
+        requires { index < length (parts_of Two self.now) }
+        ensures { part.new.items ≡ slice_index_or (parts_of Two self.now) index [] }
     {
         part.clear();
         match index {

@@ -10,21 +10,22 @@ use super::Session;
 use arrayvec::ArrayVec;
 use bridge_config::Config;
 use session_bytes::{read_deals, read_head, read_tables};
-use session_store::{PAYLOAD_BYTES, PartsFault};
+use session_store::{DiskFormat, PAYLOAD_BYTES, PartsFault};
 use std::alloc::{AllocError, Global};
 
-/// The session of the configuration in the round whose boards and plays the parts state; none where they are those of none.
+/// The session of the configuration in the round whose boards and plays the parts of a format state; none where they are those of none.
 fn read_boards(
     alloc: Global,
+    format: DiskFormat,
     config: Config,
     round: u8,
     parts: &[ArrayVec<u8, PAYLOAD_BYTES>],
 ) -> Result<Option<Session>, AllocError>
     requires { IsRound config round }
     ensures state { IfOk result (λ found. IfSome found (λ s. (s.configuration ≡ config) × (s.round ≡ round))) }
-    ensures parts { IfOk result (λ found. IfSome found (λ s. board_parts s ≡ map (λ part. part.items) parts.now)) }
+    ensures parts { IfOk result (λ found. IfSome found (λ s. board_parts format s ≡ map (λ part. part.items) parts.now)) }
     ensures session { IfOk result (λ found. IfSome found IsSession) }
-    ensures other { IfOk result (λ found. IfNone found ((s : SessionValue) → IsSession s → s.configuration ≡ config → s.round ≡ round → board_parts s ≢ map (λ part. part.items) parts.now)) }
+    ensures other { IfOk result (λ found. IfNone found ((s : SessionValue) → IsSession s → s.configuration ≡ config → s.round ≡ round → board_parts format s ≢ map (λ part. part.items) parts.now)) }
     ensures counted { OnErr result (length parts.now ≡ board_part_count config) }
 {
     let fields = config.fields();
@@ -39,7 +40,7 @@ fn read_boards(
         Some(deals) => deals,
         None => return Ok(None),
     };
-    let tables = match read_tables(alloc, of_plays, rows, boards, deals.as_slice(), round)? {
+    let tables = match read_tables(alloc, format, of_plays, rows, boards, deals.as_slice(), round)? {
         Some(tables) => tables,
         None => return Ok(None),
     };
@@ -52,15 +53,16 @@ fn read_boards(
 }
 
 impl Session {
-    /// The session that the parts were written of. `Bad` where they are not exactly those of a session, `Memory` where it is
+    /// The session that the parts of a format were written of. `Bad` where they are not exactly those of a session, `Memory` where it is
     /// out of memory, of which it takes none before the configuration, the round and the number of the parts are read.
     pub fn from_parts(
         alloc: Global,
+        format: DiskFormat,
         parts: &[ArrayVec<u8, PAYLOAD_BYTES>],
     ) -> Result<Session, PartsFault>
-        ensures parts { IfOk result (λ s. parts_of s ≡ map (λ part. part.items) parts.now) }
+        ensures parts { IfOk result (λ s. parts_of format s ≡ map (λ part. part.items) parts.now) }
         ensures session { IfOk result IsSession }
-        ensures bad { IsErrOf result PartsFault.Bad → (s : SessionValue) → IsSession s → parts_of s ≢ map (λ part. part.items) parts.now }
+        ensures bad { IsErrOf result PartsFault.Bad → (s : SessionValue) → IsSession s → parts_of format s ≢ map (λ part. part.items) parts.now }
         ensures memory { IsErrOf result PartsFault.Memory → HasHead (map (λ part. part.items) parts.now) }
     {
         let Some(head) = read_head(parts) else {
@@ -68,7 +70,7 @@ impl Session {
         };
         let pairs = head.config.fields().pairs.len();
         let (_, of_boards) = parts.split_at(2 + pairs);
-        match read_boards(alloc, head.config, head.round, of_boards) {
+        match read_boards(alloc, format, head.config, head.round, of_boards) {
             Ok(Some(session)) => Ok(session),
             Ok(None) => Err(PartsFault::Bad),
             Err(_) => Err(PartsFault::Memory),

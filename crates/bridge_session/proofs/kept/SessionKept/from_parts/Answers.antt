@@ -1,5 +1,6 @@
 use Rattle.std.proofs.Common.{◌≡◌, List, ℕ, Some, Result, Ok, Err, IfOk, map}
 use Rattle.arrayvec.specs.ArrayVec.{ArrayVec}
+use Rattle.session_store.specs.declared.disk_format.DiskFormat.{DiskFormat}
 use Rattle.session_store.specs.declared.fault.PartsFault.{PartsFault}
 use Rattle.session_bytes.specs.Parts.{parts_of}
 use Rattle.session_rules.specs.State.{SessionValue}
@@ -9,12 +10,13 @@ use Rattle.bridge_session.specs.Laws.SessionOf.{session_of_is, no_session}
 use Rattle.bridge_session.proofs.kept.SessionKept.from_parts.Goals as goal
 
 -- a session that has the parts is theirs
-found : (parts : List (List ℕ)) (result : Result SessionValue PartsFault) → IfOk result (λ s. parts_of s ≡ parts) → IfOk result IsSession → IfOk result (λ s. session_of parts ≡ Some s)
-found parts (Ok s) has is = session_of_is s parts is has
-found parts (Err fault) has is = tt
+found : (format : DiskFormat) (parts : List (List ℕ)) (result : Result SessionValue PartsFault) → IfOk result (λ s. parts_of format s ≡ parts)
+    → IfOk result IsSession → IfOk result (λ s. session_of format parts ≡ Some s)
+found format parts (Ok s) has is = session_of_is format s parts is has
+found format parts (Err fault) has is = tt
 
 pub returns-clause-state : goal.returns-clause-state
-returns-clause-state c = found (map (λ (part : ArrayVec ℕ). part.items) c.args.parts.now) c.from_parts.result c.from_parts.ensures.parts c.from_parts.ensures.session
+returns-clause-state c = found c.args.format (map (λ (part : ArrayVec ℕ). part.items) c.args.parts.now) c.from_parts.result c.from_parts.ensures.parts c.from_parts.ensures.session
 
 pub returns-clause-bad : goal.returns-clause-bad
-returns-clause-bad c = λ bad. no_session (map (λ (part : ArrayVec ℕ). part.items) c.args.parts.now) (c.from_parts.ensures.bad bad)
+returns-clause-bad c = λ bad. no_session c.args.format (map (λ (part : ArrayVec ℕ). part.items) c.args.parts.now) (c.from_parts.ensures.bad bad)

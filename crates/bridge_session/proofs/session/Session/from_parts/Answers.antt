@@ -1,3 +1,4 @@
+
 use Rattle.std.proofs.Common.{◌≡◌, ◌+◌, ◌++◌, ◌∙◌, length, map, drop, sym, ap, arith, length-append}
 use Rattle.std.specs.List.{drop-map}
 use Rattle.std.proofs.lemmas.List.{length-map, take-append-drop}
@@ -40,10 +41,10 @@ returns-in-Ok-Some-clause-parts c =
     = ap (map items_of) c.split_at.ensures.back ∙ sym (drop-map items_of (2 + c.len-pairs.result) c.args.parts.now) ∙ ap (λ n. drop (2 + n) parts) pairs in
     let stated : (session.configuration ≡ config) × (session.round ≡ round)
     = when_some (λ (s : SessionValue). (s.configuration ≡ config) × (s.round ≡ round)) c.in-Ok-Some.field-0 session c.in-Ok-Some.ensures.state c.in-Ok-Some.field-0-is in
-    let boards : board_parts session ≡ map items_of c.split_at.result.1.now
-    = when_some (λ (s : SessionValue). board_parts s ≡ map items_of c.split_at.result.1.now) c.in-Ok-Some.field-0 session c.in-Ok-Some.ensures.parts c.in-Ok-Some.field-0-is in
-    ap (λ (k : ConfigValue). head_parts k session.round ++ board_parts session) stated.0
-    ∙ ap (λ n. head_parts config n ++ board_parts session) stated.1
+    let boards : board_parts c.args.format session ≡ map items_of c.split_at.result.1.now
+    = when_some (λ (s : SessionValue). board_parts c.args.format s ≡ map items_of c.split_at.result.1.now) c.in-Ok-Some.field-0 session c.in-Ok-Some.ensures.parts c.in-Ok-Some.field-0-is in
+    ap (λ (k : ConfigValue). head_parts k session.round ++ board_parts c.args.format session) stated.0
+    ∙ ap (λ n. head_parts config n ++ board_parts c.args.format session) stated.1
     ∙ ap (λ xs. head_parts config round ++ xs) (boards ∙ behind)
     ∙ ap (λ ps. ps ++ drop (2 + length config.pairs) parts) c.in-Some.ensures.written ∙ take-append-drop (2 + length config.pairs) parts
 
@@ -56,6 +57,6 @@ returns-in-Ok-None-clause-bad c = λ bad s is of.
     = c.len-pairs.ensures.value ∙ sym (length-map c.fields.result.now.pairs.items pair_of) ∙ ap (λ (k : ConfigValue). length k.pairs) c.fields.ensures.fields in
     let behind : map items_of c.split_at.result.1.now ≡ drop (2 + length config.pairs) parts
     = ap (map items_of) c.split_at.ensures.back ∙ sym (drop-map items_of (2 + c.len-pairs.result) c.args.parts.now) ∙ ap (λ n. drop (2 + n) parts) pairs in
-    let head = same_head s.configuration config s.round round (board_parts s) (drop (2 + length config.pairs) parts) is.valid.configured c.fields.ensures.limits
+    let head = same_head s.configuration config s.round round (board_parts c.args.format s) (drop (2 + length config.pairs) parts) is.valid.configured c.fields.ensures.limits
     (of ∙ sym (ap (λ ps. ps ++ drop (2 + length config.pairs) parts) c.in-Some.ensures.written ∙ take-append-drop (2 + length config.pairs) parts)) in
     when_none _ c.in-Ok-None.field-0 c.in-Ok-None.ensures.other c.in-Ok-None.field-0-is s is head.configuration head.round (head.behind ∙ sym behind)

@@ -1,3 +1,4 @@
+use Rattle.session_store.specs.declared.disk_format.DiskFormat.TheVariants.{Two}
 use Rattle.std.proofs.Common.{Vec, Global, ◌≡◌, ◌+◌, ◌*◌, length, sym, ap, ◌∙◌, arith}
 use Rattle.std.proofs.lemmas.List.{length-map}
 use Rattle.bridge_config.specs.ConfigValue.{ConfigValue, pair_of}
@@ -26,7 +27,7 @@ pub returns-clause-count : goal.returns-clause-count
 returns-clause-count c =
     let s = c.self.inside in
     let tables = lists_in s.tables.items in
-    let count = sym (count_kept s.config s.round s.deals.items tables) ∙ ap (λ (t : SessionValue). length (parts_of t)) c.self.view_is in
+    let count = sym (count_kept s.config s.round s.deals.items tables) ∙ ap (λ (t : SessionValue). length (parts_of Two t)) c.self.view_is in
     let sum : 2 + c.len-2.result + c.len-3.result + c.len.result * c.from.result ≡ 2 + length s.config.pairs + length s.deals.items + length tables * s.config.boards
     = omega (arith, pairs_are c, plays_are c, c.len-3.ensures) in
     sum ∙ count

@@ -1,3 +1,4 @@
+
 use Rattle.std.proofs.Common.{Vec, Global, ◌≡◌, ◌*◌, ◌∙◌, ◌++◌, ℕ, List, Option, length, map, take, drop, sym, ap, subst, All, arith}
 use Rattle.std.specs.Prelude.{flat_map}
 use Rattle.std.specs.List.{take-map, drop-map}
@@ -76,7 +77,7 @@ returns-in-None-2-clause-other c = λ s is same round of.
     (subst (λ n. AreRows c.as_slice.result.now c.args.round n config.movement.rows s.records) (sym of_set)
     (subst (λ ds. AreRows ds c.args.round config.boards config.movement.rows s.records) (deals_are ∙ sym listed) own)) in
     when_none _ c.in_ok-tables.field-0 c.in_ok-tables.ensures.other c.in-None-2.is s.records here
-    (ap (λ n. flat_map (row_parts n) s.records) of_set ∙ play_half s is config same (map items_of parts) of ∙ sym back)
+    (ap (λ n. flat_map (row_parts c.args.format n) s.records) of_set ∙ play_half s is config same (map items_of parts) of ∙ sym back)
 
 pub invariant_of-result : goal.invariant_of-result
 invariant_of-result c =
@@ -158,12 +159,12 @@ returns-clause-parts c =
       rows = own;
       tied = subst (λ ds. All (λ (t : Vec Record Global). All (IsTiedIn ds) t.items) tables) listed tied;
     } in
-    let plays : flat_map (row_parts c.fields-fields.result.now.boards) (map plains_of tables) ≡ map items_of c.split_at.result.1.now
-    = when_some (λ (ts : Vec (Vec Record Global) Global). flat_map (row_parts c.fields-fields.result.now.boards) (map plains_of ts.items) ≡ map items_of c.split_at.result.1.now)
+    let plays : flat_map (row_parts c.args.format c.fields-fields.result.now.boards) (map plains_of tables) ≡ map items_of c.split_at.result.1.now
+    = when_some (λ (ts : Vec (Vec Record Global) Global). flat_map (row_parts c.args.format c.fields-fields.result.now.boards) (map plains_of ts.items) ≡ map items_of c.split_at.result.1.now)
     c.in_ok-tables.field-0 c.in-Some-2.tables c.in_ok-tables.ensures.written c.in-Some-2.is in
-    ap board_parts (made_is config c.args.round deals tables made)
-    ∙ ap (λ xs. xs ++ flat_map (row_parts config.boards) (map plains_of tables)) (written ∙ front)
-    ∙ ap (λ n. take (config.movement.shape.sets * config.boards) (map items_of parts) ++ flat_map (row_parts n) (map plains_of tables)) (sym of_set)
+    ap board_parts c.args.format (made_is config c.args.round deals tables made)
+    ∙ ap (λ xs. xs ++ flat_map (row_parts c.args.format config.boards) (map plains_of tables)) (written ∙ front)
+    ∙ ap (λ n. take (config.movement.shape.sets * config.boards) (map items_of parts) ++ flat_map (row_parts c.args.format n) (map plains_of tables)) (sym of_set)
     ∙ ap (λ xs. take (config.movement.shape.sets * config.boards) (map items_of parts) ++ xs) (plays ∙ back)
     ∙ take-append-drop (config.movement.shape.sets * config.boards) (map items_of parts)
 
