@@ -1,9 +1,9 @@
 -- The fields of a part are read back from its bytes, and only from these.
-use Rattle.std.proofs.Common.{◌≡◌, ◌≢◌, IfSome, IfNone, ◌+◌, ◌*◌, ◌/◌, ◌%◌, ◌<◌, ◌≤◌, ◌^◌, ◌==◌, nat_le, nat_lt, ℕ, zero, suc, Bool, true, false, List, [], ◌∷◌, ◌++◌, length, take, drop, map, Option, Some, None, if◌then◌else◌, refl, sym, ap, ◌∙◌, subst, arith, inl, inr, length-append, append_assoc}
+use Rattle.std.proofs.Common.{◌≡◌, ◌≢◌, IfSome, IfNone, ◌+◌, ◌*◌, ◌/◌, ◌%◌, ◌<◌, ◌≤◌, ◌^◌, ◌==◌, nat_le, nat_lt, ◌&&◌, ℕ, zero, suc, Bool, true, false, List, [], ◌∷◌, ◌++◌, length, take, drop, map, Option, Some, None, if◌then◌else◌, refl, sym, ap, ◌∙◌, subst, arith, inl, inr, length-append, append_assoc}
 use Rattle.std.specs.Prelude.{option_and_then}
 use Rattle.std.specs.Int.{w16, to_be_bytes, from_be_bytes}
 use Rattle.std.specs.Option.{option_map}
-use Rattle.std.proofs.lemmas.Bool.{ltb-false, le-ltb, leb-true, le-leb, eqb-true}
+use Rattle.std.proofs.lemmas.Bool.{and_parts, ltb-false, le-ltb, leb-true, le-leb, eqb-true}
 use Rattle.std.proofs.lemmas.Nat.{from_be_bytes-to_be_bytes_2, be_bytes_2}
 use Rattle.std.proofs.lemmas.List.{take-append-drop, length-take, take_at, drop_at, length-map}
 use Rattle.bridge_cards.specs.declared.seat.Seat.{Seat}
@@ -19,7 +19,9 @@ use Rattle.session_rules.specs.Record.{PlainRecord, contract_in}
 use Rattle.session_bytes.specs.Parts.{text_bytes, value_if, agreed_byte, is_agreed_in, claim_bytes, ruling_bytes, record_part}
 use Rattle.session_rules.specs.StateRange.{IsOfFourSeats, IsRulingInRange, IsRecordInRange}
 use Rattle.session_bytes.specs.PartsRead.{agreed_in}
-use Rattle.session_bytes.specs.Reading.{Fields, fields_in, fields_of, bytes_at, calls_at, cards_at, seat_numbered, claimed_by, marked_at, claim_at, tricks_in, ruling_at, claims_at, fields_at, fields_part, AreFieldsOf}
+use Rattle.session_bytes.specs.Reading.{Fields, fields_in, fields_of, bytes_at, calls_at, cards_at, seat_numbered, claimed_by, marked_at, claim_at, tricks_in, short_ruling_at, if_zeros, ruling_by, long_ruling_at, ruling_at, claims_at, fields_at, fields_part, AreFieldsOf}
+use Rattle.session_store.specs.declared.disk_format.DiskFormat.{DiskFormat}
+use Rattle.session_store.specs.declared.disk_format.DiskFormat.TheVariants.{One, Two}
 use Rattle.session_bytes.proofs.RecordBack.{agreed_back}
 use Rattle.session_bytes.proofs.ActionLaws.{AreBytes, map_is, then_is, if_is, two_bytes}
 
@@ -201,43 +203,96 @@ claim_again true (Some claim) rest four unmarked = marked_again true claim rest 
 
 -- A ruling
 
-tricks_take : (tricks : ℕ) (r : Option Ruling) → tricks_in tricks ≡ Some r → (ruling_bytes r ≡ 1 ∷ tricks ∷ []) × IfSome r IsRulingInRange
+-- the ruling has these bytes, and is of 0 to 13 tricks where it is one of tricks
+abbrev IsOfBytes : DiskFormat → List ℕ → Option Ruling → Type 0
+IsOfBytes format bytes made = (ruling_bytes format made ≡ bytes) × IfSome made IsRulingInRange
+
+tricks_take : (tricks : ℕ) (r : Option Ruling) → tricks_in tricks ≡ Some r → IsOfBytes One (1 ∷ tricks ∷ []) r × IsOfBytes Two (1 ∷ tricks ∷ 0 ∷ []) r
 tricks_take tricks r is =
     elim (if_is (nat_le tricks 13) _ _ (Some r) is) [
       | inl here ↦
-          subst (λ (y : Option Ruling). (ruling_bytes y ≡ 1 ∷ tricks ∷ []) × IfSome y IsRulingInRange)
-          (some_is (Some (ruling.Tricks tricks)) r here.1) (refl, leb-true tricks 13 here.0)
+          let few = leb-true tricks 13 here.0 in
+          subst (λ (y : Option Ruling). IsOfBytes One (1 ∷ tricks ∷ []) y × IsOfBytes Two (1 ∷ tricks ∷ 0 ∷ []) y)
+          (some_is (Some (ruling.Tricks tricks)) r here.1) ((refl, few), (refl, few))
       | inr other ↦ absurd (not_some r other.1)
     ]
 
-ruling_take : (bytes : List ℕ) (r : Option Ruling) → ruling_at bytes ≡ Some r → (ruling_bytes r ≡ bytes) × IfSome r IsRulingInRange
-ruling_take [] r is = absurd (not_some r is)
-ruling_take (kind ∷ []) r is =
+short_take : (bytes : List ℕ) (r : Option Ruling) → short_ruling_at bytes ≡ Some r → IsOfBytes One bytes r
+short_take [] r is = absurd (not_some r is)
+short_take (kind ∷ []) r is =
     elim (if_is (kind == 0) _ _ (Some r) is) [
       | inl here ↦
           let same : None ≡ r = some_is None r here.1 in
-          subst (λ (y : Option Ruling). (ruling_bytes y ≡ kind ∷ []) × IfSome y IsRulingInRange) same
+          subst (IsOfBytes One (kind ∷ [])) same
           (ap (λ n. n ∷ []) (sym (eqb-true kind 0 here.0)), tt)
       | inr other ↦ elim (if_is (kind == 2) _ _ (Some r) other.1) [
         | inl here ↦
-            subst (λ (y : Option Ruling). (ruling_bytes y ≡ kind ∷ []) × IfSome y IsRulingInRange) (some_is (Some ruling.Void) r here.1)
+            subst (IsOfBytes One (kind ∷ [])) (some_is (Some ruling.Void) r here.1)
             (ap (λ n. n ∷ []) (sym (eqb-true kind 2 here.0)), tt)
         | inr other ↦ absurd (not_some r other.1)
       ]
     ]
-ruling_take (kind ∷ tricks ∷ []) r is =
+short_take (kind ∷ tricks ∷ []) r is =
     elim (if_is (kind == 1) _ _ (Some r) is) [
       | inl here ↦
-          let taken = tricks_take tricks r here.1 in
+          let taken = (tricks_take tricks r here.1).0 in
           (taken.0 ∙ ap (λ n. n ∷ tricks ∷ []) (sym (eqb-true kind 1 here.0)), taken.1)
       | inr other ↦ absurd (not_some r other.1)
     ]
-ruling_take (kind ∷ tricks ∷ more ∷ rest) r is = absurd (not_some r is)
+short_take (kind ∷ tricks ∷ more ∷ rest) r is = absurd (not_some r is)
 
-ruling_again : (r : Option Ruling) → IfSome r IsRulingInRange → ruling_at (ruling_bytes r) ≡ Some r
-ruling_again None few = refl
-ruling_again (Some (ruling.Tricks tricks)) few = rw (le-leb tricks 13 few) refl
-ruling_again (Some ruling.Void) few = refl
+-- a ruling that has no use for the two numbers behind its kind
+zeros_take : (kind first second : ℕ) (made r : Option Ruling) → ruling_bytes Two made ≡ kind ∷ 0 ∷ 0 ∷ [] → IfSome made IsRulingInRange
+    → if_zeros first second made ≡ Some r → IsOfBytes Two (kind ∷ first ∷ second ∷ []) r
+zeros_take kind first second made r bytes few is =
+    elim (if_is (first == 0 && second == 0) _ _ (Some r) is) [
+      | inl here ↦
+          let both = and_parts (first == 0) (second == 0) here.0 in
+          subst (IsOfBytes Two (kind ∷ first ∷ second ∷ [])) (some_is made r here.1) (
+            bytes ∙ ap (λ n. kind ∷ n ∷ 0 ∷ []) (sym (eqb-true first 0 both.0)) ∙ ap (λ n. kind ∷ first ∷ n ∷ []) (sym (eqb-true second 0 both.1)),
+            few,
+          )
+      | inr other ↦ absurd (not_some r other.1)
+    ]
+
+by_take : (kind first second : ℕ) (r : Option Ruling) → ruling_by kind first second ≡ Some r → IsOfBytes Two (kind ∷ first ∷ second ∷ []) r
+by_take kind first second r is =
+    elim (if_is (kind == 0) _ _ (Some r) is) [
+      | inl here ↦ zeros_take kind first second None r (ap (λ n. n ∷ 0 ∷ 0 ∷ []) (sym (eqb-true kind 0 here.0))) tt here.1
+      | inr other ↦ elim (if_is (kind == 1) _ _ (Some r) other.1) [
+        | inl here ↦ elim (if_is (second == 0) _ _ (Some r) here.1) [
+          | inl last ↦
+              let taken = (tricks_take first r last.1).1 in (
+                taken.0 ∙ ap (λ n. n ∷ first ∷ 0 ∷ []) (sym (eqb-true kind 1 here.0)) ∙ ap (λ n. kind ∷ first ∷ n ∷ []) (sym (eqb-true second 0 last.0)),
+                taken.1,
+              )
+          | inr other ↦ absurd (not_some r other.1)
+        ]
+        | inr other ↦ elim (if_is (kind == 2) _ _ (Some r) other.1) [
+          | inl here ↦ zeros_take kind first second (Some ruling.Void) r (ap (λ n. n ∷ 0 ∷ 0 ∷ []) (sym (eqb-true kind 2 here.0))) tt here.1
+          | inr other ↦ absurd (not_some r other.1)
+        ]
+      ]
+    ]
+
+long_take : (bytes : List ℕ) (r : Option Ruling) → long_ruling_at bytes ≡ Some r → IsOfBytes Two bytes r
+long_take [] r is = absurd (not_some r is)
+long_take (kind ∷ []) r is = absurd (not_some r is)
+long_take (kind ∷ first ∷ []) r is = absurd (not_some r is)
+long_take (kind ∷ first ∷ second ∷ []) r is = by_take kind first second r is
+long_take (kind ∷ first ∷ second ∷ more ∷ rest) r is = absurd (not_some r is)
+
+ruling_take : (format : DiskFormat) (bytes : List ℕ) (r : Option Ruling) → ruling_at format bytes ≡ Some r → IsOfBytes format bytes r
+ruling_take One bytes r is = short_take bytes r is
+ruling_take Two bytes r is = long_take bytes r is
+
+ruling_again : (format : DiskFormat) (r : Option Ruling) → IfSome r IsRulingInRange → ruling_at format (ruling_bytes format r) ≡ Some r
+ruling_again One None few = refl
+ruling_again One (Some (ruling.Tricks tricks)) few = rw (le-leb tricks 13 few) refl
+ruling_again One (Some ruling.Void) few = refl
+ruling_again Two None few = refl
+ruling_again Two (Some (ruling.Tricks tricks)) few = rw (le-leb tricks 13 few) refl
+ruling_again Two (Some ruling.Void) few = refl
 
 -- All fields
 
@@ -246,35 +301,35 @@ join : (a b c d e : List ℕ) (n : ℕ) → a ++ b ++ c ++ (n ∷ []) ++ d ++ e 
 join a b c d e n =
     append_assoc (a ++ b ++ c ++ (n ∷ [])) d e ∙ append_assoc (a ++ b ++ c) (n ∷ []) (d ++ e) ∙ append_assoc (a ++ b) c (n ∷ (d ++ e))
 
-claims_take : (calls cards bytes : List ℕ) (f : Fields) → claims_at calls cards bytes ≡ Some f
-    → (f.calls ≡ calls) × (f.cards ≡ cards) × (f.claims ∷ (claim_bytes f.agreed f.claim ++ ruling_bytes f.ruling) ≡ bytes)
+claims_take : (format : DiskFormat) (calls cards bytes : List ℕ) (f : Fields) → claims_at format calls cards bytes ≡ Some f
+    → (f.calls ≡ calls) × (f.cards ≡ cards) × (f.claims ∷ (claim_bytes f.agreed f.claim ++ ruling_bytes format f.ruling) ≡ bytes)
     × IfSome f.claim IsOfFourSeats × IfSome f.ruling IsRulingInRange
-claims_take calls cards [] f is = absurd (not_some f is)
-claims_take calls cards (claims ∷ rest) f is =
+claims_take format calls cards [] f is = absurd (not_some f is)
+claims_take format calls cards (claims ∷ rest) f is =
     let made : Option Claim × Bool × List ℕ → Option Ruling → Fields
     = λ both r. record { calls = calls; cards = cards; claims = claims; claim = both.0; agreed = both.1; ruling = r } in
-    let claim = then_is (λ both. option_map (made both) (ruling_at both.2)) (claim_at rest) f is in
+    let claim = then_is (λ both. option_map (made both) (ruling_at format both.2)) (claim_at rest) f is in
     let both = claim.0 in
-    let ruled = map_is (made both) (ruling_at both.2) f claim.2 in
+    let ruled = map_is (made both) (ruling_at format both.2) f claim.2 in
     let first = claim_take rest both claim.1 in
-    let second = ruling_take both.2 ruled.0 ruled.1 in
-    subst (λ (f : Fields). (f.calls ≡ calls) × (f.cards ≡ cards) × (f.claims ∷ (claim_bytes f.agreed f.claim ++ ruling_bytes f.ruling) ≡ claims ∷ rest)
+    let second = ruling_take format both.2 ruled.0 ruled.1 in
+    subst (λ (f : Fields). (f.calls ≡ calls) × (f.cards ≡ cards) × (f.claims ∷ (claim_bytes f.agreed f.claim ++ ruling_bytes format f.ruling) ≡ claims ∷ rest)
     × IfSome f.claim IsOfFourSeats × IfSome f.ruling IsRulingInRange) ruled.2
     (refl, refl, ap (λ xs. claims ∷ (claim_bytes both.1 both.0 ++ xs)) second.0 ∙ ap (λ xs. claims ∷ xs) first.0, first.1, second.1)
 
-fields_take : (bytes : List ℕ) (f : Fields) → AreBytes bytes → fields_at bytes ≡ Some f → AreFieldsOf bytes f
-fields_take bytes f are is =
-    let calls = then_is (λ (calls : List ℕ × List ℕ). option_and_then (λ (cards : List ℕ × List ℕ). claims_at calls.0 cards.0 cards.1) (cards_at calls.1)) (calls_at bytes) f is in
-    let cards = then_is (λ (cards : List ℕ × List ℕ). claims_at calls.0.0 cards.0 cards.1) (cards_at calls.0.1) f calls.2 in
+fields_take : (format : DiskFormat) (bytes : List ℕ) (f : Fields) → AreBytes bytes → fields_at format bytes ≡ Some f → AreFieldsOf format bytes f
+fields_take format bytes f are is =
+    let calls = then_is (λ (calls : List ℕ × List ℕ). option_and_then (λ (cards : List ℕ × List ℕ). claims_at format calls.0 cards.0 cards.1) (cards_at calls.1)) (calls_at bytes) f is in
+    let cards = then_is (λ (cards : List ℕ × List ℕ). claims_at format calls.0.0 cards.0 cards.1) (cards_at calls.0.1) f calls.2 in
     let first = calls_take bytes calls.0 are calls.1 in
     let second = cards_take calls.0.1 cards.0 cards.1 in
-    let third = claims_take calls.0.0 cards.0.0 cards.0.1 f cards.2 in
+    let third = claims_take format calls.0.0 cards.0.0 cards.0.1 f cards.2 in
     let claimed : List ℕ = claim_bytes f.agreed f.claim in
-    let end : List ℕ = f.claims ∷ (claimed ++ ruling_bytes f.ruling) in
+    let end : List ℕ = f.claims ∷ (claimed ++ ruling_bytes format f.ruling) in
     let behind : text_bytes f.cards ++ end ≡ calls.0.1
     = ap (λ xs. text_bytes xs ++ end) third.1 ∙ ap (λ xs. text_bytes cards.0.0 ++ xs) third.2 ∙ second in
-    let joined = join (to_be_bytes w16 (length f.calls)) f.calls (text_bytes f.cards) claimed (ruling_bytes f.ruling) f.claims in
-    let whole : fields_part f ≡ bytes
+    let joined = join (to_be_bytes w16 (length f.calls)) f.calls (text_bytes f.cards) claimed (ruling_bytes format f.ruling) f.claims in
+    let whole : fields_part format f ≡ bytes
     = joined ∙ ap (λ xs. to_be_bytes w16 (length xs) ++ xs ++ (text_bytes f.cards ++ end)) third.0
     ∙ ap (λ xs. to_be_bytes w16 (length calls.0.0) ++ calls.0.0 ++ xs) behind ∙ first in
     let long : length (to_be_bytes w16 (length f.calls) ++ f.calls ++ (text_bytes f.cards ++ end)) ≡ length bytes = ap length (sym joined ∙ whole) in
@@ -294,31 +349,31 @@ unmarked : (plain : PlainRecord) (contract : Option Contract) → contract_in pl
 unmarked plain None is none = rw is refl
 unmarked plain (Some contract) is none = rw (is, none) refl
 
-pub fields_again : (plain : PlainRecord) → length plain.calls ≤ 319 → IsRecordInRange plain
-    → fields_at (record_part plain) ≡ Some (fields_of plain)
-fields_again plain few in_range =
+pub fields_again : (format : DiskFormat) (plain : PlainRecord) → length plain.calls ≤ 319 → IsRecordInRange plain
+    → fields_at format (record_part format plain) ≡ Some (fields_of plain)
+fields_again format plain few in_range =
     let numbers : List ℕ = map call_number plain.calls in
     let claim : List ℕ = claim_bytes (is_agreed_in plain) plain.claim in
-    let behind : List ℕ = plain.claims ∷ (claim ++ ruling_bytes plain.ruling) in
+    let behind : List ℕ = plain.claims ∷ (claim ++ ruling_bytes format plain.ruling) in
     let count : length plain.calls ≡ length numbers = sym (length-map plain.calls call_number) in
-    let joined = join (to_be_bytes w16 (length plain.calls)) numbers (text_bytes plain.cards) claim (ruling_bytes plain.ruling) plain.claims in
-    let first : calls_at (record_part plain) ≡ Some (numbers, text_bytes plain.cards ++ behind)
+    let joined = join (to_be_bytes w16 (length plain.calls)) numbers (text_bytes plain.cards) claim (ruling_bytes format plain.ruling) plain.claims in
+    let first : calls_at (record_part format plain) ≡ Some (numbers, text_bytes plain.cards ++ behind)
     = ap calls_at joined ∙ ap (λ n. calls_at (to_be_bytes w16 n ++ numbers ++ (text_bytes plain.cards ++ behind))) count
     ∙ calls_again numbers (text_bytes plain.cards ++ behind) (omega (arith, few, count)) in
     let second : cards_at (text_bytes plain.cards ++ behind) ≡ Some (plain.cards, behind) = split_again plain.cards behind in
-    let third : claim_at (claim ++ ruling_bytes plain.ruling) ≡ Some (plain.claim, is_agreed_in plain, ruling_bytes plain.ruling)
-    = claim_again (is_agreed_in plain) plain.claim (ruling_bytes plain.ruling) in_range.claim (unmarked plain (contract_in plain) refl) in
-    let fourth : ruling_at (ruling_bytes plain.ruling) ≡ Some plain.ruling = ruling_again plain.ruling in_range.ruling in
+    let third : claim_at (claim ++ ruling_bytes format plain.ruling) ≡ Some (plain.claim, is_agreed_in plain, ruling_bytes format plain.ruling)
+    = claim_again (is_agreed_in plain) plain.claim (ruling_bytes format plain.ruling) in_range.claim (unmarked plain (contract_in plain) refl) in
+    let fourth : ruling_at format (ruling_bytes format plain.ruling) ≡ Some plain.ruling = ruling_again format plain.ruling in_range.ruling in
     rw (first, second, third, fourth) refl
 
 -- what was read, as a result tells it
-pub fields_written : (bytes : List ℕ) (o : Option RecordFields) → AreBytes bytes → option_map fields_in o ≡ fields_at bytes
-    → IfSome o (λ fields. AreFieldsOf bytes (fields_in fields))
-fields_written bytes None are is = tt
-fields_written bytes (Some fields) are is = fields_take bytes (fields_in fields) are (sym is)
+pub fields_written : (format : DiskFormat) (bytes : List ℕ) (o : Option RecordFields) → AreBytes bytes → option_map fields_in o ≡ fields_at format bytes
+    → IfSome o (λ fields. AreFieldsOf format bytes (fields_in fields))
+fields_written format bytes None are is = tt
+fields_written format bytes (Some fields) are is = fields_take format bytes (fields_in fields) are (sym is)
 
-pub fields_other : (bytes : List ℕ) (o : Option RecordFields) → option_map fields_in o ≡ fields_at bytes
-    → IfNone o ((plain : PlainRecord) → length plain.calls ≤ 319 → IsRecordInRange plain → record_part plain ≢ bytes)
-fields_other bytes None is =
-    λ plain few in_range same. not_some (fields_of plain) (is ∙ ap fields_at (sym same) ∙ fields_again plain few in_range)
-fields_other bytes (Some fields) is = tt
+pub fields_other : (format : DiskFormat) (bytes : List ℕ) (o : Option RecordFields) → option_map fields_in o ≡ fields_at format bytes
+    → IfNone o ((plain : PlainRecord) → length plain.calls ≤ 319 → IsRecordInRange plain → record_part format plain ≢ bytes)
+fields_other format bytes None is =
+    λ plain few in_range same. not_some (fields_of plain) (is ∙ ap (fields_at format) (sym same) ∙ fields_again format plain few in_range)
+fields_other format bytes (Some fields) is = tt

@@ -36,6 +36,7 @@ use Rattle.session_bytes.specs.Parts.{is_agreed_in, record_part}
 use Rattle.session_rules.specs.StateRange.{AreHands, AreHandsOrNone, IsOfFourSeats, IsRulingInRange, IsRecordInRange}
 use Rattle.session_rules.specs.Valid.{MayStand, IsUnplayed, IsValidRecord}
 use Rattle.session_bytes.specs.Reading.{some_call, Fields, fields_at, fields_of, plain_from, IsPlayed, may_stand, is_in_place}
+use Rattle.session_store.specs.declared.disk_format.DiskFormat.{DiskFormat}
 use Rattle.session_rules.proofs.Lists.{all_at, not_true}
 use Rattle.session_bytes.proofs.FieldLaws.{some_is, not_some, fields_again}
 use Rattle.session_rules.proofs.StaysValid.{mapped_from}
@@ -117,9 +118,9 @@ dealt_on deals board all = found_or_none (slice_get deals (board - 1)) (all_at A
 -- The record of the fields
 
 -- the part of a valid record says its fields
-pub valid_fields : (deals : List (Option (List ℕ))) (now round : ℕ) (plain : PlainRecord) → IsValidRecord deals now round plain
-    → IsRecordInRange plain → fields_at (record_part plain) ≡ Some (fields_of plain)
-valid_fields deals now round plain valid in_range = fields_again plain (legal_length plain.calls valid.calls) in_range
+pub valid_fields : (format : DiskFormat) (deals : List (Option (List ℕ))) (now round : ℕ) (plain : PlainRecord) → IsValidRecord deals now round plain
+    → IsRecordInRange plain → fields_at format (record_part format plain) ≡ Some (fields_of plain)
+valid_fields format deals now round plain valid in_range = fields_again format plain (legal_length plain.calls valid.calls) in_range
 
 pub plain_is : (plain : PlainRecord) (board : ℕ) (calls : List Call) (fields : Fields) → plain.board ≡ board → IsLegal plain.calls → IsLegal calls
     → map call_number calls ≡ fields.calls → fields_of plain ≡ fields → plain ≡ plain_from board calls fields

@@ -20,7 +20,9 @@ use Rattle.session_bytes.specs.Parts.{record_part, record_or_empty, row_parts}
 use Rattle.session_rules.specs.State.{row_boards}
 use Rattle.session_rules.specs.StateRange.{IsRecordInRange}
 use Rattle.session_rules.specs.Valid.{board_of, IsValidRecord}
-use Rattle.session_bytes.specs.Reading.{items_of, is_empty_part, part_kept, plains_of, AreRecords, IsRowOf, AreRows, IsReadFrom}
+use Rattle.session_store.specs.declared.disk_format.DiskFormat.{DiskFormat}
+use Rattle.session_store.specs.declared.disk_format.DiskFormat.TheVariants.{One, Two}
+use Rattle.session_bytes.specs.Reading.{items_of, empty_length, is_empty_part, part_kept, plains_of, AreRecords, IsRowOf, AreRows, IsReadFrom}
 use Rattle.session_rules.proofs.Lists.{range-push}
 use Rattle.session_bytes.proofs.ReadLists.{some_there, both_push, flat_at, suc_times}
 use Rattle.session_bytes.proofs.PartLemmas.{next_taken, length-flat_fixed}
@@ -30,10 +32,10 @@ range_next first i = ap (range_with_len first) (add-one i) ∙ range-push first 
 
 module _ (deals : List (Option (List ℕ))) (now round : ℕ) where
   -- one record more
-  pub records_push : (first i board : ℕ) (part : List ℕ) (table : List Record) (kept : Record) → board ≡ first + i
-      → AreRecords deals now round (range_with_len first i) (map plain_of table) → IsReadFrom deals now round board part kept
+  pub records_push : (format : DiskFormat) (first i board : ℕ) (part : List ℕ) (table : List Record) (kept : Record) → board ≡ first + i
+      → AreRecords deals now round (range_with_len first i) (map plain_of table) → IsReadFrom format deals now round board part kept
       → AreRecords deals now round (range_with_len first (i + 1)) (map plain_of (table ++ kept ∷ []))
-  records_push first i board part table kept board_is are read =
+  records_push format first i board part table kept board_is are read =
       let longer : map plain_of (table ++ kept ∷ []) ≡ map plain_of table ++ plain_of kept ∷ [] = map-append plain_of table (kept ∷ []) in
       subst (AreRecords deals now round (range_with_len first (i + 1))) (sym longer) (record {
         boards_are = map-append board_of (map plain_of table) (plain_of kept ∷ [])
@@ -65,13 +67,17 @@ records_count deals now round first count records are =
     sym (length-map records board_of) ∙ ap length are.boards_are ∙ length-range_with_len first count
 
 -- the part of a play in which nothing has happened
-abbrev six_zeros : List ℕ
-six_zeros = 0 ∷ 0 ∷ 0 ∷ 0 ∷ 0 ∷ 0 ∷ []
+abbrev empty_part : DiskFormat → List ℕ
+empty_part format = replicate (empty_length format) 0
 
-zeros_are : (bytes : List ℕ) → is_empty_part bytes ≡ true → bytes ≡ six_zeros
-zeros_are bytes is =
-    let both = and_parts (length bytes == 6) (list_all (λ byte. byte == 0) bytes) is in
-    six bytes (eqb-true (length bytes) 6 both.0) both.1
+empty_is : (format : DiskFormat) → is_empty_part format (empty_part format) ≡ true
+empty_is One = refl
+empty_is Two = refl
+
+zeros_are : (format : DiskFormat) (bytes : List ℕ) → is_empty_part format bytes ≡ true → bytes ≡ empty_part format
+zeros_are format bytes is =
+    let both = and_parts (length bytes == empty_length format) (list_all (λ byte. byte == 0) bytes) is in
+    zeros (empty_length format) bytes (eqb-true (length bytes) (empty_length format) both.0) both.1
   where
     one : (b : ℕ) (bs : List ℕ) → list_all (λ byte. byte == 0) (b ∷ bs) ≡ true → (b ≡ 0) × (list_all (λ byte. byte == 0) bs ≡ true)
     one b bs all = let both = and_parts (b == 0) (list_all (λ byte. byte == 0) bs) all in (eqb-true b 0 both.0, both.1)
@@ -84,37 +90,39 @@ zeros_are bytes is =
         let both = one b bs all in
         ap (λ c. c ∷ bs) both.0 ∙ ap (λ cs. 0 ∷ cs) (zeros n bs (omega (arith, long)) both.1)
 
-    six : (bs : List ℕ) → length bs ≡ 6 → list_all (λ byte. byte == 0) bs ≡ true → bs ≡ six_zeros
-    six bs long all = zeros 6 bs long all
+unplayed_part : (format : DiskFormat) → record_part format (empty_record 0) ≡ empty_part format
+unplayed_part One = refl
+unplayed_part Two = refl
 
-none_at : (index : ℕ) → record_part (record_or_empty [] index) ≡ six_zeros
-none_at index = ap (λ o. record_part (unwrap_or o (empty_record 0))) (slice_get_past {X = PlainRecord} [] index (omega arith))
+none_at : (format : DiskFormat) (index : ℕ) → record_part format (record_or_empty [] index) ≡ empty_part format
+none_at format index =
+    ap (λ o. record_part format (unwrap_or o (empty_record 0))) (slice_get_past {X = PlainRecord} [] index (omega arith)) ∙ unplayed_part format
 
 -- a row without records
-row_none : (parts : List (ArrayVec ℕ)) (k : ℕ) → list_all (λ part. is_empty_part part.items) parts ≡ true
-    → map (λ index. record_part (record_or_empty [] index)) (range_with_len k (length parts)) ≡ map items_of parts
-row_none [] k all = refl
-row_none (part ∷ parts) k all =
-    let both = and_parts (is_empty_part part.items) (list_all (λ part. is_empty_part part.items) parts) all in
-    ap (λ p. p ∷ map (λ index. record_part (record_or_empty [] index)) (range_with_len (k + 1) (length parts))) (none_at k ∙ sym (zeros_are part.items both.0))
-    ∙ ap (λ ps. part.items ∷ ps) (row_none parts (k + 1) both.1)
+row_none : (format : DiskFormat) (parts : List (ArrayVec ℕ)) (k : ℕ) → list_all (λ part. is_empty_part format part.items) parts ≡ true
+    → map (λ index. record_part format (record_or_empty [] index)) (range_with_len k (length parts)) ≡ map items_of parts
+row_none format [] k all = refl
+row_none format (part ∷ parts) k all =
+    let both = and_parts (is_empty_part format part.items) (list_all (λ part. is_empty_part format part.items) parts) all in
+    ap (λ p. p ∷ map (λ index. record_part format (record_or_empty [] index)) (range_with_len (k + 1) (length parts))) (none_at format k ∙ sym (zeros_are format part.items both.0))
+    ∙ ap (λ ps. part.items ∷ ps) (row_none format parts (k + 1) both.1)
 
-none_row : (parts : List (ArrayVec ℕ)) (k : ℕ) → map (λ index. record_part (record_or_empty [] index)) (range_with_len k (length parts)) ≡ map items_of parts
-    → list_all (λ part. is_empty_part part.items) parts ≡ true
-none_row [] k is = refl
-none_row (part ∷ parts) k is =
-    let first : record_part (record_or_empty [] k) ≡ part.items = cc in
-    let rest : map (λ index. record_part (record_or_empty [] index)) (range_with_len (k + 1) (length parts)) ≡ map items_of parts = cc in
-    let empty : is_empty_part part.items ≡ true = ap is_empty_part (sym (sym (none_at k) ∙ first)) in
-    rw (empty, none_row parts (k + 1) rest) refl
+none_row : (format : DiskFormat) (parts : List (ArrayVec ℕ)) (k : ℕ) → map (λ index. record_part format (record_or_empty [] index)) (range_with_len k (length parts)) ≡ map items_of parts
+    → list_all (λ part. is_empty_part format part.items) parts ≡ true
+none_row format [] k is = refl
+none_row format (part ∷ parts) k is =
+    let first : record_part format (record_or_empty [] k) ≡ part.items = cc in
+    let rest : map (λ index. record_part format (record_or_empty [] index)) (range_with_len (k + 1) (length parts)) ≡ map items_of parts = cc in
+    let empty : is_empty_part format part.items ≡ true = ap (is_empty_part format) (sym first ∙ none_at format k) ∙ empty_is format in
+    rw (empty, none_row format parts (k + 1) rest) refl
 
-pub unplayed_row : (boards : ℕ) (parts : List (ArrayVec ℕ)) → length parts ≡ boards → list_all (λ part. is_empty_part part.items) parts ≡ true
-    → row_parts boards [] ≡ map items_of parts
-unplayed_row boards parts long all = ap (λ n. row_parts n []) (sym long) ∙ row_none parts 0 all
+pub unplayed_row : (format : DiskFormat) (boards : ℕ) (parts : List (ArrayVec ℕ)) → length parts ≡ boards → list_all (λ part. is_empty_part format part.items) parts ≡ true
+    → row_parts format boards [] ≡ map items_of parts
+unplayed_row format boards parts long all = ap (λ n. row_parts format n []) (sym long) ∙ row_none format parts 0 all
 
-pub row_unplayed : (boards : ℕ) (parts : List (ArrayVec ℕ)) → length parts ≡ boards → row_parts boards [] ≡ map items_of parts
-    → list_all (λ part. is_empty_part part.items) parts ≡ true
-row_unplayed boards parts long is = none_row parts 0 (ap (λ n. row_parts n []) long ∙ is)
+pub row_unplayed : (format : DiskFormat) (boards : ℕ) (parts : List (ArrayVec ℕ)) → length parts ≡ boards → row_parts format boards [] ≡ map items_of parts
+    → list_all (λ part. is_empty_part format part.items) parts ≡ true
+row_unplayed format boards parts long is = none_row format parts 0 (ap (λ n. row_parts format n []) long ∙ is)
 
 pub no_records : (records : List PlainRecord) → map board_of records ≡ [] → records ≡ []
 no_records [] is = refl
@@ -128,8 +136,8 @@ pub other_boards : (boards : ℕ) (row : Row) → is_live row ≡ false → row_
 other_boards boards row is = ap (λ b. cond b (range_with_len ((row.set - 1) * boards + 1) boards) []) is
 
 -- what is kept of records has their parts
-pub kept_parts : (table : List Record) → map part_kept table ≡ map record_part (map plain_of table)
-kept_parts table = sym (map-map record_part plain_of table)
+pub kept_parts : (format : DiskFormat) (table : List Record) → map (part_kept format) table ≡ map (record_part format) (map plain_of table)
+kept_parts format table = sym (map-map (record_part format) plain_of table)
 
 -- what was found, or not
 
@@ -152,8 +160,8 @@ suc_row rows row_index boards within =
     let next : rows - row_index ≡ suc (rows - (row_index + 1)) = omega (arith, within) in
     ap (λ n. n * boards) next ∙ suc_times (rows - (row_index + 1)) boards
 
-row_length : (boards : ℕ) (records : List PlainRecord) → length (row_parts boards records) ≡ boards
-row_length boards records = length-map-range_with_len (λ index. record_part (record_or_empty records index)) 0 boards
+row_length : (format : DiskFormat) (boards : ℕ) (records : List PlainRecord) → length (row_parts format boards records) ≡ boards
+row_length format boards records = length-map-range_with_len (λ index. record_part format (record_or_empty records index)) 0 boards
 
 module _ (deals : List (Option (List ℕ))) (now boards : ℕ) where
   -- one row more
@@ -170,17 +178,17 @@ module _ (deals : List (Option (List ℕ))) (now boards : ℕ) where
       }))
 
   -- the records of the row at an index have the parts there
-  pub row_there : (rows : List Row) (records front : List (List PlainRecord)) (rest : List (List ℕ)) (i : ℕ) (row : Row)
-      → AreRows deals now boards rows records → flat_map (row_parts boards) front ++ rest ≡ flat_map (row_parts boards) records
+  pub row_there : (format : DiskFormat) (rows : List Row) (records front : List (List PlainRecord)) (rest : List (List ℕ)) (i : ℕ) (row : Row)
+      → AreRows deals now boards rows records → flat_map (row_parts format boards) front ++ rest ≡ flat_map (row_parts format boards) records
       → length front ≡ i → i < length rows → slice_get rows i ≡ Some row
-      → (own : List PlainRecord) × IsRowOf deals now boards row own × (row_parts boards own ≡ take boards rest)
-  row_there rows records front rest i row are same before within is =
+      → (own : List PlainRecord) × IsRowOf deals now boards row own × (row_parts format boards own ≡ take boards rest)
+  row_there format rows records front rest i row are same before within is =
       let found = some_there records i (omega (arith, within, are.count)) in
-      let long : length (flat_map (row_parts boards) front) ≡ i * boards = length-flat_fixed (row_parts boards) boards (row_length boards) front ∙ ap (λ n. n * boards) before in
-      let parts = flat_at (row_parts boards) boards (row_length boards) i records found.0 found.1 in (
+      let long : length (flat_map (row_parts format boards) front) ≡ i * boards = length-flat_fixed (row_parts format boards) boards (row_length format boards) front ∙ ap (λ n. n * boards) before in
+      let parts = flat_at (row_parts format boards) boards (row_length format boards) i records found.0 found.1 in (
         found.0,
         are.each i row found.0 is found.1,
-        sym parts ∙ ap (λ ps. take boards (drop (i * boards) ps)) (sym same) ∙ ap (take boards) (drop_at (flat_map (row_parts boards) front) rest (i * boards) long),
+        sym parts ∙ ap (λ ps. take boards (drop (i * boards) ps)) (sym same) ∙ ap (take boards) (drop_at (flat_map (row_parts format boards) front) rest (i * boards) long),
       )
 
 pub when_none : {A : Type 0} (P : Type 0) (o : Option A) → IfNone o P → o ≡ None → P

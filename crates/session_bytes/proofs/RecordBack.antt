@@ -17,6 +17,8 @@ use Rattle.session_bytes.specs.Parts.{two_bytes, text_bytes, value_if, agreed_by
 use Rattle.session_bytes.specs.PartsRead.{text_in, after_text, call_or_pass, call_count, after_calls, after_cards, agreed_in, claim_in, after_claim, ruling_at_front, record_in}
 use Rattle.session_rules.specs.Record.{PlainRecord}
 use Rattle.session_rules.specs.StateRange.{IsOfFourSeats}
+use Rattle.session_store.specs.declared.disk_format.DiskFormat.{DiskFormat}
+use Rattle.session_store.specs.declared.disk_format.DiskFormat.TheVariants.{One, Two}
 use Rattle.session_bytes.proofs.BytesBack.{take_front, drop_front, all_back, text_back, after_back}
 
 -- calls
@@ -71,10 +73,13 @@ claim_past agreed None rest = refl
 claim_past true (Some claim) rest = refl
 claim_past false (Some claim) rest = refl
 
-ruling_back : (made : Option Ruling) → ruling_at_front (ruling_bytes made) ≡ made
-ruling_back None = refl
-ruling_back (Some (ruling.Tricks tricks)) = refl
-ruling_back (Some ruling.Void) = refl
+ruling_back : (format : DiskFormat) (made : Option Ruling) → ruling_at_front (ruling_bytes format made) ≡ made
+ruling_back One None = refl
+ruling_back One (Some (ruling.Tricks tricks)) = refl
+ruling_back One (Some ruling.Void) = refl
+ruling_back Two None = refl
+ruling_back Two (Some (ruling.Tricks tricks)) = refl
+ruling_back Two (Some ruling.Void) = refl
 
 -- six lists, one after the other
 six_joined : (a b c d e f : List ℕ) → a ++ b ++ c ++ d ++ e ++ f ≡ a ++ (b ++ (c ++ (d ++ (e ++ f))))
@@ -86,12 +91,12 @@ pub record IsWritten (plain : PlainRecord) : Type 0 where
   pub known : All IsCall plain.calls
   pub claim : IfSome plain.claim IsOfFourSeats
 
-pub record_back : (plain : PlainRecord) → IsWritten plain → record_in plain.board (record_part plain) ≡ plain
-record_back plain is =
+pub record_back : (format : DiskFormat) (plain : PlainRecord) → IsWritten plain → record_in plain.board (record_part format plain) ≡ plain
+record_back format plain is =
     let agreed : Bool = is_agreed_in plain in
     let n : ℕ = length plain.calls in
     let calls : List ℕ = map call_number plain.calls in
-    let made : List ℕ = ruling_bytes plain.ruling in
+    let made : List ℕ = ruling_bytes format plain.ruling in
     let last : List ℕ = claim_bytes agreed plain.claim ++ made in
     let behind : List ℕ = text_bytes plain.cards ++ (plain.claims ∷ last) in
     let part : List ℕ = two_bytes n ++ (calls ++ behind) in
@@ -108,7 +113,7 @@ record_back plain is =
     = ap (λ bytes. claim_in (drop 1 bytes)) past_cards ∙ claim_back agreed plain.claim made is.claim in
     let ruling_is : ruling_at_front (after_claim (drop 1 (after_cards part))) ≡ plain.ruling
     = ap (λ bytes. ruling_at_front (after_claim (drop 1 bytes))) past_cards ∙ ap ruling_at_front (claim_past agreed plain.claim made)
-    ∙ ruling_back plain.ruling in
+    ∙ ruling_back format plain.ruling in
     ap (record_in plain.board) (six_joined (two_bytes n) calls (text_bytes plain.cards) (plain.claims ∷ []) (claim_bytes agreed plain.claim) made)
     ∙ λ i. record {
       board = plain.board;

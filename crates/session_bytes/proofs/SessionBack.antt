@@ -13,6 +13,7 @@ use Rattle.session_bytes.specs.Parts.{text_bytes, four_bytes, scoring_number, si
 use Rattle.session_bytes.specs.PartsRead.{text_in, after_text, scoring_at, numbers_in, shape_in, rows_in, key_in, pair_in, configuration_in, deal_of, tables_in, state_with, state_read}
 use Rattle.session_rules.specs.State.{SessionValue}
 use Rattle.session_rules.specs.StateRange.{IsSession}
+use Rattle.session_store.specs.declared.disk_format.DiskFormat.{DiskFormat}
 use Rattle.session_bytes.proofs.BytesBack.{take_front, drop_front, all_back, text_back, after_back, key_back}
 use Rattle.session_bytes.proofs.PairBack.{pair_back, rows_back, deal_back}
 use Rattle.session_bytes.proofs.SessionRecords.{written}
@@ -104,32 +105,32 @@ module _ (c : ConfigValue) (round : ℕ) (is : IsConfiguration c) (boards : List
       }
 
 -- the boards and the plays
-rest_back : (s : SessionValue) → IsSession s → state_with s.configuration s.round (board_parts s) ≡ s
-rest_back s is =
+rest_back : (format : DiskFormat) (s : SessionValue) → IsSession s → state_with s.configuration s.round (board_parts format s) ≡ s
+rest_back format s is =
     let c : ConfigValue = s.configuration in
     let boards : ℕ = c.movement.shape.sets * c.boards in
     let long : length (map deal_part s.deals) ≡ boards = length-map s.deals deal_part ∙ is.valid.boards in
-    let deals : map deal_of (take boards (board_parts s)) ≡ s.deals
-    = ap (map deal_of) (take_front boards (map deal_part s.deals) (play_parts s) long)
+    let deals : map deal_of (take boards (board_parts format s)) ≡ s.deals
+    = ap (map deal_of) (take_front boards (map deal_part s.deals) (play_parts format s) long)
     ∙ all_back deal_part deal_of s.deals (λ k d within. deal_back (get_or s.deals k d) (is.ranges.deals k d within)) in
-    let records : tables_in c.boards c.movement.rows (drop boards (board_parts s)) ≡ s.records
-    = ap (tables_in c.boards c.movement.rows) (drop_front boards (map deal_part s.deals) (play_parts s) long)
-    ∙ tables_back c.boards c.movement.rows s.records is.valid.of_boards (written s is) in
+    let records : tables_in c.boards c.movement.rows (drop boards (board_parts format s)) ≡ s.records
+    = ap (tables_in c.boards c.movement.rows) (drop_front boards (map deal_part s.deals) (play_parts format s) long)
+    ∙ tables_back format c.boards c.movement.rows s.records is.valid.of_boards (written s is) in
     λ i. record { configuration = c; round = s.round; deals = deals i; records = records i }
 
-pub session_back : (s : SessionValue) → IsSession s → state_read (parts_of s) ≡ s
-session_back s is =
+pub session_back : (format : DiskFormat) (s : SessionValue) → IsSession s → state_read (parts_of format s) ≡ s
+session_back format s is =
     let c : ConfigValue = s.configuration in
     let limits : IsConfiguration c = is.valid.configured in
     let heading : List ℕ = configuration_part c s.round in
-    let numbers = numbers_back c s.round limits (board_parts s) in
-    let configuration : configuration_in heading (movement_part c.movement.rows) (pair_parts s) ≡ c
-    = configuration_back c s.round limits (board_parts s) in
+    let numbers = numbers_back c s.round limits (board_parts format s) in
+    let configuration : configuration_in heading (movement_part c.movement.rows) (pair_parts format s) ≡ c
+    = configuration_back c s.round limits (board_parts format s) in
     let round : slice_index (numbers_in heading) 11 ≡ s.round = ap (λ ns. slice_index ns 11) numbers in
     let count : slice_index (numbers_in heading) 5 ≡ c.movement.shape.pairs = ap (λ ns. slice_index ns 5) numbers in
     let long : length (map pair_part c.pairs) ≡ c.movement.shape.pairs = length-map c.pairs pair_part ∙ limits.count in
-    let rest : drop (slice_index (numbers_in heading) 5) (pair_parts s) ≡ board_parts s
-    = ap (λ n. drop n (pair_parts s)) count ∙ drop_front c.movement.shape.pairs (map pair_part c.pairs) (board_parts s) long in
-    ap (λ (d : ConfigValue). state_with d (slice_index (numbers_in heading) 11) (drop (slice_index (numbers_in heading) 5) (pair_parts s))) configuration
-    ∙ ap (λ n. state_with c n (drop (slice_index (numbers_in heading) 5) (pair_parts s))) round
-    ∙ ap (state_with c s.round) rest ∙ rest_back s is
+    let rest : drop (slice_index (numbers_in heading) 5) (pair_parts format s) ≡ board_parts format s
+    = ap (λ n. drop n (pair_parts format s)) count ∙ drop_front c.movement.shape.pairs (map pair_part c.pairs) (board_parts format s) long in
+    ap (λ (d : ConfigValue). state_with d (slice_index (numbers_in heading) 11) (drop (slice_index (numbers_in heading) 5) (pair_parts format s))) configuration
+    ∙ ap (λ n. state_with c n (drop (slice_index (numbers_in heading) 5) (pair_parts format s))) round
+    ∙ ap (state_with c s.round) rest ∙ rest_back format s is

@@ -13,27 +13,30 @@ use Rattle.session_bytes.specs.PartsRead.{records_in, tables_in}
 use Rattle.session_rules.specs.Record.{PlainRecord, empty_record}
 use Rattle.session_rules.specs.State.{row_boards}
 use Rattle.session_rules.specs.Valid.{board_of}
+use Rattle.session_store.specs.declared.disk_format.DiskFormat.{DiskFormat}
 use Rattle.session_bytes.proofs.BytesBack.{drop_front}
 use Rattle.session_bytes.proofs.RecordBack.{IsWritten, record_back}
 
 -- the parts of a row that has a record for each board
-pub full_parts : (boards : ℕ) (records : List PlainRecord) → length records ≡ boards → row_parts boards records ≡ map record_part records
-full_parts boards records full =
-    let part : ℕ → List ℕ = λ index. record_part (record_or_empty records index) in
-    let long : length (row_parts boards records) ≡ boards = length-map-range_with_len part 0 boards in
-    let longs : length (map record_part records) ≡ boards = length-map records record_part ∙ full in
+pub full_parts : (format : DiskFormat) (boards : ℕ) (records : List PlainRecord) → length records ≡ boards
+    → row_parts format boards records ≡ map (record_part format) records
+full_parts format boards records full =
+    let part : ℕ → List ℕ = λ index. record_part format (record_or_empty records index) in
+    let long : length (row_parts format boards records) ≡ boards = length-map-range_with_len part 0 boards in
+    let longs : length (map (record_part format) records) ≡ boards = length-map records (record_part format) ∙ full in
     let nothing : List ℕ = [] in
-    ext_get_or nothing (row_parts boards records) (map record_part records) (long ∙ sym longs)
+    ext_get_or nothing (row_parts format boards records) (map (record_part format) records) (long ∙ sym longs)
     (λ row_index within.
     get_or-map-range_with_len part 0 boards row_index row_index nothing (omega (arith, within, long)) (omega arith)
-    ∙ ap record_part (unwrap_or-slice_get records row_index (empty_record 0))
-    ∙ sym (get_or-map record_part records row_index (empty_record 0) nothing (omega (arith, within, long, full))))
+    ∙ ap (record_part format) (unwrap_or-slice_get records row_index (empty_record 0))
+    ∙ sym (get_or-map (record_part format) records row_index (empty_record 0) nothing (omega (arith, within, long, full))))
 
-row_back : (records : List PlainRecord) (more : List (List ℕ)) → All IsWritten records → records_in (map board_of records) (map record_part records ++ more) ≡ records
-row_back [] more written = refl
-row_back (plain ∷ records) more written =
-    ap (λ first. first ∷ records_in (map board_of records) (map record_part records ++ more)) (record_back plain (All-head IsWritten plain records written))
-    ∙ ap (λ rest. plain ∷ rest) (row_back records more (All-tail IsWritten plain records written))
+row_back : (format : DiskFormat) (records : List PlainRecord) (more : List (List ℕ)) → All IsWritten records
+    → records_in (map board_of records) (map (record_part format) records ++ more) ≡ records
+row_back format [] more written = refl
+row_back format (plain ∷ records) more written =
+    ap (λ first. first ∷ records_in (map board_of records) (map (record_part format) records ++ more)) (record_back format plain (All-head IsWritten plain records written))
+    ∙ ap (λ rest. plain ∷ rest) (row_back format records more (All-tail IsWritten plain records written))
 
 -- a row has a record for each board, or none
 boards_long : (boards : ℕ) (row : Row) → (length (row_boards boards row) ≡ boards) ⊎ (row_boards boards row ≡ [])
@@ -51,26 +54,26 @@ row_long boards row records are =
       | inr none ↦ inr (nil_from_length records (sym (length-map records board_of) ∙ ap (λ (xs : List ℕ). length xs) (are ∙ none)))
     ]
 
-records_back : (boards : ℕ) (row : Row) (records : List PlainRecord) (more : List (List ℕ)) → map board_of records ≡ row_boards boards row
-    → All IsWritten records → records_in (row_boards boards row) (row_parts boards records ++ more) ≡ records
-records_back boards row records more are written =
-    ap (λ bs. records_in bs (row_parts boards records ++ more)) (sym are) ∙ elim (row_long boards row records are) [
-      | inl full ↦ ap (λ parts. records_in (map board_of records) (parts ++ more)) (full_parts boards records full) ∙ row_back records more written
-      | inr none ↦ ap (λ (rs : List PlainRecord). records_in (map board_of rs) (row_parts boards records ++ more)) none ∙ sym none
+records_back : (format : DiskFormat) (boards : ℕ) (row : Row) (records : List PlainRecord) (more : List (List ℕ)) → map board_of records ≡ row_boards boards row
+    → All IsWritten records → records_in (row_boards boards row) (row_parts format boards records ++ more) ≡ records
+records_back format boards row records more are written =
+    ap (λ bs. records_in bs (row_parts format boards records ++ more)) (sym are) ∙ elim (row_long boards row records are) [
+      | inl full ↦ ap (λ parts. records_in (map board_of records) (parts ++ more)) (full_parts format boards records full) ∙ row_back format records more written
+      | inr none ↦ ap (λ (rs : List PlainRecord). records_in (map board_of rs) (row_parts format boards records ++ more)) none ∙ sym none
     ]
 
-pub tables_back : (boards : ℕ) (rows : List Row) (tables : List (List PlainRecord)) → map (map board_of) tables ≡ map (row_boards boards) rows
-    → All (All IsWritten) tables → tables_in boards rows (flat_map (row_parts boards) tables) ≡ tables
-tables_back boards [] [] are written = refl
-tables_back boards [] (records ∷ tables) are written = absurd cc
-tables_back boards (row ∷ rows) [] are written = absurd cc
-tables_back boards (row ∷ rows) (records ∷ tables) are written =
+pub tables_back : (format : DiskFormat) (boards : ℕ) (rows : List Row) (tables : List (List PlainRecord)) → map (map board_of) tables ≡ map (row_boards boards) rows
+    → All (All IsWritten) tables → tables_in boards rows (flat_map (row_parts format boards) tables) ≡ tables
+tables_back format boards [] [] are written = refl
+tables_back format boards [] (records ∷ tables) are written = absurd cc
+tables_back format boards (row ∷ rows) [] are written = absurd cc
+tables_back format boards (row ∷ rows) (records ∷ tables) are written =
     let first : map board_of records ≡ row_boards boards row = cc in
     let others : map (map board_of) tables ≡ map (row_boards boards) rows = cc in
-    let more : List (List ℕ) = flat_map (row_parts boards) tables in
-    let long : length (row_parts boards records) ≡ boards
-    = length-map-range_with_len (λ index. record_part (record_or_empty records index)) 0 boards in
-    ap (λ here. here ∷ tables_in boards rows (drop boards (row_parts boards records ++ more)))
-    (records_back boards row records more first (All-head (All IsWritten) records tables written))
-    ∙ ap (λ parts. records ∷ tables_in boards rows parts) (drop_front boards (row_parts boards records) more long)
-    ∙ ap (λ rest. records ∷ rest) (tables_back boards rows tables others (All-tail (All IsWritten) records tables written))
+    let more : List (List ℕ) = flat_map (row_parts format boards) tables in
+    let long : length (row_parts format boards records) ≡ boards
+    = length-map-range_with_len (λ index. record_part format (record_or_empty records index)) 0 boards in
+    ap (λ here. here ∷ tables_in boards rows (drop boards (row_parts format boards records ++ more)))
+    (records_back format boards row records more first (All-head (All IsWritten) records tables written))
+    ∙ ap (λ parts. records ∷ tables_in boards rows parts) (drop_front boards (row_parts format boards records) more long)
+    ∙ ap (λ rest. records ∷ rest) (tables_back format boards rows tables others (All-tail (All IsWritten) records tables written))

@@ -1,4 +1,5 @@
--- The parts of a session as they stand on a disk: lists of bytes. Numbers of more bytes than one have the highest first.
+-- The parts of a session as they stand on a disk of either format: lists of bytes. Numbers of more bytes than one have the
+-- highest first. The formats differ in the ruling alone.
 use Rattle.std.specs.Prelude.{ℕ, ◌+◌, Bool, true, false, if◌then◌else◌, List, [], ◌∷◌, ◌++◌, map, flat_map, length, slice_get, slice_index, slice_index_or, Option, Some, None, unwrap_or}
 use Rattle.std.specs.Int.{w16, w32, w64, to_be_bytes}
 use Rattle.std.specs.List.{range_with_len}
@@ -17,6 +18,8 @@ use Rattle.session_rules.specs.declared.ruling.Ruling.{Ruling}
 use Rattle.session_rules.specs.declared.ruling.Ruling.TheVariants as ruling
 use Rattle.session_rules.specs.Record.{PlainRecord, empty_record, contract_in}
 use Rattle.session_rules.specs.State.{SessionValue}
+use Rattle.session_store.specs.declared.disk_format.DiskFormat.{DiskFormat}
+use Rattle.session_store.specs.declared.disk_format.DiskFormat.TheVariants.{One, Two}
 
 -- numbers of two, four and eight bytes
 abbrev pub two_bytes : ℕ → List ℕ
@@ -88,38 +91,43 @@ abbrev pub claim_bytes : Bool → Option Claim → List ℕ
 claim_bytes agreed None = 0 ∷ []
 claim_bytes agreed (Some claim) = (if agreed then 2 else 1) ∷ seat_number claim.claimer ∷ claim.tricks ∷ agreed_byte claim ∷ []
 
--- a ruling: 0 where there is none, 1 and the tricks, or 2 where the play is void
-abbrev pub ruling_bytes : Option Ruling → List ℕ
-ruling_bytes None = 0 ∷ []
-ruling_bytes (Some (ruling.Tricks tricks)) = 1 ∷ tricks ∷ []
-ruling_bytes (Some ruling.Void) = 2 ∷ []
+-- a ruling: 0 where there is none, 1 and the tricks, or 2 where the play is void; in the second format zeros fill it up to
+-- three bytes
+abbrev pub ruling_bytes : DiskFormat → Option Ruling → List ℕ
+ruling_bytes One None = 0 ∷ []
+ruling_bytes One (Some (ruling.Tricks tricks)) = 1 ∷ tricks ∷ []
+ruling_bytes One (Some ruling.Void) = 2 ∷ []
+ruling_bytes Two None = 0 ∷ 0 ∷ 0 ∷ []
+ruling_bytes Two (Some (ruling.Tricks tricks)) = 1 ∷ tricks ∷ 0 ∷ []
+ruling_bytes Two (Some ruling.Void) = 2 ∷ 0 ∷ 0 ∷ []
 
 -- the calls, the cards, how many claims were made, the claim and the ruling
-abbrev pub record_part : PlainRecord → List ℕ
-record_part plain =
+abbrev pub record_part : DiskFormat → PlainRecord → List ℕ
+record_part format plain =
     two_bytes (length plain.calls) ++ map call_number plain.calls ++ text_bytes plain.cards ++ plain.claims ∷ []
-    ++ claim_bytes (is_agreed_in plain) plain.claim ++ ruling_bytes plain.ruling
+    ++ claim_bytes (is_agreed_in plain) plain.claim ++ ruling_bytes format plain.ruling
 
 -- the record at an index of a row, or one in which nothing has happened where there is none
 abbrev pub record_or_empty : List PlainRecord → ℕ → PlainRecord
 record_or_empty records index = unwrap_or (slice_get records index) (empty_record 0)
 
 -- a part for each board of a set, whether the row is live or not
-abbrev pub row_parts : ℕ → List PlainRecord → List (List ℕ)
-row_parts boards records = map (λ index. record_part (record_or_empty records index)) (range_with_len 0 boards)
+abbrev pub row_parts : DiskFormat → ℕ → List PlainRecord → List (List ℕ)
+row_parts format boards records = map (λ index. record_part format (record_or_empty records index)) (range_with_len 0 boards)
 
 -- the plays, by round, then by table, then by the board's place in its set
-abbrev pub play_parts : SessionValue → List (List ℕ)
-play_parts s = flat_map (row_parts s.configuration.boards) s.records
+abbrev pub play_parts : DiskFormat → SessionValue → List (List ℕ)
+play_parts format s = flat_map (row_parts format s.configuration.boards) s.records
 
 -- the boards, and then the plays
-abbrev pub board_parts : SessionValue → List (List ℕ)
-board_parts s = map deal_part s.deals ++ play_parts s
+abbrev pub board_parts : DiskFormat → SessionValue → List (List ℕ)
+board_parts format s = map deal_part s.deals ++ play_parts format s
 
 -- the pairs, and then the rest
-abbrev pub pair_parts : SessionValue → List (List ℕ)
-pair_parts s = map pair_part s.configuration.pairs ++ board_parts s
+abbrev pub pair_parts : DiskFormat → SessionValue → List (List ℕ)
+pair_parts format s = map pair_part s.configuration.pairs ++ board_parts format s
 
--- The parts of a session: the configuration and the round, the movement, the pairs, the boards, the plays.
-abbrev pub parts_of : SessionValue → List (List ℕ)
-parts_of s = configuration_part s.configuration s.round ∷ movement_part s.configuration.movement.rows ∷ pair_parts s
+-- The parts of a session on a disk of that format: the configuration and the round, the movement, the pairs, the boards, the
+-- plays.
+abbrev pub parts_of : DiskFormat → SessionValue → List (List ℕ)
+parts_of format s = configuration_part s.configuration s.round ∷ movement_part s.configuration.movement.rows ∷ pair_parts format s

@@ -22,6 +22,8 @@ use Rattle.session_bytes.specs.PartsRead.{agreed_in}
 use Rattle.session_rules.specs.Record.{PlainRecord, contract_in, play_of}
 use Rattle.session_rules.specs.State.{row_boards}
 use Rattle.bridge_table.specs.Kept.{plain_of, is_kept_open, IsTiedIn}
+use Rattle.session_store.specs.declared.disk_format.DiskFormat.{DiskFormat}
+use Rattle.session_store.specs.declared.disk_format.DiskFormat.TheVariants.{One, Two}
 use Rattle.session_bytes.specs.Parts.{two_bytes, text_bytes, claim_bytes, ruling_bytes, is_agreed_in, record_part}
 use Rattle.session_rules.specs.StateRange.{AreHandsOrNone, IsOfFourSeats, IsRulingInRange, IsRecordInRange}
 use Rattle.session_rules.specs.Valid.{board_of, IsDealOrNone, IsUnplayed, IsValidRecord}
@@ -103,17 +105,41 @@ claim_at (mark ∷ rest) =
 abbrev pub tricks_in : ℕ → Option (Option Ruling)
 tricks_in tricks = if nat_le tricks 13 then Some (Some (ruling.Tricks tricks)) else None
 
+-- the ruling that the first format has: a kind, and the tricks where it is one of tricks
+abbrev pub short_ruling_at : List ℕ → Option (Option Ruling)
+short_ruling_at [] = None
+short_ruling_at (kind ∷ []) = if kind == 0 then Some None else if kind == 2 then Some (Some ruling.Void) else None
+short_ruling_at (kind ∷ tricks ∷ []) = if kind == 1 then tricks_in tricks else None
+short_ruling_at (kind ∷ tricks ∷ more ∷ rest) = None
+
+-- the ruling, or none, if the two numbers that it has no use for are zeros
+abbrev pub if_zeros : ℕ → ℕ → Option Ruling → Option (Option Ruling)
+if_zeros first second made = if first == 0 && second == 0 then Some made else None
+
+-- the ruling of a kind and two numbers
+abbrev pub ruling_by : ℕ → ℕ → ℕ → Option (Option Ruling)
+ruling_by kind first second =
+    if kind == 0 then if_zeros first second None
+    else if kind == 1 then (if second == 0 then tricks_in first else None)
+    else if kind == 2 then if_zeros first second (Some ruling.Void) else None
+
+-- the ruling that the second format has: a kind and two numbers always
+abbrev pub long_ruling_at : List ℕ → Option (Option Ruling)
+long_ruling_at [] = None
+long_ruling_at (kind ∷ []) = None
+long_ruling_at (kind ∷ first ∷ []) = None
+long_ruling_at (kind ∷ first ∷ second ∷ []) = ruling_by kind first second
+long_ruling_at (kind ∷ first ∷ second ∷ more ∷ rest) = None
+
 -- the ruling, if there is one, behind which no byte is left
-abbrev pub ruling_at : List ℕ → Option (Option Ruling)
-ruling_at [] = None
-ruling_at (kind ∷ []) = if kind == 0 then Some None else if kind == 2 then Some (Some ruling.Void) else None
-ruling_at (kind ∷ tricks ∷ []) = if kind == 1 then tricks_in tricks else None
-ruling_at (kind ∷ tricks ∷ more ∷ rest) = None
+abbrev pub ruling_at : DiskFormat → List ℕ → Option (Option Ruling)
+ruling_at One bytes = short_ruling_at bytes
+ruling_at Two bytes = long_ruling_at bytes
 
 -- the fields behind the calls and the cards
-abbrev pub claims_at : List ℕ → List ℕ → List ℕ → Option Fields
-claims_at calls cards [] = None
-claims_at calls cards (claims ∷ rest) =
+abbrev pub claims_at : DiskFormat → List ℕ → List ℕ → List ℕ → Option Fields
+claims_at format calls cards [] = None
+claims_at format calls cards (claims ∷ rest) =
     option_and_then (λ (both : Option Claim × Bool × List ℕ). option_map (λ (ruling : Option Ruling). record {
       calls = calls;
       cards = cards;
@@ -121,12 +147,12 @@ claims_at calls cards (claims ∷ rest) =
       claim = both.0;
       agreed = both.1;
       ruling = ruling;
-    }) (ruling_at both.2)) (claim_at rest)
+    }) (ruling_at format both.2)) (claim_at rest)
 
 -- the fields of a part
-abbrev pub fields_at : List ℕ → Option Fields
-fields_at bytes =
-    option_and_then (λ (calls : List ℕ × List ℕ). option_and_then (λ (cards : List ℕ × List ℕ). claims_at calls.0 cards.0 cards.1)
+abbrev pub fields_at : DiskFormat → List ℕ → Option Fields
+fields_at format bytes =
+    option_and_then (λ (calls : List ℕ × List ℕ). option_and_then (λ (cards : List ℕ × List ℕ). claims_at format calls.0 cards.0 cards.1)
     (cards_at calls.1)) (calls_at bytes)
 
 -- the deal of the four hands of these bytes, if they are one
@@ -156,15 +182,15 @@ plain_from board calls fields = record {
 }
 
 -- the part that says so
-abbrev pub fields_part : Fields → List ℕ
-fields_part fields =
+abbrev pub fields_part : DiskFormat → Fields → List ℕ
+fields_part format fields =
     two_bytes (length fields.calls) ++ fields.calls ++ text_bytes fields.cards ++ fields.claims ∷ []
-    ++ claim_bytes fields.agreed fields.claim ++ ruling_bytes fields.ruling
+    ++ claim_bytes fields.agreed fields.claim ++ ruling_bytes format fields.ruling
 
 -- the fields of a part: there are no more calls or cards than bytes, each seat has agreed to the claim or not, and a ruling
 -- is of 0 to 13 tricks
-pub record AreFieldsOf (part : List ℕ) (fields : Fields) : Type 0 where
-  pub bytes : fields_part fields ≡ part
+pub record AreFieldsOf (format : DiskFormat) (part : List ℕ) (fields : Fields) : Type 0 where
+  pub bytes : fields_part format fields ≡ part
   pub few_calls : length fields.calls ≤ length part
   pub few_cards : length fields.cards ≤ length part
   pub answers : IfSome fields.claim IsOfFourSeats
@@ -188,9 +214,9 @@ is_in_place now round kept =
     && (nat_le now round || not (is_kept_open kept)))
 
 -- a record that was read: of the board, of those bytes, valid and within its ranges, and tied to the deal of its board
-pub record IsReadFrom (deals : List (Option (List ℕ))) (now round board : ℕ) (part : List ℕ) (kept : Record) : Type 0 where
+pub record IsReadFrom (format : DiskFormat) (deals : List (Option (List ℕ))) (now round board : ℕ) (part : List ℕ) (kept : Record) : Type 0 where
   pub board_is : kept.board ≡ board
-  pub bytes : record_part (plain_of kept) ≡ part
+  pub bytes : record_part format (plain_of kept) ≡ part
   pub valid : IsValidRecord deals now round (plain_of kept)
   pub in_range : IsRecordInRange (plain_of kept)
   pub tied : IsTiedIn deals kept
@@ -202,8 +228,8 @@ abbrev pub items_of : ArrayVec ℕ → List ℕ
 items_of part = part.items
 
 -- the part of a record that the code keeps
-abbrev pub part_kept : Record → List ℕ
-part_kept kept = record_part (plain_of kept)
+abbrev pub part_kept : DiskFormat → Record → List ℕ
+part_kept format kept = record_part format (plain_of kept)
 
 -- the records of a table, as contracts see them
 abbrev pub plains_of : Vec Record → List PlainRecord
@@ -230,6 +256,11 @@ pub record AreRows (deals : List (Option (List ℕ))) (now boards : ℕ) (rows :
   pub each : (index : ℕ) (row : Row) (own : List PlainRecord) → slice_get rows index ≡ Some row → slice_get records index ≡ Some own →
       IsRowOf deals now boards row own
 
--- the part of a play in which nothing has happened
-abbrev pub is_empty_part : List ℕ → Bool
-is_empty_part bytes = length bytes == 6 && list_all (λ byte. byte == 0) bytes
+-- how many zeros are the part of a play in which nothing has happened
+abbrev pub empty_length : DiskFormat → ℕ
+empty_length One = 6
+empty_length Two = 8
+
+-- the part of such a play
+abbrev pub is_empty_part : DiskFormat → List ℕ → Bool
+is_empty_part format bytes = length bytes == empty_length format && list_all (λ byte. byte == 0) bytes

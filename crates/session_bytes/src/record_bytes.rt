@@ -1,10 +1,11 @@
-//! The part of a play: its record, or six zeros where nothing has happened.
+//! The part of a play in the second format: its record, or eight zeros where nothing has happened.
 ghost use Rattle.std.specs.Prelude.{◌≡◌, ◌+◌, ◌<◌, ◌≤◌, ◌++◌, ◌∷◌, [], length, map};
 ghost use Rattle.bridge_cards.specs.Board.{dealer_of};
 ghost use Rattle.bridge_auction.specs.Call.{call_number};
 ghost use Rattle.session_rules.specs.Record.{empty_record};
 ghost use Rattle.bridge_table.specs.Kept.{plain_of};
 ghost use Rattle.session_bytes.specs.Parts.{two_bytes, text_bytes, agreed_byte, is_agreed_in, claim_bytes, ruling_bytes, record_part};
+ghost use Rattle.session_store.specs.declared.disk_format.DiskFormat.TheVariants.{Two};
 
 use crate::part_bytes::{put, value_if};
 use arrayvec::ArrayVec;
@@ -63,15 +64,15 @@ fn put_claim(part: &mut ArrayVec<u8, PAYLOAD_BYTES>, claim: &Option<Claim>, agre
     }
 }
 
-/// Adds a ruling, if there is one.
+/// Adds the kind of a ruling, 0 where there is none, and its two numbers, which are 0 where it has no use for them.
 fn put_ruling(part: &mut ArrayVec<u8, PAYLOAD_BYTES>, ruling: &Option<Ruling>)
-    requires { length part.old.items + 2 ≤ 480 }
-    ensures { part.new.items ≡ part.old.items ++ ruling_bytes ruling.now }
+    requires { length part.old.items + 3 ≤ 480 }
+    ensures { part.new.items ≡ part.old.items ++ ruling_bytes Two ruling.now }
 {
     match ruling {
-        None => put(part, &[0]),
-        Some(Ruling::Tricks(tricks)) => put(part, &[1, tricks.number()]),
-        Some(Ruling::Void) => put(part, &[2]),
+        None => put(part, &[0, 0, 0]),
+        Some(Ruling::Tricks(tricks)) => put(part, &[1, tricks.number(), 0]),
+        Some(Ruling::Void) => put(part, &[2, 0, 0]),
     }
 }
 
@@ -124,7 +125,7 @@ pub fn is_agreed(kept: &Record) -> bool
 pub fn write_record(kept: &Record, part: &mut ArrayVec<u8, PAYLOAD_BYTES>)
     requires dealer { kept.now.auction.dealer ≡ dealer_of kept.now.board }
     requires empty { part.old.items ≡ [] }
-    ensures { part.new.items ≡ record_part (plain_of kept.now) }
+    ensures { part.new.items ≡ record_part Two (plain_of kept.now) }
 {
     put_calls(part, kept.auction.calls());
     put_cards(part, cards_of(kept));
@@ -136,7 +137,7 @@ pub fn write_record(kept: &Record, part: &mut ArrayVec<u8, PAYLOAD_BYTES>)
 /// Writes the part of a play in which nothing has happened into an empty list.
 pub fn write_empty(part: &mut ArrayVec<u8, PAYLOAD_BYTES>)
     requires { part.old.items ≡ [] }
-    ensures { part.new.items ≡ record_part (empty_record 0) }
+    ensures { part.new.items ≡ record_part Two (empty_record 0) }
 {
-    put(part, &[0; 6]);
+    put(part, &[0; 8]);
 }

@@ -4,11 +4,12 @@ ghost use Rattle.std.specs.Option.{option_map};
 ghost use Rattle.session_rules.specs.Record.{PlainRecord};
 ghost use Rattle.session_bytes.specs.Parts.{record_part};
 ghost use Rattle.session_rules.specs.StateRange.{IsRecordInRange};
-ghost use Rattle.session_bytes.specs.Reading.{AreFieldsOf, fields_in, bytes_at, calls_at, cards_at, seat_numbered, claimed_by, marked_at, claim_at, tricks_in, ruling_at, claims_at, fields_at};
+ghost use Rattle.session_bytes.specs.Reading.{AreFieldsOf, fields_in, bytes_at, calls_at, cards_at, seat_numbered, claimed_by, marked_at, claim_at, tricks_in, short_ruling_at, long_ruling_at, ruling_at, claims_at, fields_at};
 
 use bridge_cards::Seat;
 use bridge_play::Claim;
 use session_rules::{Ruling, TrickCount};
+use session_store::DiskFormat;
 
 /// What the part of a play says.
 #[derive(Clone, Copy)]
@@ -25,22 +26,22 @@ pub struct RecordFields<'a> {
     pub ruling: Option<Ruling>,
 }
 
-/// The fields of a part, if it has them and no byte is left.
-pub fn read_fields(part: &[u8]) -> Option<RecordFields<'_>>
-    ensures value { option_map fields_in result ≡ fields_at part.now }
-    ensures written { IfSome result (λ fields. AreFieldsOf part.now (fields_in fields)) }
-    ensures other { IfNone result ((plain : PlainRecord) → length plain.calls ≤ 319 → IsRecordInRange plain → record_part plain ≢ part.now) }
+/// The fields of a part of that format, if it has them and no byte is left.
+pub fn read_fields(format: DiskFormat, part: &[u8]) -> Option<RecordFields<'_>>
+    ensures value { option_map fields_in result ≡ fields_at format part.now }
+    ensures written { IfSome result (λ fields. AreFieldsOf format part.now (fields_in fields)) }
+    ensures other { IfNone result ((plain : PlainRecord) → length plain.calls ≤ 319 → IsRecordInRange plain → record_part format plain ≢ part.now) }
 {
-    fields_at(part)
+    fields_at(format, part)
 }
 
 /// The same, from left to right.
-fn fields_at(part: &[u8]) -> Option<RecordFields<'_>>
-    ensures { option_map fields_in result ≡ fields_at part.now }
+fn fields_at(format: DiskFormat, part: &[u8]) -> Option<RecordFields<'_>>
+    ensures { option_map fields_in result ≡ fields_at format part.now }
 {
     let (calls, rest) = read_calls(part)?;
     let (cards, rest) = read_cards(rest)?;
-    read_claims(calls, cards, rest)
+    read_claims(format, calls, cards, rest)
 }
 
 /// So many bytes, and those behind them.
@@ -74,14 +75,19 @@ fn read_cards(bytes: &[u8]) -> Option<(&[u8], &[u8])>
 }
 
 /// The fields behind the calls and the cards.
-fn read_claims<'a>(calls: &'a [u8], cards: &'a [u8], bytes: &[u8]) -> Option<RecordFields<'a>>
-    ensures { option_map fields_in result ≡ claims_at calls.now cards.now bytes.now }
+fn read_claims<'a>(
+    format: DiskFormat,
+    calls: &'a [u8],
+    cards: &'a [u8],
+    bytes: &[u8],
+) -> Option<RecordFields<'a>>
+    ensures { option_map fields_in result ≡ claims_at format calls.now cards.now bytes.now }
 {
     let [claims, rest @ ..] = bytes else {
         return None;
     };
     let (claim, agreed, rest) = read_claim(rest)?;
-    let ruling = read_ruling(rest)?;
+    let ruling = read_ruling(format, rest)?;
     Some(RecordFields {
         calls,
         cards,
@@ -152,13 +158,35 @@ fn seat_numbered(number: u8) -> Option<Seat>
 }
 
 /// The ruling, if there is one, behind which no byte is left.
-fn read_ruling(bytes: &[u8]) -> Option<Option<Ruling>>
-    ensures { result ≡ ruling_at bytes.now }
+fn read_ruling(format: DiskFormat, bytes: &[u8]) -> Option<Option<Ruling>>
+    ensures { result ≡ ruling_at format bytes.now }
+{
+    match format {
+        DiskFormat::One => read_short_ruling(bytes),
+        DiskFormat::Two => read_long_ruling(bytes),
+    }
+}
+
+/// The ruling of a kind, and of tricks where it is one of these.
+fn read_short_ruling(bytes: &[u8]) -> Option<Option<Ruling>>
+    ensures { result ≡ short_ruling_at bytes.now }
 {
     match bytes {
         [0] => Some(None),
         [2] => Some(Some(Ruling::Void)),
         [1, tricks] => tricks_in(*tricks),
+        _ => None,
+    }
+}
+
+/// The ruling of a kind and two numbers, which are 0 where it has no use for them.
+fn read_long_ruling(bytes: &[u8]) -> Option<Option<Ruling>>
+    ensures { result ≡ long_ruling_at bytes.now }
+{
+    match bytes {
+        [0, 0, 0] => Some(None),
+        [1, tricks, 0] => tricks_in(*tricks),
+        [2, 0, 0] => Some(Some(Ruling::Void)),
         _ => None,
     }
 }

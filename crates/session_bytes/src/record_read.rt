@@ -19,11 +19,12 @@ use bridge_cards::{BoardNumber, Card, Deal, dealer};
 use bridge_play::Play;
 use bridge_table::{Record, deal_on};
 use session_rules::Ruling;
-use session_store::PAYLOAD_BYTES;
+use session_store::{DiskFormat, PAYLOAD_BYTES};
 
-/// The record of a play of that board and round that the part was written of; `None` where it is the part of no record that
+/// The record of a play of that board and round that the part was written of in that format; `None` where it is the part of no record that
 /// is valid by the deals in the current round.
 pub fn read_record(
+    format: DiskFormat,
     part: &[u8],
     board: BoardNumber,
     deals: &[Option<Deal>],
@@ -32,10 +33,10 @@ pub fn read_record(
 ) -> Option<Record>
     requires few { length part.now ≤ 480 }
     requires deals { All AreHandsOrNone deals.now }
-    ensures read { IfSome result (IsReadFrom deals.now now round board part.now) }
-    ensures none { IfNone result ((plain : PlainRecord) → plain.board ≡ board → IsValidRecord deals.now now round plain → IsRecordInRange plain → record_part plain ≢ part.now) }
+    ensures read { IfSome result (IsReadFrom format deals.now now round board part.now) }
+    ensures none { IfNone result ((plain : PlainRecord) → plain.board ≡ board → IsValidRecord deals.now now round plain → IsRecordInRange plain → record_part format plain ≢ part.now) }
 {
-    match read_fields(part) {
+    match read_fields(format, part) {
         Some(fields) => record_of(&fields, board, deals, now, round),
         None => None,
     }

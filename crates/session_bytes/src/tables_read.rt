@@ -5,7 +5,7 @@ ghost use Rattle.bridge_table.specs.Kept.{plain_of, IsTiedIn};
 ghost use Rattle.session_bytes.specs.Parts.{deal_part, row_parts};
 ghost use Rattle.session_rules.specs.StateRange.{AreHandsOrNone};
 ghost use Rattle.session_rules.specs.Valid.{IsDealOrNone};
-ghost use Rattle.session_bytes.specs.Reading.{items_of, part_kept, plains_of, AreDeals, AreRecords, IsRowOf, AreRows, is_empty_part};
+ghost use Rattle.session_bytes.specs.Reading.{items_of, part_kept, plains_of, AreDeals, AreRecords, IsRowOf, AreRows, empty_length, is_empty_part};
 ghost use Rattle.std.specs.List.{range_with_len, list_all};
 ghost use Rattle.session_bytes.specs.Parts.{record_part};
 
@@ -15,7 +15,7 @@ use arrayvec::ArrayVec;
 use bridge_cards::{BoardNumber, Deal};
 use bridge_movement::Row;
 use bridge_table::Record;
-use session_store::PAYLOAD_BYTES;
+use session_store::{DiskFormat, PAYLOAD_BYTES};
 use std::alloc::{AllocError, Global};
 
 /// The deals of the boards that the parts were written of; none where these are the parts of no boards.
@@ -37,11 +37,21 @@ pub fn read_deals(
     Ok(Some(deals))
 }
 
-/// Whether the part is that of a play in which nothing has happened.
-fn is_empty_part(part: &[u8]) -> bool
-    ensures { result ≡ is_empty_part part.now }
+/// How many zeros are the part of a play in which nothing has happened.
+fn empty_length(format: DiskFormat) -> usize
+    ensures { result ≡ empty_length format }
 {
-    part.len() == 6 && are_zeros(part)
+    match format {
+        DiskFormat::One => 6,
+        DiskFormat::Two => 8,
+    }
+}
+
+/// Whether the part is that of a play in which nothing has happened.
+fn is_empty_part(format: DiskFormat, part: &[u8]) -> bool
+    ensures { result ≡ is_empty_part format part.now }
+{
+    part.len() == empty_length(format) && are_zeros(part)
 }
 
 fn are_zeros(bytes: &[u8]) -> bool
@@ -51,16 +61,19 @@ fn are_zeros(bytes: &[u8]) -> bool
 }
 
 /// Whether the parts are those of plays in which nothing has happened.
-fn are_empty_parts(parts: &[ArrayVec<u8, PAYLOAD_BYTES>]) -> bool
-    ensures { result ≡ list_all (λ part. is_empty_part part.items) parts.now }
+fn are_empty_parts(format: DiskFormat, parts: &[ArrayVec<u8, PAYLOAD_BYTES>]) -> bool
+    ensures { result ≡ list_all (λ part. is_empty_part format part.items) parts.now }
 {
-    parts.iter().all(|part| is_empty_part(part.as_slice()))
+    parts
+        .iter()
+        .all(|part| is_empty_part(format, part.as_slice()))
 }
 
-/// The records of a round, of boards from the first on, that the parts were written of; none where they are those of no
+/// The records of a round, of boards from the first on, that the parts were written of in that format; none where they are those of no
 /// valid records.
 fn read_records(
     alloc: Global,
+    format: DiskFormat,
     parts: &[ArrayVec<u8, PAYLOAD_BYTES>],
     first: u8,
     deals: &[Option<Deal>],
@@ -70,16 +83,16 @@ fn read_records(
     requires least { 1 ≤ first }
     requires most { first + length parts.now ≤ 37 }
     requires deals { All AreHandsOrNone deals.now }
-    ensures written { IfOk result (λ found. IfSome found (λ table. map part_kept table.items ≡ map items_of parts.now)) }
+    ensures written { IfOk result (λ found. IfSome found (λ table. map (part_kept format) table.items ≡ map items_of parts.now)) }
     ensures records { IfOk result (λ found. IfSome found (λ table. AreRecords deals.now now round (range_with_len first (length parts.now)) (map plain_of table.items))) }
     ensures tied { IfOk result (λ found. IfSome found (λ table. All (IsTiedIn deals.now) table.items)) }
-    ensures other { IfOk result (λ found. IfNone found ((records : List PlainRecord) → AreRecords deals.now now round (range_with_len first (length parts.now)) records → map record_part records ≢ map items_of parts.now)) }
+    ensures other { IfOk result (λ found. IfNone found ((records : List PlainRecord) → AreRecords deals.now now round (range_with_len first (length parts.now)) records → map (record_part format) records ≢ map items_of parts.now)) }
 {
     let mut table = Vec::with_capacity(alloc, parts.len())?;
     let mut number = first;
     for part in parts {
         let board = BoardNumber::new(number).unwrap();
-        match read_record(part.as_slice(), board, deals, now, round) {
+        match read_record(format, part.as_slice(), board, deals, now, round) {
             Some(kept) => table.push(kept)?,
             None => return Ok(None),
         }
@@ -92,6 +105,7 @@ fn read_records(
 /// nothing has happened.
 fn read_table(
     alloc: Global,
+    format: DiskFormat,
     parts: &[ArrayVec<u8, PAYLOAD_BYTES>],
     row: &Row,
     boards: u8,
@@ -103,25 +117,26 @@ fn read_table(
     requires most { row.now.set ≤ 12 }
     requires boards { boards ≤ 3 }
     requires deals { All AreHandsOrNone deals.now }
-    ensures written { IfOk result (λ found. IfSome found (λ table. row_parts boards (map plain_of table.items) ≡ map items_of parts.now)) }
+    ensures written { IfOk result (λ found. IfSome found (λ table. row_parts format boards (map plain_of table.items) ≡ map items_of parts.now)) }
     ensures row { IfOk result (λ found. IfSome found (λ table. IsRowOf deals.now now boards row.now (map plain_of table.items))) }
     ensures tied { IfOk result (λ found. IfSome found (λ table. All (IsTiedIn deals.now) table.items)) }
-    ensures other { IfOk result (λ found. IfNone found ((records : List PlainRecord) → IsRowOf deals.now now boards row.now records → row_parts boards records ≢ map items_of parts.now)) }
+    ensures other { IfOk result (λ found. IfNone found ((records : List PlainRecord) → IsRowOf deals.now now boards row.now records → row_parts format boards records ≢ map items_of parts.now)) }
 {
     if row.is_live() {
         let first = (row.set - 1) * boards + 1;
-        read_records(alloc, parts, first, deals, now, row.round)
-    } else if are_empty_parts(parts) {
+        read_records(alloc, format, parts, first, deals, now, row.round)
+    } else if are_empty_parts(format, parts) {
         Ok(Some(Vec::new(alloc)))
     } else {
         Ok(None)
     }
 }
 
-/// The records of all rows that the parts were written of, as many for each row as there are boards in a set; none where they
+/// The records of all rows that the parts were written of in that format, as many for each row as there are boards in a set; none where they
 /// are those of no valid records.
 pub fn read_tables(
     alloc: Global,
+    format: DiskFormat,
     parts: &[ArrayVec<u8, PAYLOAD_BYTES>],
     rows: &[Row],
     boards: u8,
@@ -132,16 +147,16 @@ pub fn read_tables(
     requires sets { All (λ row. (1 ≤ row.set) × (row.set ≤ 12)) rows.now }
     requires boards { boards ≤ 3 }
     requires deals { All AreHandsOrNone deals.now }
-    ensures written { IfOk result (λ found. IfSome found (λ tables. flat_map (row_parts boards) (map plains_of tables.items) ≡ map items_of parts.now)) }
+    ensures written { IfOk result (λ found. IfSome found (λ tables. flat_map (row_parts format boards) (map plains_of tables.items) ≡ map items_of parts.now)) }
     ensures rows { IfOk result (λ found. IfSome found (λ tables. AreRows deals.now now boards rows.now (map plains_of tables.items))) }
     ensures tied { IfOk result (λ found. IfSome found (λ tables. All (λ table. All (IsTiedIn deals.now) table.items) tables.items)) }
-    ensures other { IfOk result (λ found. IfNone found ((records : List (List PlainRecord)) → AreRows deals.now now boards rows.now records → flat_map (row_parts boards) records ≢ map items_of parts.now)) }
+    ensures other { IfOk result (λ found. IfNone found ((records : List (List PlainRecord)) → AreRows deals.now now boards rows.now records → flat_map (row_parts format boards) records ≢ map items_of parts.now)) }
 {
     let mut tables = Vec::with_capacity(alloc, rows.len())?;
     let mut rest = parts;
     for row in rows {
         let (own, later) = rest.split_at(usize::from(boards));
-        match read_table(alloc, own, row, boards, deals, now)? {
+        match read_table(alloc, format, own, row, boards, deals, now)? {
             Some(table) => tables.push(table)?,
             None => return Ok(None),
         }

@@ -7,7 +7,7 @@ use Rattle.session_bytes.proofs.tables_read.read_records.Given as goal
 abbrev pub invariant-loop-part : goal.invariant-loop-part
 invariant-loop-part l = record {
   next : l.number ≡ l.first + l.part-index;
-  so_far : map part_kept l.table.items ≡ map items_of (take l.part-index l.parts);
+  so_far : map (part_kept l.format) l.table.items ≡ map items_of (take l.part-index l.parts);
   records : AreRecords l.deals l.now l.round (range_with_len l.first l.part-index) (map plain_of l.table.items);
   tied : All (IsTiedIn l.deals) l.table.items;
 }

@@ -14,17 +14,19 @@ use Rattle.session_bytes.proofs.tables_read.read_tables.Goals as goal
 
 pub returns-in-None-clause-other : goal.returns-in-None-clause-other
 returns-in-None-clause-other c = λ records are is.
+    let format = c.args.format in
     let boards = c.args.boards in
     let index = c.loop-row.row-index in
     let front = map plains_of c.loop-row.tables.items in
     let before : length front ≡ index = omega (arith, c.loop-row.invariant.rows.count, length-take index c.args.rows.now, c.loop-row-test.true) in
-    let own = row_there c.args.deals.now c.args.now boards c.args.rows.now records front (map items_of c.loop-row.rest.now) index _ are
+    let own = row_there c.args.deals.now c.args.now boards format c.args.rows.now records front (map items_of c.loop-row.rest.now) index _ are
     (c.loop-row.invariant.so_far ∙ sym is) before c.loop-row-test.true (slice_get-get_or c.args.rows.now index _ c.loop-row-test.true) in
     when_none _ c.in_ok-table.field-0 c.in_ok-table.ensures.other c.in-None.is own.0 own.1 (own.2 ∙ take-map items_of boards c.loop-row.rest.now
     ∙ ap (λ n. map items_of (take n c.loop-row.rest.now)) (sym c.from.ensures) ∙ ap (map items_of) (sym c.split_at.ensures.front))
 
 pub loop-row-preserved : goal.loop-row-preserved
 loop-row-preserved c =
+    let format = c.args.format in
     let boards = c.args.boards in
     let deals = c.args.deals.now in
     let rows = c.args.rows.now in
@@ -33,8 +35,8 @@ loop-row-preserved c =
     let table = c.in-Some.table in
     let rest = c.loop-row.rest.now in
     let longer : c.push.new.self.items ≡ tables ++ table ∷ [] = c.in_ok-push-in-Some.ensures.items in
-    let written : row_parts boards (plains_of table) ≡ map items_of c.split_at.result.0.now
-    = when_some (λ (t : Vec Record Global). row_parts boards (plains_of t) ≡ map items_of c.split_at.result.0.now) c.in_ok-table.field-0 table c.in_ok-table.ensures.written c.in-Some.is in
+    let written : row_parts format boards (plains_of table) ≡ map items_of c.split_at.result.0.now
+    = when_some (λ (t : Vec Record Global). row_parts format boards (plains_of t) ≡ map items_of c.split_at.result.0.now) c.in_ok-table.field-0 table c.in_ok-table.ensures.written c.in-Some.is in
     let tied : All (IsTiedIn deals) table.items
     = when_some (λ (t : Vec Record Global). All (IsTiedIn deals) t.items) c.in_ok-table.field-0 table c.in_ok-table.ensures.tied c.in-Some.is in
     let whole : map items_of c.split_at.result.0.now ++ map items_of c.split_at.result.1.now ≡ map items_of rest
@@ -42,12 +44,12 @@ loop-row-preserved c =
     ∙ ap (map items_of) (ap (λ xs. xs ++ c.split_at.result.1.now) c.split_at.ensures.front ∙ ap (λ xs. take c.from.result rest ++ xs) c.split_at.ensures.back
     ∙ take-append-drop c.from.result rest) in
     record {
-      so_far = ap (λ (ts : List (Vec Record Global)). flat_map (row_parts boards) (map plains_of ts) ++ map items_of c.split_at.result.1.now) longer
-          ∙ ap (λ xs. flat_map (row_parts boards) xs ++ map items_of c.split_at.result.1.now) (map-append plains_of tables (table ∷ []))
-          ∙ ap (λ xs. xs ++ map items_of c.split_at.result.1.now) (flat_map-append (row_parts boards) (map plains_of tables) (plains_of table ∷ []))
-          ∙ append_assoc (flat_map (row_parts boards) (map plains_of tables)) (row_parts boards (plains_of table) ++ []) (map items_of c.split_at.result.1.now)
-          ∙ ap (λ xs. flat_map (row_parts boards) (map plains_of tables) ++ (xs ++ map items_of c.split_at.result.1.now)) (append-nil (row_parts boards (plains_of table)) ∙ written)
-          ∙ ap (λ xs. flat_map (row_parts boards) (map plains_of tables) ++ xs) whole
+      so_far = ap (λ (ts : List (Vec Record Global)). flat_map (row_parts format boards) (map plains_of ts) ++ map items_of c.split_at.result.1.now) longer
+          ∙ ap (λ xs. flat_map (row_parts format boards) xs ++ map items_of c.split_at.result.1.now) (map-append plains_of tables (table ∷ []))
+          ∙ ap (λ xs. xs ++ map items_of c.split_at.result.1.now) (flat_map-append (row_parts format boards) (map plains_of tables) (plains_of table ∷ []))
+          ∙ append_assoc (flat_map (row_parts format boards) (map plains_of tables)) (row_parts format boards (plains_of table) ++ []) (map items_of c.split_at.result.1.now)
+          ∙ ap (λ xs. flat_map (row_parts format boards) (map plains_of tables) ++ (xs ++ map items_of c.split_at.result.1.now)) (append-nil (row_parts format boards (plains_of table)) ∙ written)
+          ∙ ap (λ xs. flat_map (row_parts format boards) (map plains_of tables) ++ xs) whole
           ∙ c.loop-row.invariant.so_far;
       left = omega (arith, c.from.ensures, c.split_at.ensures.back_len, c.loop-row.invariant.left, suc_row (length rows) index boards c.loop-row-test.true);
       rows = subst (λ (ts : List (Vec Record Global)). AreRows deals c.args.now boards (take (index + 1) rows) (map plains_of ts)) (sym longer)
