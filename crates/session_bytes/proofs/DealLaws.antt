@@ -8,7 +8,7 @@ use Rattle.session_bytes.specs.Reading.{dealt_at, deal_at}
 use Rattle.session_rules.specs.StateRange.{AreHandsOrNone}
 use Rattle.session_rules.specs.Valid.{IsDealOrNone}
 use Rattle.session_bytes.proofs.ActionLaws.{AreBytes, then_is, if_is, hands_is, hands_back}
-use Rattle.session_bytes.proofs.FieldLaws.{some_is, not_some}
+use Rattle.session_bytes.proofs.Options.{some_is, not_some}
 
 -- what was read is a deal, or none, of these bytes
 pub record IsDealOf (bytes : List ℕ) (deal : Option (List ℕ)) : Type 0 where

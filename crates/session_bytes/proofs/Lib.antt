@@ -8,6 +8,8 @@ pub mod TablesBack
 pub mod SessionRecords
 pub mod SessionBack
 pub mod ActionInRange
+pub mod Options
+pub mod RulingLaws
 pub mod FieldLaws
 pub mod ReadRecords
 pub mod DealLaws

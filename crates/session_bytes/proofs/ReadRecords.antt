@@ -38,7 +38,8 @@ use Rattle.session_rules.specs.Valid.{MayStand, IsUnplayed, IsValidRecord}
 use Rattle.session_bytes.specs.Reading.{some_call, Fields, fields_at, fields_of, plain_from, IsPlayed, may_stand, is_in_place}
 use Rattle.session_store.specs.declared.disk_format.DiskFormat.{DiskFormat}
 use Rattle.session_rules.proofs.Lists.{all_at, not_true}
-use Rattle.session_bytes.proofs.FieldLaws.{some_is, not_some, fields_again}
+use Rattle.session_bytes.proofs.FieldLaws.{fields_again}
+use Rattle.session_bytes.proofs.Options.{some_is, not_some}
 use Rattle.session_rules.proofs.StaysValid.{mapped_from}
 use Rattle.session_rules.proofs.PlainRecords.{no_contract}
 use Rattle.bridge_table.proofs.Tied.{open_same}

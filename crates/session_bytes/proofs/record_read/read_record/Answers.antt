@@ -1,6 +1,6 @@
 use Rattle.std.proofs.Common.{◌∙◌, ap, sym}
 use Rattle.session_bytes.specs.Reading.{fields_in, fields_of, fields_at}
-use Rattle.session_bytes.proofs.FieldLaws.{some_is, not_some}
+use Rattle.session_bytes.proofs.Options.{some_is, not_some}
 use Rattle.session_bytes.proofs.ReadRecords.{valid_fields, if_none_then}
 use Rattle.session_bytes.proofs.record_read.read_record.Goals as goal
 
