@@ -4,6 +4,7 @@ mod action_bytes;
 mod disk;
 mod faults;
 mod largest;
+mod old_disk;
 mod parts;
 mod random_actions;
 mod random_sessions;

@@ -10,7 +10,7 @@ use std::process::Abort;
 use std::test::Fail;
 
 /// A store over a disk whose calls may fail from one on.
-type ClubStore = Store<Fuse<MemoryDisk>, Session>;
+pub type ClubStore = Store<Fuse<MemoryDisk>, Session>;
 
 const DEAL: &str =
     "DEAL 100 1 N:AKQJT98765432... .AKQJT98765432.. ..AKQJT98765432. ...AKQJT98765432";
@@ -48,31 +48,31 @@ pub fn opened<D: SectorDisk + Drop>(rt: &impl Abort, alloc: Global, disk: D) -> 
 }
 
 /// The store on this disk, whose calls after so many fail.
-fn opened_for(rt: &impl Abort, alloc: Global, disk: MemoryDisk, passes: u64) -> ClubStore {
+pub fn opened_for(rt: &impl Abort, alloc: Global, disk: MemoryDisk, passes: u64) -> ClubStore {
     opened(rt, alloc, Fuse::new(disk, passes, FailOf::Always, false))
 }
 
 /// The disk of a store after a power cut that picks these values.
-fn cut(store: ClubStore, picks: &[u32]) -> MemoryDisk {
+pub fn cut(store: ClubStore, picks: &[u32]) -> MemoryDisk {
     let mut disk = store.into_disk().into_inner();
     disk.crash(picks);
     disk
 }
 
 /// Submits the actions of a text, each of which is accepted.
-fn submit<D: SectorDisk + Drop>(rt: &impl Abort, store: &mut Store<D, Session>, text: &str) {
+pub fn submit<D: SectorDisk + Drop>(rt: &impl Abort, store: &mut Store<D, Session>, text: &str) {
     for line in text.split('/') {
         expect_eq(rt, store.submit(&action(rt, line)).is_ok(), true, line);
     }
 }
 
 /// Confirms what is pending.
-fn confirm<D: SectorDisk + Drop>(rt: &impl Abort, store: &mut Store<D, Session>) {
+pub fn confirm<D: SectorDisk + Drop>(rt: &impl Abort, store: &mut Store<D, Session>) {
     expect_eq(rt, store.confirm().is_ok(), true, "confirm");
 }
 
 /// Fails where the store's session is not that after those actions, or its epoch another.
-fn expect_state<D: SectorDisk + Drop>(
+pub fn expect_state<D: SectorDisk + Drop>(
     rt: &impl Abort,
     alloc: Global,
     store: &Store<D, Session>,
@@ -87,7 +87,12 @@ fn expect_state<D: SectorDisk + Drop>(
 }
 
 /// Fails where a sector has other bytes than these and zeros behind them.
-fn expect_sector(rt: &impl Abort, disk: &mut MemoryDisk, at: u32, due: &[u8]) -> Result<(), Fail> {
+pub fn expect_sector(
+    rt: &impl Abort,
+    disk: &mut MemoryDisk,
+    at: u32,
+    due: &[u8],
+) -> Result<(), Fail> {
     let mut bytes = [0; 512];
     if at < disk.count() {
         disk.read(at, &mut bytes)?;
@@ -108,12 +113,12 @@ fn formatting_takes_2061_calls(rt: HostRuntime) -> Result<(), Fail> {
         expect_eq(&rt, format(fuse, &session).is_ok(), is_done, passes);
     }
     let mut disk = formatted(&rt, rt.alloc())?;
-    expect_sector(&rt, &mut disk, 0, b"BD1H\0\0\0\0\0\0\0\x01\0\0\0\x09")?;
+    expect_sector(&rt, &mut disk, 0, b"BD2H\0\0\0\0\0\0\0\x01\0\0\0\x09")?;
     expect_sector(
         &rt,
         &mut disk,
         1,
-        b"BD1P\0\0\0\0\0\0\0\x01\0\0\0\0\0\x2b\x0aClub-Night\x09Town-Hall2026.03.14\0\x01\x02\x01\x01\x04\x02\0\0\0\x64\x01",
+        b"BD2P\0\0\0\0\0\0\0\x01\0\0\0\0\0\x2b\x0aClub-Night\x09Town-Hall2026.03.14\0\x01\x02\x01\x01\x04\x02\0\0\0\x64\x01",
     )
 }
 
@@ -147,7 +152,7 @@ fn a_record_behind_a_lost_one_is_lost(rt: HostRuntime) -> Result<(), Fail> {
         &rt,
         &mut disk,
         1025,
-        b"BD1R\0\0\0\0\0\0\0\x02\0\0\0\x01\0\x09\x02\0\0\0\x0b\x01\0\0\x24",
+        b"BD2R\0\0\0\0\0\0\0\x02\0\0\0\x01\0\x09\x02\0\0\0\x0b\x01\0\0\x24",
     )?;
     disk.crash(&only_record_2);
     let mut store = opened_for(&rt, rt.alloc(), disk, u64::MAX);

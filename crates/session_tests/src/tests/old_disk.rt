@@ -1,0 +1,227 @@
+//! A disk of the first format, and what opening it makes of it.
+use super::disk::{confirm, cut, expect_sector, expect_state, opened, opened_for, picks, submit};
+use super::expect_eq;
+use bridge_session::Session;
+use sector_disk::{Fail as FailOf, Fuse, MemoryDisk, SectorDisk};
+use session_store::{Store, StoreFault};
+use std::alloc::Global;
+use std::process::Abort;
+use std::test::Fail;
+
+/// The actions that are on the disk. The last one's record is the only one of its epoch.
+const TAKEN: &str =
+    "DEAL 100 1 N:AKQJT98765432... .AKQJT98765432.. ..AKQJT98765432. ...AKQJT98765432/CALL 11 1 0 7S/VOID 100 1 2 1/CALL 31 1 1 PASS";
+
+/// The sectors that are not zeros: the number of each, and its bytes up to the last that is not 0. The program wrote them as
+/// it stood before the second format: `format` with examples/rows.txt, `script` with the first three actions, and `script`
+/// with the last one.
+const SECTORS: [(u32, &[u8]); 23] = [
+    (0, b"BD1H\0\0\0\0\0\0\0\x03\0\0\0\x09"),
+    (
+        1,
+        b"BD1P\0\0\0\0\0\0\0\x03\0\0\0\0\0\x2b\x0aClub-Night\x09Town-Hall2026.03.14\0\x01\x02\x01\x01\x04\x02\0\0\0\x64\x01",
+    ),
+    (
+        2,
+        b"BD1P\0\0\0\0\0\0\0\x03\0\0\0\x01\0\x06\x01\x03\x01\x02\x04\x01",
+    ),
+    (
+        3,
+        b"BD1P\0\0\0\0\0\0\0\x03\0\0\0\x02\0\x10\x03Ann\0\0\0\x0b\x03Bob\0\0\0\x0c",
+    ),
+    (
+        4,
+        b"BD1P\0\0\0\0\0\0\0\x03\0\0\0\x03\0\x10\x03Cat\0\0\0\x15\x03Dan\0\0\0\x16",
+    ),
+    (
+        5,
+        b"BD1P\0\0\0\0\0\0\0\x03\0\0\0\x04\0\x10\x03Eve\0\0\0\x1f\x03Fay\0\0\0\x20",
+    ),
+    (
+        6,
+        b"BD1P\0\0\0\0\0\0\0\x03\0\0\0\x05\0\x10\x03Gus\0\0\0\x29\x03Hal\0\0\0\x2a",
+    ),
+    (
+        7,
+        b"BD1P\0\0\0\0\0\0\0\x03\0\0\0\x06\0\x21\x01\0\x0f\xff\x80\0\0\0\0\0\0\0\x7f\xfc\0\0\0\0\0\0\0\x03\xff\xe0\0\0\0\0\0\0\0\x1f\xff",
+    ),
+    (8, b"BD1P\0\0\0\0\0\0\0\x03\0\0\0\x07\0\x07\0\x01\x24"),
+    (9, b"BD1P\0\0\0\0\0\0\0\x03\0\0\0\x08\0\x06\0\0\0\0\0\x02"),
+    (512, b"BD1H\0\0\0\0\0\0\0\x02\0\0\0\x09"),
+    (
+        513,
+        b"BD1P\0\0\0\0\0\0\0\x02\0\0\0\0\0\x2b\x0aClub-Night\x09Town-Hall2026.03.14\0\x01\x02\x01\x01\x04\x02\0\0\0\x64\x01",
+    ),
+    (
+        514,
+        b"BD1P\0\0\0\0\0\0\0\x02\0\0\0\x01\0\x06\x01\x03\x01\x02\x04\x01",
+    ),
+    (
+        515,
+        b"BD1P\0\0\0\0\0\0\0\x02\0\0\0\x02\0\x10\x03Ann\0\0\0\x0b\x03Bob\0\0\0\x0c",
+    ),
+    (
+        516,
+        b"BD1P\0\0\0\0\0\0\0\x02\0\0\0\x03\0\x10\x03Cat\0\0\0\x15\x03Dan\0\0\0\x16",
+    ),
+    (
+        517,
+        b"BD1P\0\0\0\0\0\0\0\x02\0\0\0\x04\0\x10\x03Eve\0\0\0\x1f\x03Fay\0\0\0\x20",
+    ),
+    (
+        518,
+        b"BD1P\0\0\0\0\0\0\0\x02\0\0\0\x05\0\x10\x03Gus\0\0\0\x29\x03Hal\0\0\0\x2a",
+    ),
+    (519, b"BD1P\0\0\0\0\0\0\0\x02\0\0\0\x06\0\x01"),
+    (520, b"BD1P\0\0\0\0\0\0\0\x02\0\0\0\x07\0\x06"),
+    (521, b"BD1P\0\0\0\0\0\0\0\x02\0\0\0\x08\0\x06"),
+    (
+        1024,
+        b"BD1R\0\0\0\0\0\0\0\x03\0\0\0\0\0\x09\x02\0\0\0\x1f\x01\0\x01",
+    ),
+    (
+        1025,
+        b"BD1R\0\0\0\0\0\0\0\x02\0\0\0\x01\0\x09\x02\0\0\0\x0b\x01\0\0\x24",
+    ),
+    (
+        1026,
+        b"BD1R\0\0\0\0\0\0\0\x02\0\0\0\x02\0\x08\x09\0\0\0\x64\x01\x02\x01",
+    ),
+];
+
+/// The calls of the disk in which it is opened: a sync, two headers, nine parts and two records, nine parts, a sync, the
+/// header and a sync.
+const OPENING_CALLS: u64 = 26;
+
+/// Those before the header is written.
+const CALLS_BEFORE_HEADER: u64 = 24;
+
+/// The disk of those sectors, synced.
+fn old_disk(alloc: Global) -> Result<MemoryDisk, Fail> {
+    let mut disk = MemoryDisk::new(alloc, 2048)?;
+    for (at, written) in &SECTORS {
+        let mut bytes = [0; 512];
+        for (index, byte) in bytes.iter_mut().enumerate() {
+            if let Some(value) = written.get(index) {
+                *byte = *value;
+            }
+        }
+        if *at < disk.count() {
+            disk.write(*at, &bytes)?;
+        }
+    }
+    disk.sync()?;
+    Ok(disk)
+}
+
+// Epoch 4 in the second snapshot. In parts 7 and 8, of the plays, a ruling has three bytes.
+#[test]
+fn an_old_disk_is_opened(rt: HostRuntime) -> Result<(), Fail> {
+    let store = opened_for(&rt, rt.alloc(), old_disk(rt.alloc())?, OPENING_CALLS);
+    expect_state(&rt, rt.alloc(), &store, &[TAKEN], 4);
+    let mut disk = store.into_disk().into_inner();
+    for (at, due) in [
+        (512, b"BD2H\0\0\0\0\0\0\0\x04\0\0\0\x09".as_slice()),
+        (
+            520,
+            b"BD2P\0\0\0\0\0\0\0\x04\0\0\0\x07\0\x0a\0\x02\x24\0\0\0\0\0\0\0".as_slice(),
+        ),
+        (
+            521,
+            b"BD2P\0\0\0\0\0\0\0\x04\0\0\0\x08\0\x08\0\0\0\0\0\x02\0\0".as_slice(),
+        ),
+    ] {
+        expect_sector(&rt, &mut disk, at, due)?;
+    }
+    Ok(())
+}
+
+/// The disk after an opening that fails from one call on, and a power cut.
+fn stopped(
+    rt: &impl Abort,
+    alloc: Global,
+    passes: u64,
+    effect: bool,
+    picks: &[u32],
+) -> Result<MemoryDisk, Fail> {
+    let fuse = Fuse::new(old_disk(alloc)?, passes, FailOf::Always, effect);
+    let (left, fault) = match Store::<Fuse<MemoryDisk>, Session>::open(alloc, fuse) {
+        Ok(store) => (store.into_disk(), None),
+        Err((left, fault)) => (left, Some(fault)),
+    };
+    expect_eq(rt, fault, Some(StoreFault::Disk), passes);
+    let mut disk = left.into_inner();
+    disk.crash(picks);
+    Ok(disk)
+}
+
+/// Part 8 in the snapshot of epoch 5, and in that of epoch 6.
+const PARTS: [(u32, &[u8]); 2] = [
+    (
+        9,
+        b"BD2P\0\0\0\0\0\0\0\x05\0\0\0\x08\0\x08\0\0\0\0\0\x02\0\0",
+    ),
+    (
+        521,
+        b"BD2P\0\0\0\0\0\0\0\x06\0\0\0\x08\0\x08\0\0\0\0\0\x02\0\0",
+    ),
+];
+
+/// Opens twice what a stopped opening leaves, and fails where it is another session, or not of the second format then. The
+/// header of epoch 4 may be there once it was written.
+fn open_twice(rt: &impl Abort, alloc: Global, passes: u64, effect: bool) -> Result<(), Fail> {
+    for picks in &picks() {
+        let store = opened(rt, alloc, stopped(rt, alloc, passes, effect, picks)?);
+        let epoch = store.epoch();
+        let is_due = epoch == 4 || (epoch == 5 && passes >= CALLS_BEFORE_HEADER);
+        expect_eq(rt, is_due, true, passes);
+        expect_state(rt, alloc, &store, &[TAKEN], epoch);
+        let store = opened(rt, alloc, store.into_disk());
+        expect_state(rt, alloc, &store, &[TAKEN], epoch.saturating_add(1));
+        let (at, due) = if epoch == 4 { PARTS[0] } else { PARTS[1] };
+        expect_sector(rt, &mut store.into_disk(), at, due)?;
+    }
+    Ok(())
+}
+
+#[test]
+fn an_opening_that_is_stopped(rt: HostRuntime) -> Result<(), Fail> {
+    for passes in 0..OPENING_CALLS {
+        open_twice(&rt, rt.alloc(), passes, false)?;
+        open_twice(&rt, rt.alloc(), passes, true)?;
+    }
+    Ok(())
+}
+
+// The call is record 0 of its epoch, and stands where the last action of the first format stood.
+#[test]
+fn a_call_on_an_old_disk(rt: HostRuntime) -> Result<(), Fail> {
+    for picks in &picks() {
+        let mut store = opened_for(&rt, rt.alloc(), old_disk(rt.alloc())?, u64::MAX);
+        submit(&rt, &mut store, "CALL 12 1 2 PASS");
+        confirm(&rt, &mut store);
+        let mut disk = cut(store, picks);
+        let record = b"BD2R\0\0\0\0\0\0\0\x04\0\0\0\0\0\x09\x02\0\0\0\x0c\x01\0\x02";
+        expect_sector(&rt, &mut disk, 1024, record)?;
+        let store = opened_for(&rt, rt.alloc(), disk, u64::MAX);
+        expect_state(&rt, rt.alloc(), &store, &[TAKEN, "CALL 12 1 2 PASS"], 5);
+    }
+    Ok(())
+}
+
+#[test]
+fn a_part_with_the_mark_of_the_second_format(rt: HostRuntime) -> Result<(), Fail> {
+    let mut disk = old_disk(rt.alloc())?;
+    let mut bytes = [0; 512];
+    if 9 < disk.count() {
+        disk.read(9, &mut bytes)?;
+        bytes[2] = b'2';
+        disk.write(9, &bytes)?;
+    }
+    let fault = match Store::<MemoryDisk, Session>::open(rt.alloc(), disk) {
+        Ok(_) => None,
+        Err((_, fault)) => Some(fault),
+    };
+    expect_eq(&rt, fault, Some(StoreFault::Damaged(9)), "opened");
+    Ok(())
+}
