@@ -35,5 +35,5 @@ few_of_each configuration round deals tables limits kept =
 pub count_kept : (configuration : ConfigValue) (round : ℕ) (deals : List (Option (List ℕ))) (tables : List (List Record)) →
     length (parts_of Two (state_of configuration round deals tables)) ≡ 2 + length configuration.pairs + length deals + length tables * configuration.boards
 count_kept configuration round deals tables =
-    count_parts (state_of configuration round deals tables)
+    count_parts Two (state_of configuration round deals tables)
     ∙ ap (λ n. 2 + length configuration.pairs + length deals + n * configuration.boards) (length-map tables (map plain_of))

@@ -20,7 +20,7 @@ module _ (s : SessionValue) (tables : List (List Record)) (boards row_index : �
   count_records = ap (λ (records : List (List PlainRecord)). length records) (sym records_are) ∙ length-map tables (map plain_of)
 
   inside : row_index < length s.records * boards
-  inside = subst (λ n. row_index < length s.records * n) (sym boards_are) (subst (λ n. row_index < n) (count_plays s) within)
+  inside = subst (λ n. row_index < length s.records * n) (sym boards_are) (subst (λ n. row_index < n) (count_plays Two s) within)
 
   -- the play's row is there
   pub row_within : row_index / boards < length tables
@@ -35,7 +35,7 @@ module _ (s : SessionValue) (tables : List (List Record)) (boards row_index : �
       = λ n same. ap (λ k. slice_index_or s.records (row_index / k) row) (sym same)
       ∙ ap (λ (records : List (List PlainRecord)). slice_index_or records (row_index / boards) row) (sym records_are)
       ∙ get_or_from_slice_get (map (map plain_of) tables) (row_index / boards) row row (row_is tables (row_index / boards) table there) in
-      index_of_play s row_index row (subst (λ n. 0 < n) boards_are some) (subst (λ n. row_index < n) (count_plays s) within)
+      index_of_play Two s row_index row (subst (λ n. 0 < n) boards_are some) (subst (λ n. row_index < n) (count_plays Two s) within)
       ∙ ap (λ (records : List PlainRecord). record_part Two (record_or_empty records (row_index % s.configuration.boards))) (at s.configuration.boards boards_are)
       ∙ ap (λ n. record_part Two (record_or_empty row (row_index % n))) (sym boards_are)
 

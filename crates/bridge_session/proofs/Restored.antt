@@ -225,7 +225,7 @@ module _ (format : DiskFormat) (s : SessionValue) (is : IsSession s) (configurat
 
   pub parts_long : length parts ≡ configuration.movement.shape.sets * configuration.boards + length configuration.movement.rows * configuration.boards
   parts_long =
-      ap length (sym of) ∙ count_boards s
+      ap length (sym of) ∙ count_boards format s
       ∙ ap (λ n. n + length s.records * s.configuration.boards) is.valid.boards
       ∙ ap (λ n. s.configuration.movement.shape.sets * s.configuration.boards + n * s.configuration.boards) (session_count s is)
       ∙ ap (λ (c : ConfigValue). c.movement.shape.sets * c.boards + length c.movement.rows * c.boards) same

@@ -180,7 +180,7 @@ module _ (s : SessionValue) (is : IsSession s) where
       let boards = leb-true s.configuration.boards 3 (and_parts (nat_le 1 s.configuration.boards) (nat_le s.configuration.boards 3) limits.boards).1 in
       omega (
         arith,
-        count_parts s,
+        count_parts Two s,
         limits.count,
         limits.shape.pairs.1,
         is.valid.boards,

@@ -40,7 +40,15 @@ fn read_boards(
         Some(deals) => deals,
         None => return Ok(None),
     };
-    let tables = match read_tables(alloc, format, of_plays, rows, boards, deals.as_slice(), round)? {
+    let tables = match read_tables(
+        alloc,
+        format,
+        of_plays,
+        rows,
+        boards,
+        deals.as_slice(),
+        round,
+    )? {
         Some(tables) => tables,
         None => return Ok(None),
     };

@@ -50,7 +50,7 @@ returns-clause-part c =
     let least = leb-true 1 s.config.boards (and_parts (nat_le 1 s.config.boards) (nat_le s.config.boards 3) c.fields.ensures.limits.boards).0 in
     let part_is = play_part_is c.args.self.now (lists_in s.tables.items) c.from-boards.result c.args.index (ap (λ (t : SessionValue). t.records) c.self.view_is)
     (configured ∙ ap (λ (t : SessionValue). t.configuration.boards) c.self.view_is) (omega (arith, least, configured)) c.requires table (row_there c) in
-    ap record_part Two (sym (found_or_empty table index (option_copied c.record_at.result) c.record_at.ensures)) ∙ sym part_is
+    ap (record_part Two) (sym (found_or_empty table index (option_copied c.record_at.result) c.record_at.ensures)) ∙ sym part_is
 
 pub returns-clause-dealer : goal.returns-clause-dealer
 returns-clause-dealer c =

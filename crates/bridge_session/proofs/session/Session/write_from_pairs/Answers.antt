@@ -3,6 +3,7 @@ use Rattle.std.specs.Prelude.{slice_index_or}
 use Rattle.std.proofs.lemmas.List.{length-map, get_or-map}
 use Rattle.bridge_config.specs.ConfigValue.{ConfigValue, Pair, pair_of}
 use Rattle.session_rules.specs.State.{SessionValue}
+use Rattle.session_store.specs.declared.disk_format.DiskFormat.TheVariants.{Two}
 use Rattle.session_bytes.specs.Parts.{pair_part}
 use Rattle.session_bytes.proofs.PartIndexes.{index_of_pair}
 use Rattle.bridge_session.proofs.session.Session.write_from_pairs.Goals as goal
@@ -20,4 +21,4 @@ returns-then-index-pairs c =
     let here : slice_index_or s.configuration.pairs index (pair_of pair) ≡ pair_of pair
     = ap (λ (ps : List Pair). slice_index_or ps index (pair_of pair)) (sym are)
     ∙ get_or-map pair_of listed index pair (pair_of pair) c.if-index-pairs.true ∙ ap pair_of (sym c.index-pairs-index.is) in
-    c.write_pair.ensures ∙ ap pair_part (sym here) ∙ sym (index_of_pair s index (pair_of pair) within)
+    c.write_pair.ensures ∙ ap pair_part (sym here) ∙ sym (index_of_pair Two s index (pair_of pair) within)

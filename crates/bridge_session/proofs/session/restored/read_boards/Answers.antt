@@ -1,4 +1,3 @@
-
 use Rattle.std.proofs.Common.{Vec, Global, ◌≡◌, ◌*◌, ◌∙◌, ◌++◌, ℕ, List, Option, length, map, take, drop, sym, ap, subst, All, arith}
 use Rattle.std.specs.Prelude.{flat_map}
 use Rattle.std.specs.List.{take-map, drop-map}
@@ -25,7 +24,7 @@ returns-then-parts-count-clause-other c = λ s is same round of.
     let boards : c.from-2.result ≡ config.boards = c.from-2.ensures ∙ ap (λ (k : ConfigValue). k.boards) known in
     let again : c.from-3.result ≡ config.boards = c.from-3.ensures ∙ ap (λ (k : ConfigValue). k.boards) known in
     let rows : c.rows-rows.result.now ≡ config.movement.rows = c.rows-rows.ensures.rows ∙ ap (λ (k : ConfigValue). k.movement.rows) known in
-    let long = parts_long s is config same parts of in
+    let long = parts_long c.args.format s is config same parts of in
     let count : c.from.result * c.from-2.result ≡ config.movement.shape.sets * config.boards
     = ap (λ n. n * c.from-2.result) sets ∙ ap (λ n. config.movement.shape.sets * n) boards in
     let plays : length c.rows-rows.result.now * c.from-3.result ≡ length config.movement.rows * config.boards
@@ -45,7 +44,7 @@ returns-in-None-clause-other c = λ s is same round of.
     let front : map items_of c.split_at.result.0.now ≡ take (config.movement.shape.sets * config.boards) (map items_of parts)
     = ap (map items_of) c.split_at.ensures.front ∙ sym (take-map items_of (c.from.result * c.from-2.result) parts) ∙ ap (λ n. take n (map items_of parts)) count in
     when_none _ c.in_ok-deals.field-0 c.in_ok-deals.ensures.other c.in-None.is s.deals (session_deals s is)
-    (board_half s is config same (map items_of parts) of ∙ sym front)
+    (board_half c.args.format s is config same (map items_of parts) of ∙ sym front)
 
 pub returns-in-None-2-clause-other : goal.returns-in-None-2-clause-other
 returns-in-None-2-clause-other c = λ s is same round of.
@@ -70,14 +69,14 @@ returns-in-None-2-clause-other c = λ s is same round of.
     let back : map items_of c.split_at.result.1.now ≡ drop (config.movement.shape.sets * config.boards) (map items_of parts)
     = ap (map items_of) c.split_at.ensures.back ∙ sym (drop-map items_of (c.from.result * c.from-2.result) parts) ∙ ap (λ n. drop n (map items_of parts)) count in
     let deals_are : s.deals ≡ deals
-    = same_deals s.deals deals (session_deals s is) dealt (board_half s is config same (map items_of parts) of ∙ sym front ∙ sym written) in
-    let own = rows_of s is config same (map items_of parts) of c.args.round round in
+    = same_deals s.deals deals (session_deals s is) dealt (board_half c.args.format s is config same (map items_of parts) of ∙ sym front ∙ sym written) in
+    let own = rows_of c.args.format s is config same (map items_of parts) of c.args.round round in
     let here : AreRows c.as_slice.result.now c.args.round c.fields-fields.result.now.boards c.rows-rows.result.now s.records
     = subst (λ (rs : List Row). AreRows c.as_slice.result.now c.args.round c.fields-fields.result.now.boards rs s.records) (sym rows)
     (subst (λ n. AreRows c.as_slice.result.now c.args.round n config.movement.rows s.records) (sym of_set)
     (subst (λ ds. AreRows ds c.args.round config.boards config.movement.rows s.records) (deals_are ∙ sym listed) own)) in
     when_none _ c.in_ok-tables.field-0 c.in_ok-tables.ensures.other c.in-None-2.is s.records here
-    (ap (λ n. flat_map (row_parts c.args.format n) s.records) of_set ∙ play_half s is config same (map items_of parts) of ∙ sym back)
+    (ap (λ n. flat_map (row_parts c.args.format n) s.records) of_set ∙ play_half c.args.format s is config same (map items_of parts) of ∙ sym back)
 
 pub invariant_of-result : goal.invariant_of-result
 invariant_of-result c =
@@ -162,7 +161,7 @@ returns-clause-parts c =
     let plays : flat_map (row_parts c.args.format c.fields-fields.result.now.boards) (map plains_of tables) ≡ map items_of c.split_at.result.1.now
     = when_some (λ (ts : Vec (Vec Record Global) Global). flat_map (row_parts c.args.format c.fields-fields.result.now.boards) (map plains_of ts.items) ≡ map items_of c.split_at.result.1.now)
     c.in_ok-tables.field-0 c.in-Some-2.tables c.in_ok-tables.ensures.written c.in-Some-2.is in
-    ap board_parts c.args.format (made_is config c.args.round deals tables made)
+    ap (board_parts c.args.format) (made_is config c.args.round deals tables made)
     ∙ ap (λ xs. xs ++ flat_map (row_parts c.args.format config.boards) (map plains_of tables)) (written ∙ front)
     ∙ ap (λ n. take (config.movement.shape.sets * config.boards) (map items_of parts) ++ flat_map (row_parts c.args.format n) (map plains_of tables)) (sym of_set)
     ∙ ap (λ xs. take (config.movement.shape.sets * config.boards) (map items_of parts) ++ xs) (plays ∙ back)
