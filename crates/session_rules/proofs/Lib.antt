@@ -1,4 +1,5 @@
 pub mod Lists
+pub mod Acts
 pub mod SameAnswer
 pub mod Shown
 pub mod SameView

@@ -11,21 +11,19 @@ use Rattle.bridge_cards.specs.declared.seat.Seat.{Seat}
 use Rattle.bridge_movement.specs.declared.row.Row.{Row}
 use Rattle.bridge_movement.specs.declared.shape.Shape.{Shape}
 use Rattle.bridge_movement.specs.Row.{is_live}
-use Rattle.session_rules.specs.declared.action.Action.{Action}
-use Rattle.session_rules.specs.declared.action.Action.TheVariants.{Deal, Call, Card, Claim, Agree, Refuse, NextRound, Tricks, Void, Restore}
+use Rattle.session_rules.specs.declared.act.Act.{Act}
+use Rattle.session_rules.specs.declared.act.Act.TheVariants as act
 use Rattle.session_rules.specs.declared.action.PlayId.{PlayId}
 use Rattle.session_rules.specs.declared.correction.Correction.{Correction}
-use Rattle.session_rules.specs.declared.correction.Correction.TheVariants as correction
 use Rattle.session_rules.specs.declared.deed.Deed.{Deed}
-use Rattle.session_rules.specs.declared.deed.Deed.TheVariants as deed
 use Rattle.session_rules.specs.declared.refused.Refused.{Refused}
 use Rattle.session_rules.specs.declared.refused.Refused.TheVariants.{NotCurrent}
 use Rattle.session_rules.specs.declared.seating.Seating.{Seating}
 use Rattle.session_rules.specs.Deed.{with_deed}
 use Rattle.session_rules.specs.Record.{PlainRecord}
 use Rattle.session_rules.specs.State.{SessionValue, deal_on, row_at, index_of_row, row_boards, changed_at, current_index, director_answer, seating_of, is_of_set}
-use Rattle.session_rules.specs.Step.{seen_by, answer_among, player_answer, acted_at, acted, is_row_within, record_of, rule_answer, with_ruling, ruled, step_answer, changed}
-use Rattle.session_rules.specs.Valid.{board_of, IsPlayId, IsAction, IsValid}
+use Rattle.session_rules.specs.Step.{seen_by, answer_among, player_answer, acted_at, acted, is_row_within, record_of, rule_answer, with_ruling, ruled, act_answer, changed_by}
+use Rattle.session_rules.specs.Valid.{board_of, IsPlayId, IsAct, IsValid}
 use Rattle.session_rules.specs.Own.{Done, ByPlayer, ByDirector, done_by, same_play, ruled_in, done_in}
 use Rattle.session_rules.proofs.Lists.{changed_at-Some, changed_at-None}
 use Rattle.session_rules.proofs.StaysValid.{set_read, set_other, row_found, mapped_from}
@@ -218,18 +216,10 @@ player_by s play board named at done x (Ok seating) valid ok is own =
 pub player_step : (s : SessionValue) (play : PlayId) (key board named at : ℕ) (done : Deed) (x : PlainRecord) → IsValid s → player_answer (seen_by s key named) key named at done ≡ Ok tt → record_of s play ≡ Some x → x.board ≡ board → record_of (acted s key done) play ≡ Some (perhaps_done (done_by s.configuration play board named done (seating_of s.configuration s.round key)) x)
 player_step s play key board named at done x valid ok is own = player_by s play board named at done x (seating_of s.configuration s.round key) valid ok is own
 
--- Each action
-pub record_step : (action : Action) (s : SessionValue) (play : PlayId) (board : ℕ) (x : PlainRecord) → IsAction action → IsPlayId play → IsValid s → step_answer s action ≡ Ok tt → record_of s play ≡ Some x → x.board ≡ board → record_of (changed s action) play ≡ Some (perhaps_done (done_in s.configuration play board s.round action) x)
-record_step (Deal key of_board hands) s play board x ranges id valid ok is own = is
-record_step (Call key named at call) s play board x ranges id valid ok is own = player_step s play key.0 board named at (deed.Call call) x valid ok is own
-record_step (Card key named at card) s play board x ranges id valid ok is own = player_step s play key.0 board named at (deed.Card card) x valid ok is own
-record_step (Claim key named at tricks) s play board x ranges id valid ok is own = player_step s play key.0 board named at (deed.Claim tricks) x valid ok is own
-record_step (Agree key named at) s play board x ranges id valid ok is own = player_step s play key.0 board named at deed.Agree x valid ok is own
-record_step (Refuse key named at) s play board x ranges id valid ok is own = player_step s play key.0 board named at deed.Refuse x valid ok is own
-record_step (NextRound key round) s play board x ranges id valid ok is own = is
-record_step (Tricks key named tricks) s play board x ranges id valid ok is own =
-    rule_step s play named (correction.Tricks tricks) x id ranges.0 (allowed_ok (director_answer s.configuration key.0) (rule_answer s.round named.round (correction.Tricks tricks) (record_of s named)) ok) is
-record_step (Void key named) s play board x ranges id valid ok is own =
-    rule_step s play named correction.Void x id ranges (allowed_ok (director_answer s.configuration key.0) (rule_answer s.round named.round correction.Void (record_of s named)) ok) is
-record_step (Restore key named) s play board x ranges id valid ok is own =
-    rule_step s play named correction.Restore x id ranges (allowed_ok (director_answer s.configuration key.0) (rule_answer s.round named.round correction.Restore (record_of s named)) ok) is
+-- Each act
+pub record_step : (a : Act) (s : SessionValue) (play : PlayId) (board : ℕ) (x : PlainRecord) → IsAct a → IsPlayId play → IsValid s → act_answer s a ≡ Ok tt → record_of s play ≡ Some x → x.board ≡ board → record_of (changed_by s a) play ≡ Some (perhaps_done (done_in s.configuration play board s.round a) x)
+record_step (act.Player key named at done) s play board x ranges id valid ok is own = player_step s play key.0 board named at done x valid ok is own
+record_step (act.Deal key of_board hands) s play board x ranges id valid ok is own = is
+record_step (act.RoundEnd key round) s play board x ranges id valid ok is own = is
+record_step (act.Ruling key named made) s play board x ranges id valid ok is own =
+    rule_step s play named made x id ranges (allowed_ok (director_answer s.configuration key.0) (rule_answer s.round named.round made (record_of s named)) ok) is

@@ -1,16 +1,17 @@
 -- The answer to a player is the same in two sessions that agree at his table.
 use Rattle.std.proofs.Common.{◌≡◌, ℕ, Bool, true, false, cond, List, Option, Some, None, Result, Ok, Err, refl, sym, ap, ◌∙◌, subst}
 use Rattle.bridge_config.specs.ConfigValue.{ConfigValue}
+use Rattle.session_rules.specs.declared.act.Act.{Act}
+use Rattle.session_rules.specs.declared.act.Act.TheVariants as act
 use Rattle.session_rules.specs.declared.action.Action.{Action}
-use Rattle.session_rules.specs.declared.action.Action.TheVariants.{Deal, Call, Card, Claim, Agree, Refuse, NextRound, Tricks, Void, Restore}
 use Rattle.session_rules.specs.declared.deed.Deed.{Deed}
-use Rattle.session_rules.specs.declared.deed.Deed.TheVariants as deed
 use Rattle.session_rules.specs.declared.refused.Refused.{Refused}
 use Rattle.session_rules.specs.declared.seating.Seating.{Seating}
+use Rattle.session_rules.specs.Act.{act_of}
 use Rattle.session_rules.specs.Record.{PlainRecord}
 use Rattle.session_rules.specs.State.{SessionValue, deal_on, seating_of, is_of_set}
-use Rattle.session_rules.specs.Step.{Seen, seen_by, seen_deal, seen_records, player_answer, step_answer}
-use Rattle.session_rules.specs.Apart.{player_key, AgreeAtTable}
+use Rattle.session_rules.specs.Step.{Seen, seen_by, seen_deal, seen_records, player_answer, act_answer, step_answer}
+use Rattle.session_rules.specs.Apart.{player_in_act, player_key, AgreeAtTable}
 
 -- a deal that is looked at only where it is the same
 deal_if : (b : Bool) (x y : Option (List ℕ)) → (b ≡ true → x ≡ y) → cond b x None ≡ cond b y None
@@ -48,14 +49,11 @@ player_same own key s t board at done is agree =
     let there = subst (λ k. AgreeAtTable k s t) (sym same) agree in
     ap (λ (seen : Seen). player_answer seen own board at done) (seen_same own s t board there)
 
+act_same : (a : Act) (key : ℕ) (s t : SessionValue) → player_in_act a ≡ Some key → AgreeAtTable key s t → act_answer s a ≡ act_answer t a
+act_same (act.Player own board at done) key s t is agree = player_same own.0 key s t board at done is agree
+act_same (act.Deal own board hands) key s t is agree = absurd cc
+act_same (act.RoundEnd own round) key s t is agree = absurd cc
+act_same (act.Ruling own play made) key s t is agree = absurd cc
+
 pub answer_same : (action : Action) (key : ℕ) (s t : SessionValue) → player_key action ≡ Some key → AgreeAtTable key s t → step_answer s action ≡ step_answer t action
-answer_same (Deal own board hands) key s t is agree = absurd cc
-answer_same (Call own board at call) key s t is agree = player_same own.0 key s t board at (deed.Call call) is agree
-answer_same (Card own board at card) key s t is agree = player_same own.0 key s t board at (deed.Card card) is agree
-answer_same (Claim own board at tricks) key s t is agree = player_same own.0 key s t board at (deed.Claim tricks) is agree
-answer_same (Agree own board at) key s t is agree = player_same own.0 key s t board at deed.Agree is agree
-answer_same (Refuse own board at) key s t is agree = player_same own.0 key s t board at deed.Refuse is agree
-answer_same (NextRound own round) key s t is agree = absurd cc
-answer_same (Tricks own play tricks) key s t is agree = absurd cc
-answer_same (Void own play) key s t is agree = absurd cc
-answer_same (Restore own play) key s t is agree = absurd cc
+answer_same action = act_same (act_of action)

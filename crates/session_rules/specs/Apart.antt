@@ -1,22 +1,21 @@
 -- What the answer to a player depends on: two sessions that agree there.
 use Rattle.std.specs.Prelude.{◌≡◌, ℕ, true, Option, None, Some, Ok}
+use Rattle.session_rules.specs.declared.act.Act.{Act}
+use Rattle.session_rules.specs.declared.act.Act.TheVariants as act
 use Rattle.session_rules.specs.declared.action.Action.{Action}
-use Rattle.session_rules.specs.declared.action.Action.TheVariants.{Deal, Call, Card, Claim, Agree, Refuse, NextRound, Tricks, Void, Restore}
 use Rattle.session_rules.specs.declared.seating.Seating.{Seating}
+use Rattle.session_rules.specs.Act.{act_of}
 use Rattle.session_rules.specs.State.{SessionValue, deal_on, row_at, seating_of, is_of_set}
 
 -- the key by which a player acts
+abbrev pub player_in_act : Act → Option ℕ
+player_in_act (act.Player key board at done) = Some key.0
+player_in_act (act.Deal key board hands) = None
+player_in_act (act.RoundEnd key round) = None
+player_in_act (act.Ruling key play made) = None
+
 abbrev pub player_key : Action → Option ℕ
-player_key (Deal key board hands) = None
-player_key (Call key board at call) = Some key.0
-player_key (Card key board at card) = Some key.0
-player_key (Claim key board at tricks) = Some key.0
-player_key (Agree key board at) = Some key.0
-player_key (Refuse key board at) = Some key.0
-player_key (NextRound key round) = None
-player_key (Tricks key play tricks) = None
-player_key (Void key play) = None
-player_key (Restore key play) = None
+player_key action = player_in_act (act_of action)
 
 -- Two sessions have one configuration and one round, and where the player of the key sits in it, the deals of the boards
 -- of that table's set and the records of that table in that round are the same.

@@ -1,5 +1,6 @@
 -- The definitions of a session.
 pub mod Numbers
+pub mod Act
 pub mod Record
 pub mod Outcome
 pub mod Deed

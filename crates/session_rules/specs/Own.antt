@@ -8,15 +8,16 @@ use Rattle.bridge_cards.specs.Seat.{same_seat}
 use Rattle.bridge_auction.specs.declared.call.Call.{Call as CallType}
 use Rattle.bridge_config.specs.ConfigValue.{ConfigValue}
 use Rattle.bridge_play.specs.declared.claim.Claim.{Claim as ClaimType}
+use Rattle.session_rules.specs.declared.act.Act.{Act}
+use Rattle.session_rules.specs.declared.act.Act.TheVariants as act
 use Rattle.session_rules.specs.declared.action.Action.{Action}
-use Rattle.session_rules.specs.declared.action.Action.TheVariants.{Deal, Call, Card, Claim, Agree, Refuse, NextRound, Tricks, Void, Restore}
 use Rattle.session_rules.specs.declared.action.PlayId.{PlayId}
 use Rattle.session_rules.specs.declared.correction.Correction.{Correction}
-use Rattle.session_rules.specs.declared.correction.Correction.TheVariants as correction
 use Rattle.session_rules.specs.declared.deed.Deed.{Deed}
 use Rattle.session_rules.specs.declared.deed.Deed.TheVariants as deed
 use Rattle.session_rules.specs.declared.refused.Refused.{Refused}
 use Rattle.session_rules.specs.declared.seating.Seating.{Seating}
+use Rattle.session_rules.specs.Act.{act_of}
 use Rattle.session_rules.specs.Correction.{ruling_by}
 use Rattle.session_rules.specs.Record.{PlainRecord}
 use Rattle.session_rules.specs.State.{SessionValue, index_of_row, seating_of}
@@ -54,37 +55,25 @@ same_play a b = (a.round == b.round) && ((a.table == b.table) && (a.index == b.i
 abbrev pub ruled_in : PlayId → PlayId → Correction → Option Done
 ruled_in play named made = if same_play named play then Some (ByDirector made) else None
 
--- what an action in that round does in the play of the board, if it concerns it
-abbrev pub done_in : ConfigValue → PlayId → ℕ → ℕ → Action → Option Done
-done_in configuration play board round (Deal key of_board hands) = None
-done_in configuration play board round (Call key named at call) = done_by configuration play board named (deed.Call call) (seating_of configuration round key.0)
-done_in configuration play board round (Card key named at card) = done_by configuration play board named (deed.Card card) (seating_of configuration round key.0)
-done_in configuration play board round (Claim key named at tricks) = done_by configuration play board named (deed.Claim tricks) (seating_of configuration round key.0)
-done_in configuration play board round (Agree key named at) = done_by configuration play board named deed.Agree (seating_of configuration round key.0)
-done_in configuration play board round (Refuse key named at) = done_by configuration play board named deed.Refuse (seating_of configuration round key.0)
-done_in configuration play board round (NextRound key of_round) = None
-done_in configuration play board round (Tricks key named tricks) = ruled_in play named (correction.Tricks tricks)
-done_in configuration play board round (Void key named) = ruled_in play named correction.Void
-done_in configuration play board round (Restore key named) = ruled_in play named correction.Restore
+-- what an act in that round does in the play of the board, if it concerns it
+abbrev pub done_in : ConfigValue → PlayId → ℕ → ℕ → Act → Option Done
+done_in configuration play board round (act.Player key named at done) = done_by configuration play board named done (seating_of configuration round key.0)
+done_in configuration play board round (act.Deal key of_board hands) = None
+done_in configuration play board round (act.RoundEnd key of_round) = None
+done_in configuration play board round (act.Ruling key named made) = ruled_in play named made
 
--- the round after an action: one more after the end of a round
-abbrev pub round_after : ℕ → Action → ℕ
-round_after round (Deal key board hands) = round
-round_after round (Call key board at call) = round
-round_after round (Card key board at card) = round
-round_after round (Claim key board at tricks) = round
-round_after round (Agree key board at) = round
-round_after round (Refuse key board at) = round
-round_after round (NextRound key of_round) = round + 1
-round_after round (Tricks key play tricks) = round
-round_after round (Void key play) = round
-round_after round (Restore key play) = round
+-- the round after an act: one more after the end of a round
+abbrev pub round_after : ℕ → Act → ℕ
+round_after round (act.Player key board at done) = round
+round_after round (act.Deal key board hands) = round
+round_after round (act.RoundEnd key of_round) = round + 1
+round_after round (act.Ruling key play made) = round
 
 -- what the play's own actions do in it, the first of them in that round
 abbrev pub own : ConfigValue → PlayId → ℕ → ℕ → List Action → List Done
 own configuration play board round [] = []
 own configuration play board round (action ∷ actions) =
-    cons_option (done_in configuration play board round action) (own configuration play board (round_after round action) actions)
+    cons_option (done_in configuration play board round (act_of action)) (own configuration play board (round_after round (act_of action)) actions)
 
 -- The plain record
 

@@ -5,16 +5,16 @@ use Rattle.bridge_cards.specs.declared.seat.Seat.{Seat}
 use Rattle.bridge_cards.specs.Deal.{is_dealt_out}
 use Rattle.bridge_movement.specs.declared.shape.Shape.{Shape}
 use Rattle.bridge_config.specs.ConfigValue.{ConfigValue}
+use Rattle.session_rules.specs.declared.act.Act.{Act}
+use Rattle.session_rules.specs.declared.act.Act.TheVariants as act
 use Rattle.session_rules.specs.declared.action.Action.{Action}
-use Rattle.session_rules.specs.declared.action.Action.TheVariants.{Deal, Call, Card, Claim, Agree, Refuse, NextRound, Tricks, Void, Restore}
 use Rattle.session_rules.specs.declared.action.PlayId.{PlayId}
 use Rattle.session_rules.specs.declared.correction.Correction.{Correction}
-use Rattle.session_rules.specs.declared.correction.Correction.TheVariants as correction
 use Rattle.session_rules.specs.declared.deed.Deed.{Deed}
-use Rattle.session_rules.specs.declared.deed.Deed.TheVariants as deed
 use Rattle.session_rules.specs.declared.refused.Refused.{Refused}
 use Rattle.session_rules.specs.declared.refused.Refused.TheVariants.{Closed, NoSuchPlay, NotYet, NotCurrent, NotDealt, Stale, AlreadyDealt, BadDeal, RoundOpen}
 use Rattle.session_rules.specs.declared.seating.Seating.{Seating}
+use Rattle.session_rules.specs.Act.{act_of}
 use Rattle.session_rules.specs.Record.{PlainRecord, bidding_of, play_of, is_open}
 use Rattle.session_rules.specs.Deed.{deed_answer, with_deed}
 use Rattle.session_rules.specs.Correction.{ruling_by, ruling_answer}
@@ -139,33 +139,27 @@ ruled s play correction = record s {
       (index_of_row s.configuration.movement.shape play.round play.table);
 }
 
+-- Each act
+
+abbrev pub act_answer : SessionValue → Act → Result (Unit {0}) Refused
+act_answer s (act.Player key board at done) = player_answer (seen_by s key.0 board) key.0 board at done
+act_answer s (act.Deal key board hands) = if_allowed (director_answer s.configuration key.0) (deal_answer s board hands)
+act_answer s (act.RoundEnd key round) = if_allowed (director_answer s.configuration key.0) (next_answer s round)
+act_answer s (act.Ruling key play made) =
+    if_allowed (director_answer s.configuration key.0) (rule_answer s.round play.round made (record_of s play))
+
+abbrev pub changed_by : SessionValue → Act → SessionValue
+changed_by s (act.Player key board at done) = acted s key.0 done
+changed_by s (act.Deal key board hands) = record s { deals = slice_set s.deals (board - 1) (Some hands) }
+changed_by s (act.RoundEnd key round) = record s { round = s.round + 1 }
+changed_by s (act.Ruling key play made) = ruled s play made
+
 -- Each action
 
 -- the answer: the first refusal that applies, or that the action is accepted
 abbrev pub step_answer : SessionValue → Action → Result (Unit {0}) Refused
-step_answer s (Deal key board hands) = if_allowed (director_answer s.configuration key.0) (deal_answer s board hands)
-step_answer s (Call key board at call) = player_answer (seen_by s key.0 board) key.0 board at (deed.Call call)
-step_answer s (Card key board at card) = player_answer (seen_by s key.0 board) key.0 board at (deed.Card card)
-step_answer s (Claim key board at tricks) = player_answer (seen_by s key.0 board) key.0 board at (deed.Claim tricks)
-step_answer s (Agree key board at) = player_answer (seen_by s key.0 board) key.0 board at deed.Agree
-step_answer s (Refuse key board at) = player_answer (seen_by s key.0 board) key.0 board at deed.Refuse
-step_answer s (NextRound key round) = if_allowed (director_answer s.configuration key.0) (next_answer s round)
-step_answer s (Tricks key play tricks) =
-    if_allowed (director_answer s.configuration key.0) (rule_answer s.round play.round (correction.Tricks tricks) (record_of s play))
-step_answer s (Void key play) =
-    if_allowed (director_answer s.configuration key.0) (rule_answer s.round play.round correction.Void (record_of s play))
-step_answer s (Restore key play) =
-    if_allowed (director_answer s.configuration key.0) (rule_answer s.round play.round correction.Restore (record_of s play))
+step_answer s action = act_answer s (act_of action)
 
 -- the session after an accepted action
 abbrev pub changed : SessionValue → Action → SessionValue
-changed s (Deal key board hands) = record s { deals = slice_set s.deals (board - 1) (Some hands) }
-changed s (Call key board at call) = acted s key.0 (deed.Call call)
-changed s (Card key board at card) = acted s key.0 (deed.Card card)
-changed s (Claim key board at tricks) = acted s key.0 (deed.Claim tricks)
-changed s (Agree key board at) = acted s key.0 deed.Agree
-changed s (Refuse key board at) = acted s key.0 deed.Refuse
-changed s (NextRound key round) = record s { round = s.round + 1 }
-changed s (Tricks key play tricks) = ruled s play (correction.Tricks tricks)
-changed s (Void key play) = ruled s play correction.Void
-changed s (Restore key play) = ruled s play correction.Restore
+changed s action = changed_by s (act_of action)

@@ -6,13 +6,15 @@ use Rattle.bridge_auction.specs.Legal.{IsLegal}
 use Rattle.bridge_movement.specs.declared.row.Row.{Row}
 use Rattle.bridge_config.specs.Limits.{IsConfiguration}
 use Rattle.bridge_play.specs.Play.{PlayValue, IsPlay}
+use Rattle.session_rules.specs.declared.act.Act.{Act}
+use Rattle.session_rules.specs.declared.act.Act.TheVariants as act
 use Rattle.session_rules.specs.declared.action.Action.{Action}
-use Rattle.session_rules.specs.declared.action.Action.TheVariants.{Deal, Call, Card, Claim, Agree, Refuse, NextRound, Tricks, Void, Restore}
 use Rattle.session_rules.specs.declared.action.PlayId.{PlayId}
 use Rattle.session_rules.specs.declared.deed.Deed.{Deed}
 use Rattle.session_rules.specs.declared.deed.Deed.TheVariants as deed
 use Rattle.session_rules.specs.declared.ruling.Ruling.{Ruling}
 use Rattle.session_rules.specs.declared.ruling.Ruling.TheVariants as ruling
+use Rattle.session_rules.specs.Act.{act_of}
 use Rattle.session_rules.specs.Correction.{tricks_answer}
 use Rattle.session_rules.specs.Record.{PlainRecord, empty_record, contract_in, play_of, is_open}
 use Rattle.session_rules.specs.State.{SessionValue, deal_on, row_at, row_boards, hands_on}
@@ -73,15 +75,13 @@ IsDeed deed.Refuse = Unit {0}
 abbrev pub IsPlayId : PlayId → Type 0
 IsPlayId play = (1 ≤ play.round) × (1 ≤ play.table) × (1 ≤ play.index)
 
--- what the laws of valid sessions need of the numbers that an action names; `ActionRange` has their whole ranges
+-- what the laws of valid sessions need of the numbers that an act names
+abbrev pub IsAct : Act → Type 0
+IsAct (act.Player key board at done) = IsDeed done
+IsAct (act.Deal key board hands) = 1 ≤ board
+IsAct (act.RoundEnd key round) = 1 ≤ round
+IsAct (act.Ruling key play made) = IsPlayId play
+
+-- and of those that an action names; `ActionRange` has their whole ranges
 abbrev pub IsAction : Action → Type 0
-IsAction (Deal key board hands) = 1 ≤ board
-IsAction (Call key board at call) = IsCall call
-IsAction (Card key board at card) = Unit {0}
-IsAction (Claim key board at tricks) = tricks ≤ 13
-IsAction (Agree key board at) = Unit {0}
-IsAction (Refuse key board at) = Unit {0}
-IsAction (NextRound key round) = 1 ≤ round
-IsAction (Tricks key play tricks) = IsPlayId play × (tricks ≤ 13)
-IsAction (Void key play) = IsPlayId play
-IsAction (Restore key play) = IsPlayId play
+IsAction action = IsAct (act_of action)

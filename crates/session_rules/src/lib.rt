@@ -4,6 +4,7 @@
 //! session is valid.
 #![tactic(auto)]
 
+pub mod act;
 pub mod action;
 pub mod apart;
 pub mod correction;
@@ -16,6 +17,7 @@ pub mod seating;
 pub mod valid;
 pub mod view;
 
+pub use act::Act;
 pub use action::{Action, PlayId};
 pub use apart::{hidden_cards_are_not_shown, records_are_of_own_actions, tables_are_judged_apart};
 pub use correction::Correction;
