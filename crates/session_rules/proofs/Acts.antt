@@ -4,7 +4,7 @@ use Rattle.bridge_config.specs.declared.fields.Key.{Key}
 use Rattle.session_rules.specs.declared.act.Act.{Act}
 use Rattle.session_rules.specs.declared.act.Act.TheVariants as act
 use Rattle.session_rules.specs.declared.action.Action.{Action}
-use Rattle.session_rules.specs.declared.action.Action.TheVariants.{Deal, Call, Card, Claim, Agree, Refuse, NextRound, Tricks, Void, Restore}
+use Rattle.session_rules.specs.declared.action.Action.TheVariants.{Deal, Call, Card, Claim, Agree, Refuse, NextRound, Tricks, Void, Adjust, Restore}
 use Rattle.session_rules.specs.declared.action.PlayId.{PlayId}
 use Rattle.session_rules.specs.declared.correction.Correction.{Correction}
 use Rattle.session_rules.specs.declared.correction.Correction.TheVariants as correction
@@ -28,6 +28,7 @@ by_its_act (Refuse key board at) = refl
 by_its_act (NextRound key round) = refl
 by_its_act (Tricks key play tricks) = refl
 by_its_act (Void key play) = refl
+by_its_act (Adjust key play ns ew) = refl
 by_its_act (Restore key play) = refl
 
 pub act_of_player : (key : Key) (board at : ℕ) (done : Deed) → act_of (of_player key board at done) ≡ act.Player key board at done
@@ -40,4 +41,5 @@ act_of_player key board at deed.Refuse = refl
 pub act_of_ruling : (key : Key) (play : PlayId) (made : Correction) → act_of (of_ruling key play made) ≡ act.Ruling key play made
 act_of_ruling key play (correction.Tricks tricks) = refl
 act_of_ruling key play correction.Void = refl
+act_of_ruling key play (correction.Adjust ns ew) = refl
 act_of_ruling key play correction.Restore = refl

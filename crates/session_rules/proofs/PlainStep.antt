@@ -138,10 +138,10 @@ ruled_by s play named made x false ranges ranges_named test within_named within 
           false≢true (sym test ∙ fields_same named play both.0 both.1 here))
     ])
 
-pub rule_step : (s : SessionValue) (play named : PlayId) (made : Correction) (x : PlainRecord) → IsPlayId play → IsPlayId named → rule_answer s.round named.round made (record_of s named) ≡ Ok tt → record_of s play ≡ Some x → record_of (ruled s named made) play ≡ Some (perhaps_done (ruled_in play named made) x)
+pub rule_step : (s : SessionValue) (play named : PlayId) (made : Correction) (x : PlainRecord) → IsPlayId play → IsPlayId named → rule_answer s.configuration.scoring s.round named.round made (record_of s named) ≡ Ok tt → record_of s play ≡ Some x → record_of (ruled s named made) play ≡ Some (perhaps_done (ruled_in play named made) x)
 rule_step s play named made x ranges ranges_named ok is =
     let shape = s.configuration.movement.shape in
-    let on = ruled_on s.round named.round made (record_of s named) ok in
+    let on = ruled_on s.configuration.scoring s.round named.round made (record_of s named) ok in
     let within_named = (found_within (is_row_within shape named.round named.table) (slice_get (row_at s.records (index_of_row shape named.round named.table)) (named.index - 1)) on.plain on.is).0 in
     let found = found_within (is_row_within shape play.round play.table) (slice_get (row_at s.records (index_of_row shape play.round play.table)) (play.index - 1)) x is in
     ruled_by s play named made x (same_play named play) ranges ranges_named refl within_named found.0 found.1
@@ -222,4 +222,4 @@ record_step (act.Player key named at done) s play board x ranges id valid ok is 
 record_step (act.Deal key of_board hands) s play board x ranges id valid ok is own = is
 record_step (act.RoundEnd key round) s play board x ranges id valid ok is own = is
 record_step (act.Ruling key named made) s play board x ranges id valid ok is own =
-    rule_step s play named made x id ranges (allowed_ok (director_answer s.configuration key.0) (rule_answer s.round named.round made (record_of s named)) ok) is
+    rule_step s play named made x id ranges (allowed_ok (director_answer s.configuration key.0) (rule_answer s.configuration.scoring s.round named.round made (record_of s named)) ok) is

@@ -5,6 +5,7 @@ use Rattle.std.specs.Option.{option_map}
 use Rattle.std.proofs.lemmas.Bool.{cases_eq}
 use Rattle.std.proofs.lemmas.List.{length-replicate, get_or-replicate, get_or-set_same, get_or-set_other}
 use Rattle.std.proofs.lemmas.Option.{slice_get-map, slice_get_cases, slice_get_within, slice_get_past, slice_get-get_or, get_or_from_slice_get}
+use Rattle.bridge_score.specs.declared.Scoring.{Scoring}
 use Rattle.bridge_config.specs.ConfigValue.{ConfigValue}
 use Rattle.bridge_config.specs.Limits.{IsConfiguration}
 use Rattle.bridge_movement.specs.declared.row.Row.{Row}
@@ -30,8 +31,8 @@ pub none_of : {A : Type 0} (i : ℕ) (x : A) → slice_get [] i ≡ Some x → �
 none_of {A} i x is = let within = slice_get_within {A = A} [] i x is in absurd (omega arith)
 
 -- nothing has happened in a new record of the current round or a later one
-empty_valid : (deals : List (Option (List ℕ))) (round board : ℕ) → 1 ≤ round → IsValidRecord deals 1 round (empty_record board)
-empty_valid deals round board least = record {
+empty_valid : (scoring : Scoring) (deals : List (Option (List ℕ))) (round board : ℕ) → 1 ≤ round → IsValidRecord scoring deals 1 round (empty_record board)
+empty_valid scoring deals round board least = record {
   calls = λ row_index call is. absurd (none_of row_index call is);
   dealt = λ none. refl;
   unplayed = λ none. record { cards = refl; claims = refl; claim = refl };
@@ -79,8 +80,8 @@ opening_valid configuration limits = record {
       let from = mapped_from empty_record (row_boards configuration.boards row) index plain
       (ap (λ records. slice_get records index) (sym (row_of_empty configuration.boards configuration.movement.rows row_index row is)) ∙ found) in
       let due = round_due configuration row_index row limits is in
-      subst (IsValidRecord (opening configuration).deals 1 row.round) from.2
-      (empty_valid (opening configuration).deals row.round from.0 (omega (arith, due)));
+      subst (IsValidRecord configuration.scoring (opening configuration).deals 1 row.round) from.2
+      (empty_valid configuration.scoring (opening configuration).deals row.round from.0 (omega (arith, due)));
 }
 
 -- A change of one record
@@ -141,7 +142,7 @@ record_from f at records row_index other index after is =
     ]
 
 -- a session in which one record became another that is valid
-pub valid_change : (s : SessionValue) (row_index : ℕ) (f : PlainRecord → PlainRecord) (at : List PlainRecord → ℕ) → IsValid s → ((x : PlainRecord) → (f x).board ≡ x.board) → ((row : Row) (x : PlainRecord) → slice_get s.configuration.movement.rows row_index ≡ Some row → slice_get (row_at s.records row_index) (at (row_at s.records row_index)) ≡ Some x → IsValidRecord s.deals s.round row.round x → IsValidRecord s.deals s.round row.round (f x)) → IsValid (record s { records = changed_at (λ rs. changed_at f rs (at rs)) s.records row_index })
+pub valid_change : (s : SessionValue) (row_index : ℕ) (f : PlainRecord → PlainRecord) (at : List PlainRecord → ℕ) → IsValid s → ((x : PlainRecord) → (f x).board ≡ x.board) → ((row : Row) (x : PlainRecord) → slice_get s.configuration.movement.rows row_index ≡ Some row → slice_get (row_at s.records row_index) (at (row_at s.records row_index)) ≡ Some x → IsValidRecord s.configuration.scoring s.deals s.round row.round x → IsValidRecord s.configuration.scoring s.deals s.round row.round (f x)) → IsValid (record s { records = changed_at (λ rs. changed_at f rs (at rs)) s.records row_index })
 valid_change s row_index f at valid boards stays = record {
   configured = valid.configured;
   begun = valid.begun;
@@ -153,7 +154,7 @@ valid_change s row_index f at valid boards stays = record {
       elim (record_from f at s.records row_index other index after found) [
         | inl (same, (before, was, become)) ↦
             let here : slice_get s.configuration.movement.rows row_index ≡ Some row = ap (slice_get s.configuration.movement.rows) (sym same) ∙ is in
-            subst (IsValidRecord s.deals s.round row.round) become (stays row before here was (valid.plays row_index (at (row_at s.records row_index)) row before here was))
+            subst (IsValidRecord s.configuration.scoring s.deals s.round row.round) become (stays row before here was (valid.plays row_index (at (row_at s.records row_index)) row before here was))
         | inr kept ↦ valid.plays other index row after is kept
       ];
 }

@@ -25,6 +25,7 @@ use Rattle.bridge_play.specs.Dummy.{dummy_of, actor_of}
 use Rattle.bridge_play.specs.Legal as cards
 use Rattle.bridge_play.specs.Play.{PlayValue, with_card, with_claim, with_agreement, without_claim, is_over, is_agreed, card_answer, claim_answer, consent_answer, consent_if, IsClaimIn, IsPlay}
 use Rattle.bridge_play.specs.Trick.{turn_of}
+use Rattle.bridge_score.specs.declared.Scoring.{Scoring}
 use Rattle.session_rules.specs.declared.deed.Deed.{Deed}
 use Rattle.session_rules.specs.declared.deed.Deed.TheVariants as deed
 use Rattle.session_rules.specs.declared.refused.Refused.{Refused}
@@ -32,7 +33,7 @@ use Rattle.session_rules.specs.declared.refused.Refused.TheVariants.{WrongPhase,
 use Rattle.session_rules.specs.declared.ruling.Ruling.{Ruling}
 use Rattle.session_rules.specs.declared.ruling.Ruling.TheVariants as ruling
 use Rattle.session_rules.specs.Deed.{renamed, from_call, from_card, from_claim, from_consent, counted, deed_answer, answer_if_play, answer_in_play, with_deed}
-use Rattle.session_rules.specs.Record.{PlainRecord, bidding_of, contract_in, playing_in, play_of, is_finished, is_void, is_open}
+use Rattle.session_rules.specs.Record.{PlainRecord, bidding_of, contract_in, playing_in, play_of, is_finished, is_ruled_out, is_open}
 use Rattle.session_rules.specs.State.{deal_on, hands_on}
 use Rattle.session_rules.specs.Valid.{MayStand, IsUnplayed, IsValidRecord, IsDeed}
 use Rattle.session_rules.proofs.Lists.{not_refused, not_false}
@@ -53,16 +54,17 @@ open_parts true done is = absurd cc
 open_parts false true is = absurd cc
 open_parts false false is = (refl, refl)
 
-unruled_by : (x : PlainRecord) (made : Option Ruling) → is_void made ≡ false → is_finished x ≡ false → IfSome made (MayStand (play_of [] x)) → made ≡ None
-unruled_by x None void unfinished ruled = refl
-unruled_by x (Some (ruling.Tricks tricks)) void unfinished ruled =
+unruled_by : (scoring : Scoring) (x : PlainRecord) (made : Option Ruling) → is_ruled_out made ≡ false → is_finished x ≡ false → IfSome made (MayStand scoring (play_of [] x)) → made ≡ None
+unruled_by scoring x None void unfinished ruled = refl
+unruled_by scoring x (Some (ruling.Tricks tricks)) void unfinished ruled =
     let over = over_done x.calls (play_of [] x) ruled in absurd cc
-unruled_by x (Some ruling.Void) void unfinished ruled = absurd cc
+unruled_by scoring x (Some ruling.Void) void unfinished ruled = absurd cc
+unruled_by scoring x (Some (ruling.Adjusted ns ew)) void unfinished ruled = absurd cc
 
-unruled : (x : PlainRecord) → is_open x ≡ true → IfSome x.ruling (MayStand (play_of [] x)) → x.ruling ≡ None
-unruled x open_play ruled =
-    let parts = open_parts (is_void x.ruling) (is_finished x) open_play in
-    unruled_by x x.ruling parts.0 parts.1 ruled
+unruled : (scoring : Scoring) (x : PlainRecord) → is_open x ≡ true → IfSome x.ruling (MayStand scoring (play_of [] x)) → x.ruling ≡ None
+unruled scoring x open_play ruled =
+    let parts = open_parts (is_ruled_out x.ruling) (is_finished x) open_play in
+    unruled_by scoring x x.ruling parts.0 parts.1 ruled
 
 -- A call
 
@@ -88,8 +90,8 @@ if_some_map : {A B : Type 0} (P : B → Type 0) (f : A → B) (o : Option A) →
 if_some_map P f None all = tt
 if_some_map P f (Some x) all = all x
 
-call_valid : (deals : List (Option (List ℕ))) (now round : ℕ) (hands : List ℕ) (seat : Seat) (at : ℕ) (made : Call) (x : PlainRecord) → round ≡ now → deal_on deals x.board ≡ Some hands → is_open x ≡ true → IsCall made → deed_answer (bidding_of x) (play_of hands x) seat at (deed.Call made) ≡ Ok tt → IsValidRecord deals now round x → IsValidRecord deals now round (with_deed seat (deed.Call made) x)
-call_valid deals now round hands seat at made x current dealt open_play known ok valid =
+call_valid : (scoring : Scoring) (deals : List (Option (List ℕ))) (now round : ℕ) (hands : List ℕ) (seat : Seat) (at : ℕ) (made : Call) (x : PlainRecord) → round ≡ now → deal_on deals x.board ≡ Some hands → is_open x ≡ true → IsCall made → deed_answer (bidding_of x) (play_of hands x) seat at (deed.Call made) ≡ Ok tt → IsValidRecord scoring deals now round x → IsValidRecord scoring deals now round (with_deed seat (deed.Call made) x)
+call_valid scoring deals now round hands seat at made x current dealt open_play known ok valid =
     let ended : is_ended x.calls ≡ false = not_refused (is_ended x.calls) WrongPhase _ ok in
     let second = rest_ok (is_ended x.calls) WrongPhase _ ok in
     let third = rest_ok (not (at == length x.calls)) Stale _ second in
@@ -104,7 +106,7 @@ call_valid deals now round hands seat at made x current dealt open_play known ok
       dealt = λ none. absurd (cc (dealt, none));
       unplayed = λ none. unplayed;
       play = if_some_map IsPlay (playing_in (hands_on deals x.board) after) (contract_in after) (λ contract. new_play (hands_on deals x.board) contract after unplayed);
-      ruled = subst (λ o. IfSome o (MayStand (play_of [] after))) (sym (unruled x open_play valid.ruled)) tt;
+      ruled = subst (λ o. IfSome o (MayStand scoring (play_of [] after))) (sym (unruled scoring x open_play valid.ruled)) tt;
       later = λ less. absurd (omega arith);
       earlier = λ less. absurd (omega arith);
     }
@@ -227,8 +229,8 @@ becomes_some hands x after None becomes valid = tt
 becomes_some hands x after (Some contract) becomes valid = becomes contract refl valid
 
 -- a record whose play becomes another
-played_valid : (deals : List (Option (List ℕ))) (now round : ℕ) (hands : List ℕ) (x after : PlainRecord) (play : Option Contract) → contract_in x ≡ play → ((contract : Contract) → play ≡ Some contract → IsPlay (playing_in hands x contract) → IsPlay (playing_in hands after contract)) → (play ≡ None → ⊥) → after.board ≡ x.board → after.calls ≡ x.calls → after.ruling ≡ x.ruling → round ≡ now → deal_on deals x.board ≡ Some hands → is_open x ≡ true → IsValidRecord deals now round x → IsValidRecord deals now round after
-played_valid deals now round hands x after play is becomes some board calls made current dealt open_play valid =
+played_valid : (scoring : Scoring) (deals : List (Option (List ℕ))) (now round : ℕ) (hands : List ℕ) (x after : PlainRecord) (play : Option Contract) → contract_in x ≡ play → ((contract : Contract) → play ≡ Some contract → IsPlay (playing_in hands x contract) → IsPlay (playing_in hands after contract)) → (play ≡ None → ⊥) → after.board ≡ x.board → after.calls ≡ x.calls → after.ruling ≡ x.ruling → round ≡ now → deal_on deals x.board ≡ Some hands → is_open x ≡ true → IsValidRecord scoring deals now round x → IsValidRecord scoring deals now round after
+played_valid scoring deals now round hands x after play is becomes some board calls made current dealt open_play valid =
     let contract : contract_in after ≡ play =
     ap (λ b. contract_of (dealer_of b) after.calls) board ∙ ap (contract_of (dealer_of x.board)) calls ∙ is in
     let own : hands_on deals after.board ≡ hands = ap (hands_on deals) board ∙ ap (λ d. unwrap_or d []) dealt in
@@ -243,7 +245,7 @@ played_valid deals now round hands x after play is becomes some board calls made
           (becomes_some hands x after play becomes
           (subst (λ h. IfSome (option_map (playing_in h x) play) IsPlay) before
           (subst (λ o. IfSome (option_map (playing_in (hands_on deals x.board) x) o) IsPlay) is valid.play))));
-      ruled = subst (λ o. IfSome o (MayStand (play_of [] after))) (sym (made ∙ unruled x open_play valid.ruled)) tt;
+      ruled = subst (λ o. IfSome o (MayStand scoring (play_of [] after))) (sym (made ∙ unruled scoring x open_play valid.ruled)) tt;
       later = λ less. absurd (omega arith);
       earlier = λ less. absurd (omega arith);
     }
@@ -261,32 +263,32 @@ by_contract hands x None contract seat at done ok is = absurd cc
 by_contract hands x (Some other) contract seat at done ok is =
     let same : other ≡ contract = cc in subst (λ k. answer_in_play (playing_in hands x k) seat at done ≡ Ok tt) same ok
 
-pub deed_valid : (deals : List (Option (List ℕ))) (now round : ℕ) (hands : List ℕ) (seat : Seat) (at : ℕ) (done : Deed) (x : PlainRecord) → round ≡ now → deal_on deals x.board ≡ Some hands → is_open x ≡ true → IsDeed done → deed_answer (bidding_of x) (play_of hands x) seat at done ≡ Ok tt → IsValidRecord deals now round x → IsValidRecord deals now round (with_deed seat done x)
-deed_valid deals now round hands seat at (deed.Call made) x current dealt open_play known ok valid =
-    call_valid deals now round hands seat at made x current dealt open_play known ok valid
-deed_valid deals now round hands seat at (deed.Card card) x current dealt open_play known ok valid =
+pub deed_valid : (scoring : Scoring) (deals : List (Option (List ℕ))) (now round : ℕ) (hands : List ℕ) (seat : Seat) (at : ℕ) (done : Deed) (x : PlainRecord) → round ≡ now → deal_on deals x.board ≡ Some hands → is_open x ≡ true → IsDeed done → deed_answer (bidding_of x) (play_of hands x) seat at done ≡ Ok tt → IsValidRecord scoring deals now round x → IsValidRecord scoring deals now round (with_deed seat done x)
+deed_valid scoring deals now round hands seat at (deed.Call made) x current dealt open_play known ok valid =
+    call_valid scoring deals now round hands seat at made x current dealt open_play known ok valid
+deed_valid scoring deals now round hands seat at (deed.Card card) x current dealt open_play known ok valid =
     let play = contract_in x in
-    played_valid deals now round hands x (with_deed seat (deed.Card card) x) play refl
+    played_valid scoring deals now round hands x (with_deed seat (deed.Card card) x) play refl
     (λ contract is good.
     let p = playing_in hands x contract in
     card_play p seat card (renamed_ok from_card (card_answer p seat card) (counted_ok (length x.cards) at _ (by_contract hands x play contract seat at (deed.Card card) ok is))) good)
     (in_play hands x play seat at (deed.Card card) ok) refl refl refl current dealt open_play valid
-deed_valid deals now round hands seat at (deed.Claim tricks) x current dealt open_play known ok valid =
+deed_valid scoring deals now round hands seat at (deed.Claim tricks) x current dealt open_play known ok valid =
     let play = contract_in x in
-    played_valid deals now round hands x (with_deed seat (deed.Claim tricks) x) play refl
+    played_valid scoring deals now round hands x (with_deed seat (deed.Claim tricks) x) play refl
     (λ contract is good.
     let p = playing_in hands x contract in
     claim_play p seat tricks (renamed_ok from_claim (claim_answer p seat tricks) (counted_ok x.claims at _ (by_contract hands x play contract seat at (deed.Claim tricks) ok is))) good)
     (in_play hands x play seat at (deed.Claim tricks) ok) refl refl refl current dealt open_play valid
-deed_valid deals now round hands seat at deed.Agree x current dealt open_play known ok valid =
+deed_valid scoring deals now round hands seat at deed.Agree x current dealt open_play known ok valid =
     let play = contract_in x in
-    played_valid deals now round hands x (with_deed seat deed.Agree x) play refl
+    played_valid scoring deals now round hands x (with_deed seat deed.Agree x) play refl
     (λ contract is good.
     let p = playing_in hands x contract in
     agree_play p seat (renamed_ok from_consent (consent_answer p seat p.claims) (counted_ok x.claims at _ (by_contract hands x play contract seat at deed.Agree ok is))) good)
     (in_play hands x play seat at deed.Agree ok) refl refl refl current dealt open_play valid
-deed_valid deals now round hands seat at deed.Refuse x current dealt open_play known ok valid =
+deed_valid scoring deals now round hands seat at deed.Refuse x current dealt open_play known ok valid =
     let play = contract_in x in
-    played_valid deals now round hands x (with_deed seat deed.Refuse x) play refl
+    played_valid scoring deals now round hands x (with_deed seat deed.Refuse x) play refl
     (λ contract is good. refuse_play (playing_in hands x contract) good)
     (in_play hands x play seat at deed.Refuse ok) refl refl refl current dealt open_play valid

@@ -144,7 +144,7 @@ acted_valid s key board at done (Ok seating) valid known is ok =
     let dealt : deal_on s.deals x.board ≡ Some on.hands = ap (deal_on s.deals) board_is ∙ ap (λ b. cond b (deal_on s.deals board) None) (sym of_set.0) ∙ on.dealt in
     let answered : deed_answer (bidding_of x) (play_of on.hands x) seating.seat at done ≡ Ok tt =
     subst (λ (p : PlainRecord). deed_answer (bidding_of p) (play_of on.hands p) seating.seat at done ≡ Ok tt) same on.ok in
-    deed_valid s.deals s.round row.round on.hands seating.seat at done x round dealt (first_passes is_open records x was) known answered good)
+    deed_valid s.configuration.scoring s.deals s.round row.round on.hands seating.seat at done x round dealt (first_passes is_open records x was) known answered good)
 
 pub player_valid : (s : SessionValue) (key board at : ℕ) (done : Deed) → IsValid s → IsDeed done → player_answer (seen_by s key board) key board at done ≡ Ok tt → IsValid (acted s key done)
 player_valid s key board at done valid known ok = acted_valid s key board at done (seating_of s.configuration s.round key) valid known refl ok

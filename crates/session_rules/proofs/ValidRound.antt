@@ -9,6 +9,7 @@ use Rattle.std.proofs.lemmas.List.Elements.{All-set}
 use Rattle.bridge_cards.specs.Board.{dealer_of}
 use Rattle.bridge_cards.specs.Deal.{is_dealt_out}
 use Rattle.bridge_auction.specs.Legal.{is_ended}
+use Rattle.bridge_score.specs.declared.Scoring.{Scoring}
 use Rattle.bridge_movement.specs.declared.row.Row.{Row}
 use Rattle.bridge_play.specs.Play.{IsPlay}
 use Rattle.session_rules.specs.declared.refused.Refused.TheVariants.{Closed, Stale, RoundOpen, NoSuchPlay, AlreadyDealt, BadDeal}
@@ -110,8 +111,8 @@ next_valid s round valid ok =
 no_play : (hands : List ℕ) (x : PlainRecord) → x.calls ≡ [] → play_of hands x ≡ None
 no_play hands x none = ap (option_map (playing_in hands x)) (no_contract (dealer_of x.board) x.calls (ap is_ended none))
 
-record_dealt : (deals : List (Option (List ℕ))) (now round board : ℕ) (hands : List ℕ) (x : PlainRecord) → deal_on deals board ≡ None → IsValidRecord deals now round x → IsValidRecord (slice_set deals (board - 1) (Some hands)) now round x
-record_dealt deals now round board hands x none valid =
+record_dealt : (scoring : Scoring) (deals : List (Option (List ℕ))) (now round board : ℕ) (hands : List ℕ) (x : PlainRecord) → deal_on deals board ≡ None → IsValidRecord scoring deals now round x → IsValidRecord scoring (slice_set deals (board - 1) (Some hands)) now round x
+record_dealt scoring deals now round board hands x none valid =
     let after = slice_set deals (board - 1) (Some hands) in
     elim (cases_eq (x.board - 1) (board - 1)) [
       | inl same ↦
@@ -156,5 +157,5 @@ deal_valid s board hands valid ok =
       boards = length-set s.deals (board - 1) (Some hands) ∙ valid.boards;
       deals = All-set IsDealOrNone s.deals (board - 1) (Some hands) dealt valid.deals;
       of_boards = valid.of_boards;
-      plays = λ row_index index row plain is found. record_dealt s.deals s.round row.round board hands plain none (valid.plays row_index index row plain is found);
+      plays = λ row_index index row plain is found. record_dealt s.configuration.scoring s.deals s.round row.round board hands plain none (valid.plays row_index index row plain is found);
     }

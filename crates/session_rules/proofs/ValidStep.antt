@@ -19,7 +19,7 @@ act_valid (act.RoundEnd key round) s ranges valid ok =
     next_valid s round valid (allowed_ok (director_answer s.configuration key.0) (next_answer s round) ok)
 act_valid (act.Ruling key play made) s ranges valid ok =
     rule_valid s play made valid ranges
-    (allowed_ok (director_answer s.configuration key.0) (rule_answer s.round play.round made (record_of s play)) ok)
+    (allowed_ok (director_answer s.configuration key.0) (rule_answer s.configuration.scoring s.round play.round made (record_of s play)) ok)
 
 pub step_valid : (action : Action) (s : SessionValue) → IsAction action → IsValid s → step_answer s action ≡ Ok tt → IsValid (changed s action)
 step_valid action = act_valid (act_of action)

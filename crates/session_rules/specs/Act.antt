@@ -4,7 +4,7 @@ use Rattle.bridge_config.specs.declared.fields.Key.{Key}
 use Rattle.session_rules.specs.declared.act.Act.{Act}
 use Rattle.session_rules.specs.declared.act.Act.TheVariants as act
 use Rattle.session_rules.specs.declared.action.Action.{Action}
-use Rattle.session_rules.specs.declared.action.Action.TheVariants.{Deal, Call, Card, Claim, Agree, Refuse, NextRound, Tricks, Void, Restore}
+use Rattle.session_rules.specs.declared.action.Action.TheVariants.{Deal, Call, Card, Claim, Agree, Refuse, NextRound, Tricks, Void, Adjust, Restore}
 use Rattle.session_rules.specs.declared.action.PlayId.{PlayId}
 use Rattle.session_rules.specs.declared.correction.Correction.{Correction}
 use Rattle.session_rules.specs.declared.correction.Correction.TheVariants as correction
@@ -21,6 +21,7 @@ act_of (Refuse key board at) = act.Player key board at deed.Refuse
 act_of (NextRound key round) = act.RoundEnd key round
 act_of (Tricks key play tricks) = act.Ruling key play (correction.Tricks tricks)
 act_of (Void key play) = act.Ruling key play correction.Void
+act_of (Adjust key play ns ew) = act.Ruling key play (correction.Adjust ns ew)
 act_of (Restore key play) = act.Ruling key play correction.Restore
 
 -- the action by which a player does that
@@ -35,4 +36,5 @@ of_player key board at deed.Refuse = Refuse key board at
 abbrev pub of_ruling : Key → PlayId → Correction → Action
 of_ruling key play (correction.Tricks tricks) = Tricks key play tricks
 of_ruling key play correction.Void = Void key play
+of_ruling key play (correction.Adjust ns ew) = Adjust key play ns ew
 of_ruling key play correction.Restore = Restore key play

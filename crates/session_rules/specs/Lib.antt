@@ -1,6 +1,7 @@
 -- The definitions of a session.
 pub mod Numbers
 pub mod Act
+pub mod Average
 pub mod Record
 pub mod Outcome
 pub mod Deed

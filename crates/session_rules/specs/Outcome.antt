@@ -6,7 +6,7 @@ use Rattle.bridge_auction.specs.declared.call.Call.{Call}
 use Rattle.bridge_auction.specs.Legal.{is_ended}
 use Rattle.bridge_play.specs.Play.{PlayValue, is_over, tricks_of}
 use Rattle.session_rules.specs.declared.outcome.Outcome.{Outcome}
-use Rattle.session_rules.specs.declared.outcome.Outcome.TheVariants.{Unfinished, PassedOut, Played, Voided}
+use Rattle.session_rules.specs.declared.outcome.Outcome.TheVariants.{Unfinished, PassedOut, Played, Voided, Adjusted}
 use Rattle.session_rules.specs.declared.ruling.Ruling.{Ruling}
 use Rattle.session_rules.specs.declared.ruling.Ruling.TheVariants as ruling
 use Rattle.session_rules.specs.Record.{PlainRecord, play_of}
@@ -22,6 +22,7 @@ abbrev pub outcome_by : List Call → Option PlayValue → Option Ruling → Out
 outcome_by calls play None = outcome_of_play calls play
 outcome_by calls play (Some (ruling.Tricks tricks)) = option_map_or (λ (p : PlayValue). Played p.contract tricks) play Unfinished
 outcome_by calls play (Some ruling.Void) = Voided
+outcome_by calls play (Some (ruling.Adjusted ns ew)) = Adjusted ns ew
 
 -- what came of the play of a record; the hands do not matter to it
 abbrev pub outcome_of : PlainRecord → Outcome
@@ -33,3 +34,4 @@ HasFewTricks Unfinished = Unit {0}
 HasFewTricks PassedOut = Unit {0}
 HasFewTricks (Played contract tricks) = tricks ≤ 13
 HasFewTricks Voided = Unit {0}
+HasFewTricks (Adjusted ns ew) = Unit {0}

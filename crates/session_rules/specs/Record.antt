@@ -55,11 +55,13 @@ is_done calls play = option_map_or is_over play (is_ended calls)
 abbrev pub is_finished : PlainRecord → Bool
 is_finished plain = is_done plain.calls (play_of [] plain)
 
-abbrev pub is_void : Option Ruling → Bool
-is_void None = false
-is_void (Some (ruling.Tricks tricks)) = false
-is_void (Some ruling.Void) = true
+-- whether a play is void or adjusted, so that no more of it is played
+abbrev pub is_ruled_out : Option Ruling → Bool
+is_ruled_out None = false
+is_ruled_out (Some (ruling.Tricks tricks)) = false
+is_ruled_out (Some ruling.Void) = true
+is_ruled_out (Some (ruling.Adjusted ns ew)) = true
 
--- whether the play is neither finished nor void
+-- whether the play is neither finished, void nor adjusted
 abbrev pub is_open : PlainRecord → Bool
-is_open plain = not (is_void plain.ruling) && not (is_finished plain)
+is_open plain = not (is_ruled_out plain.ruling) && not (is_finished plain)

@@ -1,7 +1,7 @@
 -- The numbers and names of refusals.
 use Rattle.std.specs.Prelude.{ℕ, List, codes}
 use Rattle.session_rules.specs.declared.refused.Refused.{Refused}
-use Rattle.session_rules.specs.declared.refused.Refused.TheVariants.{NoKey, NotAllowed, Closed, NoSuchPlay, NotYet, SitsOut, NotCurrent, NotDealt, WrongPhase, Stale, NoClaim, ClaimStands, NotAsked, NotYourTurn, MidTrick, TooManyTricks, InsufficientBid, InadmissibleDouble, InadmissibleRedouble, NotHeld, MustFollow, AlreadyDealt, BadDeal, RoundOpen, NoContract, NotFinished, NotAnEnding, ClaimsSpent}
+use Rattle.session_rules.specs.declared.refused.Refused.TheVariants.{NoKey, NotAllowed, Closed, NoSuchPlay, NotYet, SitsOut, NotCurrent, NotDealt, WrongPhase, Stale, NoClaim, ClaimStands, NotAsked, NotYourTurn, MidTrick, TooManyTricks, InsufficientBid, InadmissibleDouble, InadmissibleRedouble, NotHeld, MustFollow, AlreadyDealt, BadDeal, RoundOpen, NoContract, NotFinished, NotAnEnding, ClaimsSpent, NotMatchPoints}
 
 abbrev pub refusal_number : Refused → ℕ
 refusal_number NoKey = 1
@@ -32,6 +32,7 @@ refusal_number NoContract = 25
 refusal_number NotFinished = 26
 refusal_number NotAnEnding = 27
 refusal_number ClaimsSpent = 28
+refusal_number NotMatchPoints = 29
 
 abbrev pub refusal_name : Refused → List ℕ
 refusal_name NoKey = codes "NoKey"
@@ -62,3 +63,4 @@ refusal_name NoContract = codes "NoContract"
 refusal_name NotFinished = codes "NotFinished"
 refusal_name NotAnEnding = codes "NotAnEnding"
 refusal_name ClaimsSpent = codes "ClaimsSpent"
+refusal_name NotMatchPoints = codes "NotMatchPoints"

@@ -60,7 +60,7 @@ row_at records index = unwrap_or (slice_get records index) []
 abbrev pub changed_at : {A : Type 0} → (A → A) → List A → ℕ → List A
 changed_at change xs index = option_map_or (λ x. slice_set xs index (change x)) (slice_get xs index) xs
 
--- the index of a table's current play among its records: the first that is neither finished nor void
+-- the index of a table's current play among its records: the first that is neither finished, void nor adjusted
 abbrev pub current_index : List PlainRecord → ℕ
 current_index records = position_or_len is_open records
 

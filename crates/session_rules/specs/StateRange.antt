@@ -27,11 +27,13 @@ IsOfFourSeats claim = length claim.agreed ≡ 4
 abbrev pub IsRulingInRange : Ruling → Type 0
 IsRulingInRange (ruling.Tricks tricks) = IsTrickCount tricks
 IsRulingInRange ruling.Void = Unit {0}
+IsRulingInRange (ruling.Adjusted ns ew) = Unit {0}
 
 -- a correction sets no more tricks than a board has
 abbrev pub IsCorrectionInRange : Correction → Type 0
 IsCorrectionInRange (correction.Tricks tricks) = IsTrickCount tricks
 IsCorrectionInRange correction.Void = Unit {0}
+IsCorrectionInRange (correction.Adjust ns ew) = Unit {0}
 IsCorrectionInRange correction.Restore = Unit {0}
 
 -- the claim and the ruling are within their ranges

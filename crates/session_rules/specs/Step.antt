@@ -4,6 +4,7 @@ use Rattle.std.specs.List.{list_any}
 use Rattle.bridge_cards.specs.declared.seat.Seat.{Seat}
 use Rattle.bridge_cards.specs.Deal.{is_dealt_out}
 use Rattle.bridge_movement.specs.declared.shape.Shape.{Shape}
+use Rattle.bridge_score.specs.declared.Scoring.{Scoring}
 use Rattle.bridge_config.specs.ConfigValue.{ConfigValue}
 use Rattle.session_rules.specs.declared.act.Act.{Act}
 use Rattle.session_rules.specs.declared.act.Act.TheVariants as act
@@ -125,10 +126,10 @@ record_of s play =
     else None
 
 -- the answer to a ruling on the play of that record; the hands do not matter to it
-abbrev pub rule_answer : ℕ → ℕ → Correction → Option PlainRecord → Result (Unit {0}) Refused
-rule_answer now round correction None = Err NoSuchPlay
-rule_answer now round correction (Some plain) =
-    if nat_lt now round then Err NotYet else ruling_answer plain.calls (play_of [] plain) correction (nat_lt round now)
+abbrev pub rule_answer : Scoring → ℕ → ℕ → Correction → Option PlainRecord → Result (Unit {0}) Refused
+rule_answer scoring now round correction None = Err NoSuchPlay
+rule_answer scoring now round correction (Some plain) =
+    if nat_lt now round then Err NotYet else ruling_answer scoring plain.calls (play_of [] plain) correction (nat_lt round now)
 
 abbrev pub with_ruling : Correction → PlainRecord → PlainRecord
 with_ruling correction plain = record plain { ruling = ruling_by correction }
@@ -146,7 +147,7 @@ act_answer s (act.Player key board at done) = player_answer (seen_by s key.0 boa
 act_answer s (act.Deal key board hands) = if_allowed (director_answer s.configuration key.0) (deal_answer s board hands)
 act_answer s (act.RoundEnd key round) = if_allowed (director_answer s.configuration key.0) (next_answer s round)
 act_answer s (act.Ruling key play made) =
-    if_allowed (director_answer s.configuration key.0) (rule_answer s.round play.round made (record_of s play))
+    if_allowed (director_answer s.configuration key.0) (rule_answer s.configuration.scoring s.round play.round made (record_of s play))
 
 abbrev pub changed_by : SessionValue → Act → SessionValue
 changed_by s (act.Player key board at done) = acted s key.0 done

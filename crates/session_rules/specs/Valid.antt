@@ -4,6 +4,8 @@ use Rattle.bridge_cards.specs.Deal.{is_dealt_out}
 use Rattle.bridge_auction.specs.Call.{IsCall}
 use Rattle.bridge_auction.specs.Legal.{IsLegal}
 use Rattle.bridge_movement.specs.declared.row.Row.{Row}
+use Rattle.bridge_score.specs.declared.Scoring.{Scoring}
+use Rattle.bridge_score.specs.declared.Scoring.TheVariants.{MatchPoints}
 use Rattle.bridge_config.specs.Limits.{IsConfiguration}
 use Rattle.bridge_play.specs.Play.{PlayValue, IsPlay}
 use Rattle.session_rules.specs.declared.act.Act.{Act}
@@ -19,10 +21,11 @@ use Rattle.session_rules.specs.Correction.{tricks_answer}
 use Rattle.session_rules.specs.Record.{PlainRecord, empty_record, contract_in, play_of, is_open}
 use Rattle.session_rules.specs.State.{SessionValue, deal_on, row_at, row_boards, hands_on}
 
--- a ruling may stand: one of tricks where the play is over
-abbrev pub MayStand : Option PlayValue → Ruling → Type 0
-MayStand play (ruling.Tricks tricks) = tricks_answer play ≡ Ok tt
-MayStand play ruling.Void = Unit {0}
+-- a ruling may stand: one of tricks where the play is over, averages where the scoring is by matchpoints
+abbrev pub MayStand : Scoring → Option PlayValue → Ruling → Type 0
+MayStand scoring play (ruling.Tricks tricks) = tricks_answer play ≡ Ok tt
+MayStand scoring play ruling.Void = Unit {0}
+MayStand scoring play (ruling.Adjusted ns ew) = scoring ≡ MatchPoints
 
 -- nothing was played or claimed
 pub record IsUnplayed (plain : PlainRecord) : Type 0 where
@@ -32,13 +35,13 @@ pub record IsUnplayed (plain : PlainRecord) : Type 0 where
 
 -- The record of a play of that round: the calls are a legal list, and there are some only where the board is dealt; without a
 -- contract nothing was played; the play is one by the rules, and the ruling may stand; in a later round than the current one
--- nothing has happened, and in an earlier one the play is finished or void.
-pub record IsValidRecord (deals : List (Option (List ℕ))) (now round : ℕ) (plain : PlainRecord) : Type 0 where
+-- nothing has happened, and in an earlier one the play is finished, void or adjusted.
+pub record IsValidRecord (scoring : Scoring) (deals : List (Option (List ℕ))) (now round : ℕ) (plain : PlainRecord) : Type 0 where
   pub calls : IsLegal plain.calls
   pub dealt : deal_on deals plain.board ≡ None → plain.calls ≡ []
   pub unplayed : contract_in plain ≡ None → IsUnplayed plain
   pub play : IfSome (play_of (hands_on deals plain.board) plain) IsPlay
-  pub ruled : IfSome plain.ruling (MayStand (play_of [] plain))
+  pub ruled : IfSome plain.ruling (MayStand scoring (play_of [] plain))
   pub later : now < round → plain ≡ empty_record plain.board
   pub earlier : round < now → is_open plain ≡ false
 
@@ -61,7 +64,7 @@ pub record IsValid (s : SessionValue) : Type 0 where
   pub deals : All IsDealOrNone s.deals
   pub of_boards : map (map board_of) s.records ≡ map (row_boards s.configuration.boards) s.configuration.movement.rows
   pub plays : (row_index index : ℕ) (row : Row) (plain : PlainRecord) → slice_get s.configuration.movement.rows row_index ≡ Some row →
-      slice_get (row_at s.records row_index) index ≡ Some plain → IsValidRecord s.deals s.round row.round plain
+      slice_get (row_at s.records row_index) index ≡ Some plain → IsValidRecord s.configuration.scoring s.deals s.round row.round plain
 
 -- a call that a player makes is one
 abbrev pub IsDeed : Deed → Type 0

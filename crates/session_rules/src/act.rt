@@ -69,6 +69,11 @@ impl Action {
             Action::NextRound { key, round } => Act::RoundEnd { key, round },
             Action::Tricks { key, play, tricks } => ruling(key, play, Correction::Tricks(tricks)),
             Action::Void { key, play } => ruling(key, play, Correction::Void),
+            Action::Adjust { key, play, ns, ew } => ruling(
+                key,
+                play,
+                Correction::Adjust { ns, ew },
+            ),
             Action::Restore { key, play } => ruling(key, play, Correction::Restore),
         }
     }
@@ -108,6 +113,7 @@ impl Action {
         match correction {
             Correction::Tricks(tricks) => Action::Tricks { key, play, tricks },
             Correction::Void => Action::Void { key, play },
+            Correction::Adjust { ns, ew } => Action::Adjust { key, play, ns, ew },
             Correction::Restore => Action::Restore { key, play },
         }
     }

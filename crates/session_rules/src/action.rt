@@ -1,4 +1,5 @@
 //! What players and the director do.
+use crate::average::Average;
 use crate::numbers::{BoardIndex, MadeCount, RoundNumber, TableNumber, TrickCount};
 use bridge_auction::Call;
 use bridge_cards::{BoardNumber, Card, CardSet};
@@ -73,6 +74,13 @@ pub enum Action {
     Void {
         key: Key,
         play: PlayId,
+    },
+    /// The director awards each side of a play an average (Law 12C2).
+    Adjust {
+        key: Key,
+        play: PlayId,
+        ns: Average,
+        ew: Average,
     },
     /// The director takes a ruling back.
     Restore {

@@ -2,6 +2,7 @@ ghost use Rattle.std.specs.Prelude.{◌≡◌};
 ghost use Rattle.session_rules.specs.Correction.{ruling_by};
 ghost use Rattle.session_rules.specs.StateRange.{IsCorrectionInRange};
 
+use crate::average::Average;
 use crate::numbers::TrickCount;
 use crate::ruling::Ruling;
 
@@ -10,6 +11,7 @@ use crate::ruling::Ruling;
 pub enum Correction {
     Tricks(TrickCount),
     Void,
+    Adjust { ns: Average, ew: Average },
     Restore,
 }
 
@@ -22,6 +24,7 @@ impl Correction {
         match self {
             Correction::Tricks(tricks) => Some(Ruling::Tricks(tricks)),
             Correction::Void => Some(Ruling::Void),
+            Correction::Adjust { ns, ew } => Some(Ruling::Adjusted { ns, ew }),
             Correction::Restore => None,
         }
     }

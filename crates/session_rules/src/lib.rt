@@ -7,6 +7,7 @@
 pub mod act;
 pub mod action;
 pub mod apart;
+pub mod average;
 pub mod correction;
 pub mod deed;
 pub mod numbers;
@@ -20,6 +21,7 @@ pub mod view;
 pub use act::Act;
 pub use action::{Action, PlayId};
 pub use apart::{hidden_cards_are_not_shown, records_are_of_own_actions, tables_are_judged_apart};
+pub use average::Average;
 pub use correction::Correction;
 pub use deed::Deed;
 pub use numbers::{BoardIndex, MadeCount, RoundNumber, TableNumber, TrickCount};

@@ -1,3 +1,4 @@
+use crate::average::Average;
 use bridge_auction::Contract;
 
 /// What came of a play.
@@ -11,4 +12,6 @@ pub enum Outcome {
     Played { contract: Contract, tricks: u8 },
     /// The director took it out.
     Voided,
+    /// The director awarded each side an average, whatever was played (Law 12C2).
+    Adjusted { ns: Average, ew: Average },
 }

@@ -55,7 +55,7 @@ pub enum Refused {
     AlreadyDealt,
     /// The hands are no deal (Law 1).
     BadDeal,
-    /// A play of the round is neither finished nor void.
+    /// A play of the round is neither finished, void nor adjusted.
     RoundOpen,
     /// The auction is not ended, or nobody bid.
     NoContract,
@@ -65,13 +65,15 @@ pub enum Refused {
     NotAnEnding,
     /// 99 claims were made in the play.
     ClaimsSpent,
+    /// Averages are of matchpoints, and the scoring is by IMPs.
+    NotMatchPoints,
 }
 
 impl Refused {
-    /// The refusal's number, 1 to 28.
+    /// The refusal's number, 1 to 29.
     pub fn number(self) -> u8
         ensures number { result ≡ refusal_number self }
-        ensures most { result ≤ 28 }
+        ensures most { result ≤ 29 }
     {
         match self {
             Refused::NoKey => 1,
@@ -102,6 +104,7 @@ impl Refused {
             Refused::NotFinished => 26,
             Refused::NotAnEnding => 27,
             Refused::ClaimsSpent => 28,
+            Refused::NotMatchPoints => 29,
         }
     }
 
@@ -139,6 +142,7 @@ impl Refused {
             Refused::NotFinished => "NotFinished",
             Refused::NotAnEnding => "NotAnEnding",
             Refused::ClaimsSpent => "ClaimsSpent",
+            Refused::NotMatchPoints => "NotMatchPoints",
         }
     }
 }

@@ -1,3 +1,4 @@
+use crate::average::Average;
 use crate::numbers::TrickCount;
 
 /// The director's ruling on a play.
@@ -7,4 +8,6 @@ pub enum Ruling {
     Tricks(TrickCount),
     /// The play does not count.
     Void,
+    /// The play is not scored, and each side has an average in its place (Law 12C2).
+    Adjusted { ns: Average, ew: Average },
 }
