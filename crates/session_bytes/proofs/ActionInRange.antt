@@ -4,11 +4,18 @@ use Rattle.std.specs.Prelude.{option_map, option_and_then}
 use Rattle.std.specs.Int.{w16, w32, w64, from_be_bytes}
 use Rattle.bridge_cards.specs.CardSet.{IsCardSet}
 use Rattle.bridge_config.specs.declared.fields.Key.{Key}
+use Rattle.session_rules.specs.declared.act.Act.{Act}
+use Rattle.session_rules.specs.declared.act.Act.TheVariants as act
 use Rattle.session_rules.specs.declared.action.Action.{Action}
-use Rattle.session_rules.specs.declared.action.Action.TheVariants.{Deal, Call, Card, Claim, Agree, Refuse, NextRound, Tricks, Void, Restore}
-use Rattle.session_bytes.specs.ActionRange.{IsKey, IsInRange}
-use Rattle.session_bytes.specs.ActionBytes.{hand_bytes, action_bytes, in_range, player_action, turn_in, hand_in, hands_in, deal_in, action_in, action_of}
-use Rattle.session_rules.specs.Valid.{IsAction}
+use Rattle.session_rules.specs.declared.action.Action.TheVariants.{Deal, NextRound}
+use Rattle.session_rules.specs.declared.correction.Correction.{Correction}
+use Rattle.session_rules.specs.declared.correction.Correction.TheVariants as correction
+use Rattle.session_rules.specs.declared.deed.Deed.{Deed}
+use Rattle.session_rules.specs.declared.deed.Deed.TheVariants as deed
+use Rattle.session_rules.specs.Act.{act_of}
+use Rattle.session_bytes.specs.ActionRange.{IsKey, IsDeedInRange, IsActInRange, IsInRange}
+use Rattle.session_bytes.specs.ActionBytes.{hand_bytes, deed_bytes, correction_bytes, act_bytes, action_bytes, in_range, player_action, turn_in, hand_in, hands_in, deal_in, action_in, action_of}
+use Rattle.session_rules.specs.Valid.{IsDeed, IsAct, IsAction}
 use Rattle.session_bytes.proofs.ActionLaws.{map_is, then_is, if_is, in_range_is, last_is, player_is, ruling_is, four_all}
 use Rattle.session_bytes.proofs.PartLemmas.{length-flat_fixed}
 
@@ -83,29 +90,42 @@ read_in_range (kind ∷ k ∷ l ∷ m ∷ n ∷ rest) a is =
     kind_in_range kind (record { 0 = key.0 }) rest a (omega (arith, key_is.2)) key.2
 
 -- the ranges are those of the steps
+range_is_deed : (done : Deed) → IsDeedInRange done → IsDeed done
+range_is_deed (deed.Call call) is = is
+range_is_deed (deed.Card card) is = tt
+range_is_deed (deed.Claim tricks) is = tt
+range_is_deed deed.Agree is = tt
+range_is_deed deed.Refuse is = tt
+
+range_is_act : (a : Act) → IsActInRange a → IsAct a
+range_is_act (act.Player key board at done) is = range_is_deed done is.2
+range_is_act (act.Deal key board hands) is = is.1.0
+range_is_act (act.RoundEnd key round) is = is.1.0
+range_is_act (act.Ruling key play made) is = (is.1.0.0, is.1.1.0, is.1.2.0)
+
 pub range_is_action : (a : Action) → IsInRange a → IsAction a
-range_is_action (Deal key board hands) is = is.1.0
-range_is_action (Call key board at call) is = is.2
-range_is_action (Card key board at card) is = tt
-range_is_action (Claim key board at tricks) is = is.2
-range_is_action (Agree key board at) is = tt
-range_is_action (Refuse key board at) is = tt
-range_is_action (NextRound key round) is = is.1.0
-range_is_action (Tricks key play tricks) is = ((is.1.0.0, is.1.1.0, is.1.2.0), is.2)
-range_is_action (Void key play) is = (is.1.0.0, is.1.1.0, is.1.2.0)
-range_is_action (Restore key play) is = (is.1.0.0, is.1.1.0, is.1.2.0)
+range_is_action a = range_is_act (act_of a)
 
 -- the bytes of an action are few
-pub action_fits : (a : Action) → IsInRange a → length (action_bytes a) ≤ 480
-action_fits (Deal key board hands) is =
+few_of_deed : (done : Deed) → length (deed_bytes done) ≤ 1
+few_of_deed (deed.Call call) = omega arith
+few_of_deed (deed.Card card) = omega arith
+few_of_deed (deed.Claim tricks) = omega arith
+few_of_deed deed.Agree = omega arith
+few_of_deed deed.Refuse = omega arith
+
+few_of_correction : (made : Correction) → length (correction_bytes made) ≤ 1
+few_of_correction (correction.Tricks tricks) = omega arith
+few_of_correction correction.Void = omega arith
+few_of_correction correction.Restore = omega arith
+
+act_fits : (a : Act) → IsActInRange a → length (act_bytes a) ≤ 480
+act_fits (act.Player key board at done) is = omega (arith, few_of_deed done)
+act_fits (act.Deal key board hands) is =
     let long : length (flat_map hand_bytes hands) ≡ length hands * 8 = length-flat_fixed hand_bytes 8 (λ hand. refl) hands in
     omega (arith, long, is.2)
-action_fits (Call key board at call) is = omega arith
-action_fits (Card key board at card) is = omega arith
-action_fits (Claim key board at tricks) is = omega arith
-action_fits (Agree key board at) is = omega arith
-action_fits (Refuse key board at) is = omega arith
-action_fits (NextRound key round) is = omega arith
-action_fits (Tricks key play tricks) is = omega arith
-action_fits (Void key play) is = omega arith
-action_fits (Restore key play) is = omega arith
+act_fits (act.RoundEnd key round) is = omega arith
+act_fits (act.Ruling key play made) is = omega (arith, few_of_correction made)
+
+pub action_fits : (a : Action) → IsInRange a → length (action_bytes a) ≤ 480
+action_fits a = act_fits (act_of a)

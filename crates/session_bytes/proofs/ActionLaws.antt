@@ -7,15 +7,24 @@ use Rattle.std.proofs.lemmas.Bool.{le-leb, leb-true, eqb-true, and_parts}
 use Rattle.std.proofs.lemmas.Nat.{from_be_bytes-to_be_bytes_2, from_be_bytes-to_be_bytes_4, from_be_bytes-to_be_bytes_8, be_bytes_2, be_bytes_4, be_bytes_8}
 use Rattle.std.proofs.lemmas.List.{take-append-drop, drop-drop}
 use Rattle.std.proofs.lemmas.List.Elements.{All-cons, All-nil}
-use Rattle.bridge_auction.specs.Call.{call_number, call_at}
+use Rattle.bridge_auction.specs.Call.{call_at}
 use Rattle.bridge_auction.proofs.CallNumbers.{call_at-call_number, call_at-is}
 use Rattle.bridge_cards.specs.CardSet.{IsCardSet}
 use Rattle.bridge_config.specs.declared.fields.Key.{Key}
+use Rattle.session_rules.specs.declared.act.Act.{Act}
+use Rattle.session_rules.specs.declared.act.Act.TheVariants as act
 use Rattle.session_rules.specs.declared.action.Action.{Action}
-use Rattle.session_rules.specs.declared.action.Action.TheVariants.{Deal, Call, Card, Claim, Agree, Refuse, NextRound, Tricks, Void, Restore}
+use Rattle.session_rules.specs.declared.action.Action.TheVariants.{Deal, NextRound}
 use Rattle.session_rules.specs.declared.action.PlayId.{PlayId}
-use Rattle.session_bytes.specs.ActionRange.{IsKey, IsTurn, IsPlay, IsInRange}
-use Rattle.session_bytes.specs.ActionBytes.{headed, turn_bytes, play_bytes, hand_bytes, action_bytes, in_range, only_byte, at_end, player_action, turn_in, play_in, play_with, ruling_on, ruling_in, hand_in, hands_in, deal_in, action_in, action_of}
+use Rattle.session_rules.specs.declared.correction.Correction.{Correction}
+use Rattle.session_rules.specs.declared.correction.Correction.TheVariants as correction
+use Rattle.session_rules.specs.declared.deed.Deed.{Deed}
+use Rattle.session_rules.specs.declared.deed.Deed.TheVariants as deed
+use Rattle.session_rules.specs.Act.{act_of, of_player, of_ruling}
+use Rattle.session_rules.specs.StateRange.{IsCorrectionInRange}
+use Rattle.session_rules.proofs.Acts.{action_by, by_its_act, act_of_player, act_of_ruling}
+use Rattle.session_bytes.specs.ActionRange.{IsKey, IsTurn, IsPlay, IsDeedInRange, IsActInRange, IsInRange}
+use Rattle.session_bytes.specs.ActionBytes.{headed, turn_bytes, play_bytes, hand_bytes, deed_kind, deed_bytes, correction_kind, correction_bytes, act_bytes, action_bytes, in_range, only_byte, at_end, deed_in, player_action, turn_in, play_in, play_with, correction_in, ruling_on, ruling_in, hand_in, hands_in, deal_in, action_in, action_of}
 
 -- What is written is read back
 
@@ -69,29 +78,52 @@ hands_back (n ∷ e ∷ s ∷ w ∷ []) four all =
     rw (north, east, south, west) refl
 hands_back (n ∷ e ∷ s ∷ w ∷ more ∷ rest) four all = absurd cc
 
-pub read_back : (a : Action) → IsInRange a → action_of (action_bytes a) ≡ Some a
-read_back (Call key board at call) is =
-    head_back 2 key (turn_bytes board at (call_number call ∷ [])) is.0 ∙ turn_back 2 key board at (call_number call ∷ []) is.1
-    ∙ ap (option_map (Call key board at)) (call_at-call_number call is.2)
-read_back (Card key board at card) is =
-    head_back 3 key (turn_bytes board at (card ∷ [])) is.0 ∙ turn_back 3 key board at (card ∷ []) is.1
-    ∙ ap (option_map (Card key board at)) (within 0 51 card (omega arith) (omega (arith, is.2)))
-read_back (Claim key board at tricks) is =
-    head_back 4 key (turn_bytes board at (tricks ∷ [])) is.0 ∙ turn_back 4 key board at (tricks ∷ []) is.1
-    ∙ ap (option_map (Claim key board at)) (within 0 13 tricks (omega arith) is.2)
-read_back (Agree key board at) is = head_back 5 key (turn_bytes board at []) is.0 ∙ turn_back 5 key board at [] is.1
-read_back (Refuse key board at) is = head_back 6 key (turn_bytes board at []) is.0 ∙ turn_back 6 key board at [] is.1
-read_back (NextRound key round) is =
-    head_back 7 key (round ∷ []) is.0 ∙ ap (option_map (NextRound key)) (within 1 12 round is.1.0 is.1.1)
-read_back (Tricks key play tricks) is =
-    head_back 8 key (play_bytes play (tricks ∷ [])) is.0 ∙ ruling_back 8 key play (tricks ∷ []) is.1
-    ∙ ap (option_map (Tricks key play)) (within 0 13 tricks (omega arith) is.2)
-read_back (Void key play) is = head_back 9 key (play_bytes play []) is.0 ∙ ruling_back 9 key play [] is.1
-read_back (Restore key play) is = head_back 10 key (play_bytes play []) is.0 ∙ ruling_back 10 key play [] is.1
-read_back (Deal key board hands) is =
+-- what a player does
+deed_back : (done : Deed) → IsDeedInRange done → deed_in (deed_kind done) (deed_bytes done) ≡ Some done
+deed_back (deed.Call call) is = ap (option_map deed.Call) (call_at-call_number call is)
+deed_back (deed.Card card) is = ap (option_map deed.Card) (within 0 51 card (omega arith) (omega (arith, is)))
+deed_back (deed.Claim tricks) is = ap (option_map deed.Claim) (within 0 13 tricks (omega arith) is)
+deed_back deed.Agree is = refl
+deed_back deed.Refuse is = refl
+
+of_player_kind : (done : Deed) (key : Key) (rest : List ℕ) → action_in (deed_kind done) key rest ≡ turn_in (deed_kind done) key rest
+of_player_kind (deed.Call call) key rest = refl
+of_player_kind (deed.Card card) key rest = refl
+of_player_kind (deed.Claim tricks) key rest = refl
+of_player_kind deed.Agree key rest = refl
+of_player_kind deed.Refuse key rest = refl
+
+-- what is ruled
+correction_back : (made : Correction) → IsCorrectionInRange made → correction_in (correction_kind made) (correction_bytes made) ≡ Some made
+correction_back (correction.Tricks tricks) is = ap (option_map correction.Tricks) (within 0 13 tricks (omega arith) is)
+correction_back correction.Void is = refl
+correction_back correction.Restore is = refl
+
+of_ruling_kind : (made : Correction) (key : Key) (rest : List ℕ) → action_in (correction_kind made) key rest ≡ ruling_in (correction_kind made) key rest
+of_ruling_kind (correction.Tricks tricks) key rest = refl
+of_ruling_kind correction.Void key rest = refl
+of_ruling_kind correction.Restore key rest = refl
+
+act_back : (x : Act) → IsActInRange x → action_of (act_bytes x) ≡ Some (action_by x)
+act_back (act.Player key board at done) is =
+    head_back (deed_kind done) key (turn_bytes board at (deed_bytes done)) is.0
+    ∙ of_player_kind done key (turn_bytes board at (deed_bytes done))
+    ∙ turn_back (deed_kind done) key board at (deed_bytes done) is.1
+    ∙ ap (option_map (of_player key board at)) (deed_back done is.2)
+act_back (act.Deal key board hands) is =
     head_back 1 key (board ∷ flat_map hand_bytes hands) is.0
     ∙ ap (option_and_then (λ b. option_map (Deal key b) (hands_in (flat_map hand_bytes hands)))) (within 1 36 board is.1.0 is.1.1)
     ∙ ap (option_map (Deal key board)) (hands_back hands is.2 is.3)
+act_back (act.RoundEnd key round) is =
+    head_back 7 key (round ∷ []) is.0 ∙ ap (option_map (NextRound key)) (within 1 12 round is.1.0 is.1.1)
+act_back (act.Ruling key play made) is =
+    head_back (correction_kind made) key (play_bytes play (correction_bytes made)) is.0
+    ∙ of_ruling_kind made key (play_bytes play (correction_bytes made))
+    ∙ ruling_back (correction_kind made) key play (correction_bytes made) is.1
+    ∙ ap (option_map (of_ruling key play)) (correction_back made is.2)
+
+pub read_back : (a : Action) → IsInRange a → action_of (action_bytes a) ≡ Some a
+read_back a is = act_back (act_of a) is ∙ ap Some (by_its_act a)
 
 -- Only actions are read, each from its own bytes
 
@@ -127,9 +159,9 @@ only_is [] n is = absurd (let none : None ≡ Some n = is in cc)
 only_is (byte ∷ []) n is = let stated : Some byte ≡ Some n = is in let same : byte ≡ n = cc in ap (λ x. x ∷ []) same
 only_is (byte ∷ more ∷ rest) n is = absurd (let none : None ≡ Some n = is in cc)
 
-end_is : (bytes : List ℕ) (x a : Action) → at_end bytes x ≡ Some a → (bytes ≡ []) × (x ≡ a)
-end_is [] x a is = (refl, let stated : Some x ≡ Some a = is in cc)
-end_is (byte ∷ rest) x a is = absurd (let none : None ≡ Some a = is in cc)
+end_is : {A : Type 0} (bytes : List ℕ) (x y : A) → at_end bytes x ≡ Some y → (bytes ≡ []) × (x ≡ y)
+end_is [] x y is = (refl, let stated : Some x ≡ Some y = is in cc)
+end_is (byte ∷ rest) x y is = absurd (let none : None ≡ Some y = is in cc)
 
 -- the last number, in its range
 pub last_is : (least most : ℕ) (bytes : List ℕ) (n : ℕ) → option_and_then (in_range least most) (only_byte bytes) ≡ Some n
@@ -143,51 +175,57 @@ last_is least most bytes n is =
 abbrev Reads : ℕ → Key → List ℕ → Action → Type 0
 Reads kind key bytes a = IsInRange a × (action_bytes a ≡ headed kind key.0 bytes)
 
-reads : (kind was : ℕ) (key : Key) (bytes rest : List ℕ) (x a : Action) → kind ≡ was → bytes ≡ rest → x ≡ a → IsInRange x
-    → action_bytes x ≡ headed was key.0 rest → Reads kind key bytes a
-reads kind was key bytes rest x a kind_is bytes_is same range written =
-    subst (λ y. Reads kind key bytes y) same (range, written ∙ ap (λ k. headed k key.0 rest) (sym kind_is) ∙ ap (headed kind key.0) (sym bytes_is))
+reads : (kind : ℕ) (key : Key) (bytes : List ℕ) (x : Act) (a : Action) → act_of a ≡ x → IsActInRange x → act_bytes x ≡ headed kind key.0 bytes
+    → Reads kind key bytes a
+reads kind key bytes x a same range written = (subst IsActInRange (sym same) range, ap act_bytes same ∙ written)
 
-pub player_is : (kind : ℕ) (key : Key) (board at : ℕ) (rest : List ℕ) (a : Action) → IsKey key → IsTurn board at
-    → player_action kind key board at rest ≡ Some a → Reads kind key (turn_bytes board at rest) a
-player_is kind key board at rest a is_key is_turn is =
-    elim (if_is (kind == 2) _ _ (Some a) is) [
+-- what a player does by a kind and bytes that are its own
+abbrev IsDeedOf : ℕ → List ℕ → Deed → Type 0
+IsDeedOf kind bytes done = IsDeedInRange done × (kind ≡ deed_kind done) × (bytes ≡ deed_bytes done)
+
+deed_is : (kind : ℕ) (rest : List ℕ) (done : Deed) → deed_in kind rest ≡ Some done → IsDeedOf kind rest done
+deed_is kind rest done is =
+    elim (if_is (kind == 2) _ _ (Some done) is) [
       | inl here ↦
-          let found = map_is (Call key board at) _ a here.1 in
+          let found = map_is deed.Call _ done here.1 in
           let byte = then_is call_at (only_byte rest) found.0 found.1 in
           let known = call_at-is byte.0 found.0 byte.2 in
-          reads kind 2 key (turn_bytes board at rest) (turn_bytes board at (call_number found.0 ∷ [])) (Call key board at found.0) a
-          (eqb-true kind 2 here.0)
-          (ap (turn_bytes board at) (only_is rest byte.0 byte.1 ∙ ap (λ x. x ∷ []) (sym known.1)))
-          found.2 (is_key, is_turn, known.0) refl
-      | inr other ↦ elim (if_is (kind == 3) _ _ (Some a) other.1) [
+          subst (IsDeedOf kind rest) found.2
+          (known.0, eqb-true kind 2 here.0, only_is rest byte.0 byte.1 ∙ ap (λ x. x ∷ []) (sym known.1))
+      | inr other ↦ elim (if_is (kind == 3) _ _ (Some done) other.1) [
         | inl here ↦
-            let found = map_is (Card key board at) _ a here.1 in
+            let found = map_is deed.Card _ done here.1 in
             let last = last_is 0 51 rest found.0 found.1 in
-            reads kind 3 key (turn_bytes board at rest) (turn_bytes board at (found.0 ∷ [])) (Card key board at found.0) a
-            (eqb-true kind 3 here.0) (ap (turn_bytes board at) last.0) found.2 (is_key, is_turn, omega (arith, last.2)) refl
-        | inr other ↦ elim (if_is (kind == 4) _ _ (Some a) other.1) [
+            subst (IsDeedOf kind rest) found.2 (omega (arith, last.2), eqb-true kind 3 here.0, last.0)
+        | inr other ↦ elim (if_is (kind == 4) _ _ (Some done) other.1) [
           | inl here ↦
-              let found = map_is (Claim key board at) _ a here.1 in
+              let found = map_is deed.Claim _ done here.1 in
               let last = last_is 0 13 rest found.0 found.1 in
-              reads kind 4 key (turn_bytes board at rest) (turn_bytes board at (found.0 ∷ [])) (Claim key board at found.0) a
-              (eqb-true kind 4 here.0) (ap (turn_bytes board at) last.0) found.2 (is_key, is_turn, last.2) refl
-          | inr other ↦ elim (if_is (kind == 5) _ _ (Some a) other.1) [
+              subst (IsDeedOf kind rest) found.2 (last.2, eqb-true kind 4 here.0, last.0)
+          | inr other ↦ elim (if_is (kind == 5) _ _ (Some done) other.1) [
             | inl here ↦
-                let found = end_is rest (Agree key board at) a here.1 in
-                reads kind 5 key (turn_bytes board at rest) (turn_bytes board at []) (Agree key board at) a
-                (eqb-true kind 5 here.0) (ap (turn_bytes board at) found.0) found.1 (is_key, is_turn) refl
-            | inr other ↦ elim (if_is (kind == 6) _ _ (Some a) other.1) [
+                let found = end_is rest deed.Agree done here.1 in
+                subst (IsDeedOf kind rest) found.1 (tt, eqb-true kind 5 here.0, found.0)
+            | inr other ↦ elim (if_is (kind == 6) _ _ (Some done) other.1) [
               | inl here ↦
-                  let found = end_is rest (Refuse key board at) a here.1 in
-                  reads kind 6 key (turn_bytes board at rest) (turn_bytes board at []) (Refuse key board at) a
-                  (eqb-true kind 6 here.0) (ap (turn_bytes board at) found.0) found.1 (is_key, is_turn) refl
-              | inr other ↦ let none : None ≡ Some a = other.1 in absurd cc
+                  let found = end_is rest deed.Refuse done here.1 in
+                  subst (IsDeedOf kind rest) found.1 (tt, eqb-true kind 6 here.0, found.0)
+              | inr other ↦ let none : None ≡ Some done = other.1 in absurd cc
             ]
           ]
         ]
       ]
     ]
+
+pub player_is : (kind : ℕ) (key : Key) (board at : ℕ) (rest : List ℕ) (a : Action) → IsKey key → IsTurn board at
+    → player_action kind key board at rest ≡ Some a → Reads kind key (turn_bytes board at rest) a
+player_is kind key board at rest a is_key is_turn is =
+    let found = map_is (of_player key board at) (deed_in kind rest) a is in
+    let known = deed_is kind rest found.0 found.1 in
+    reads kind key (turn_bytes board at rest) (act.Player key board at found.0) a
+    (ap act_of (sym found.2) ∙ act_of_player key board at found.0) (is_key, is_turn, known.0)
+    (ap (λ k. headed k key.0 (turn_bytes board at (deed_bytes found.0))) (sym known.1)
+    ∙ ap (λ xs. headed kind key.0 (turn_bytes board at xs)) (sym known.2))
 
 pub two_bytes : (a b : ℕ) → a < 256 → b < 256 → AreBytes (a ∷ b ∷ [])
 two_bytes a b first second zero = first
@@ -242,29 +280,39 @@ play_is round table index play is =
     ∙ ap (play_with round table) (sym index_is.0) in
     (subst IsPlay i.2 ((round_is.1, round_is.2), (table_is.1, table_is.2), (index_is.1, index_is.2)), sym i.2 ∙ same)
 
-ruled_is : (kind : ℕ) (key : Key) (play : PlayId) (rest : List ℕ) (a : Action) → IsKey key → IsPlay play
-    → ruling_on kind key play rest ≡ Some a → Reads kind key (play_bytes play rest) a
-ruled_is kind key play rest a is_key is_play is =
-    elim (if_is (kind == 8) _ _ (Some a) is) [
+-- what is ruled by a kind and bytes that are its own
+abbrev IsCorrectionOf : ℕ → List ℕ → Correction → Type 0
+IsCorrectionOf kind bytes made = IsCorrectionInRange made × (kind ≡ correction_kind made) × (bytes ≡ correction_bytes made)
+
+correction_is : (kind : ℕ) (rest : List ℕ) (made : Correction) → correction_in kind rest ≡ Some made → IsCorrectionOf kind rest made
+correction_is kind rest made is =
+    elim (if_is (kind == 8) _ _ (Some made) is) [
       | inl here ↦
-          let found = map_is (Tricks key play) _ a here.1 in
+          let found = map_is correction.Tricks _ made here.1 in
           let last = last_is 0 13 rest found.0 found.1 in
-          reads kind 8 key (play_bytes play rest) (play_bytes play (found.0 ∷ [])) (Tricks key play found.0) a
-          (eqb-true kind 8 here.0) (ap (play_bytes play) last.0) found.2 (is_key, is_play, last.2) refl
-      | inr other ↦ elim (if_is (kind == 9) _ _ (Some a) other.1) [
+          subst (IsCorrectionOf kind rest) found.2 (last.2, eqb-true kind 8 here.0, last.0)
+      | inr other ↦ elim (if_is (kind == 9) _ _ (Some made) other.1) [
         | inl here ↦
-            let found = end_is rest (Void key play) a here.1 in
-            reads kind 9 key (play_bytes play rest) (play_bytes play []) (Void key play) a
-            (eqb-true kind 9 here.0) (ap (play_bytes play) found.0) found.1 (is_key, is_play) refl
-        | inr other ↦ elim (if_is (kind == 10) _ _ (Some a) other.1) [
+            let found = end_is rest correction.Void made here.1 in
+            subst (IsCorrectionOf kind rest) found.1 (tt, eqb-true kind 9 here.0, found.0)
+        | inr other ↦ elim (if_is (kind == 10) _ _ (Some made) other.1) [
           | inl here ↦
-              let found = end_is rest (Restore key play) a here.1 in
-              reads kind 10 key (play_bytes play rest) (play_bytes play []) (Restore key play) a
-              (eqb-true kind 10 here.0) (ap (play_bytes play) found.0) found.1 (is_key, is_play) refl
-          | inr other ↦ let none : None ≡ Some a = other.1 in absurd cc
+              let found = end_is rest correction.Restore made here.1 in
+              subst (IsCorrectionOf kind rest) found.1 (tt, eqb-true kind 10 here.0, found.0)
+          | inr other ↦ let none : None ≡ Some made = other.1 in absurd cc
         ]
       ]
     ]
+
+ruled_is : (kind : ℕ) (key : Key) (play : PlayId) (rest : List ℕ) (a : Action) → IsKey key → IsPlay play
+    → ruling_on kind key play rest ≡ Some a → Reads kind key (play_bytes play rest) a
+ruled_is kind key play rest a is_key is_play is =
+    let found = map_is (of_ruling key play) (correction_in kind rest) a is in
+    let known = correction_is kind rest found.0 found.1 in
+    reads kind key (play_bytes play rest) (act.Ruling key play found.0) a
+    (ap act_of (sym found.2) ∙ act_of_ruling key play found.0) (is_key, is_play, known.0)
+    (ap (λ k. headed k key.0 (play_bytes play (correction_bytes found.0))) (sym known.1)
+    ∙ ap (λ xs. headed kind key.0 (play_bytes play xs)) (sym known.2))
 
 pub ruling_is : (kind : ℕ) (key : Key) (bytes : List ℕ) (a : Action) → IsKey key → ruling_in kind key bytes ≡ Some a
     → Reads kind key bytes a
@@ -323,9 +371,9 @@ deal_is key (board ∷ rest) a are is_key is =
     let h = map_is (Deal key b.0) (hands_in rest) a b.2 in
     let board_is = in_range_is 1 36 board b.0 b.1 in
     let hands = hands_is rest h.0 (λ i. are (suc i)) h.1 in
-    let same : board ∷ rest ≡ b.0 ∷ flat_map hand_bytes h.0 = ap (λ x. x ∷ rest) board_is.0 ∙ ap (λ xs. b.0 ∷ xs) (sym hands.2) in
-    reads 1 1 key (board ∷ rest) (b.0 ∷ flat_map hand_bytes h.0) (Deal key b.0 h.0) a refl same h.2
-    (is_key, (board_is.1, board_is.2), hands.0, hands.1) refl
+    reads 1 key (board ∷ rest) (act.Deal key b.0 h.0) a (ap act_of (sym h.2))
+    (is_key, (board_is.1, board_is.2), hands.0, hands.1)
+    (ap (λ xs. headed 1 key.0 (b.0 ∷ xs)) hands.2 ∙ ap (λ x. headed 1 key.0 (x ∷ rest)) (sym board_is.0))
 
 kind_is : (kind : ℕ) (key : Key) (bytes : List ℕ) (a : Action) → AreBytes bytes → IsKey key → action_in kind key bytes ≡ Some a
     → Reads kind key bytes a
@@ -338,8 +386,8 @@ kind_is kind key bytes a are is_key is =
         | inl here ↦
             let found = map_is (NextRound key) _ a here.1 in
             let last = last_is 1 12 bytes found.0 found.1 in
-            reads kind 7 key bytes (found.0 ∷ []) (NextRound key found.0) a (eqb-true kind 7 here.0) last.0 found.2
-            (is_key, (last.1, last.2)) refl
+            reads kind key bytes (act.RoundEnd key found.0) a (ap act_of (sym found.2)) (is_key, (last.1, last.2))
+            (ap (λ k. headed k key.0 (found.0 ∷ [])) (sym (eqb-true kind 7 here.0)) ∙ ap (headed kind key.0) (sym last.0))
         | inr other ↦ elim (if_is (nat_le kind 6) _ _ (Some a) other.1) [
           | inl here ↦ turn_is kind key bytes a are is_key here.1
           | inr other ↦ ruling_is kind key bytes a is_key other.1

@@ -3,9 +3,16 @@ use Rattle.std.specs.Prelude.{◌==◌, ◌&&◌, nat_le, ℕ, List, [], ◌∷�
 use Rattle.std.specs.Int.{w16, w32, w64, to_be_bytes, from_be_bytes}
 use Rattle.bridge_auction.specs.Call.{call_number, call_at}
 use Rattle.bridge_config.specs.declared.fields.Key.{Key}
+use Rattle.session_rules.specs.declared.act.Act.{Act}
+use Rattle.session_rules.specs.declared.act.Act.TheVariants as act
 use Rattle.session_rules.specs.declared.action.Action.{Action}
-use Rattle.session_rules.specs.declared.action.Action.TheVariants.{Deal, Call, Card, Claim, Agree, Refuse, NextRound, Tricks, Void, Restore}
+use Rattle.session_rules.specs.declared.action.Action.TheVariants.{Deal, NextRound}
 use Rattle.session_rules.specs.declared.action.PlayId.{PlayId}
+use Rattle.session_rules.specs.declared.correction.Correction.{Correction}
+use Rattle.session_rules.specs.declared.correction.Correction.TheVariants as correction
+use Rattle.session_rules.specs.declared.deed.Deed.{Deed}
+use Rattle.session_rules.specs.declared.deed.Deed.TheVariants as deed
+use Rattle.session_rules.specs.Act.{act_of, of_player, of_ruling}
 
 -- every action begins with its kind and the key
 abbrev pub headed : ℕ → ℕ → List ℕ → List ℕ
@@ -22,17 +29,41 @@ play_bytes play rest = play.round ∷ play.table ∷ play.index ∷ rest
 abbrev pub hand_bytes : ℕ → List ℕ
 hand_bytes hand = to_be_bytes w64 hand
 
+-- a player's actions are of the kinds 2 to 6
+abbrev pub deed_kind : Deed → ℕ
+deed_kind (deed.Call call) = 2
+deed_kind (deed.Card card) = 3
+deed_kind (deed.Claim tricks) = 4
+deed_kind deed.Agree = 5
+deed_kind deed.Refuse = 6
+
+-- and end with the call, the card or the tricks
+abbrev pub deed_bytes : Deed → List ℕ
+deed_bytes (deed.Call call) = call_number call ∷ []
+deed_bytes (deed.Card card) = card ∷ []
+deed_bytes (deed.Claim tricks) = tricks ∷ []
+deed_bytes deed.Agree = []
+deed_bytes deed.Refuse = []
+
+-- rulings are of the kinds 8 to 10
+abbrev pub correction_kind : Correction → ℕ
+correction_kind (correction.Tricks tricks) = 8
+correction_kind correction.Void = 9
+correction_kind correction.Restore = 10
+
+abbrev pub correction_bytes : Correction → List ℕ
+correction_bytes (correction.Tricks tricks) = tricks ∷ []
+correction_bytes correction.Void = []
+correction_bytes correction.Restore = []
+
+abbrev pub act_bytes : Act → List ℕ
+act_bytes (act.Player key board at done) = headed (deed_kind done) key.0 (turn_bytes board at (deed_bytes done))
+act_bytes (act.Deal key board hands) = headed 1 key.0 (board ∷ flat_map hand_bytes hands)
+act_bytes (act.RoundEnd key round) = headed 7 key.0 (round ∷ [])
+act_bytes (act.Ruling key play made) = headed (correction_kind made) key.0 (play_bytes play (correction_bytes made))
+
 abbrev pub action_bytes : Action → List ℕ
-action_bytes (Deal key board hands) = headed 1 key.0 (board ∷ flat_map hand_bytes hands)
-action_bytes (Call key board at call) = headed 2 key.0 (turn_bytes board at (call_number call ∷ []))
-action_bytes (Card key board at card) = headed 3 key.0 (turn_bytes board at (card ∷ []))
-action_bytes (Claim key board at tricks) = headed 4 key.0 (turn_bytes board at (tricks ∷ []))
-action_bytes (Agree key board at) = headed 5 key.0 (turn_bytes board at [])
-action_bytes (Refuse key board at) = headed 6 key.0 (turn_bytes board at [])
-action_bytes (NextRound key round) = headed 7 key.0 (round ∷ [])
-action_bytes (Tricks key play tricks) = headed 8 key.0 (play_bytes play (tricks ∷ []))
-action_bytes (Void key play) = headed 9 key.0 (play_bytes play [])
-action_bytes (Restore key play) = headed 10 key.0 (play_bytes play [])
+action_bytes action = act_bytes (act_of action)
 
 -- Reading them
 
@@ -46,20 +77,24 @@ only_byte [] = None
 only_byte (byte ∷ []) = Some byte
 only_byte (byte ∷ more ∷ rest) = None
 
--- the action, if no byte is left
-abbrev pub at_end : List ℕ → Action → Option Action
-at_end [] action = Some action
-at_end (byte ∷ rest) action = None
+-- the value, if no byte is left
+abbrev pub at_end : {A : Type 0} → List ℕ → A → Option A
+at_end [] value = Some value
+at_end (byte ∷ rest) value = None
 
--- the action of a player by its kind, and by the bytes behind the count
-abbrev pub player_action : ℕ → Key → ℕ → ℕ → List ℕ → Option Action
-player_action kind key board at rest =
-    if kind == 2 then option_map (Call key board at) (option_and_then call_at (only_byte rest))
-    else if kind == 3 then option_map (Card key board at) (option_and_then (in_range 0 51) (only_byte rest))
-    else if kind == 4 then option_map (Claim key board at) (option_and_then (in_range 0 13) (only_byte rest))
-    else if kind == 5 then at_end rest (Agree key board at)
-    else if kind == 6 then at_end rest (Refuse key board at)
+-- what a player does by the kind of the action, and by the bytes behind the count
+abbrev pub deed_in : ℕ → List ℕ → Option Deed
+deed_in kind rest =
+    if kind == 2 then option_map deed.Call (option_and_then call_at (only_byte rest))
+    else if kind == 3 then option_map deed.Card (option_and_then (in_range 0 51) (only_byte rest))
+    else if kind == 4 then option_map deed.Claim (option_and_then (in_range 0 13) (only_byte rest))
+    else if kind == 5 then at_end rest deed.Agree
+    else if kind == 6 then at_end rest deed.Refuse
     else None
+
+-- a player's action
+abbrev pub player_action : ℕ → Key → ℕ → ℕ → List ℕ → Option Action
+player_action kind key board at rest = option_map (of_player key board at) (deed_in kind rest)
 
 -- the same by the bytes behind the key
 abbrev pub turn_in : ℕ → Key → List ℕ → Option Action
@@ -78,13 +113,17 @@ abbrev pub play_in : ℕ → ℕ → ℕ → Option PlayId
 play_in round table index =
     option_and_then (λ r. option_and_then (λ t. option_map (play_with r t) (in_range 1 3 index)) (in_range 1 12 table)) (in_range 1 12 round)
 
--- the ruling of that kind, by the bytes behind the play
-abbrev pub ruling_on : ℕ → Key → PlayId → List ℕ → Option Action
-ruling_on kind key play rest =
-    if kind == 8 then option_map (Tricks key play) (option_and_then (in_range 0 13) (only_byte rest))
-    else if kind == 9 then at_end rest (Void key play)
-    else if kind == 10 then at_end rest (Restore key play)
+-- what is ruled by the kind of the action, and by the bytes behind the play
+abbrev pub correction_in : ℕ → List ℕ → Option Correction
+correction_in kind rest =
+    if kind == 8 then option_map correction.Tricks (option_and_then (in_range 0 13) (only_byte rest))
+    else if kind == 9 then at_end rest correction.Void
+    else if kind == 10 then at_end rest correction.Restore
     else None
+
+-- the ruling of a play
+abbrev pub ruling_on : ℕ → Key → PlayId → List ℕ → Option Action
+ruling_on kind key play rest = option_map (of_ruling key play) (correction_in kind rest)
 
 -- the same by the bytes behind the key
 abbrev pub ruling_in : ℕ → Key → List ℕ → Option Action

@@ -5,10 +5,15 @@ use Rattle.bridge_cards.specs.Board.{IsBoard}
 use Rattle.bridge_cards.specs.Card.{IsCard}
 use Rattle.bridge_cards.specs.CardSet.{IsCardSet}
 use Rattle.bridge_config.specs.declared.fields.Key.{Key}
+use Rattle.session_rules.specs.declared.act.Act.{Act}
+use Rattle.session_rules.specs.declared.act.Act.TheVariants as act
 use Rattle.session_rules.specs.declared.action.Action.{Action}
-use Rattle.session_rules.specs.declared.action.Action.TheVariants.{Deal, Call, Card, Claim, Agree, Refuse, NextRound, Tricks, Void, Restore}
 use Rattle.session_rules.specs.declared.action.PlayId.{PlayId}
+use Rattle.session_rules.specs.declared.deed.Deed.{Deed}
+use Rattle.session_rules.specs.declared.deed.Deed.TheVariants as deed
+use Rattle.session_rules.specs.Act.{act_of}
 use Rattle.session_rules.specs.Numbers.{IsRoundNumber, IsTableNumber, IsBoardIndex, IsTrickCount, IsMadeCount}
+use Rattle.session_rules.specs.StateRange.{IsCorrectionInRange}
 
 abbrev pub IsKey : Key → Type 0
 IsKey key = key.0 < 2 ^ 32
@@ -20,15 +25,20 @@ IsTurn board at = IsBoard board × IsMadeCount at
 abbrev pub IsPlay : PlayId → Type 0
 IsPlay play = IsRoundNumber play.round × IsTableNumber play.table × IsBoardIndex play.index
 
+-- the call, the card or the tricks
+abbrev pub IsDeedInRange : Deed → Type 0
+IsDeedInRange (deed.Call call) = IsCall call
+IsDeedInRange (deed.Card card) = IsCard card
+IsDeedInRange (deed.Claim tricks) = IsTrickCount tricks
+IsDeedInRange deed.Agree = Unit {0}
+IsDeedInRange deed.Refuse = Unit {0}
+
+abbrev pub IsActInRange : Act → Type 0
+IsActInRange (act.Player key board at done) = IsKey key × IsTurn board at × IsDeedInRange done
+IsActInRange (act.Deal key board hands) = IsKey key × IsBoard board × (length hands ≡ 4) × All IsCardSet hands
+IsActInRange (act.RoundEnd key round) = IsKey key × IsRoundNumber round
+IsActInRange (act.Ruling key play made) = IsKey key × IsPlay play × IsCorrectionInRange made
+
 -- The numbers that an action names are within their ranges. So are those of each action by the types of its fields.
 abbrev pub IsInRange : Action → Type 0
-IsInRange (Deal key board hands) = IsKey key × IsBoard board × (length hands ≡ 4) × All IsCardSet hands
-IsInRange (Call key board at call) = IsKey key × IsTurn board at × IsCall call
-IsInRange (Card key board at card) = IsKey key × IsTurn board at × IsCard card
-IsInRange (Claim key board at tricks) = IsKey key × IsTurn board at × IsTrickCount tricks
-IsInRange (Agree key board at) = IsKey key × IsTurn board at
-IsInRange (Refuse key board at) = IsKey key × IsTurn board at
-IsInRange (NextRound key round) = IsKey key × IsRoundNumber round
-IsInRange (Tricks key play tricks) = IsKey key × IsPlay play × IsTrickCount tricks
-IsInRange (Void key play) = IsKey key × IsPlay play
-IsInRange (Restore key play) = IsKey key × IsPlay play
+IsInRange action = IsActInRange (act_of action)

@@ -1,14 +1,15 @@
 //! The bytes of an action on the disk.
-ghost use Rattle.std.specs.Prelude.{◌≡◌, ◌≤◌, ◌+◌, ◌++◌, ◌∷◌, [], length, flat_map, All};
+ghost use Rattle.std.specs.Prelude.{◌≡◌, ◌<◌, ◌≤◌, ◌+◌, ◌++◌, ◌∷◌, [], length, flat_map, All};
 ghost use Rattle.std.specs.Int.{w16, w32, w64, to_be_bytes};
 ghost use Rattle.bridge_cards.specs.CardSet.{IsCardSet};
-ghost use Rattle.session_bytes.specs.ActionRange.{IsInRange, IsKey, IsTurn, IsPlay};
-ghost use Rattle.session_bytes.specs.ActionBytes.{headed, turn_bytes, play_bytes, hand_bytes, action_bytes};
+ghost use Rattle.session_rules.specs.StateRange.{IsCorrectionInRange};
+ghost use Rattle.session_bytes.specs.ActionRange.{IsDeedInRange, IsActInRange, IsInRange, IsKey, IsTurn, IsPlay};
+ghost use Rattle.session_bytes.specs.ActionBytes.{headed, turn_bytes, play_bytes, hand_bytes, deed_kind, deed_bytes, correction_kind, correction_bytes, act_bytes, action_bytes};
 
 use arrayvec::ArrayVec;
 use bridge_cards::{BoardNumber, CardSet};
 use bridge_config::Key;
-use session_rules::{Action, MadeCount, PlayId};
+use session_rules::{Act, Action, Correction, Deed, MadeCount, PlayId};
 use session_store::PAYLOAD_BYTES;
 
 /// Clears `bytes`, and writes the action's into it: at most 38.
@@ -17,51 +18,92 @@ pub fn write_action(action: &Action, bytes: &mut ArrayVec<u8, PAYLOAD_BYTES>)
     ensures range { IsInRange action.now }
 {
     bytes.clear();
-    match *action {
-        Action::Deal { key, board, hands } => {
+    push_act(&action.act(), bytes);
+}
+
+/// Adds who does what.
+fn push_act(act: &Act, bytes: &mut ArrayVec<u8, PAYLOAD_BYTES>)
+    requires { bytes.old.items ≡ [] }
+    ensures bytes { bytes.new.items ≡ act_bytes act.now }
+    ensures range { IsActInRange act.now }
+{
+    match *act {
+        Act::Player {
+            key,
+            board,
+            at,
+            deed,
+        } => {
+            push_turn(deed_kind(&deed), key, board, at, bytes);
+            push_deed(&deed, bytes);
+        }
+        Act::Deal { key, board, hands } => {
             push_head(1, key, bytes);
             bytes.push(board.number());
             push_hands(&hands, bytes);
         }
-        Action::Call {
-            key,
-            board,
-            at,
-            call,
-        } => {
-            push_turn(2, key, board, at, bytes);
-            bytes.push(call.number());
-        }
-        Action::Card {
-            key,
-            board,
-            at,
-            card,
-        } => {
-            push_turn(3, key, board, at, bytes);
-            bytes.push(card.number());
-        }
-        Action::Claim {
-            key,
-            board,
-            at,
-            tricks,
-        } => {
-            push_turn(4, key, board, at, bytes);
-            bytes.push(tricks.number());
-        }
-        Action::Agree { key, board, at } => push_turn(5, key, board, at, bytes),
-        Action::Refuse { key, board, at } => push_turn(6, key, board, at, bytes),
-        Action::NextRound { key, round } => {
+        Act::RoundEnd { key, round } => {
             push_head(7, key, bytes);
             bytes.push(round.number());
         }
-        Action::Tricks { key, play, tricks } => {
-            push_play(8, key, play, bytes);
-            bytes.push(tricks.number());
+        Act::Ruling {
+            key,
+            play,
+            correction,
+        } => {
+            push_play(correction_kind(&correction), key, play, bytes);
+            push_correction(&correction, bytes);
         }
-        Action::Void { key, play } => push_play(9, key, play, bytes),
-        Action::Restore { key, play } => push_play(10, key, play, bytes),
+    }
+}
+
+/// The kind of a player's action.
+fn deed_kind(deed: &Deed) -> u8
+    ensures { result ≡ deed_kind deed.now }
+{
+    match *deed {
+        Deed::Call(_) => 2,
+        Deed::Card(_) => 3,
+        Deed::Claim(_) => 4,
+        Deed::Agree => 5,
+        Deed::Refuse => 6,
+    }
+}
+
+/// Adds the call, the card or the tricks.
+fn push_deed(deed: &Deed, bytes: &mut ArrayVec<u8, PAYLOAD_BYTES>)
+    requires { length bytes.old.items < 480 }
+    ensures bytes { bytes.new.items ≡ bytes.old.items ++ deed_bytes deed.now }
+    ensures range { IsDeedInRange deed.now }
+{
+    match *deed {
+        Deed::Call(call) => bytes.push(call.number()),
+        Deed::Card(card) => bytes.push(card.number()),
+        Deed::Claim(tricks) => bytes.push(tricks.number()),
+        Deed::Agree | Deed::Refuse => {}
+    }
+}
+
+/// The kind of a ruling.
+fn correction_kind(correction: &Correction) -> u8
+    ensures { result ≡ correction_kind correction.now }
+{
+    match *correction {
+        Correction::Tricks(_) => 8,
+        Correction::Void => 9,
+        Correction::Restore => 10,
+    }
+}
+
+/// Adds the tricks of a ruling.
+fn push_correction(correction: &Correction, bytes: &mut ArrayVec<u8, PAYLOAD_BYTES>)
+    requires { length bytes.old.items < 480 }
+    ensures bytes { bytes.new.items ≡ bytes.old.items ++ correction_bytes correction.now }
+    ensures range { IsCorrectionInRange correction.now }
+{
+    match *correction {
+        Correction::Tricks(tricks) => bytes.push(tricks.number()),
+        Correction::Void | Correction::Restore => {}
     }
 }
 

@@ -4,46 +4,80 @@ ghost use Rattle.bridge_auction.specs.Call.{IsCall};
 ghost use Rattle.bridge_cards.specs.Board.{IsBoard};
 ghost use Rattle.bridge_cards.specs.Card.{IsCard};
 ghost use Rattle.bridge_cards.specs.CardSet.{IsCardSet};
-ghost use Rattle.session_bytes.specs.ActionRange.{IsInRange, IsKey, IsTurn, IsPlay};
+ghost use Rattle.session_bytes.specs.ActionRange.{IsDeedInRange, IsActInRange, IsInRange, IsKey, IsTurn, IsPlay};
 ghost use Rattle.session_rules.specs.Numbers.{IsRoundNumber, IsTrickCount};
+ghost use Rattle.session_rules.specs.StateRange.{IsCorrectionInRange};
 
 use bridge_auction::Call;
 use bridge_cards::{BoardNumber, Card, CardSet};
 use bridge_config::Key;
-use session_rules::{Action, MadeCount, PlayId, RoundNumber, TrickCount};
+use session_rules::{Act, Action, Correction, Deed, MadeCount, PlayId, RoundNumber, TrickCount};
 
 /// Each number that an action names is within its range.
 pub fn ranges_of_action(action: &Action)
     ensures { IsInRange action.now }
 {
-    match *action {
-        Action::Deal { key, board, hands } => ranges_of_deal(key, board, &hands),
-        Action::Call {
+    ranges_of_act(action.act());
+}
+
+/// The same of who does what.
+fn ranges_of_act(act: Act)
+    ensures { IsActInRange act }
+{
+    match act {
+        Act::Player {
             key,
             board,
             at,
-            call,
-        } => ranges_of_call(key, board, at, call),
-        Action::Card {
+            deed,
+        } => {
+            ranges_of_turn(key, board, at);
+            range_of_deed(deed);
+        }
+        Act::Deal { key, board, hands } => ranges_of_deal(key, board, &hands),
+        Act::RoundEnd { key, round } => ranges_of_round(key, round),
+        Act::Ruling {
             key,
-            board,
-            at,
-            card,
-        } => ranges_of_card(key, board, at, card),
-        Action::Claim {
-            key,
-            board,
-            at,
-            tricks,
-        } => ranges_of_claim(key, board, at, tricks),
-        Action::Agree { key, board, at } => ranges_of_turn(key, board, at),
-        Action::Refuse { key, board, at } => ranges_of_turn(key, board, at),
-        Action::NextRound { key, round } => ranges_of_round(key, round),
-        Action::Tricks { key, play, tricks } => ranges_of_tricks(key, play, tricks),
-        Action::Void { key, play } => ranges_of_play(key, play),
-        Action::Restore { key, play } => ranges_of_play(key, play),
+            play,
+            correction,
+        } => {
+            ranges_of_play(key, play);
+            range_of_correction(correction);
+        }
     }
 }
+
+/// What a player names who acts.
+fn ranges_of_turn(key: Key, board: BoardNumber, at: MadeCount)
+    ensures { IsKey key × IsTurn board at }
+{}
+
+/// What a player does.
+fn range_of_deed(deed: Deed)
+    ensures { IsDeedInRange deed }
+{
+    match deed {
+        Deed::Call(call) => range_of_call(call),
+        Deed::Card(card) => range_of_card(card),
+        Deed::Claim(tricks) => range_of_tricks(tricks),
+        Deed::Agree | Deed::Refuse => {}
+    }
+}
+
+/// A call is one of the 38.
+fn range_of_call(call: Call)
+    ensures { IsCall call }
+{}
+
+/// A card is one of the 52.
+fn range_of_card(card: Card)
+    ensures { IsCard card }
+{}
+
+/// Tricks are at most 13.
+fn range_of_tricks(tricks: TrickCount)
+    ensures { IsTrickCount tricks }
+{}
 
 /// What a deal names.
 fn ranges_of_deal(key: Key, board: BoardNumber, hands: &[CardSet; 4])
@@ -62,37 +96,22 @@ fn range_of_hand(hand: CardSet)
     ensures { IsCardSet hand }
 {}
 
-/// What a call names.
-fn ranges_of_call(key: Key, board: BoardNumber, at: MadeCount, call: Call)
-    ensures { IsKey key × IsTurn board at × IsCall call }
-{}
-
-/// What a card names.
-fn ranges_of_card(key: Key, board: BoardNumber, at: MadeCount, card: Card)
-    ensures { IsKey key × IsTurn board at × IsCard card }
-{}
-
-/// What a claim names.
-fn ranges_of_claim(key: Key, board: BoardNumber, at: MadeCount, tricks: TrickCount)
-    ensures { IsKey key × IsTurn board at × IsTrickCount tricks }
-{}
-
-/// What an answer to a claim names.
-fn ranges_of_turn(key: Key, board: BoardNumber, at: MadeCount)
-    ensures { IsKey key × IsTurn board at }
-{}
-
 /// What the end of a round names.
 fn ranges_of_round(key: Key, round: RoundNumber)
     ensures { IsKey key × IsRoundNumber round }
 {}
 
-/// What a ruling of tricks names.
-fn ranges_of_tricks(key: Key, play: PlayId, tricks: TrickCount)
-    ensures { IsKey key × IsPlay play × IsTrickCount tricks }
-{}
-
-/// What another ruling names.
+/// The play that a ruling names.
 fn ranges_of_play(key: Key, play: PlayId)
     ensures { IsKey key × IsPlay play }
 {}
+
+/// What a ruling says.
+fn range_of_correction(correction: Correction)
+    ensures { IsCorrectionInRange correction }
+{
+    match correction {
+        Correction::Tricks(tricks) => range_of_tricks(tricks),
+        Correction::Void | Correction::Restore => {}
+    }
+}

@@ -2,12 +2,14 @@
 ghost use Rattle.std.specs.Prelude.{◌≡◌, ◌≢◌, ◌<◌, IfSome, IfNone, List, ℕ, length};
 ghost use Rattle.session_rules.specs.declared.action.Action.{Action as ActionType};
 ghost use Rattle.session_bytes.specs.ActionRange.{IsInRange};
-ghost use Rattle.session_bytes.specs.ActionBytes.{action_bytes, action_of, action_in, turn_in, player_action, ruling_in, ruling_on, play_in, deal_in, hands_in, hand_in, only_byte, at_end};
+ghost use Rattle.session_bytes.specs.ActionBytes.{action_bytes, action_of, action_in, turn_in, deed_in, ruling_in, correction_in, play_in, deal_in, hands_in, hand_in, only_byte, at_end};
 
 use bridge_auction::Call;
 use bridge_cards::{BoardNumber, Card, CardSet};
 use bridge_config::Key;
-use session_rules::{Action, BoardIndex, MadeCount, PlayId, RoundNumber, TableNumber, TrickCount};
+use session_rules::{
+    Action, BoardIndex, Correction, Deed, MadeCount, PlayId, RoundNumber, TableNumber, TrickCount,
+};
 
 /// The action that these bytes were written of; `None` for bytes of none.
 pub fn read_action(bytes: &[u8]) -> Option<Action>
@@ -81,43 +83,20 @@ fn read_turn(kind: u8, key: Key, bytes: &[u8]) -> Option<Action>
     };
     let board = BoardNumber::new(*board)?;
     let at = MadeCount::new(u16::from_be_bytes([*high, *low]))?;
-    read_deed(kind, key, board, at, rest)
+    let deed = read_deed(kind, rest)?;
+    Some(Action::of_player(key, board, at, deed))
 }
 
-/// A player's action of that kind, by the bytes behind the count.
-fn read_deed(kind: u8, key: Key, board: BoardNumber, at: MadeCount, bytes: &[u8]) -> Option<Action>
-    ensures { result ≡ player_action kind key board at bytes.now }
+/// What a player does by an action of that kind, by the bytes behind the count.
+fn read_deed(kind: u8, bytes: &[u8]) -> Option<Deed>
+    ensures { result ≡ deed_in kind bytes.now }
 {
     match kind {
-        2 => {
-            let call = Call::from_number(only_byte(bytes)?)?;
-            Some(Action::Call {
-                key,
-                board,
-                at,
-                call,
-            })
-        }
-        3 => {
-            let card = Card::new(only_byte(bytes)?)?;
-            Some(Action::Card {
-                key,
-                board,
-                at,
-                card,
-            })
-        }
-        4 => {
-            let tricks = TrickCount::new(only_byte(bytes)?)?;
-            Some(Action::Claim {
-                key,
-                board,
-                at,
-                tricks,
-            })
-        }
-        5 => at_end(bytes, Action::Agree { key, board, at }),
-        6 => at_end(bytes, Action::Refuse { key, board, at }),
+        2 => Some(Deed::Call(Call::from_number(only_byte(bytes)?)?)),
+        3 => Some(Deed::Card(Card::new(only_byte(bytes)?)?)),
+        4 => Some(Deed::Claim(TrickCount::new(only_byte(bytes)?)?)),
+        5 => at_end(bytes, Deed::Agree),
+        6 => at_end(bytes, Deed::Refuse),
         _ => None,
     }
 }
@@ -130,13 +109,18 @@ fn read_ruling(kind: u8, key: Key, bytes: &[u8]) -> Option<Action>
         return None;
     };
     let play = play_of(*round, *table, *index)?;
+    let correction = read_correction(kind, rest)?;
+    Some(Action::of_ruling(key, play, correction))
+}
+
+/// What is ruled by an action of that kind, by the bytes behind the play.
+fn read_correction(kind: u8, bytes: &[u8]) -> Option<Correction>
+    ensures { result ≡ correction_in kind bytes.now }
+{
     match kind {
-        8 => {
-            let tricks = TrickCount::new(only_byte(rest)?)?;
-            Some(Action::Tricks { key, play, tricks })
-        }
-        9 => at_end(rest, Action::Void { key, play }),
-        10 => at_end(rest, Action::Restore { key, play }),
+        8 => Some(Correction::Tricks(TrickCount::new(only_byte(bytes)?)?)),
+        9 => at_end(bytes, Correction::Void),
+        10 => at_end(bytes, Correction::Restore),
         _ => None,
     }
 }
@@ -165,9 +149,9 @@ fn only_byte(bytes: &[u8]) -> Option<u8>
     }
 }
 
-/// The action, if no byte is left.
-fn at_end(bytes: &[u8], action: Action) -> Option<Action>
-    ensures { result ≡ at_end bytes.now action }
+/// The value, if no byte is left.
+fn at_end<T: Copy>(bytes: &[u8], value: T) -> Option<T>
+    ensures { result ≡ at_end bytes.now value }
 {
-    if bytes.is_empty() { Some(action) } else { None }
+    if bytes.is_empty() { Some(value) } else { None }
 }
