@@ -18,6 +18,7 @@ by_hands calls hands plain None (Some contract) = refl
 by_hands calls hands plain (Some (ruling.Tricks tricks)) None = refl
 by_hands calls hands plain (Some (ruling.Tricks tricks)) (Some contract) = refl
 by_hands calls hands plain (Some ruling.Void) contract = refl
+by_hands calls hands plain (Some (ruling.Adjusted ns ew)) contract = refl
 
 pub outcome_seen : (deals : List (Option (List ℕ))) (kept : Record) → IsTiedIn deals kept → outcome_by kept.auction.calls kept.play kept.ruling ≡ outcome_of (plain_of kept)
 outcome_seen deals kept tied =

@@ -14,7 +14,7 @@ use Rattle.session_rules.specs.declared.deed.Deed.TheVariants as deed
 use Rattle.bridge_table.specs.declared.record.Record.{Record}
 use Rattle.session_rules.specs.declared.refused.Refused.TheVariants.{WrongPhase}
 use Rattle.session_rules.specs.declared.ruling.Ruling.{Ruling}
-use Rattle.session_rules.specs.Record.{PlainRecord, play_of, playing_in, contract_in, is_done, is_void, is_open}
+use Rattle.session_rules.specs.Record.{PlainRecord, play_of, playing_in, contract_in, is_done, is_ruled_out, is_open}
 use Rattle.session_rules.specs.Deed.{deed_answer, with_deed}
 use Rattle.bridge_table.specs.Kept.{plain_of, begun_with, after_deed, is_kept_open, IsTied}
 use Rattle.session_rules.proofs.Lists.{option_map-twice, not_refused}
@@ -30,7 +30,7 @@ open_same hands kept tied =
     let calls = kept.auction.calls in
     let done : is_done calls kept.play ≡ is_done calls (play_of [] (plain_of kept)) =
     ap (is_done calls) tied.play ∙ done_by hands (plain_of kept) calls (contract_in (plain_of kept)) in
-    ap (λ d. not (is_void kept.ruling) && not d) (sym done)
+    ap (λ d. not (is_ruled_out kept.ruling) && not d) (sym done)
 
 -- a record of these parts
 abbrev kept_of : ℕ → AuctionValue → Option PlayValue → Option Ruling → Record

@@ -7,6 +7,7 @@ use Rattle.bridge_auction.specs.declared.contract.Contract.{Contract}
 use Rattle.bridge_auction.specs.Auction.{with_call}
 use Rattle.bridge_auction.specs.Contract.{contract_of}
 use Rattle.bridge_play.specs.Play.{PlayValue, with_card, with_claim, with_agreement, without_claim}
+use Rattle.bridge_score.specs.declared.ranking.Scoring.{Scoring}
 use Rattle.bridge_table.specs.declared.record.Record.{Record}
 use Rattle.session_rules.specs.declared.deed.Deed.{Deed}
 use Rattle.session_rules.specs.declared.deed.Deed.TheVariants as deed
@@ -15,7 +16,7 @@ use Rattle.session_rules.specs.declared.refused.Refused.{Refused}
 use Rattle.session_rules.specs.declared.refused.Refused.TheVariants.{NoSuchPlay, NotYet}
 use Rattle.session_rules.specs.Correction.{ruling_by, ruling_answer}
 use Rattle.session_rules.specs.State.{deal_on, hands_on}
-use Rattle.session_rules.specs.Record.{PlainRecord, play_of, is_done, is_void}
+use Rattle.session_rules.specs.Record.{PlainRecord, play_of, is_done, is_ruled_out}
 
 -- the play that is begun with those hands in that contract
 abbrev pub begun_with : List ℕ → Contract → PlayValue
@@ -37,9 +38,9 @@ pub record IsTied (hands : List ℕ) (kept : Record) : Type 0 where
   pub dealer : kept.auction.dealer ≡ dealer_of kept.board
   pub play : kept.play ≡ play_of hands (plain_of kept)
 
--- whether the play is neither finished nor void
+-- whether the play is neither finished, void nor adjusted
 abbrev pub is_kept_open : Record → Bool
-is_kept_open kept = not (is_void kept.ruling) && not (is_done kept.auction.calls kept.play)
+is_kept_open kept = not (is_ruled_out kept.ruling) && not (is_done kept.auction.calls kept.play)
 
 -- the record after what a player did
 abbrev pub after_deed : List ℕ → Seat → Deed → Record → Record
@@ -53,8 +54,8 @@ after_deed hands seat deed.Agree kept = record kept { play = option_map (λ (pla
 after_deed hands seat deed.Refuse kept = record kept { play = option_map without_claim kept.play }
 
 -- the answer to a ruling on the play
-abbrev pub kept_ruling_answer : Record → Correction → Bool → Result (Unit {0}) Refused
-kept_ruling_answer kept correction round_is_over = ruling_answer kept.auction.calls kept.play correction round_is_over
+abbrev pub kept_ruling_answer : Scoring → Record → Correction → Bool → Result (Unit {0}) Refused
+kept_ruling_answer scoring kept correction round_is_over = ruling_answer scoring kept.auction.calls kept.play correction round_is_over
 
 -- the record is tied to the deal of its board, and has calls only where the board is dealt
 pub record IsTiedIn (deals : List (Option (List ℕ))) (kept : Record) : Type 0 where
@@ -73,7 +74,7 @@ abbrev pub with_kept_ruling : Correction → Record → Record
 with_kept_ruling correction kept = record kept { ruling = ruling_by correction }
 
 -- the answer to a ruling on the play of a record, if there is one
-abbrev pub kept_rule_answer : ℕ → ℕ → Correction → Option Record → Result (Unit {0}) Refused
-kept_rule_answer now round correction None = Err NoSuchPlay
-kept_rule_answer now round correction (Some kept) =
-    if nat_lt now round then Err NotYet else kept_ruling_answer kept correction (nat_lt round now)
+abbrev pub kept_rule_answer : Scoring → ℕ → ℕ → Correction → Option Record → Result (Unit {0}) Refused
+kept_rule_answer scoring now round correction None = Err NoSuchPlay
+kept_rule_answer scoring now round correction (Some kept) =
+    if nat_lt now round then Err NotYet else kept_ruling_answer scoring kept correction (nat_lt round now)

@@ -1,7 +1,7 @@
 //! The record of one play.
 ghost use Rattle.std.specs.Prelude.{◌≡◌, OnOk, OnErr, Some};
 ghost use Rattle.bridge_auction.specs.Call.{IsCall};
-ghost use Rattle.session_rules.specs.Record.{is_done, is_void};
+ghost use Rattle.session_rules.specs.Record.{is_done, is_ruled_out};
 ghost use Rattle.session_rules.specs.Deed.{from_call, from_card, from_claim, from_consent, renamed, call_answer, deed_answer, answer_if_play};
 ghost use Rattle.session_rules.specs.Correction.{ruling_by};
 ghost use Rattle.session_rules.specs.Outcome.{outcome_of_play, outcome_by, HasFewTricks};
@@ -14,6 +14,7 @@ ghost use Rattle.session_rules.specs.declared.deed.Deed.TheVariants as deed;
 use bridge_auction::{Auction, Call, CallRefused};
 use bridge_cards::{BoardNumber, Card, Deal, Seat, dealer};
 use bridge_play::{CardRefused, ClaimRefused, ConsentRefused, Play};
+use bridge_score::Scoring;
 use session_rules::{Correction, Deed, MadeCount, Outcome, Refused, Ruling, TrickCount};
 
 /// The play of one board by one table: its calls, its cards and claims once there is a contract, and the ruling on it.
@@ -98,17 +99,17 @@ impl Record {
         }
     }
 
-    fn is_void(&self) -> bool
-        ensures { result ≡ is_void self.now.ruling }
+    fn is_ruled_out(&self) -> bool
+        ensures { result ≡ is_ruled_out self.now.ruling }
     {
-        matches!(self.ruling, Some(Ruling::Void))
+        matches!(self.ruling, Some(Ruling::Void | Ruling::Adjusted { .. }))
     }
 
-    /// Whether the play is neither finished nor void.
+    /// Whether the play is neither finished, void nor adjusted.
     pub fn is_open(&self) -> bool
         ensures { result ≡ is_kept_open self.now }
     {
-        !self.is_void() && !self.is_finished()
+        !self.is_ruled_out() && !self.is_finished()
     }
 
     /// What came of the play but for a ruling.
@@ -152,6 +153,7 @@ impl Record {
         match self.ruling {
             None => self.outcome_of_play(),
             Some(Ruling::Void) => Outcome::Voided,
+            Some(Ruling::Adjusted { ns, ew }) => Outcome::Adjusted { ns, ew },
             Some(Ruling::Tricks(tricks)) => self.outcome_ruled(tricks),
         }
     }
@@ -261,9 +263,14 @@ impl Record {
         }
     }
 
-    /// The answer to a ruling, of a play whose round is over or not: `Tricks` and `Restore` may be refused.
-    fn ruling_answer(&self, correction: Correction, round_is_over: bool) -> Result<(), Refused>
-        ensures { result ≡ kept_ruling_answer self.now correction round_is_over }
+    /// The answer to a ruling, of a play whose round is over or not: all but `Void` may be refused.
+    fn ruling_answer(
+        &self,
+        scoring: Scoring,
+        correction: Correction,
+        round_is_over: bool,
+    ) -> Result<(), Refused>
+        ensures { result ≡ kept_ruling_answer scoring self.now correction round_is_over }
     {
         match correction {
             Correction::Tricks(_) => match &self.play {
@@ -272,6 +279,10 @@ impl Record {
                 Some(_) => Ok(()),
             },
             Correction::Void => Ok(()),
+            Correction::Adjust { .. } => match scoring {
+                Scoring::MatchPoints => Ok(()),
+                Scoring::Imps => Err(Refused::NotMatchPoints),
+            },
             Correction::Restore => {
                 if round_is_over && !self.is_finished() {
                     Err(Refused::NotFinished)
@@ -283,15 +294,20 @@ impl Record {
     }
 
     /// Sets the ruling, or takes it back.
-    pub fn rule(&mut self, correction: Correction, round_is_over: bool) -> Result<(), Refused>
-        ensures answer { result ≡ kept_ruling_answer self.old correction round_is_over }
+    pub fn rule(
+        &mut self,
+        scoring: Scoring,
+        correction: Correction,
+        round_is_over: bool,
+    ) -> Result<(), Refused>
+        ensures answer { result ≡ kept_ruling_answer scoring self.old correction round_is_over }
         ensures taken { OnOk result (self.new ≡ record self.old { ruling = ruling_by correction }) }
         ensures range { IsCorrectionInRange correction }
         ensures refused { OnErr result (self.new ≡ self.old) }
     {
         let made = correction;
         let ruling = made.ruling();
-        let answer = self.ruling_answer(correction, round_is_over);
+        let answer = self.ruling_answer(scoring, correction, round_is_over);
         if answer.is_ok() {
             self.ruling = ruling;
         }

@@ -10,9 +10,10 @@ ghost use Rattle.bridge_table.specs.Kept.{plain_of, is_kept_open, with_kept_ruli
 
 use crate::record::Record;
 use bridge_cards::{BoardNumber, Deal, Seat};
+use bridge_score::Scoring;
 use session_rules::{Correction, Deed, MadeCount, Refused};
 
-/// The index of the current play: the first that is neither finished nor void.
+/// The index of the current play: the first that is neither finished, void nor adjusted.
 pub fn current(table: &[Record]) -> Option<usize>
     ensures { result ≡ position is_kept_open table.now }
 {
@@ -68,11 +69,12 @@ pub fn act_among(
 pub fn rule_among(
     table: &mut [Record],
     index: usize,
+    scoring: Scoring,
     now: u8,
     round: u8,
     correction: Correction,
 ) -> Result<(), Refused>
-    ensures answer { result ≡ kept_rule_answer now round correction (slice_get table.old index) }
+    ensures answer { result ≡ kept_rule_answer scoring now round correction (slice_get table.old index) }
     ensures taken { OnOk result (table.new ≡ changed_at (with_kept_ruling correction) table.old index) }
     ensures range { OnOk result (IsCorrectionInRange correction) }
     ensures refused { OnErr result (table.new ≡ table.old) }
@@ -83,10 +85,10 @@ pub fn rule_among(
     if now < round {
         return Err(Refused::NotYet);
     }
-    table[index].rule(correction, round < now)
+    table[index].rule(scoring, correction, round < now)
 }
 
-/// Whether a play of the table is neither finished nor void.
+/// Whether a play of the table is neither finished, void nor adjusted.
 pub fn has_open(table: &[Record]) -> bool
     ensures { result ≡ list_any is_kept_open table.now }
 {
