@@ -9,8 +9,9 @@ use Rattle.bridge_cards.specs.Seat.{seat_number}
 use Rattle.bridge_config.specs.ConfigValue.{ConfigValue}
 use Rattle.bridge_play.specs.declared.claim.Claim.{Claim}
 use Rattle.bridge_play.specs.Claims.{with_agreed}
+use Rattle.session_rules.specs.declared.act.Act.{Act}
+use Rattle.session_rules.specs.declared.act.Act.TheVariants as act
 use Rattle.session_rules.specs.declared.action.Action.{Action}
-use Rattle.session_rules.specs.declared.action.Action.TheVariants as action
 use Rattle.session_rules.specs.declared.action.PlayId.{PlayId}
 use Rattle.session_rules.specs.declared.correction.Correction.{Correction}
 use Rattle.session_rules.specs.declared.correction.Correction.TheVariants as correction
@@ -18,12 +19,13 @@ use Rattle.session_rules.specs.declared.deed.Deed.{Deed}
 use Rattle.session_rules.specs.declared.deed.Deed.TheVariants as deed
 use Rattle.session_rules.specs.declared.refused.Refused.{Refused}
 use Rattle.session_rules.specs.declared.seating.Seating.{Seating}
-use Rattle.session_bytes.specs.ActionRange.{IsInRange}
+use Rattle.session_bytes.specs.ActionRange.{IsActInRange, IsInRange}
+use Rattle.session_rules.specs.Act.{act_of}
 use Rattle.session_rules.specs.Deed.{with_deed}
 use Rattle.session_rules.specs.Record.{PlainRecord, empty_record}
 use Rattle.session_rules.specs.State.{SessionValue, opening, opening_row, row_boards, index_of_row, seating_of, changed_at, current_index}
 use Rattle.session_rules.specs.StateRange.{IsCorrectionInRange, AreHandsOrNone, IsOfFourSeats, IsRecordInRange, IsStateInRange}
-use Rattle.session_rules.specs.Step.{acted_among, acted_at, with_ruling, ruled, changed}
+use Rattle.session_rules.specs.Step.{acted_among, acted_at, with_ruling, ruled, changed_by, changed}
 
 -- one element is changed
 all_changed : {X : Type 0} (P : X → Type 0) (f : X → X) (xs : List X) (index : ℕ) → ((x : X) → P x → P (f x)) → All P xs → All P (changed_at f xs index)
@@ -71,21 +73,18 @@ ruled_in_range s play made few is = record {
       is.records;
 }
 
--- each action
-pub changed_in_range : (a : Action) (s : SessionValue) → IsInRange a → IsStateInRange s → IsStateInRange (changed s a)
-changed_in_range (action.Deal key board hands) s ranges is = record {
+-- each act
+act_in_range : (a : Act) (s : SessionValue) → IsActInRange a → IsStateInRange s → IsStateInRange (changed_by s a)
+act_in_range (act.Player key board at done) s ranges is = acted_in_range s done (seating_of s.configuration s.round key.0) is
+act_in_range (act.Deal key board hands) s ranges is = record {
   deals = All-set AreHandsOrNone s.deals (board - 1) (Some hands) (ranges.2, ranges.3) is.deals;
   records = is.records;
 }
-changed_in_range (action.Call key board at call) s ranges is = acted_in_range s (deed.Call call) (seating_of s.configuration s.round key.0) is
-changed_in_range (action.Card key board at card) s ranges is = acted_in_range s (deed.Card card) (seating_of s.configuration s.round key.0) is
-changed_in_range (action.Claim key board at tricks) s ranges is = acted_in_range s (deed.Claim tricks) (seating_of s.configuration s.round key.0) is
-changed_in_range (action.Agree key board at) s ranges is = acted_in_range s deed.Agree (seating_of s.configuration s.round key.0) is
-changed_in_range (action.Refuse key board at) s ranges is = acted_in_range s deed.Refuse (seating_of s.configuration s.round key.0) is
-changed_in_range (action.NextRound key round) s ranges is = record { deals = is.deals; records = is.records }
-changed_in_range (action.Tricks key play tricks) s ranges is = ruled_in_range s play (correction.Tricks tricks) ranges.2 is
-changed_in_range (action.Void key play) s ranges is = ruled_in_range s play correction.Void tt is
-changed_in_range (action.Restore key play) s ranges is = ruled_in_range s play correction.Restore tt is
+act_in_range (act.RoundEnd key round) s ranges is = record { deals = is.deals; records = is.records }
+act_in_range (act.Ruling key play made) s ranges is = ruled_in_range s play made ranges.2 is
+
+pub changed_in_range : (a : Action) (s : SessionValue) → IsInRange a → IsStateInRange s → IsStateInRange (changed s a)
+changed_in_range a = act_in_range (act_of a)
 
 -- the opening
 pub opening_in_range : (configuration : ConfigValue) → IsStateInRange (opening configuration)

@@ -2,11 +2,9 @@
 ghost use Rattle.std.specs.Prelude.{◌≡◌, ◌+◌, ◌<◌, ◌≤◌, OnOk, OnErr, IfSome, if◌then◌else◌, Some, None, map, take, drop, length, slice_set, ◌-◌};
 ghost use Rattle.std.specs.List.{list_any};
 ghost use Rattle.bridge_movement.specs.Shape.{row_count};
-ghost use Rattle.session_rules.specs.declared.correction.Correction.TheVariants as correction;
-ghost use Rattle.session_rules.specs.declared.deed.Deed.TheVariants as deed;
 ghost use Rattle.session_rules.specs.Record.{is_open};
 ghost use Rattle.session_rules.specs.State.{director_answer, index_of_row};
-ghost use Rattle.session_rules.specs.Step.{seen_by, player_answer, acted, if_allowed, deal_answer, next_answer, records_of_round, is_row_within, rule_answer, record_of, ruled, step_answer, changed};
+ghost use Rattle.session_rules.specs.Step.{seen_by, player_answer, acted, if_allowed, deal_answer, next_answer, records_of_round, is_row_within, rule_answer, record_of, ruled, act_answer, step_answer, changed_by, changed};
 ghost use Rattle.bridge_table.specs.Kept.{is_kept_open};
 
 use super::Session;
@@ -15,7 +13,7 @@ use bridge_config::Key;
 use bridge_table::{
     Record, act_among, check_director, has_open, is_closed, is_of_set, row_of, rule_among, seat_by,
 };
-use session_rules::{Action, Correction, Deed, MadeCount, PlayId, Refused, RoundNumber};
+use session_rules::{Act, Action, Correction, Deed, MadeCount, PlayId, Refused, RoundNumber};
 
 /// Whether one of so many tables from an index on has a play that is neither finished nor void.
 fn have_open(tables: &[Vec<Record>], start: usize, count: usize) -> bool
@@ -130,42 +128,26 @@ impl Session {
         rule_among(records.as_mut_slice(), at, now, of_round, correction)
     }
 
-    /// Takes an action by its kind.
-    fn take(&mut self, action: &Action) -> Result<(), Refused>
-        ensures answer { result ≡ step_answer self.old action.now }
-        ensures taken { OnOk result (self.new ≡ changed self.old action.now) }
+    /// Takes an action by who does what.
+    fn take(&mut self, act: Act) -> Result<(), Refused>
+        ensures answer { result ≡ act_answer self.old act }
+        ensures taken { OnOk result (self.new ≡ changed_by self.old act) }
         ensures refused { OnErr result (self.new ≡ self.old) }
     {
-        match *action {
-            Action::Deal { key, board, hands } => self.deal_board(key, board, hands),
-            Action::Call {
+        match act {
+            Act::Player {
                 key,
                 board,
                 at,
-                call,
-            } => self.act(key, board, at, Deed::Call(call)),
-            Action::Card {
-                key,
-                board,
-                at,
-                card,
-            } => self.act(key, board, at, Deed::Card(card)),
-            Action::Claim {
-                key,
-                board,
-                at,
-                tricks,
-            } => self.act(key, board, at, Deed::Claim(tricks)),
-            Action::Agree { key, board, at } => self.act(key, board, at, Deed::Agree),
-            Action::Refuse { key, board, at } => self.act(key, board, at, Deed::Refuse),
-            Action::NextRound { key, round } => self.end_round(key, round),
-            Action::Tricks { key, play, tricks } => self.rule(
+                deed,
+            } => self.act(key, board, at, deed),
+            Act::Deal { key, board, hands } => self.deal_board(key, board, hands),
+            Act::RoundEnd { key, round } => self.end_round(key, round),
+            Act::Ruling {
                 key,
                 play,
-                Correction::Tricks(tricks),
-            ),
-            Action::Void { key, play } => self.rule(key, play, Correction::Void),
-            Action::Restore { key, play } => self.rule(key, play, Correction::Restore),
+                correction,
+            } => self.rule(key, play, correction),
         }
     }
 
@@ -183,6 +165,6 @@ impl Session {
         ensures taken { OnOk result (self.new ≡ changed self.old action.now) }
         ensures refused { OnErr result (self.new ≡ self.old) }
     {
-        self.take(action)
+        self.take(action.act())
     }
 }
