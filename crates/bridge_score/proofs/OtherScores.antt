@@ -7,22 +7,22 @@ use Rattle.std.proofs.lemmas.Int.{ints}
 use Rattle.std.proofs.lemmas.List.Sums.{sum_by-cons}
 use Rattle.bridge_score.specs.Comparison.{matchpoints_against, imps_against}
 
-pub matchpoints_against-le : (own other : ℤ) → matchpoints_against own other ≤ 2
+pub matchpoints_against-le : (own other : ℤ) → matchpoints_against own other ≤ 20
 matchpoints_against-le own other = grind arith
 
--- at most two for each other score
-pub matchpoints-le : (own : ℤ) (others : List ℤ) → sum_by (matchpoints_against own) others ≤ 2 * length others
+-- at most 20 for each other score
+pub matchpoints-le : (own : ℤ) (others : List ℤ) → sum_by (matchpoints_against own) others ≤ 20 * length others
 matchpoints-le own [] = omega arith
 matchpoints-le own (other ∷ others) =
     let rest = matchpoints-le own others in
     let here = matchpoints_against-le own other in
     omega (arith, rest, here, sum_by-cons (matchpoints_against own) other others)
 
-pub matchpoints_against-same : (own : ℤ) → matchpoints_against own own ≡ 1
+pub matchpoints_against-same : (own : ℤ) → matchpoints_against own own ≡ 10
 matchpoints_against-same own = grind (arith, ints)
 
--- two scores share two matchpoints
-pub matchpoints_against-both : (a b : ℤ) → matchpoints_against a b + matchpoints_against b a ≡ 2
+-- two scores share 20
+pub matchpoints_against-both : (a b : ℤ) → matchpoints_against a b + matchpoints_against b a ≡ 20
 matchpoints_against-both a b = grind (arith, ints)
 
 -- an amount with its sign, of nothing

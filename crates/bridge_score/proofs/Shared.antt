@@ -9,11 +9,11 @@ use Rattle.std.proofs.lemmas.List.Sums.{sum_by-cons, sum_by-remove, sum_by_more}
 use Rattle.bridge_score.specs.Comparison.{int_sum, int_sum_by}
 use Rattle.bridge_score.proofs.Sums.{int_sum_by-cons, int_sum_by-append, int_sum_by_more, int_sum_by-remove}
 
--- Gains of natural numbers, of which two elements share two and an element has one against itself
+-- Gains of natural numbers, of which two elements share 20 and an element has 10 against itself
 
 -- one element against all others, and they against it
-both_ways : (f : ℤ → ℤ → ℕ) → ((a b : ℤ) → f a b + f b a ≡ 2) → (x : ℤ) (xs : List ℤ) →
-    sum_by (f x) xs + sum_by (λ a. f a x) xs ≡ 2 * length xs
+both_ways : (f : ℤ → ℤ → ℕ) → ((a b : ℤ) → f a b + f b a ≡ 20) → (x : ℤ) (xs : List ℤ) →
+    sum_by (f x) xs + sum_by (λ a. f a x) xs ≡ 20 * length xs
 both_ways f pair x [] = omega arith
 both_ways f pair x (y ∷ ys) =
     let rest = both_ways f pair x ys in
@@ -35,8 +35,8 @@ one_more f x ys (a ∷ as') =
     )
 
 -- all against all, themselves too
-all_against_all : (f : ℤ → ℤ → ℕ) → ((a : ℤ) → f a a ≡ 1) → ((a b : ℤ) → f a b + f b a ≡ 2) → (xs : List ℤ) →
-    sum_by (λ a. sum_by (f a) xs) xs ≡ length xs * length xs
+all_against_all : (f : ℤ → ℤ → ℕ) → ((a : ℤ) → f a a ≡ 10) → ((a b : ℤ) → f a b + f b a ≡ 20) → (xs : List ℤ) →
+    sum_by (λ a. sum_by (f a) xs) xs ≡ 10 * (length xs * length xs)
 all_against_all f self pair [] = omega arith
 all_against_all f self pair (x ∷ xs) =
     let rest = all_against_all f self pair xs in
@@ -51,8 +51,8 @@ all_against_all f self pair (x ∷ xs) =
     )
 
 -- the first elements against the others, and against themselves
-first_against_others : (f : ℤ → ℤ → ℕ) → ((a : ℤ) → f a a ≡ 1) → (xs : List ℤ) (k : ℕ) → k ≤ length xs →
-    sum (map (λ i. sum_by (f (get_or xs i (pos 0))) (remove xs i)) (range_with_len 0 k)) + k
+first_against_others : (f : ℤ → ℤ → ℕ) → ((a : ℤ) → f a a ≡ 10) → (xs : List ℤ) (k : ℕ) → k ≤ length xs →
+    sum (map (λ i. sum_by (f (get_or xs i (pos 0))) (remove xs i)) (range_with_len 0 k)) + 10 * k
     ≡ sum_by (λ a. sum_by (f a) xs) (take k xs)
 first_against_others f self xs zero within = omega arith
 first_against_others f self xs (suc k) within =
@@ -67,15 +67,15 @@ first_against_others f self xs (suc k) within =
     omega (arith, rest, next, others, more, counted, taken, self (get_or xs k (pos 0)))
 
 -- each against the others
-pub against_others : (f : ℤ → ℤ → ℕ) → ((a : ℤ) → f a a ≡ 1) → ((a b : ℤ) → f a b + f b a ≡ 2) → (xs : List ℤ) →
-    sum (map (λ i. sum_by (f (get_or xs i (pos 0))) (remove xs i)) (range_with_len 0 (length xs))) + length xs
-    ≡ length xs * length xs
+pub against_others : (f : ℤ → ℤ → ℕ) → ((a : ℤ) → f a a ≡ 10) → ((a b : ℤ) → f a b + f b a ≡ 20) → (xs : List ℤ) →
+    sum (map (λ i. sum_by (f (get_or xs i (pos 0))) (remove xs i)) (range_with_len 0 (length xs))) + 10 * length xs
+    ≡ 10 * (length xs * length xs)
 against_others f self pair xs =
     first_against_others f self xs (length xs) (omega arith)
     ∙ ap (sum_by (λ a. sum_by (f a) xs)) (take_all (length xs) xs (omega arith)) ∙ all_against_all f self pair xs
 
--- a sum of so much, less one for each element
-pub without_own : (shared n : ℕ) → shared + n ≡ n * n → shared ≡ n * (n - 1)
+-- a sum of so much, less ten for each element
+pub without_own : (shared n : ℕ) → shared + 10 * n ≡ 10 * (n * n) → shared ≡ 10 * (n * (n - 1))
 without_own shared n e =
     elim (cases_lt 0 n) [
       | inl some ↦ let square : n * n ≡ n * (n - 1 + 1) = ap (λ k. n * k) (omega arith) in omega (arith, square, e)

@@ -17,9 +17,9 @@ int_sum xs = int_sum_by (λ x. x) xs
 abbrev pub indexes : List ℤ → List ℕ
 indexes scores = range_with_len 0 (length scores)
 
--- two for an inferior score, one for an equal one (Law 78A)
+-- in tenths of a matchpoint unit: two units for an inferior score, one for an equal one (Law 78A)
 abbrev pub matchpoints_against : ℤ → ℤ → ℕ
-matchpoints_against own other = if int_lt other own then 2 else (if int_lt own other then 0 else 1)
+matchpoints_against own other = if int_lt other own then 20 else (if int_lt own other then 0 else 10)
 
 -- against each of the other scores
 abbrev pub matchpoints_of : List ℤ → ℕ → ℕ

@@ -6,25 +6,25 @@ ghost use Rattle.bridge_score.specs.Comparison.{imps_against, cross_imps_of};
 
 use crate::imp_scale::imps;
 
-/// The matchpoints against one other score.
+/// The matchpoints against one other score, in tenths.
 fn matchpoints_against(own: i32, other: i32) -> u16
     ensures value { result ≡ matchpoints_against own other }
-    ensures most { result ≤ 2 }
+    ensures most { result ≤ 20 }
 {
     if other < own {
-        2
+        20
     } else if other == own {
-        1
+        10
     } else {
         0
     }
 }
 
-/// The matchpoints against those scores.
+/// The matchpoints against those scores, in tenths.
 fn matchpoints_over(own: i32, others: &[i32]) -> u16
     requires { length others.now ≤ 144 }
     ensures value { result ≡ sum_by (matchpoints_against own) others.now }
-    ensures most { result ≤ 2 * length others.now }
+    ensures most { result ≤ 20 * length others.now }
 {
     others
         .iter()
@@ -32,14 +32,14 @@ fn matchpoints_over(own: i32, others: &[i32]) -> u16
         .sum()
 }
 
-/// The matchpoints of the score at index `i`, from 0, of the scores of a board: two for each other score that is
-/// inferior, one for each that is equal (Law 78A). There are at most 144 scores, each from -7600 to 7600.
+/// The matchpoints of the score at index `i`, from 0, of the scores of a board, in tenths: 20 for each other score that is
+/// inferior, 10 for each that is equal (Law 78A). There are at most 144 scores, each from -7600 to 7600.
 pub fn matchpoints(scores: &[i32], i: usize) -> u16
     requires count { length scores.now ≤ 144 }
     requires scores { All IsScore scores.now }
     requires index { i < length scores.now }
     ensures value { result ≡ matchpoints_of scores.now i }
-    ensures most { result ≤ 2 * (length scores.now - 1) }
+    ensures most { result ≤ 20 * (length scores.now - 1) }
 {
     let own = scores[i];
     matchpoints_over(own, &scores[..i]) + matchpoints_over(own, &scores[i + 1..])

@@ -2,14 +2,14 @@
 ghost use Rattle.std.specs.Prelude.{◌≡◌, ◌≤◌, ◌*◌, ◌-◌, List, length, map, sum, ℤ};
 ghost use Rattle.bridge_score.specs.Comparison.{int_sum, matchpoints_of, cross_imps_of, indexes};
 
-/// The matchpoints that a board of so many scores shares out: n (n - 1), whatever the scores.
+/// The matchpoints that a board of so many scores shares out, in tenths: 10 n (n - 1), whatever the scores.
 pub fn matchpoints_shared(count: usize) -> usize
     requires { count ≤ 144 }
-    ensures value { result ≡ count * (count - 1) }
+    ensures value { result ≡ 10 * (count * (count - 1)) }
     ensures every_board { (scores : List ℤ) →
-        sum (map (matchpoints_of scores) (indexes scores)) ≡ length scores * (length scores - 1) }
+        sum (map (matchpoints_of scores) (indexes scores)) ≡ 10 * (length scores * (length scores - 1)) }
 {
-    count * count.saturating_sub(1)
+    10 * (count * count.saturating_sub(1))
 }
 
 /// The cross-IMPs that a board shares out: what one score wins another loses, so there are none, whatever the scores.
