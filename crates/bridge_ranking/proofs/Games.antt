@@ -1,5 +1,5 @@
--- The plays that count, as they are kept and as they are seen, and how many there are on a board.
-use Rattle.std.proofs.Common.{◌≡◌, ◌+◌, ◌-◌, ◌*◌, ◌==◌, ◌<◌, ◌≤◌, ℕ, zero, suc, Bool, true, false, cond, List, [], ◌∷◌, ◌++◌, length, take, drop, get_or, filter, Option, Some, None, ℤ, refl, sym, ap, ◌∙◌, arith, length-append}
+-- The plays that are compared, as they are kept and as they are seen, and how many there are on a board.
+use Rattle.std.proofs.Common.{◌≡◌, ◌+◌, ◌-◌, ◌*◌, ◌==◌, ◌<◌, ◌≤◌, ℕ, zero, suc, Bool, true, false, cond, List, [], ◌∷◌, ◌++◌, length, take, drop, get_or, filter, Option, Some, None, refl, sym, ap, ◌∙◌, arith, length-append}
 use Rattle.std.specs.Prelude.{All, map, zip, flat_map}
 use Rattle.std.specs.List.{cons_option, filter_map, range_with_len}
 use Rattle.std.specs.Option.{option_map}
@@ -11,10 +11,11 @@ use Rattle.std.proofs.lemmas.List.Elements.{filter-append}
 use Rattle.bridge_movement.specs.declared.row.Row.{Row}
 use Rattle.bridge_movement.specs.Row.{is_live}
 use Rattle.bridge_ranking.specs.declared.game.Game.{Game}
+use Rattle.bridge_ranking.specs.declared.game.PlayResult.{PlayResult}
 use Rattle.bridge_table.specs.declared.record.Record.{Record}
 use Rattle.session_rules.specs.Outcome.{outcome_by}
 use Rattle.session_rules.specs.State.{row_boards}
-use Rattle.bridge_ranking.specs.Ranking.{is_on, score_ns, game_by, game_in, games_in}
+use Rattle.bridge_ranking.specs.Ranking.{is_on, result_of, game_by, game_in, games_in}
 use Rattle.bridge_table.specs.Kept.{plain_of, board_kept, IsTiedIn}
 use Rattle.bridge_ranking.specs.KeptGames.{kept_game, kept_games_in, kept_games}
 use Rattle.bridge_table.proofs.Outcomes.{outcome_seen}
@@ -22,7 +23,7 @@ use Rattle.bridge_table.proofs.Outcomes.{outcome_seen}
 abbrev Deals : Type 0
 Deals = List (Option (List ℕ))
 
--- the plays that count are those of what is seen
+-- the plays that are compared are those of what is seen
 table_seen : (deals : Deals) (row : Row) (table : List Record) → All (IsTiedIn deals) table → filter_map (kept_game row) table ≡ filter_map (game_in row) (map plain_of table)
 table_seen deals row [] tied = refl
 table_seen deals row (kept ∷ table) tied =
@@ -76,16 +77,16 @@ both_more : (same : Bool) (x : Game) (xs : List Game) (y : ℕ) (ys : List ℕ) 
 both_more true x xs y ys less = omega arith
 both_more false x xs y ys less = less
 
-game_counts : (row : Row) (board b : ℕ) (score : Option ℤ) (games : List Game) (boards : List ℕ) → length (filter (is_on b) games) ≤ times b boards → length (filter (is_on b) (cons_option (option_map (λ score. record { board = board; ns = row.ns; ew = row.ew; score = score }) score) games)) ≤ times b (board ∷ boards)
+game_counts : (row : Row) (board b : ℕ) (result : Option PlayResult) (games : List Game) (boards : List ℕ) → length (filter (is_on b) games) ≤ times b boards → length (filter (is_on b) (cons_option (option_map (λ r. record { board = board; ns = row.ns; ew = row.ew; result = r }) result) games)) ≤ times b (board ∷ boards)
 game_counts row board b None games boards less =
     perhaps_more (board == b) (length (filter (is_on b) games)) board (filter (λ k. k == b) boards) less
-game_counts row board b (Some score) games boards less =
-    both_more (board == b) (record { board = board; ns = row.ns; ew = row.ew; score = score }) (filter (is_on b) games) board (filter (λ k. k == b) boards) less
+game_counts row board b (Some result) games boards less =
+    both_more (board == b) (record { board = board; ns = row.ns; ew = row.ew; result = result }) (filter (is_on b) games) board (filter (λ k. k == b) boards) less
 
 table_counts : (row : Row) (table : List Record) (b : ℕ) → length (filter (is_on b) (filter_map (kept_game row) table)) ≤ times b (map board_kept table)
 table_counts row [] b = omega arith
 table_counts row (kept ∷ table) b =
-    game_counts row kept.board b (score_ns kept.board (outcome_by kept.auction.calls kept.play kept.ruling)) (filter_map (kept_game row) table) (map board_kept table) (table_counts row table b)
+    game_counts row kept.board b (result_of kept.board (outcome_by kept.auction.calls kept.play kept.ruling)) (filter_map (kept_game row) table) (map board_kept table) (table_counts row table b)
 
 -- on a board there is a game for each row at most
 pub few_on_board : (boards : ℕ) (rows : List Row) (tables : List (List Record)) (b : ℕ) → map (map board_kept) tables ≡ map (row_boards boards) rows → length (filter (is_on b) (kept_games rows tables)) ≤ length rows

@@ -8,10 +8,10 @@ use Rattle.bridge_ranking.specs.declared.game.Game.{Game}
 use Rattle.bridge_ranking.specs.Ranking.{is_on, scores_on}
 use Rattle.bridge_ranking.specs.KeptGames.{IsGame}
 
--- from nothing to all that is available, or so many times 12 IMPs on either side of 0
+-- from nothing to all that is available, or, in IMPs, on either side of 0 twice that number, which is 40 for each other score
 abbrev pub IsGainWithin : Scoring → ℤ → ℕ → Type 0
 IsGainWithin MatchPoints gain available = (pos 0 ≤ℤ gain) × (gain ≤ℤ pos available)
-IsGainWithin Imps gain available = (neg_ℤ (pos (12 * available)) ≤ℤ gain) × (gain ≤ℤ pos (12 * available))
+IsGainWithin Imps gain available = (neg_ℤ (pos (2 * available)) ≤ℤ gain) × (gain ≤ℤ pos (2 * available))
 
 -- as many games as a session may have, and as many on a board
 pub record AreGames (games : List Game) : Type 0 where

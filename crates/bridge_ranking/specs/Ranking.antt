@@ -1,5 +1,6 @@
--- The ranking of a session: which plays count, what a pair gains in them, and the pairs of a field in order (Law 78).
-use Rattle.std.specs.Prelude.{◌≡◌, ℕ, ◌+◌, ◌-◌, ◌*◌, ◌==◌, nat_lt, Bool, true, if◌then◌else◌, List, length, map, filter, position, sum_by, flat_map, zip, ℤ, pos, neg_ℤ, Option, Some, None, Result, Ok, Err, AllPairs, IsPermutation}
+-- The ranking of a session: which plays are compared, what a pair gains in them, and the pairs of a field in order (Laws 12C2,
+-- 78). Matchpoints, and what is available, are in tenths.
+use Rattle.std.specs.Prelude.{◌≡◌, ℕ, ◌+◌, ◌-◌, ◌*◌, ◌/◌, ◌==◌, nat_lt, Bool, true, if◌then◌else◌, List, length, map, position, sum_by, flat_map, zip, ℤ, pos, neg_ℤ, Option, Some, None, Result, Ok, Err, AllPairs, IsPermutation}
 use Rattle.std.specs.List.{filter_map, range_with_len}
 use Rattle.std.specs.Option.{option_map, option_map_or}
 use Rattle.std.specs.Ordering.{int_eq}
@@ -21,8 +22,12 @@ use Rattle.bridge_score.specs.Ranking.{ranked_in, StandsBefore}
 use Rattle.bridge_ranking.specs.declared.field.Field.{Field}
 use Rattle.bridge_ranking.specs.declared.field.Field.TheVariants.{First, Second}
 use Rattle.bridge_ranking.specs.declared.game.Game.{Game}
+use Rattle.bridge_ranking.specs.declared.game.PlayResult.{PlayResult}
+use Rattle.bridge_ranking.specs.declared.game.PlayResult.TheVariants.{Score, Averages}
+use Rattle.session_rules.specs.declared.average.Average.{Average}
+use Rattle.session_rules.specs.Average.{percent_of}
 use Rattle.session_rules.specs.declared.outcome.Outcome.{Outcome}
-use Rattle.session_rules.specs.declared.outcome.Outcome.TheVariants.{Unfinished, PassedOut, Played, Voided}
+use Rattle.session_rules.specs.declared.outcome.Outcome.TheVariants.{Unfinished, PassedOut, Played, Voided, Adjusted}
 use Rattle.session_rules.specs.declared.refused.Refused.{Refused}
 use Rattle.session_rules.specs.declared.refused.Refused.TheVariants.{NoSuchPlay}
 use Rattle.session_rules.specs.Record.{PlainRecord}
@@ -30,7 +35,7 @@ use Rattle.session_rules.specs.Outcome.{outcome_of}
 use Rattle.session_rules.specs.State.{SessionValue, ranking_asker}
 use Rattle.session_rules.specs.Step.{if_allowed}
 
--- The plays that count
+-- The plays that are compared
 
 -- what a side scores where North and South score so much, and the other way round
 abbrev pub score_for : Side → ℤ → ℤ
@@ -42,18 +47,19 @@ abbrev pub played_score : ℕ → Contract → ℕ → ℤ
 played_score board contract tricks =
     score_for (side_of contract.declarer) (score_of contract (includes_side (vulnerability_on board) (side_of contract.declarer)) tricks)
 
--- the score of North and South, if the play counts: it is finished, and not void
-abbrev pub score_ns : ℕ → Outcome → Option ℤ
-score_ns board Unfinished = None
-score_ns board PassedOut = Some (pos 0)
-score_ns board (Played contract tricks) = Some (played_score board contract tricks)
-score_ns board Voided = None
+-- what a play is compared by: its score where it is finished and not void, or its averages
+abbrev pub result_of : ℕ → Outcome → Option PlayResult
+result_of board Unfinished = None
+result_of board PassedOut = Some (Score (pos 0))
+result_of board (Played contract tricks) = Some (Score (played_score board contract tricks))
+result_of board Voided = None
+result_of board (Adjusted ns ew) = Some (Averages ns ew)
 
 abbrev pub game_by : Row → ℕ → Outcome → Option Game
 game_by row board outcome =
-    option_map (λ score. record { board = board; ns = row.ns; ew = row.ew; score = score }) (score_ns board outcome)
+    option_map (λ result. record { board = board; ns = row.ns; ew = row.ew; result = result }) (result_of board outcome)
 
--- the play of a record by the pairs of a row, if it counts
+-- the play of a record by the pairs of a row, if it is compared
 abbrev pub game_in : Row → PlainRecord → Option Game
 game_in row plain = game_by row plain.board (outcome_of plain)
 
@@ -61,7 +67,7 @@ game_in row plain = game_by row plain.board (outcome_of plain)
 abbrev pub games_in : Row × List PlainRecord → List Game
 games_in both = filter_map (game_in both.0) both.1
 
--- the plays of a session that count, of all rounds, tables and fields
+-- the plays of a session that are compared, of all rounds, tables and fields
 abbrev pub games_of : SessionValue → List Game
 games_of s = flat_map games_in (zip s.configuration.movement.rows s.records)
 
@@ -70,9 +76,18 @@ games_of s = flat_map games_in (zip s.configuration.movement.rows s.records)
 abbrev pub is_on : ℕ → Game → Bool
 is_on board game = game.board == board
 
+-- a side's score, which an adjusted play has not
+abbrev pub side_score : Side → PlayResult → Option ℤ
+side_score side (Score score) = Some (score_for side score)
+side_score side (Averages ns ew) = None
+
+-- a side's score in a game, if it is one of the board
+abbrev pub score_in : Side → ℕ → Game → Option ℤ
+score_in side board game = if is_on board game then side_score side game.result else None
+
 -- the scores of a side on a board
 abbrev pub scores_on : List Game → Side → ℕ → List ℤ
-scores_on games side board = map (λ (game : Game). score_for side game.score) (filter (is_on board) games)
+scores_on games side board = filter_map (score_in side board) games
 
 -- what the score at an index gains against the others
 abbrev pub gain_at : Scoring → List ℤ → ℕ → ℤ
@@ -83,9 +98,23 @@ gain_at Imps scores index = cross_imps_of scores index
 abbrev pub gain_of : Scoring → List ℤ → ℤ → ℤ
 gain_of scoring scores own = option_map_or (gain_at scoring scores) (position (int_eq own) scores) (pos 0)
 
--- two for each other score
+-- 20 for each other score, and nothing on a board without scores
 abbrev pub available_of : List ℤ → ℕ
-available_of scores = 2 * (length scores - 1)
+available_of scores = 20 * (length scores - 1)
+
+-- an average of so much that is available, of matchpoints alone
+abbrev pub award : Scoring → Average → ℕ → ℤ
+award MatchPoints average available = pos (percent_of average * available / 100)
+award Imps average available = pos 0
+
+abbrev pub average_for : Side → Average → Average → Average
+average_for NorthSouth ns ew = ns
+average_for EastWest ns ew = ew
+
+-- what a side gains on a board with these scores: against the others by a score, or by an average of what is available
+abbrev pub gained : Scoring → List ℤ → Side → PlayResult → ℤ
+gained scoring scores side (Score score) = gain_of scoring scores (score_for side score)
+gained scoring scores side (Averages ns ew) = award scoring (average_for side ns ew) (available_of scores)
 
 -- the side on which a pair played
 abbrev pub side_in : ℕ → Game → Option Side
@@ -94,7 +123,7 @@ side_in pair game = if game.ns == pair then Some NorthSouth else if game.ew == p
 -- what the pair gained in a game, and what was available to it, if it played there
 abbrev pub value_in : Scoring → List Game → ℕ → Game → ℤ
 value_in scoring games pair game =
-    option_map_or (λ side. gain_of scoring (scores_on games side game.board) (score_for side game.score)) (side_in pair game) (pos 0)
+    option_map_or (λ side. gained scoring (scores_on games side game.board) side game.result) (side_in pair game) (pos 0)
 
 abbrev pub available_in : List Game → ℕ → Game → ℕ
 available_in games pair game = option_map_or (λ side. available_of (scores_on games side game.board)) (side_in pair game) 0

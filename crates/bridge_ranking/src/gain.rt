@@ -1,21 +1,22 @@
-//! What a pair gains in the plays that count (Law 78).
+//! What a pair gains in the plays that are compared, or is awarded (Laws 12C2, 78). Matchpoints are in tenths.
 ghost use Rattle.std.specs.Prelude.{◌≡◌, ◌≤◌, ◌<◌, ◌+◌, ◌-◌, ◌*◌, length, map, position, All, AllPairs, MatchOption};
 ghost use Rattle.std.specs.List.{range_with_len};
 ghost use Rattle.std.specs.Ordering.{int_eq};
 ghost use Rattle.bridge_movement.specs.Shape.{IsShape};
 ghost use Rattle.bridge_score.specs.ScoringTable.{IsScore};
 ghost use Rattle.bridge_score.specs.Ranking.{IsLine, AreOfTwoPairs};
-ghost use Rattle.bridge_ranking.specs.Ranking.{score_for, scores_on, gain_at, gain_of, available_of, side_in, value_in, available_in, line_of, has_field, pairs_of_field};
+ghost use Rattle.bridge_ranking.specs.Ranking.{scores_on, gain_at, gain_of, available_of, award, average_for, gained, side_in, value_in, available_in, line_of, has_field, pairs_of_field};
 ghost use Rattle.bridge_ranking.specs.Gains.{IsGainWithin, AreGames};
-ghost use Rattle.bridge_ranking.specs.KeptGames.{IsGame};
+ghost use Rattle.bridge_ranking.specs.KeptGames.{IsGame, IsResult};
 
 use crate::field::Field;
-use crate::game::{Game, score_for};
+use crate::game::{Game, PlayResult, score_for};
 use crate::scored::ScoredGames;
 use arrayvec::ArrayVec;
 use bridge_cards::Side;
 use bridge_movement::Shape;
 use bridge_score::{Line, MOST_LINES, Scoring, cross_imps, matchpoints};
+use session_rules::Average;
 
 /// What a pair gained, and what was available to it.
 #[derive(Clone, Copy)]
@@ -71,20 +72,66 @@ fn side_in(pair: u8, game: Game) -> Option<Side>
     }
 }
 
-/// What a score of a side on a board gains, and what is available to it.
+/// What is available to each of these scores of a board, in tenths: 20 for each other score.
+fn available_of(scores: &[i32]) -> u32
+    requires { length scores.now ≤ 144 }
+    ensures available { result ≡ available_of scores.now }
+    ensures most { result ≤ 2860 }
+{
+    20 * (scores.len().saturating_sub(1) as u32)
+}
+
+/// An average of so much that is available, of matchpoints alone.
+fn award(scoring: Scoring, average: Average, available: u32) -> i32
+    requires { available ≤ 2860 }
+    ensures value { result ≡ award scoring average available }
+    ensures within { IsGainWithin scoring result available }
+{
+    match scoring {
+        Scoring::MatchPoints => (u32::from(average.percent()) * available / 100) as i32,
+        Scoring::Imps => 0,
+    }
+}
+
+/// The average that a side is awarded.
+fn average_for(side: Side, ns: Average, ew: Average) -> Average
+    ensures { result ≡ average_for side ns ew }
+{
+    match side {
+        Side::NorthSouth => ns,
+        Side::EastWest => ew,
+    }
+}
+
+/// What a side gains on a board with these scores by what its play is compared by.
+fn gained(scoring: Scoring, scores: &[i32], side: Side, by: PlayResult) -> i32
+    requires count { length scores.now ≤ 144 }
+    requires scores { All IsScore scores.now }
+    requires compared { IsResult by }
+    ensures value { result ≡ gained scoring scores.now side by }
+    ensures within { IsGainWithin scoring result (available_of scores.now) }
+{
+    match by {
+        PlayResult::Score(score) => gain_of(scoring, scores, score_for(side, score)),
+        PlayResult::Averages { ns, ew } => {
+            award(scoring, average_for(side, ns, ew), available_of(scores))
+        }
+    }
+}
+
+/// What a side gains in a play, and what is available to it.
 fn gain_on(scoring: Scoring, games: &ScoredGames<'_>, side: Side, game: Game) -> Gain
     requires games { AreGames games.now }
     requires game { IsGame game }
-    ensures value { result.value ≡ gain_of scoring (scores_on games.now side game.board) (score_for side game.score) }
+    ensures value { result.value ≡ gained scoring (scores_on games.now side game.board) side game.result }
     ensures available { result.available ≡ available_of (scores_on games.now side game.board) }
     ensures within { IsGainWithin scoring result.value result.available }
-    ensures most { result.available ≤ 286 }
+    ensures most { result.available ≤ 2860 }
 {
     let scores = games.scores(side, game.board);
-    let others = scores.len().saturating_sub(1) as u32;
     Gain {
-        value: gain_of(scoring, scores, score_for(side, game.score)),
-        available: 2 * others,
+        value: gained(scoring, scores, side, game.result),
+        available: available_of(scores),
     }
 }
 
@@ -95,7 +142,7 @@ fn gain_in(scoring: Scoring, games: &ScoredGames<'_>, pair: u8, game: Game) -> G
     ensures value { result.value ≡ value_in scoring games.now pair game }
     ensures available { result.available ≡ available_in games.now pair game }
     ensures within { IsGainWithin scoring result.value result.available }
-    ensures most { result.available ≤ 286 }
+    ensures most { result.available ≤ 2860 }
 {
     match side_in(pair, game) {
         Some(side) => gain_on(scoring, games, side, game),

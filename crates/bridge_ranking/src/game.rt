@@ -1,10 +1,10 @@
-//! The plays of a session that count, with their scores.
+//! The plays of a session that are compared, with their scores or averages.
 ghost use Rattle.std.specs.Prelude.{◌≡◌, ◌≤◌, length, map, flat_map, zip, All, IfSome, Some};
 ghost use Rattle.std.specs.List.{filter_map};
 ghost use Rattle.bridge_score.specs.ScoringTable.{IsScore};
 ghost use Rattle.session_rules.specs.Outcome.{HasFewTricks};
-ghost use Rattle.bridge_ranking.specs.Ranking.{score_for, played_score, score_ns, game_by};
-ghost use Rattle.bridge_ranking.specs.KeptGames.{IsGame, kept_game, kept_games};
+ghost use Rattle.bridge_ranking.specs.Ranking.{score_for, played_score, result_of, game_by};
+ghost use Rattle.bridge_ranking.specs.KeptGames.{IsGame, IsResult, kept_game, kept_games};
 
 use arrayvec::ArrayVec;
 use bridge_auction::Contract;
@@ -12,12 +12,33 @@ use bridge_cards::{BoardNumber, Side, vulnerable};
 use bridge_movement::Row;
 use bridge_score::score;
 use bridge_table::Record;
-use session_rules::Outcome;
+use session_rules::{Average, Outcome};
 
 /// How many plays a session may have: three in each of 144 rows.
 pub const MOST_PLAYS: usize = 432;
 
-/// A play that counts.
+/// What a play is compared by.
+#[derive(Clone, Copy, Debug, PartialEq, Eq)]
+pub enum PlayResult {
+    /// What North and South scored, in points: it counts among the scores of its board.
+    Score(i32),
+    /// What each side was awarded (Law 12C2): no score of the board.
+    Averages { ns: Average, ew: Average },
+}
+
+/// A score of 0, so that a list of games has a value for the indexes that it does not use.
+impl Default for PlayResult {
+    ghost use Rattle.std.specs.Prelude.{◌≡◌, pos};
+    ghost use Rattle.bridge_ranking.specs.declared.game.PlayResult.TheVariants.{Score};
+
+    ghost is_default = { λ result. result ≡ Score (pos 0) };
+
+    fn default() -> Self {
+        PlayResult::Score(0)
+    }
+}
+
+/// A play that is compared: finished and not void, or adjusted.
 #[derive(Clone, Copy, Debug, Default, PartialEq, Eq)]
 pub struct Game {
     /// The board's number.
@@ -26,8 +47,8 @@ pub struct Game {
     pub ns: u8,
     /// The pair of East and West.
     pub ew: u8,
-    /// What North and South scored, in points.
-    pub score: i32,
+    /// The score, or the averages.
+    pub result: PlayResult,
 }
 
 /// What a side scores where North and South score so much, and the other way round.
@@ -52,34 +73,38 @@ fn played_score(board: BoardNumber, contract: &Contract, tricks: u8) -> i32
     score_for(side, score(contract, vulnerable(board, side), tricks))
 }
 
-/// The score of North and South, if a play with that outcome counts.
-fn score_ns(board: BoardNumber, outcome: Outcome) -> Option<i32>
+/// What a play with that outcome is compared by, if it is.
+fn result_of(board: BoardNumber, outcome: Outcome) -> Option<PlayResult>
     requires { HasFewTricks outcome }
-    ensures value { result ≡ score_ns board outcome }
-    ensures range { IfSome result IsScore }
+    ensures value { result ≡ result_of board outcome }
+    ensures range { IfSome result IsResult }
 {
     match outcome {
         Outcome::Unfinished | Outcome::Voided => None,
-        Outcome::PassedOut => Some(0),
-        Outcome::Played { contract, tricks } => Some(played_score(board, &contract, tricks)),
+        Outcome::PassedOut => Some(PlayResult::Score(0)),
+        Outcome::Played { contract, tricks } => {
+            let score = played_score(board, &contract, tricks);
+            Some(PlayResult::Score(score))
+        }
+        Outcome::Adjusted { ns, ew } => Some(PlayResult::Averages { ns, ew }),
     }
 }
 
-/// The play of a record by the pairs of a row, if it counts.
+/// The play of a record by the pairs of a row, if it is compared.
 fn game_in(row: Row, kept: &Record) -> Option<Game>
     ensures game { result ≡ kept_game row kept.now }
     ensures each { IfSome result IsGame }
 {
-    let score = score_ns(kept.board, kept.outcome())?;
+    let result = result_of(kept.board, kept.outcome())?;
     Some(Game {
         board: kept.board.number(),
         ns: row.ns,
         ew: row.ew,
-        score,
+        result,
     })
 }
 
-/// The plays of a table's records that count.
+/// The plays of a table's records that are compared.
 fn games_in(row: Row, table: &[Record]) -> ArrayVec<Game, 3>
     requires { length table.now ≤ 3 }
     ensures games { result.items ≡ filter_map (kept_game row) table.now }
@@ -94,7 +119,7 @@ fn games_in(row: Row, table: &[Record]) -> ArrayVec<Game, 3>
     games
 }
 
-/// The plays that count, of the tables of all rows.
+/// The plays that are compared, of the tables of all rows.
 pub fn games_of(rows: &[Row], tables: &[Vec<Record>]) -> ArrayVec<Game, MOST_PLAYS>
     requires count { length rows.now ≡ length tables.now }
     requires most { length rows.now ≤ 144 }

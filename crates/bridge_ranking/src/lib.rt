@@ -1,5 +1,5 @@
-//! The ranking of a session: which plays count, what each pair gains in them against the other scores of a board, and the
-//! lines of a field's pairs (Law 78).
+//! The ranking of a session: which plays are compared, what each pair gains in them against the other scores of a board, or
+//! is awarded, and the lines of a field's pairs (Laws 12C2, 78).
 #![tactic(auto)]
 
 pub mod even;
@@ -11,4 +11,4 @@ mod scored;
 pub use even::equal_scores_gain_the_same;
 pub use field::Field;
 pub use gain::{has_field, lines_of};
-pub use game::{Game, games_of};
+pub use game::{Game, PlayResult, games_of};

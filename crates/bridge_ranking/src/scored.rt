@@ -1,4 +1,4 @@
-//! The plays that count, with the scores of each side on each board.
+//! The plays that are compared, with the scores of each side on each board.
 ghost use Rattle.std.specs.Prelude.{◌≡◌, ◌≤◌, ◌<◌, ◌-◌, [], length, map, All, Some, slice_get, slice_index_or};
 ghost use Rattle.std.specs.List.{range_with_len};
 ghost use Rattle.bridge_cards.specs.Board.{IsBoard};
@@ -7,7 +7,7 @@ ghost use Rattle.bridge_ranking.specs.Ranking.{scores_on};
 ghost use Rattle.bridge_ranking.specs.Gains.{AreGames, with_score};
 ghost use Rattle.bridge_ranking.specs.KeptGames.{IsGame};
 
-use crate::game::{Game, score_for};
+use crate::game::{Game, PlayResult, score_for};
 use arrayvec::ArrayVec;
 use bridge_cards::{BoardNumber, Side};
 use bridge_movement::MOST_ROWS;
@@ -16,7 +16,7 @@ use std::marker::Model;
 /// How many boards a session may have: three in each of 12 sets.
 const BOARDS: usize = 36;
 
-/// Plays that count, with the scores of each side by the boards' numbers.
+/// Plays that are compared, with the scores of each side by the boards' numbers.
 #[derive(Drop)]
 pub struct ScoredGames<'a> {
     games: &'a [Game],
@@ -108,7 +108,12 @@ fn scores_by_board(games: &[Game], side: Side) -> ArrayVec<ArrayVec<i32, MOST_RO
 {
     let mut lists = empty_lists();
     for game in games {
-        add_score(&mut lists, game.board, score_for(side, game.score));
+        match game.result {
+            PlayResult::Score(score) => {
+                add_score(&mut lists, game.board, score_for(side, score));
+            }
+            PlayResult::Averages { .. } => {}
+        }
     }
     lists
 }

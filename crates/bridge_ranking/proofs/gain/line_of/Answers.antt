@@ -4,6 +4,7 @@ use Rattle.std.proofs.lemmas.List.Sums.{sum_by_more}
 use mir.Syntax.{w32}
 use mir.Val.{SFits, to_z}
 use Rattle.bridge_ranking.specs.declared.game.Game.{Game}
+use Rattle.bridge_ranking.specs.declared.game.PlayResult.TheVariants.{Score}
 use Rattle.bridge_ranking.specs.Ranking.{value_in, available_in}
 use Rattle.bridge_ranking.specs.Gains.{IsGainWithin}
 use Rattle.bridge_ranking.proofs.Gains.{within_both, within_small, small_fits, code_sum, summed}
@@ -11,13 +12,13 @@ use Rattle.bridge_ranking.proofs.gain.line_of.Goals as goal
 
 -- the value that a read past the end would give
 abbrev none : Game
-none = record { board = 0; ns = 0; ew = 0; score = pos 0 }
+none = record { board = 0; ns = 0; ew = 0; result = Score (pos 0) }
 
 pub overflow_add-value : goal.overflow_add-value
 overflow_add-value c =
     let v : ℤ = to_z w32 c.loop-game.value-bits in
     let gain = c.gain_in-gain.result in
-    let few : c.loop-game.available + gain.available ≤ 123552 = omega (arith, c.loop-game.invariant.most, c.gain_in-gain.ensures.most, c.loop-game-test.true, ap length c.games-game-items.ensures, c.requires.most) in
+    let few : c.loop-game.available + gain.available ≤ 1235520 = omega (arith, c.loop-game.invariant.most, c.gain_in-gain.ensures.most, c.loop-game-test.true, ap length c.games-game-items.ensures, c.requires.most) in
     let fits_gain = small_fits gain.value (within_small c.args.scoring gain.value gain.available c.gain_in-gain.ensures.within (omega arith)) in
     let both = within_both c.args.scoring v gain.value c.loop-game.available gain.available c.loop-game.invariant.within c.gain_in-gain.ensures.within in
     let fits = small_fits (v +ℤ gain.value) (within_small c.args.scoring (v +ℤ gain.value) (c.loop-game.available + gain.available) both few) in
@@ -27,7 +28,7 @@ pub loop-game-preserved : goal.loop-game-preserved
 loop-game-preserved c =
     let v : ℤ = to_z w32 c.loop-game.value-bits in
     let gain = c.gain_in-gain.result in
-    let few : c.loop-game.available + gain.available ≤ 123552 = omega (arith, c.loop-game.invariant.most, c.gain_in-gain.ensures.most, c.loop-game-test.true, ap length c.games-game-items.ensures, c.requires.most) in
+    let few : c.loop-game.available + gain.available ≤ 1235520 = omega (arith, c.loop-game.invariant.most, c.gain_in-gain.ensures.most, c.loop-game-test.true, ap length c.games-game-items.ensures, c.requires.most) in
     let fits_gain = small_fits gain.value (within_small c.args.scoring gain.value gain.available c.gain_in-gain.ensures.within (omega arith)) in
     let both = within_both c.args.scoring v gain.value c.loop-game.available gain.available c.loop-game.invariant.within c.gain_in-gain.ensures.within in
     let fits = small_fits (v +ℤ gain.value) (within_small c.args.scoring (v +ℤ gain.value) (c.loop-game.available + gain.available) both few) in

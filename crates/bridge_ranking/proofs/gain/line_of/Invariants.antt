@@ -9,5 +9,5 @@ invariant-loop-game l = record {
   value : l.value ≡ int_sum_by (value_in l.scoring l.games l.pair) (take l.game-index l.games);
   available : l.available ≡ sum_by (available_in l.games l.pair) (take l.game-index l.games);
   within : IsGainWithin l.scoring l.value l.available;
-  most : l.available ≤ 286 * l.game-index;
+  most : l.available ≤ 2860 * l.game-index;
 }
