@@ -1,13 +1,15 @@
 //! What complete lines ask for.
 ghost use Rattle.std.specs.Prelude.{◌≡◌};
-ghost use Rattle.table_server.specs.Asked.{AsksFor, Asks};
+ghost use Rattle.table_server.specs.Asked.{AsksForDeal, AsksFor, Asks};
 
 use crate::command::Command;
 use crate::line_command::read_line_command;
-use bridge_cards::{CardSet, Deal, Seat, deal_board};
+use Asked::{Change, Told};
+use bridge_cards::{BoardNumber, CardSet, Deal, Seat, deal_board};
 use bridge_config::Key;
 use bridge_session::{Action, Field, PlayId};
 use line_text::{LINE_BYTES, without_return};
+use session_rules::Deed;
 
 /// What a line asks to be told.
 #[derive(Clone, Copy, Debug, PartialEq, Eq)]
@@ -49,69 +51,51 @@ fn hands_of(deal: &Deal) -> [CardSet; 4]
     ]
 }
 
+/// Asks for the deal of a board by the shuffle of a seed.
+fn shuffled(key: Key, board: BoardNumber, seed: &[u8; 32]) -> Asked
+    ensures { AsksForDeal key board seed.now result }
+{
+    let hands = hands_of(&deal_board(seed, board));
+    Change(Action::Deal { key, board, hands })
+}
+
 impl Command {
     /// What the command asks for. `SHUFFLE` asks for the deal of its board by the shuffle of its seed.
     pub fn asks(self) -> Asked
         ensures { AsksFor self result }
     {
         match self {
-            Command::Deal { key, board, hands } => Asked::Change(Action::Deal {
-                key,
-                board,
-                hands,
-            }),
-            Command::Shuffle { key, board, seed } => {
-                let hands = hands_of(&deal_board(&seed, board));
-                Asked::Change(Action::Deal { key, board, hands })
-            }
+            Command::Deal { key, board, hands } => Change(Action::Deal { key, board, hands }),
+            Command::Shuffle { key, board, seed } => shuffled(key, board, &seed),
             Command::Call {
                 key,
                 board,
                 at,
                 call,
-            } => Asked::Change(Action::Call {
-                key,
-                board,
-                at,
-                call,
-            }),
+            } => Change(Action::of_player(key, board, at, Deed::Call(call))),
             Command::Card {
                 key,
                 board,
                 at,
                 card,
-            } => Asked::Change(Action::Card {
-                key,
-                board,
-                at,
-                card,
-            }),
+            } => Change(Action::of_player(key, board, at, Deed::Card(card))),
             Command::Claim {
                 key,
                 board,
                 at,
                 tricks,
-            } => Asked::Change(Action::Claim {
-                key,
-                board,
-                at,
-                tricks,
-            }),
-            Command::Agree { key, board, at } => Asked::Change(Action::Agree { key, board, at }),
-            Command::Refuse { key, board, at } => Asked::Change(Action::Refuse { key, board, at }),
-            Command::Next { key, round } => Asked::Change(Action::NextRound { key, round }),
-            Command::Tricks { key, play, tricks } => {
-                Asked::Change(Action::Tricks { key, play, tricks })
-            }
-            Command::Void { key, play } => Asked::Change(Action::Void { key, play }),
-            Command::Restore { key, play } => Asked::Change(Action::Restore { key, play }),
-            Command::Sync => Asked::Told(Question::Sync),
-            Command::See { key } => Asked::Told(Question::See { key }),
-            Command::Rank { key, field } => Asked::Told(Question::Rank { key, field }),
-            Command::Solve { key, play, cards } => {
-                Asked::Told(Question::Solve { key, play, cards })
-            }
-            Command::Pbn { key } => Asked::Told(Question::Pbn { key }),
+            } => Change(Action::of_player(key, board, at, Deed::Claim(tricks))),
+            Command::Agree { key, board, at } => Change(Action::Agree { key, board, at }),
+            Command::Refuse { key, board, at } => Change(Action::Refuse { key, board, at }),
+            Command::Next { key, round } => Change(Action::NextRound { key, round }),
+            Command::Tricks { key, play, tricks } => Change(Action::Tricks { key, play, tricks }),
+            Command::Void { key, play } => Change(Action::Void { key, play }),
+            Command::Restore { key, play } => Change(Action::Restore { key, play }),
+            Command::Sync => Told(Question::Sync),
+            Command::See { key } => Told(Question::See { key }),
+            Command::Rank { key, field } => Told(Question::Rank { key, field }),
+            Command::Solve { key, play, cards } => Told(Question::Solve { key, play, cards }),
+            Command::Pbn { key } => Told(Question::Pbn { key }),
         }
     }
 }
