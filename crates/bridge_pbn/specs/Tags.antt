@@ -11,7 +11,7 @@ use Rattle.bridge_score.specs.declared.ranking.Scoring.{Scoring}
 use Rattle.bridge_score.specs.declared.ranking.Scoring.TheVariants.{MatchPoints, Imps}
 use Rattle.bridge_config.specs.ConfigValue.{ConfigValue, Pair}
 use Rattle.session_rules.specs.declared.outcome.Outcome.{Outcome}
-use Rattle.session_rules.specs.declared.outcome.Outcome.TheVariants.{Unfinished, PassedOut, Played, Voided}
+use Rattle.session_rules.specs.declared.outcome.Outcome.TheVariants.{Unfinished, PassedOut, Played, Voided, Adjusted}
 use Rattle.bridge_pbn.specs.Lines.{tag}
 
 -- the name of a pair's first player, at index 0, or second, at index 1
@@ -54,6 +54,7 @@ declarer_text Unfinished = []
 declarer_text PassedOut = []
 declarer_text (Played contract tricks) = seat_letter contract.declarer ∷ []
 declarer_text Voided = []
+declarer_text (Adjusted ns ew) = []
 
 -- the last bid and its doubling, or that nobody bid
 abbrev pub contract_text : Outcome → List ℕ
@@ -61,6 +62,7 @@ contract_text Unfinished = []
 contract_text PassedOut = codes "Pass"
 contract_text (Played contract tricks) = bid_text contract.bid ++ doubling_text contract.doubling
 contract_text Voided = []
+contract_text (Adjusted ns ew) = []
 
 -- declarer's tricks, those of a ruling where there is one
 abbrev pub result_text : Outcome → List ℕ
@@ -68,6 +70,7 @@ result_text Unfinished = []
 result_text PassedOut = []
 result_text (Played contract tricks) = decimal tricks
 result_text Voided = []
+result_text (Adjusted ns ew) = []
 
 -- what came of the play
 abbrev pub outcome_tags : Outcome → List (List ℕ)

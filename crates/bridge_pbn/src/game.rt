@@ -28,7 +28,7 @@ fn is_listed(outcome: Outcome) -> bool
     ensures { result ≡ is_listed outcome }
 {
     match outcome {
-        Outcome::Unfinished | Outcome::Voided => false,
+        Outcome::Unfinished | Outcome::Voided | Outcome::Adjusted { .. } => false,
         Outcome::PassedOut | Outcome::Played { .. } => true,
     }
 }

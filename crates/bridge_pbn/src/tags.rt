@@ -121,6 +121,7 @@ pub fn push_outcome_tags(text: &mut GameText, outcome: Outcome)
         Outcome::PassedOut => push_unplayed(text, "Pass"),
         Outcome::Unfinished => push_unplayed(text, ""),
         Outcome::Voided => push_unplayed(text, ""),
+        Outcome::Adjusted { .. } => push_unplayed(text, ""),
     }
 }
 

@@ -19,8 +19,8 @@ pub use entry::Entry;
 pub use session::{Ranking, Session};
 pub use session_bytes::{read_action, write_action};
 pub use session_rules::{
-    Action, BoardIndex, MadeCount, Outcome, PlayId, Refused, RoundNumber, Ruling, TableNumber,
-    Trick, TrickCount, View, hidden_cards_are_not_shown, records_are_of_own_actions,
+    Action, Average, BoardIndex, MadeCount, Outcome, PlayId, Refused, RoundNumber, Ruling,
+    TableNumber, Trick, TrickCount, View, hidden_cards_are_not_shown, records_are_of_own_actions,
     sessions_are_valid, tables_are_judged_apart,
 };
 pub use stored::sessions_can_be_stored;

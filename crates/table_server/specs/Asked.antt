@@ -10,7 +10,7 @@ use Rattle.table_server.specs.declared.asked.Asked.{Asked as AskedType}
 use Rattle.table_server.specs.declared.asked.Asked.TheVariants.{Change, Told, BadLine, LongLine}
 use Rattle.table_server.specs.declared.asked.Question.TheVariants as question
 use Rattle.table_server.specs.declared.command.Command.{Command}
-use Rattle.table_server.specs.declared.command.Command.TheVariants.{Deal, Shuffle, Call, Card, Claim, Agree, Refuse, Next, Tricks, Void, Restore, Sync, See, Rank, Solve, Pbn}
+use Rattle.table_server.specs.declared.command.Command.TheVariants.{Deal, Shuffle, Call, Card, Claim, Agree, Refuse, Next, Tricks, Void, Adjust, Restore, Sync, See, Rank, Solve, Pbn}
 use Rattle.table_server.specs.LineCommand.{Reads}
 
 -- the deal of a board by the shuffle of a seed is asked for
@@ -32,6 +32,7 @@ AsksFor (Refuse key board at) asked = asked ≡ Change (action.Refuse key board 
 AsksFor (Next key round) asked = asked ≡ Change (action.NextRound key round)
 AsksFor (Tricks key play tricks) asked = asked ≡ Change (action.Tricks key play tricks)
 AsksFor (Void key play) asked = asked ≡ Change (action.Void key play)
+AsksFor (Adjust key play ns ew) asked = asked ≡ Change (action.Adjust key play ns ew)
 AsksFor (Restore key play) asked = asked ≡ Change (action.Restore key play)
 AsksFor Sync asked = asked ≡ Told question.Sync
 AsksFor (See key) asked = asked ≡ Told (question.See key)

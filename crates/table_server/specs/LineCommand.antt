@@ -6,9 +6,10 @@ use Rattle.bridge_cards.specs.DealText.{SpellsDeal, StatesOnly, StatesNone}
 use Rattle.bridge_auction.specs.Spelling.{call_of}
 use Rattle.bridge_config.specs.declared.fields.Key.{Key}
 use Rattle.session_rules.specs.declared.action.PlayId.{PlayId}
+use Rattle.session_rules.specs.declared.average.Average.{Average}
 use Rattle.table_server.specs.declared.command.Command.{Command}
-use Rattle.table_server.specs.declared.command.Command.TheVariants.{Deal, Shuffle, Call, Card, Claim, Agree, Refuse, Next, Tricks, Void, Restore, Sync, See, Rank, Solve, Pbn}
-use Rattle.table_server.specs.LineWords.{◌>>=◌, first_of, key_of, board_of, made_of, tricks_of, round_of, table_of, index_of, cards_of_word, field_of, card_of_word, seed_of}
+use Rattle.table_server.specs.declared.command.Command.TheVariants.{Deal, Shuffle, Call, Card, Claim, Agree, Refuse, Next, Tricks, Void, Adjust, Restore, Sync, See, Rank, Solve, Pbn}
+use Rattle.table_server.specs.LineWords.{◌>>=◌, first_of, key_of, board_of, made_of, tricks_of, average_of_word, round_of, table_of, index_of, cards_of_word, field_of, card_of_word, seed_of}
 
 -- Each line by the words after its first.
 
@@ -102,6 +103,29 @@ restore_line words = do
   play ← play_words key.1
   Some (Restore key.0 play)
 
+-- a round, a table and an index, and the words after them
+unfoldable pub play_and_words : List (List ℕ) → Option (PlayId × List (List ℕ))
+play_and_words words = do
+  round ← first_of round_of words
+  table ← first_of table_of round.1
+  index ← first_of index_of table.1
+  Some (record { round = round.0; table = table.0; index = index.0 }, index.1)
+
+-- the averages of both sides
+unfoldable pub average_words : List (List ℕ) → Option (Average × Average)
+average_words words = do
+  ns ← first_of average_of_word words
+  word ← only_word ns.1
+  ew ← average_of_word word
+  Some (ns.0, ew)
+
+unfoldable pub adjust_line : List (List ℕ) → Option Command
+adjust_line words = do
+  key ← first_of key_of words
+  play ← play_and_words key.1
+  averages ← average_words play.1
+  Some (Adjust key.0 play.0 averages.0 averages.1)
+
 unfoldable pub tricks_line : List (List ℕ) → Option Command
 tricks_line words = do
   key ← first_of key_of words
@@ -151,6 +175,7 @@ director_line keyword words =
     else if bytes_eq keyword (codes "NEXT") then next_line words
     else if bytes_eq keyword (codes "TRICKS") then tricks_line words
     else if bytes_eq keyword (codes "VOID") then void_line words
+    else if bytes_eq keyword (codes "ADJUST") then adjust_line words
     else if bytes_eq keyword (codes "RESTORE") then restore_line words
     else reading_line keyword words
 

@@ -9,6 +9,8 @@ use Rattle.line_text.specs.Numeral.{is_numeral}
 use Rattle.bridge_cards.specs.Card.{card_text}
 use Rattle.bridge_config.specs.declared.fields.Key.{Key}
 use Rattle.bridge_config.specs.Limits.{is_between}
+use Rattle.session_rules.specs.declared.average.Average.{Average}
+use Rattle.session_rules.specs.Average.{average_of}
 use Rattle.bridge_ranking.specs.declared.field.Field.{Field}
 use Rattle.bridge_ranking.specs.declared.field.Field.TheVariants.{First, Second}
 
@@ -42,6 +44,10 @@ made_of word = number_of 0 999 word
 
 abbrev pub tricks_of : List ℕ → Option ℕ
 tricks_of word = number_of 0 13 word
+
+-- per cent of the matchpoints available, as an average
+abbrev pub average_of_word : List ℕ → Option Average
+average_of_word word = number_of 40 60 word >>= average_of
 
 abbrev pub round_of : List ℕ → Option ℕ
 round_of word = number_of 1 12 word

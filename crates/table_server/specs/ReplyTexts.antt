@@ -45,9 +45,13 @@ abbrev pub percent_text : Option ℕ → List ℕ
 percent_text None = codes "-"
 percent_text (Some hundredths) = (decimal (hundredths / 100) ++ codes ".") ++ two_digits (hundredths % 100)
 
--- what a pair gained, of what was available to it
+-- a number of tenths, in units with one decimal, as `1.2`
+abbrev pub tenths_text : ℕ → List ℕ
+tenths_text tenths = (decimal (tenths / 10) ++ codes ".") ++ (48 + tenths % 10) ∷ []
+
+-- what a pair gained in matchpoints, which are never below 0, of what was available to it
 abbrev pub share_text : Ranked → List ℕ
-share_text ranked = (signed_decimal ranked.value ++ codes "/") ++ decimal ranked.available
+share_text ranked = (tenths_text (unsigned_abs ranked.value) ++ codes "/") ++ tenths_text ranked.available
 
 -- what was gained lies between nothing and all that was available
 abbrev pub is_share : Ranked → Bool

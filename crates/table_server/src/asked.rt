@@ -90,6 +90,7 @@ impl Command {
             Command::Next { key, round } => Change(Action::NextRound { key, round }),
             Command::Tricks { key, play, tricks } => Change(Action::Tricks { key, play, tricks }),
             Command::Void { key, play } => Change(Action::Void { key, play }),
+            Command::Adjust { key, play, ns, ew } => Change(Action::Adjust { key, play, ns, ew }),
             Command::Restore { key, play } => Change(Action::Restore { key, play }),
             Command::Sync => Told(Question::Sync),
             Command::See { key } => Told(Question::See { key }),

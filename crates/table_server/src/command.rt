@@ -2,7 +2,7 @@
 use bridge_auction::Call;
 use bridge_cards::{BoardNumber, Card, CardSet};
 use bridge_config::Key;
-use bridge_session::{Field, MadeCount, PlayId, RoundNumber, TrickCount};
+use bridge_session::{Average, Field, MadeCount, PlayId, RoundNumber, TrickCount};
 use thiserror::Error;
 
 /// A line states no command.
@@ -73,6 +73,13 @@ pub enum Command {
     Void {
         key: Key,
         play: PlayId,
+    },
+    /// The director awards each side of a play an average (Law 12C2).
+    Adjust {
+        key: Key,
+        play: PlayId,
+        ns: Average,
+        ew: Average,
     },
     /// The director takes a ruling back.
     Restore {

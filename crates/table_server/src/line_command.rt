@@ -3,17 +3,18 @@ ghost use Rattle.std.specs.Prelude.{◌≡◌, Some, None, IfOk, IfErr};
 ghost use Rattle.line_text.specs.Words.{spaced_words, spaced};
 ghost use Rattle.table_server.specs.declared.command.Command.{Command as CommandType};
 ghost use Rattle.table_server.specs.LineWords.{Gives};
-ghost use Rattle.table_server.specs.LineCommand.{shuffle_line, call_line, card_line, claim_line, agree_line, refuse_line, next_line, play_words, play_and_word, void_line, restore_line, tricks_line, solve_line, see_line, rank_line, pbn_line, reading_line, director_line, plain_line, deal_words, Deals, Reads};
+ghost use Rattle.table_server.specs.LineCommand.{shuffle_line, call_line, card_line, claim_line, agree_line, refuse_line, next_line, play_words, play_and_word, void_line, restore_line, play_and_words, average_words, adjust_line, tricks_line, solve_line, see_line, rank_line, pbn_line, reading_line, director_line, plain_line, deal_words, Deals, Reads};
 
 use crate::command::{BadLine, Command};
 use crate::line_words::{
-    first_board, first_index, first_key, first_made, first_round, first_table, read_card_word,
-    read_cards, read_field, read_index, read_key, read_made, read_round, read_seed, read_tricks,
+    first_average, first_board, first_index, first_key, first_made, first_round, first_table,
+    read_average, read_card_word, read_cards, read_field, read_index, read_key, read_made,
+    read_round, read_seed, read_tricks,
 };
 use bridge_auction::read_call;
 use bridge_cards::{BoardNumber, read_hands};
 use bridge_config::Key;
-use bridge_session::PlayId;
+use bridge_session::{Average, PlayId};
 use line_text::{first_word, only_word};
 
 /// The command that the line states, without its line feed; `BadLine` where it states none.
@@ -108,6 +109,8 @@ fn read_director_line(keyword: &[u8], text: &[u8]) -> Option<Command>
         read_tricks_line(text)
     } else if keyword == b"VOID".as_slice() {
         read_void_line(text)
+    } else if keyword == b"ADJUST".as_slice() {
+        read_adjust_line(text)
     } else if keyword == b"RESTORE".as_slice() {
         read_restore_line(text)
     } else {
@@ -295,6 +298,52 @@ fn read_restore_line(text: &[u8]) -> Option<Command>
     let (key, rest) = first_key(text)?;
     let play = read_play(rest)?;
     Some(Command::Restore { key, play })
+}
+
+/// The play that the first three words of a text name, and the words after them.
+#[tactic(auto, unfolding(crate::specs::LineCommand::play_and_words))]
+fn first_play(text: &[u8]) -> Option<(PlayId, &[u8])>
+    ensures { Gives (λ read. (read.0, spaced_words read.1.now)) result (play_and_words (spaced_words text.now)) }
+{
+    let Some((round, rest)) = first_round(text) else {
+        return None;
+    };
+    let Some((table, rest)) = first_table(rest) else {
+        return None;
+    };
+    let Some((index, rest)) = first_index(rest) else {
+        return None;
+    };
+    let play = PlayId {
+        round,
+        table,
+        index,
+    };
+    Some((play, rest))
+}
+
+/// The averages of both sides that a text of two words names.
+#[tactic(auto, unfolding(crate::specs::LineCommand::average_words))]
+fn read_averages(text: &[u8]) -> Option<(Average, Average)>
+    ensures { result ≡ average_words (spaced_words text.now) }
+{
+    let Some((ns, rest)) = first_average(text) else {
+        return None;
+    };
+    let ew = read_average(only_word(rest)?)?;
+    Some((ns, ew))
+}
+
+#[tactic(auto, unfolding(crate::specs::LineCommand::adjust_line))]
+fn read_adjust_line(text: &[u8]) -> Option<Command>
+    ensures { result ≡ adjust_line (spaced_words text.now) }
+{
+    let (key, rest) = first_key(text)?;
+    let Some((play, rest)) = first_play(rest) else {
+        return None;
+    };
+    let (ns, ew) = read_averages(rest)?;
+    Some(Command::Adjust { key, play, ns, ew })
 }
 
 #[tactic(auto, unfolding(crate::specs::LineCommand::tricks_line))]

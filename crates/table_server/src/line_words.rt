@@ -2,11 +2,11 @@
 ghost use Rattle.std.specs.Prelude.{◌≡◌, ◌+◌, ◌*◌, ◌<◌, ◌≤◌, IfSome, length, map, true};
 ghost use Rattle.std.specs.List.{list_all, range_with_len};
 ghost use Rattle.line_text.specs.Words.{spaced_words};
-ghost use Rattle.table_server.specs.LineWords.{Gives, number_of, key_of, board_of, made_of, tricks_of, round_of, table_of, index_of, cards_of_word, field_of, card_of_word, is_lower_hex, hex_value, hex_byte, seed_of, first_of};
+ghost use Rattle.table_server.specs.LineWords.{Gives, number_of, key_of, board_of, made_of, tricks_of, average_of_word, round_of, table_of, index_of, cards_of_word, field_of, card_of_word, is_lower_hex, hex_value, hex_byte, seed_of, first_of};
 
 use bridge_cards::{BoardNumber, Card, DECK, read_card};
 use bridge_config::Key;
-use bridge_session::{BoardIndex, Field, MadeCount, RoundNumber, TableNumber, TrickCount};
+use bridge_session::{Average, BoardIndex, Field, MadeCount, RoundNumber, TableNumber, TrickCount};
 use line_text::{first_word, is_numeral, value_of};
 
 /// The number of a numeral, from low to high.
@@ -54,6 +54,14 @@ pub fn read_tricks(word: &[u8]) -> Option<TrickCount>
 {
     let number = read_number(0, TrickCount::MAX as u32, word)?;
     Some(TrickCount::new(number as u8).unwrap())
+}
+
+/// An average: 40, 50 or 60 per cent.
+pub fn read_average(word: &[u8]) -> Option<Average>
+    ensures { result ≡ average_of_word word.now }
+{
+    let percent = read_number(40, 60, word)?;
+    Average::of_percent(percent as u8)
 }
 
 /// A round, 1 to 12.
@@ -219,4 +227,13 @@ pub fn first_index(text: &[u8]) -> Option<(BoardIndex, &[u8])>
     let (word, rest) = first_word(text)?;
     let index = read_index(word)?;
     Some((index, rest))
+}
+
+/// The average that several words begin with, and the words after it.
+pub fn first_average(text: &[u8]) -> Option<(Average, &[u8])>
+    ensures { Gives (λ read. (read.0, spaced_words read.1.now)) result (first_of average_of_word (spaced_words text.now)) }
+{
+    let (word, rest) = first_word(text)?;
+    let average = read_average(word)?;
+    Some((average, rest))
 }

@@ -4,7 +4,7 @@ ghost use Rattle.std.specs.Fmt.{decimal};
 ghost use Rattle.arrayvec.specs.ArrayString.{array_string_len};
 ghost use Rattle.bridge_pbn.specs.Lines.{lines_text};
 ghost use Rattle.bridge_score.specs.declared.ranking.Scoring.TheVariants.{MatchPoints};
-ghost use Rattle.table_server.specs.ReplyTexts.{two_digits, percent_text, each_spaced, gain_words, rank_line, ranking_text, share_percent};
+ghost use Rattle.table_server.specs.ReplyTexts.{two_digits, percent_text, tenths_text, each_spaced, gain_words, rank_line, ranking_text, share_percent};
 
 use crate::reply_text::{ReplyText, TEXT_BYTES, push_word};
 use bridge_score::{Ranked, Scoring, percent_hundredths};
@@ -55,15 +55,27 @@ fn share_percent(ranked: &Ranked) -> Option<u32>
     }
 }
 
+/// Adds a number of tenths, in units with one decimal.
+fn push_tenths(text: &mut ReplyText, tenths: u32)
+    requires { array_string_len text.old + 12 ≤ TEXT_BYTES }
+    ensures text { text.new.bytes ≡ text.old.bytes ++ tenths_text tenths }
+    ensures room { array_string_len text.new ≤ array_string_len text.old + 12 }
+{
+    text.push_str(Buffer::new().format(tenths / 10));
+    text.push_str(".");
+    text.push(char::from(b'0' + (tenths % 10) as u8));
+}
+
 /// Adds the share of a pair: its matchpoints, those available to it, and the percentage.
 fn push_share(text: &mut ReplyText, ranked: &Ranked)
     requires { array_string_len text.old + 66 ≤ TEXT_BYTES }
     ensures text { text.new.bytes ≡ text.old.bytes ++ each_spaced (gain_words MatchPoints ranked.now) }
     ensures room { array_string_len text.new ≤ array_string_len text.old + 66 }
 {
-    push_word(text, Buffer::new().format(ranked.value));
+    text.push_str(" ");
+    push_tenths(text, ranked.value.unsigned_abs());
     text.push_str("/");
-    text.push_str(Buffer::new().format(ranked.available));
+    push_tenths(text, ranked.available);
     text.push_str(" ");
     push_percent(text, share_percent(ranked));
 }
@@ -93,7 +105,7 @@ fn push_ranked(text: &mut ReplyText, scoring: Scoring, ranked: &Ranked)
 }
 
 /// Adds the lines of the pairs: of each its place, its number, and under matchpoints what it gained of what was available,
-/// as `3/6`, and the percentage with two decimals, or `-` where nothing was available; under IMPs the sum.
+/// as `1.2/2.0`, and the percentage with two decimals, or `-` where nothing was available; under IMPs the sum.
 pub fn push_pairs(text: &mut ReplyText, scoring: Scoring, ranking: &[Ranked])
     requires few { length ranking.now ≤ 24 }
     requires room { array_string_len text.old + 24 * RANK_BYTES ≤ TEXT_BYTES }

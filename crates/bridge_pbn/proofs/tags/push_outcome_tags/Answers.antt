@@ -11,3 +11,6 @@ returns-in-Unfinished-clause-lines c = rw c.in-Unfinished.is c.push_unplayed-in-
 
 pub returns-in-Voided-clause-lines : goal.returns-in-Voided-clause-lines
 returns-in-Voided-clause-lines c = rw c.in-Voided.is c.push_unplayed-in-Voided.ensures.lines
+
+pub returns-in-Adjusted-clause-lines : goal.returns-in-Adjusted-clause-lines
+returns-in-Adjusted-clause-lines c = rw c.in-Adjusted.is c.push_unplayed-in-Adjusted.ensures.lines
