@@ -1,6 +1,7 @@
 pub mod ImageLaws
 pub mod CallLaws
 pub mod RunLaws
+mod BlockLaws
 mod Events
 mod Images
 mod Last

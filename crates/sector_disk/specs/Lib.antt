@@ -4,4 +4,7 @@ pub mod Runs
 pub mod Fuse
 pub mod Held
 pub mod Memory
+pub mod Blocks
+pub mod SectorFile
+pub mod SystemFile
 pub mod File

@@ -1,11 +1,12 @@
-//! A disk in a file of the runtime.
-ghost use Rattle.std.specs.Prelude.{◌≡◌, ◌/◌, ◌-◌, ◌^◌, min, IfOk, IfErr};
+//! A disk in a file.
+ghost use Rattle.std.specs.Prelude.{◌≡◌, ◌+◌, ◌*◌, ◌/◌, ◌-◌, ◌<◌, ◌≤◌, ◌^◌, ℕ, min, max, replicate, OnOk, IfOk, IfErr};
+ghost use Rattle.sector_disk.specs.Disk.{Image, IsSame};
 
 #[cfg(test)]
 mod tests;
 
 use crate::faults::counted;
-use crate::{DiskFault, SectorDisk, disk};
+use crate::{BlockFile, DiskFault, Refused, SectorDisk, SystemFile, disk};
 use std::fs::{OpenFile, OpenOptions};
 use std::os::unix::fs::FileExt;
 use std::rt::Files;
@@ -13,16 +14,10 @@ use std::rt::Files;
 /// Bytes of a sector, as offsets in a file are counted.
 const SECTOR_BYTES: u64 = disk::SECTOR_BYTES as u64;
 
-/// Bytes of a file that is made: 2,048 sectors.
-const NEW_BYTES: u64 = 1_048_576;
+/// Sectors of a file that is made: 1,048,576 bytes.
+const NEW_SECTORS: u32 = 2048;
 
-const CHUNK_BYTES: usize = 4096;
-
-const CHUNKS: u64 = 256;
-
-/// A disk in a file. Sector `i` is bytes 512 i to 512 i + 511. Each read and each write is asked of the system at
-/// that offset, again for what is left after a short or interrupted answer, and a sync is the system's sync of the
-/// file's data to its device. Whether that keeps what was written is up to the device.
+/// A disk in a file. Sector `i` is bytes 512 i to 512 i + 511. It is honest where the file is.
 #[derive(Drop)]
 pub struct FileDisk<F> {
     file: F,
@@ -30,14 +25,24 @@ pub struct FileDisk<F> {
     faults: u64,
 }
 
-impl<F: OpenFile + FileExt + Drop> FileDisk<F> {
-    ghost use Rattle.sector_disk.specs.File.{file_disk};
+impl<F: OpenFile + FileExt + Drop> FileDisk<SystemFile<F>> {
+    ghost use Rattle.sector_disk.specs.SystemFile.{system_blocks};
+    ghost use Rattle.sector_disk.specs.File.{file_disk, file_of};
 
     /// Makes a file of 1,048,576 zero bytes, which is 2,048 sectors, in place of what was there, and syncs it.
     /// No fault is counted yet. `Write` where the system refuses any of it; the file may then be of any length.
-    pub fn create<R: Files<File = F>>(rt: &R, path: &str) -> Result<FileDisk<F>, DiskFault>
+    pub fn create<R: Files<File = F>>(
+        rt: &R,
+        path: &str,
+    ) -> Result<FileDisk<SystemFile<F>>, DiskFault>
         ensures count { IfOk result (λ disk. file_disk.count disk ≡ 2048) }
         ensures faults { IfOk result (λ disk. file_disk.faults disk ≡ 0) }
+        ensures zeros { IfOk result (λ disk. file_disk.honest disk
+            → (k : ℕ) → k < 2048 → file_disk.reads disk k ≡ replicate 512 0) }
+        ensures synced { IfOk result (λ disk. file_disk.honest disk
+            → (c : Image) → file_disk.may_leave disk c → IsSame c (file_disk.reads disk)) }
+        ensures length { IfOk result (λ disk. file_disk.honest disk
+            → 1048576 ≤ system_blocks.length (file_of disk)) }
         ensures fault { IfErr result (λ fault. fault ≡ DiskFault.Write) }
     {
         let mut options = OpenOptions::new();
@@ -45,12 +50,17 @@ impl<F: OpenFile + FileExt + Drop> FileDisk<F> {
         let Ok(file) = options.open(rt, path) else {
             return Err(DiskFault::Write);
         };
-        FileDisk::filled(file)
+        FileDisk::filled(SystemFile { file })
     }
 
     /// Opens a file. It has as many sectors as the file has whole ones, at most 2^32 - 1; bytes past them don't
     /// count. No fault is counted yet. `Read` where the system refuses it, as for a file that is missing.
-    pub fn open<R: Files<File = F>>(rt: &R, path: &str) -> Result<FileDisk<F>, DiskFault>
+    pub fn open<R: Files<File = F>>(
+        rt: &R,
+        path: &str,
+    ) -> Result<FileDisk<SystemFile<F>>, DiskFault>
+        ensures count { IfOk result (λ disk. file_disk.honest disk
+            → file_disk.count disk ≡ min (system_blocks.length (file_of disk) / 512) (2 ^ 32 - 1)) }
         ensures faults { IfOk result (λ disk. file_disk.faults disk ≡ 0) }
         ensures fault { IfErr result (λ fault. fault ≡ DiskFault.Read) }
     {
@@ -59,78 +69,109 @@ impl<F: OpenFile + FileExt + Drop> FileDisk<F> {
         let Ok(file) = options.open(rt, path) else {
             return Err(DiskFault::Read);
         };
-        FileDisk::found(file)
+        FileDisk::found(SystemFile { file })
     }
+}
 
-    /// The disk in an empty file, which it fills with zeros and syncs.
-    fn filled(file: F) -> Result<FileDisk<F>, DiskFault>
-        ensures count { IfOk result (λ disk. file_disk.count disk ≡ 2048) }
-        ensures faults { IfOk result (λ disk. file_disk.faults disk ≡ 0) }
+impl<F: BlockFile + Drop> FileDisk<F> {
+    ghost use Rattle.sector_disk.specs.File.{disk_in, file_of};
+
+    /// The disk in a file, of which it fills the first 1,048,576 bytes with zeros and syncs them.
+    pub fn filled(file: F) -> Result<FileDisk<F>, DiskFault>
+        ensures count { IfOk result (λ disk. (disk_in F.blocks).count disk ≡ 2048) }
+        ensures faults { IfOk result (λ disk. (disk_in F.blocks).faults disk ≡ 0) }
+        ensures zeros { IfOk result (λ disk. (disk_in F.blocks).honest disk
+            → (k : ℕ) → k < 2048 → (disk_in F.blocks).reads disk k ≡ replicate 512 0) }
+        ensures synced { IfOk result (λ disk. (disk_in F.blocks).honest disk
+            → (c : Image) → (disk_in F.blocks).may_leave disk c → IsSame c ((disk_in F.blocks).reads disk)) }
+        ensures length { IfOk result (λ disk. (disk_in F.blocks).honest disk
+            → F.blocks.length (file_of disk) ≡ max (F.blocks.length file) 1048576) }
         ensures fault { IfErr result (λ fault. fault ≡ DiskFault.Write) }
     {
-        fill_with_zeros(&file)?;
-        Ok(FileDisk::of_length(file, NEW_BYTES))
+        let mut file = file;
+        if let Err(_) = write_zeros(&mut file) {
+            return Err(DiskFault::Write);
+        }
+        if let Err(_) = file.sync() {
+            return Err(DiskFault::Write);
+        }
+        Ok(FileDisk {
+            file,
+            count: NEW_SECTORS,
+            faults: 0,
+        })
     }
 
     /// The disk in a file as it stands.
-    fn found(file: F) -> Result<FileDisk<F>, DiskFault>
-        ensures faults { IfOk result (λ disk. file_disk.faults disk ≡ 0) }
+    pub fn found(file: F) -> Result<FileDisk<F>, DiskFault>
+        ensures file { IfOk result (λ disk. file_of disk ≡ file) }
+        ensures count { IfOk result (λ disk. F.blocks.honest file
+            → (disk_in F.blocks).count disk ≡ min (F.blocks.length file / 512) (2 ^ 32 - 1)) }
+        ensures faults { IfOk result (λ disk. (disk_in F.blocks).faults disk ≡ 0) }
         ensures fault { IfErr result (λ fault. fault ≡ DiskFault.Read) }
     {
-        let Ok(metadata) = file.metadata() else {
-            return Err(DiskFault::Read);
-        };
-        Ok(FileDisk::of_length(file, metadata.len()))
-    }
-
-    /// The disk in a file of that many bytes.
-    fn of_length(file: F, bytes: u64) -> FileDisk<F>
-        ensures count { file_disk.count result ≡ min (bytes / 512) (2 ^ 32 - 1) }
-        ensures faults { file_disk.faults result ≡ 0 }
-    {
-        FileDisk {
-            file,
-            count: u32::try_from(bytes / SECTOR_BYTES).unwrap_or(u32::MAX),
-            faults: 0,
+        match file.length() {
+            Ok(bytes) => Ok(FileDisk {
+                file,
+                count: whole_sectors(bytes),
+                faults: 0,
+            }),
+            Err(_) => Err(DiskFault::Read),
         }
     }
 }
 
-/// Writes zeros to the first 1,048,576 bytes of a file, and syncs it.
-fn fill_with_zeros<F: OpenFile + FileExt>(file: &F) -> Result<(), DiskFault>
-    ensures { IfErr result (λ fault. fault ≡ DiskFault.Write) }
+/// How many whole sectors so many bytes are, at most 2^32 - 1.
+fn whole_sectors(bytes: u64) -> u32
+    ensures { result ≡ min (bytes / 512) (2 ^ 32 - 1) }
 {
-    let zeros = [0; CHUNK_BYTES];
-    for chunk in 0..CHUNKS {
-        if let Err(_) = file.write_all_at(&zeros, chunk * CHUNK_BYTES as u64) {
-            return Err(DiskFault::Write);
-        }
-    }
-    file.sync_all().map_err(|_| DiskFault::Write)
+    u32::try_from(bytes / SECTOR_BYTES).unwrap_or(u32::MAX)
 }
 
-impl<F: OpenFile + FileExt> SectorDisk for FileDisk<F> {
-    ghost use Rattle.sector_disk.specs.Disk.{Disk};
-    ghost use Rattle.sector_disk.specs.File.{file_disk};
+/// The byte at which a sector begins.
+fn place(i: u32) -> u64
+    ensures { result ≡ 512 * i }
+{
+    u64::from(i) * SECTOR_BYTES
+}
 
-    ghost disk = { file_disk };
+/// Writes zeros to the first 2,048 blocks of a file.
+fn write_zeros<F: BlockFile>(file: &mut F) -> Result<(), Refused>
+    ensures stays_honest { F.blocks.honest file.old → F.blocks.honest file.new }
+    ensures was_honest { F.blocks.honest file.new → F.blocks.honest file.old }
+    ensures zeros { OnOk result (F.blocks.honest file.old
+        → (k : ℕ) → k < 2048 → F.blocks.reads file.new k ≡ replicate 512 0) }
+    ensures length { OnOk result (F.blocks.honest file.old
+        → F.blocks.length file.new ≡ max (F.blocks.length file.old) 1048576) }
+{
+    for i in 0..NEW_SECTORS {
+        file.write_block(place(i), &[0; disk::SECTOR_BYTES])?;
+    }
+    Ok(())
+}
+
+impl<F: BlockFile> SectorDisk for FileDisk<F> {
+    ghost use Rattle.sector_disk.specs.Disk.{Disk};
+    ghost use Rattle.sector_disk.specs.File.{disk_in};
+
+    ghost disk = { disk_in F.blocks };
 
     fn count(&self) -> u32 {
         self.count
     }
 
     fn read(&mut self, i: u32, bytes: &mut [u8; disk::SECTOR_BYTES]) -> Result<(), DiskFault> {
-        let outcome = self.file.read_exact_at(bytes, u64::from(i) * SECTOR_BYTES);
-        counted(&mut self.faults, outcome.map_err(|_| DiskFault::Read))
+        let outcome = self.file.read_block(place(i), bytes);
+        counted(&mut self.faults, outcome.or(Err(DiskFault::Read)))
     }
 
     fn write(&mut self, i: u32, bytes: &[u8; disk::SECTOR_BYTES]) -> Result<(), DiskFault> {
-        let outcome = self.file.write_all_at(bytes, u64::from(i) * SECTOR_BYTES);
-        counted(&mut self.faults, outcome.map_err(|_| DiskFault::Write))
+        let outcome = self.file.write_block(place(i), bytes);
+        counted(&mut self.faults, outcome.or(Err(DiskFault::Write)))
     }
 
     fn sync(&mut self) -> Result<(), DiskFault> {
-        let outcome = self.file.sync_data();
-        counted(&mut self.faults, outcome.map_err(|_| DiskFault::Sync))
+        let outcome = self.file.sync();
+        counted(&mut self.faults, outcome.or(Err(DiskFault::Sync)))
     }
 }

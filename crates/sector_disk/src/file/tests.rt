@@ -1,6 +1,7 @@
-//! A disk in a file of the system.
+//! A disk in a file.
 mod bad_file;
 mod calls;
+mod in_memory;
 
 use super::*;
 use crate::tests::expect_eq;

@@ -2,14 +2,14 @@
 ghost use Rattle.std.specs.Prelude.{◌≤◌};
 
 use super::super::*;
-use std::cell::RefCell;
+use std::cell::{Cell, RefCell};
 use std::fmt::Write;
 use std::fs::Metadata;
 use std::io;
 use std::io::{Error, ErrorKind};
 
 /// A file of `length` bytes that gives or takes at most `most` of them a call, and none past its end. It refuses the
-/// call of that number, from 0, with an error of that kind.
+/// call of that number, from 0, with the system's error of that code.
 ///
 /// Each call is noted as a word and a space: `r2560+512` is a read of 512 bytes at 2560, `w2560+512=7` a write that
 /// begins with a 7, `m` asks for the length, `l` sets it, and `s` and `a` sync the data and all.
@@ -19,7 +19,8 @@ pub struct BadFile<'a> {
     pub length: u64,
     pub most: usize,
     pub refused: usize,
-    pub kind: ErrorKind,
+    pub code: i32,
+    pub number: Cell<usize>,
 }
 
 impl BadFile<'_> {
@@ -27,7 +28,8 @@ impl BadFile<'_> {
         let Ok(mut calls) = self.calls.try_borrow_mut() else {
             return Err(Error::from(ErrorKind::ResourceBusy));
         };
-        let number = calls.as_str().split_whitespace().count();
+        let number = self.number.get();
+        self.number.set(number.wrapping_add(1));
         calls.push(call)?;
         if let Some((offset, length)) = index {
             let _ = write!(calls, "{offset}+{length}");
@@ -37,7 +39,7 @@ impl BadFile<'_> {
         }
         calls.push(' ')?;
         if number == self.refused {
-            return Err(Error::from(self.kind));
+            return Err(Error::from_raw_os_error(self.code));
         }
         Ok(())
     }

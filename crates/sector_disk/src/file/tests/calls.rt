@@ -3,9 +3,7 @@ use super::super::*;
 use super::bad_file::BadFile;
 use super::{read_if, write_if};
 use crate::tests::expect_eq;
-use std::cell::RefCell;
-use std::io::ErrorKind;
-use std::io::ErrorKind::{Interrupted, Other, StorageFull};
+use std::cell::{Cell, RefCell};
 use std::test::Fail;
 
 /// What is asked of the disk: a sector of zeros or of sevens written, a sector read, or a sync.
@@ -19,15 +17,37 @@ enum Asked {
 
 use Asked::{Read, Sevens, Sync, Zeros};
 
-/// A file: its bytes, how many it gives or takes at a time, and the call that it refuses; there is no call 9.
-type File = (u64, usize, usize, ErrorKind);
+/// A file: its bytes, how many it gives or takes at a time, the call that it refuses, and the system's code for why;
+/// there is no call 9.
+type Answers = (u64, usize, usize, i32);
 
 const LONG: u64 = 1 << 40;
 
-const GOOD: File = (LONG, 512, 9, Other);
+const INTERRUPTED: i32 = 4;
+
+const BAD_SECTOR: i32 = 5;
+
+const NO_SPACE: i32 = 28;
+
+const GOOD: Answers = (LONG, 512, 9, BAD_SECTOR);
+
+fn bad_file(calls: &RefCell<String>, answers: Answers) -> SystemFile<BadFile<'_>> {
+    let (length, most, refused, code) = answers;
+    let number = Cell::new(0);
+    SystemFile {
+        file: BadFile {
+            calls,
+            length,
+            most,
+            refused,
+            code,
+            number,
+        },
+    }
+}
 
 /// A file, what is asked of a disk over it, which of that is done, and the calls that reach the file.
-const ROWS: [(File, &[Asked], &[bool], &str); 14] = [
+const ROWS: [(Answers, &[Asked], &[bool], &str); 17] = [
     (GOOD, &[Zeros(5), Sync], &[true, true], "w2560+512=0 s "),
     (
         GOOD,
@@ -47,79 +67,104 @@ const ROWS: [(File, &[Asked], &[bool], &str); 14] = [
     (GOOD, &[Read(8_388_608)], &[true], "r4294967296+512 "),
     // half of what is asked, and none of it
     (
-        (LONG, 300, 9, Other),
+        (LONG, 300, 9, BAD_SECTOR),
         &[Sevens(5)],
         &[true],
         "w2560+512=7 w2860+212=7 ",
     ),
     (
-        (LONG, 300, 9, Other),
+        (LONG, 300, 9, BAD_SECTOR),
         &[Read(5)],
         &[true],
         "r2560+512 r2860+212 ",
     ),
     (
-        (LONG, 0, 9, Other),
+        (LONG, 0, 9, BAD_SECTOR),
         &[Sevens(5), Read(5)],
         &[false, false],
         "w2560+512=7 r2560+512 ",
     ),
     // shorter than at opening
     (
-        (2660, 512, 9, Other),
+        (2660, 512, 9, BAD_SECTOR),
         &[Read(4), Read(5)],
         &[true, false],
         "r2048+512 r2560+512 r2660+412 ",
     ),
     // an interrupted read or write is asked again, and a sync never
     (
-        (LONG, 512, 0, Interrupted),
+        (LONG, 512, 0, INTERRUPTED),
         &[Read(5)],
         &[true],
         "r2560+512 r2560+512 ",
     ),
     (
-        (LONG, 512, 0, Interrupted),
+        (LONG, 512, 0, INTERRUPTED),
         &[Sevens(5)],
         &[true],
         "w2560+512=7 w2560+512=7 ",
     ),
     (
-        (LONG, 512, 0, Interrupted),
+        (LONG, 512, 0, INTERRUPTED),
         &[Sync, Sync],
         &[false, true],
         "s s ",
     ),
     (
-        (LONG, 512, 1, StorageFull),
+        (LONG, 512, 1, NO_SPACE),
         &[Sevens(5), Sync, Sync],
         &[true, false, true],
         "w2560+512=7 s s ",
     ),
+    // refused in the middle of a sector
+    (
+        (LONG, 300, 1, NO_SPACE),
+        &[Sevens(5), Sevens(5)],
+        &[false, true],
+        "w2560+512=7 w2860+212=7 w2560+512=7 w2860+212=7 ",
+    ),
+    (
+        (LONG, 300, 1, BAD_SECTOR),
+        &[Read(5), Sync],
+        &[false, true],
+        "r2560+512 r2860+212 s ",
+    ),
+    (
+        (LONG, 300, 1, INTERRUPTED),
+        &[Read(5)],
+        &[true],
+        "r2560+512 r2860+212 r2860+212 ",
+    ),
 ];
+
+/// The disk over a file of 2^32 - 1 sectors.
+fn long_disk(calls: &RefCell<String>, answers: Answers) -> FileDisk<SystemFile<BadFile<'_>>> {
+    FileDisk {
+        file: bad_file(calls, answers),
+        count: u32::MAX,
+        faults: 0,
+    }
+}
+
+fn answer<D: SectorDisk>(disk: &mut D, asked: Asked) -> (Result<(), DiskFault>, DiskFault) {
+    match asked {
+        Zeros(i) => (write_if(disk, i, 0), DiskFault::Write),
+        Sevens(i) => (write_if(disk, i, 7), DiskFault::Write),
+        Read(i) => (read_if(disk, i), DiskFault::Read),
+        Sync => (disk.sync(), DiskFault::Sync),
+    }
+}
 
 #[test]
 fn each_call_reaches_the_file(rt: HostRuntime) -> Result<(), Fail> {
-    for ((length, most, refused, kind), asked, done, due) in ROWS {
+    for (answers, asked, done, due) in ROWS {
         let calls = RefCell::new(String::new(rt.alloc()));
-        let file = BadFile {
-            calls: &calls,
-            length,
-            most,
-            refused,
-            kind,
-        };
-        let mut disk = FileDisk::of_length(file, LONG);
+        let mut disk = long_disk(&calls, answers);
         let mut faults = 0u64;
         for (asked, done) in asked.iter().zip(done.iter()) {
-            let (answer, fault) = match *asked {
-                Zeros(i) => (write_if(&mut disk, i, 0), DiskFault::Write),
-                Sevens(i) => (write_if(&mut disk, i, 7), DiskFault::Write),
-                Read(i) => (read_if(&mut disk, i), DiskFault::Read),
-                Sync => (disk.sync(), DiskFault::Sync),
-            };
+            let (found, fault) = answer(&mut disk, *asked);
             let due = if *done { Ok(()) } else { Err(fault) };
-            expect_eq(&rt, answer, due, (asked, kind));
+            expect_eq(&rt, found, due, (asked, answers));
             faults = faults.wrapping_add(u64::from(!*done));
         }
         expect_eq(&rt, disk.faults, faults, due);
@@ -129,27 +174,41 @@ fn each_call_reaches_the_file(rt: HostRuntime) -> Result<(), Fail> {
     Ok(())
 }
 
-// A file that is made is written in 256 pieces, and then synced once; where a call is refused, or the file has room for
-// a byte less than it is to have, no call comes after.
+// Whatever the system's reason, a call that it refuses is a fault, but for a read or a write that was interrupted.
+#[test]
+fn no_refusal_is_passed_over(rt: HostRuntime) -> Result<(), Fail> {
+    for code in 1..=133 {
+        for asked in [Zeros(5), Sevens(5), Read(5), Sync] {
+            let calls = RefCell::new(String::new(rt.alloc()));
+            let mut disk = long_disk(&calls, (LONG, 512, 0, code));
+            let (found, fault) = answer(&mut disk, asked);
+            let again = code == INTERRUPTED && fault != DiskFault::Sync;
+            let due = if again { Ok(()) } else { Err(fault) };
+            expect_eq(&rt, found, due, (asked, code));
+            expect_eq(&rt, disk.faults, u64::from(!again), (asked, code));
+        }
+        let calls = RefCell::new(String::new(rt.alloc()));
+        let fault = FileDisk::found(bad_file(&calls, (LONG, 512, 0, code))).err();
+        expect_eq(&rt, fault, Some(DiskFault::Read), code);
+    }
+    Ok(())
+}
+
+// A file that is made is written sector by sector, and then synced once; where a call is refused, or the file has room
+// for a byte less than it is to have, no call comes after.
 #[test]
 fn a_file_is_made_of_zeros_and_synced(rt: HostRuntime) -> Result<(), Fail> {
     let fault = Some(DiskFault::Write);
     for (length, most, refused, due, count, last) in [
-        (1 << 20, 4096, usize::MAX, None, 257, "a"),
-        (1 << 20, 1000, usize::MAX, None, 1281, "a"),
-        ((1 << 20) - 1, 4096, usize::MAX, fault, 257, "w1048575+1=0"),
-        (1 << 20, 4096, 0, fault, 1, "w0+4096=0"),
-        (1 << 20, 4096, 255, fault, 256, "w1044480+4096=0"),
-        (1 << 20, 4096, 256, fault, 257, "a"),
+        (1 << 20, 512, usize::MAX, None, 2049, "s"),
+        (1 << 20, 300, usize::MAX, None, 4097, "s"),
+        ((1 << 20) - 1, 512, usize::MAX, fault, 2049, "w1048575+1=0"),
+        (1 << 20, 512, 0, fault, 1, "w0+512=0"),
+        (1 << 20, 512, 2047, fault, 2048, "w1048064+512=0"),
+        (1 << 20, 512, 2048, fault, 2049, "s"),
     ] {
         let calls = RefCell::new(String::new(rt.alloc()));
-        let file = BadFile {
-            calls: &calls,
-            length,
-            most,
-            refused,
-            kind: Other,
-        };
+        let file = bad_file(&calls, (length, most, refused, NO_SPACE));
         expect_eq(&rt, FileDisk::filled(file).err(), due, (length, refused));
         let calls = calls.into_inner();
         let words = calls.as_str();
@@ -161,17 +220,20 @@ fn a_file_is_made_of_zeros_and_synced(rt: HostRuntime) -> Result<(), Fail> {
 
 #[test]
 fn an_opened_file_is_asked_for_its_length(rt: HostRuntime) -> Result<(), Fail> {
-    for (refused, fault) in [(0, Some(DiskFault::Read)), (1, None)] {
+    for (length, count) in [
+        (0, 0),
+        (511, 0),
+        (512, 1),
+        (1024, 2),
+        (2_199_023_255_039, 4_294_967_294),
+        (2_199_023_255_040, 4_294_967_295),
+        (2_199_023_255_552, 4_294_967_295),
+    ] {
         let calls = RefCell::new(String::new(rt.alloc()));
-        let file = BadFile {
-            calls: &calls,
-            length: 1024,
-            most: 512,
-            refused,
-            kind: Other,
-        };
-        expect_eq(&rt, FileDisk::found(file).err(), fault, refused);
-        expect_eq(&rt, calls.into_inner().as_str(), "m ", refused);
+        let disk = FileDisk::found(bad_file(&calls, (length, 512, 9, BAD_SECTOR)))?;
+        expect_eq(&rt, disk.count(), count, length);
+        drop(disk);
+        expect_eq(&rt, calls.into_inner().as_str(), "m ", length);
     }
     Ok(())
 }
