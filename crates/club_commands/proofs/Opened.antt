@@ -5,6 +5,7 @@ use Rattle.std.specs.declared.fs.File.{File}
 use Rattle.line_text.specs.Streams.{Stream, stream}
 use Rattle.sector_disk.specs.Disk.{Disk}
 use Rattle.sector_disk.specs.declared.file.FileDisk.{FileDisk}
+use Rattle.sector_disk.specs.declared.system_file.SystemFile.{SystemFile}
 use Rattle.sector_disk.specs.File.{file_disk}
 use Rattle.session_store.specs.declared.fault.StoreFault.{StoreFault}
 use Rattle.session_store.specs.declared.fault.StoreFault.TheVariants.{TooSmall, NoMemory}
@@ -50,7 +51,7 @@ no_session remaining (Ok file) (Err fault) stops = of stops.1
 no_session remaining (Err _) (Err fault) stops = inl stops
 
 -- a disk was made in a file, and holds the session
-pub has_formatted : {E : Type 0} (made : Result (FileDisk File) E) (session : SessionValue) (output : Stream) (result : Result (Unit {0}) RunFault)
+pub has_formatted : {E : Type 0} (made : Result (FileDisk (SystemFile File)) E) (session : SessionValue) (output : Stream) (result : Result (Unit {0}) RunFault)
     → IsSessionOfFile session → IfOk made (λ d. file_disk.count d ≡ 2048)
     → OnOk result (FormatsMade file_disk made session output) → OnOk result (HasFormatted output)
 has_formatted made session output (Err fault) is count formats = tt
@@ -59,7 +60,7 @@ has_formatted (Ok made) session output (Ok _) is count formats =
 has_formatted (Err _) session output (Ok _) is count formats = absurd formats
 
 -- why none holds it
-pub stops_formatting : {E : Type 0} (made : Result (FileDisk File) E) (session : SessionValue) (output : Stream) (result : Result (Unit {0}) RunFault)
+pub stops_formatting : {E : Type 0} (made : Result (FileDisk (SystemFile File)) E) (session : SessionValue) (output : Stream) (result : Result (Unit {0}) RunFault)
     → IsSessionOfFile session → IfOk made (λ d. file_disk.count d ≡ 2048)
     → IfErr result (FailsToFormatMade file_disk made session output) → IfErr result (StopsFormatting output)
 stops_formatting made session output (Ok _) is count fails = tt
@@ -82,7 +83,7 @@ module _ {D : Type 0} (disk : Disk D) {C E : Type 0} (opened : Result (StoreValu
 
 module _ {C E : Type 0} where
   -- why not all lines were served over the session in a file
-  pub stops_scripting : (opened : Result (StoreValue (FileDisk File) SessionValue Action) StoreFault) (cache : Result C E) (input output : Stream) (result : Result (Unit {0}) RunFault)
+  pub stops_scripting : (opened : Result (StoreValue (FileDisk (SystemFile File)) SessionValue Action) StoreFault) (cache : Result C E) (input output : Stream) (result : Result (Unit {0}) RunFault)
       → IfOk opened IsOnFile → IfErr opened RefusesFile → IfErr result (StopsOpened file_disk opened cache input output)
       → IfErr result (StopsScripting input output)
   stops_scripting opened cache input output (Ok _) on refused stops = tt
@@ -94,7 +95,7 @@ module _ {C E : Type 0} where
       inl (record { cause = cause; named = stops.0; refused = inl refused; unread = stops.1; unwritten = stops.2 })
 
   -- why not all connections were served over it
-  pub stops_serving : (opened : Result (StoreValue (FileDisk File) SessionValue Action) StoreFault) (cache : Result C E) (count : ℕ) (result : Result (Unit {0}) RunFault)
+  pub stops_serving : (opened : Result (StoreValue (FileDisk (SystemFile File)) SessionValue Action) StoreFault) (cache : Result C E) (count : ℕ) (result : Result (Unit {0}) RunFault)
       → IfOk opened IsOnFile → IfErr opened RefusesFile → IfErr result (StopsConnectionsOpened opened cache count)
       → IfErr result (StopsServingConnections count)
   stops_serving opened cache count (Ok _) on refused stops = tt

@@ -3,6 +3,7 @@ use Rattle.std.proofs.Common.{◌≡◌, ℕ, List, Result, Ok, Err, IfOk, IfErr
 use Rattle.std.specs.declared.fs.File.{File}
 use Rattle.line_text.specs.Streams.{Stream, Written}
 use Rattle.sector_disk.specs.declared.file.FileDisk.{FileDisk}
+use Rattle.sector_disk.specs.declared.system_file.SystemFile.{SystemFile}
 use Rattle.session_store.specs.declared.fault.StoreFault.{StoreFault}
 use Rattle.session_store.specs.Value.{StoreValue}
 use Rattle.session_rules.specs.declared.action.Action.{Action}
@@ -21,7 +22,7 @@ stops_telling IsText opened store session output (Err fault) is same told write 
     rw is (write, (told.0, subst (λ (s : SessionValue). IsText s told.0) same told.1, told.2))
 
 -- a text that is written is that of a session on a disk, where the session was opened there
-pub has_results : (IsText : SessionValue → List ℕ → Type 0) (opened : Result (StoreValue (FileDisk File) SessionValue Action) StoreFault) (output : Stream) (result : Result (Unit {0}) RunFault)
+pub has_results : (IsText : SessionValue → List ℕ → Type 0) (opened : Result (StoreValue (FileDisk (SystemFile File)) SessionValue Action) StoreFault) (output : Stream) (result : Result (Unit {0}) RunFault)
     → IfOk opened IsOnFile → OnOk result (TellsOpened IsText opened output) → OnOk result (HasResults IsText output)
 has_results IsText opened output (Err fault) on told = tt
 has_results IsText (Ok store) output (Ok _) on told =
@@ -29,7 +30,7 @@ has_results IsText (Ok store) output (Ok _) on told =
 has_results IsText (Err cause) output (Ok _) on told = absurd told
 
 -- and so where it is not
-pub stops_results : (IsText : SessionValue → List ℕ → Type 0) (opened : Result (StoreValue (FileDisk File) SessionValue Action) StoreFault) (output : Stream) (result : Result (Unit {0}) RunFault)
+pub stops_results : (IsText : SessionValue → List ℕ → Type 0) (opened : Result (StoreValue (FileDisk (SystemFile File)) SessionValue Action) StoreFault) (output : Stream) (result : Result (Unit {0}) RunFault)
     → IfOk opened IsOnFile → IfErr opened RefusesFile → IfErr result (StopsTelling IsText opened output) → IfErr result (StopsResults IsText output)
 stops_results IsText opened output (Ok _) on refused stops = tt
 stops_results IsText (Ok store) output (Err fault) on refused stops =

@@ -3,6 +3,7 @@ use Rattle.std.specs.Prelude.{◌≡◌, ◌⊎◌, ◌≤◌, ℕ, List, Option
 use Rattle.std.specs.declared.fs.File.{File}
 use Rattle.line_text.specs.Streams.{Stream, stream, Takes, TakesPrefix, IsUntouched}
 use Rattle.sector_disk.specs.declared.file.FileDisk.{FileDisk}
+use Rattle.sector_disk.specs.declared.system_file.SystemFile.{SystemFile}
 use Rattle.sector_disk.specs.Disk.{Disk, Image, Rose}
 use Rattle.sector_disk.specs.File.{file_disk}
 use Rattle.sector_disk.specs.Runs.{Remains}
@@ -78,7 +79,7 @@ IsNoSessionOfFile fault =
 pub record HasFormatted (output : Stream) : Type 0 where
   pub session : SessionValue
   pub session_of : IsSessionOfFile session
-  pub made : FileDisk File
+  pub made : FileDisk (SystemFile File)
   pub count : file_disk.count made ≡ 2048
   pub formats : Formats file_disk made session output
 
@@ -86,7 +87,7 @@ pub record HasFormatted (output : Stream) : Type 0 where
 pub record FailsOnFile (output : Stream) (fault : RunFault) : Type 0 where
   pub session : SessionValue
   pub session_of : IsSessionOfFile session
-  pub made : FileDisk File
+  pub made : FileDisk (SystemFile File)
   pub count : file_disk.count made ≡ 2048
   pub fails : FailsToFormat file_disk made session output fault
 

@@ -16,7 +16,7 @@ use crate::serving::serve_connections;
 use crate::stored_session::open_found;
 use bridge_endings::Cache;
 use bridge_session::Session;
-use sector_disk::{FileDisk, SectorDisk};
+use sector_disk::{FileDisk, SectorDisk, SystemFile};
 use session_store::{Store, StoreFault};
 use std::alloc::{AllocError, Global};
 use std::fs::File;
@@ -33,7 +33,7 @@ fn open_store<S: Files<File = File>>(
     rt: &S,
     alloc: Global,
     disk: &str,
-) -> Result<Store<FileDisk<File>, Session>, StoreFault>
+) -> Result<Store<FileDisk<SystemFile<File>>, Session>, StoreFault>
     ensures opened { IfOk result IsOnFile }
     ensures begins { IfOk result (λ store. (store.failed ≡ false) × (store.pending ≡ [])) }
     ensures fault { IfErr result RefusesFile }
@@ -143,7 +143,7 @@ fn serve_heard<N: Net<Listener = TcpListener, Stream = TcpStream>>(
     rt: &N,
     found: io::Result<TcpListener>,
     count: u16,
-    store: &mut Store<FileDisk<File>, Session>,
+    store: &mut Store<FileDisk<SystemFile<File>>, Session>,
     cache: &mut Cache,
 ) -> Result<(), RunFault>
     requires works { store.old.failed ≡ false }
@@ -162,7 +162,7 @@ fn listen<N: Net<Listener = TcpListener, Stream = TcpStream>>(
     rt: &N,
     port: u16,
     count: u16,
-    store: &mut Store<FileDisk<File>, Session>,
+    store: &mut Store<FileDisk<SystemFile<File>>, Session>,
     cache: &mut Cache,
 ) -> Result<(), RunFault>
     requires works { store.old.failed ≡ false }
@@ -179,7 +179,7 @@ fn serve_opened<N: Net<Listener = TcpListener, Stream = TcpStream>>(
     rt: &N,
     port: u16,
     count: u16,
-    opened: Result<Store<FileDisk<File>, Session>, StoreFault>,
+    opened: Result<Store<FileDisk<SystemFile<File>>, Session>, StoreFault>,
     cache: Result<Cache, AllocError>,
 ) -> Result<(), RunFault>
     requires works { IfOk opened (λ store. store.failed ≡ false) }

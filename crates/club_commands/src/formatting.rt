@@ -9,7 +9,7 @@ use crate::disk_lock::lock_new;
 use crate::fault::RunFault;
 use crate::output::write_output;
 use bridge_session::Session;
-use sector_disk::{DiskFault, FileDisk};
+use sector_disk::{DiskFault, FileDisk, SystemFile};
 use session_store::{StoreFault, format};
 use std::alloc::Global;
 use std::fs::File;
@@ -19,7 +19,7 @@ use table_server::ServeFault;
 
 /// Makes of the disk, of at least 2,048 sectors, one that holds the session, and writes `formatted`.
 fn format_disk<W: Write>(
-    disk: FileDisk<File>,
+    disk: FileDisk<SystemFile<File>>,
     session: &Session,
     output: &mut W,
 ) -> Result<(), RunFault>
@@ -35,7 +35,7 @@ fn format_disk<W: Write>(
 
 /// The same where a disk was made; where none was, that is a fault of the disk.
 fn format_made<W: Write>(
-    made: Result<FileDisk<File>, DiskFault>,
+    made: Result<FileDisk<SystemFile<File>>, DiskFault>,
     session: &Session,
     output: &mut W,
 ) -> Result<(), RunFault>
@@ -77,7 +77,7 @@ fn create_locked<S: Files<File = File>>(
     rt: &S,
     disk: &str,
     lock: &Result<File, RunFault>,
-) -> Result<FileDisk<File>, DiskFault>
+) -> Result<FileDisk<SystemFile<File>>, DiskFault>
     ensures count { IfOk result (λ made. file_disk.count made ≡ 2048) }
     ensures fault { IfErr result (λ fault. fault ≡ DiskFault.Write) }
 {

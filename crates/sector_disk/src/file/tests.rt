@@ -42,17 +42,6 @@ fn a_file_keeps_sectors_at_their_places(rt: HostRuntime) -> Result<(), Fail> {
     Ok(())
 }
 
-// A file of 1,023 bytes has one sector.
-#[test]
-fn a_part_of_a_sector_does_not_count(rt: HostRuntime) -> Result<(), Fail> {
-    let name = "sector_disk_short_test.disk";
-    fs::write(&rt, name, vec![in rt.alloc(); 0u8; 1023]?)?;
-    let disk = FileDisk::open(&rt, name)?;
-    expect_eq(&rt, disk.count(), 1, "sectors");
-    fs::remove_file(&rt, name)?;
-    Ok(())
-}
-
 /// Writes a sector of these bytes, if there is such a sector.
 pub fn write_if<D: SectorDisk>(disk: &mut D, i: u32, value: u8) -> Result<(), DiskFault> {
     if i < disk.count() {
