@@ -28,11 +28,11 @@ CALL 42 1 3 PASS
 const REPLIES: &str = "OK\nOK\nOK\nOK\nOK\nOK\nOK\nOK\nOK\nOK\nOK\nOK\n";
 
 const RANKING: &str = "FIELD 1
-1 1 2/2 100.00
-2 2 0/2 0.00
+1 1 2.0/2.0 100.00
+2 2 0.0/2.0 0.00
 FIELD 2
-1 4 2/2 100.00
-2 3 0/2 0.00
+1 4 2.0/2.0 100.00
+2 3 0.0/2.0 0.00
 ";
 
 /// What a run over this disk writes.
@@ -91,7 +91,7 @@ fn one_field_has_one_heading(rt: HostRuntime) -> Result<(), Fail> {
     let (disk, config) = ("bridge_club_field.disk", "bridge_club_field.txt");
     let movement = "MOVEMENT 2 1 1 4 4\nROW 1 1 1 3 1\nROW 1 2 2 4 1\n";
     expect_formatted(&rt, rt.alloc(), disk, config, movement)?;
-    let ranking = "FIELD 1\n1 1 0/0 -\n1 2 0/0 -\n1 3 0/0 -\n1 4 0/0 -\n";
+    let ranking = "FIELD 1\n1 1 0.0/0.0 -\n1 2 0.0/0.0 -\n1 3 0.0/0.0 -\n1 4 0.0/0.0 -\n";
     expect_run(&rt, rt.alloc(), &["rank", disk], "", (0, ranking, ""));
     fs::remove_file(&rt, disk)?;
     fs::remove_file(&rt, config)?;

@@ -26,7 +26,7 @@ fn shares_and_sums(rt: HostRuntime) {
         (
             Scoring::MatchPoints,
             &shares,
-            "OK\n1 24 1/3 33.33\n24 7 2/3 66.67\n24 8 10000000/10000000 100.00\n.\n",
+            "OK\n1 24 0.1/0.3 33.33\n24 7 0.2/0.3 66.67\n24 8 1000000.0/1000000.0 100.00\n.\n",
         ),
         (Scoring::Imps, &sums, "OK\n1 2 24\n2 1 -24\n.\n"),
         (Scoring::Imps, &[], "OK\n.\n"),

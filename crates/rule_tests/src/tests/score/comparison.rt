@@ -20,7 +20,7 @@ fn imps_begin_where_the_scale_says(rt: HostRuntime) {
 #[test]
 fn a_board_of_four_scores(rt: HostRuntime) {
     let scores = [450, 420, 420, -50];
-    let due = [(6, 13), (3, 9), (3, 9), (0, -31)];
+    let due = [(60, 13), (30, 9), (30, 9), (0, -31)];
     for (i, (matchpoints_due, imps_due)) in due.into_iter().enumerate() {
         if i < scores.len() {
             expect_eq(&rt, matchpoints(&scores, i), matchpoints_due, i);
