@@ -2,11 +2,12 @@
 use super::{expect_eq, script};
 use arrayvec::ArrayVec;
 use bridge_session::{read_action, write_action};
+use session_store::DiskFormat;
 use std::process::Abort;
 use std::test::Fail;
 
-/// The action of a line, its bytes.
-const ROWS: [(&str, &[u8]); 11] = [
+/// The action of a line, and its bytes: the same in both formats, but for the averages, which the first one has not.
+const ROWS: [(&str, &[u8]); 12] = [
     (
         "DEAL 100 1 N:AKQJT98765432... .AKQJT98765432.. ..AKQJT98765432. ...AKQJT98765432",
         b"\x01\0\0\0\x64\x01\0\x0f\xff\x80\0\0\0\0\0\0\0\x7f\xfc\0\0\0\0\0\0\0\x03\xff\xe0\0\0\0\0\0\0\0\x1f\xff",
@@ -21,6 +22,10 @@ const ROWS: [(&str, &[u8]); 11] = [
     ("TRICKS 100 1 2 3 12", b"\x08\0\0\0\x64\x01\x02\x03\x0c"),
     ("VOID 100 1 2 3", b"\x09\0\0\0\x64\x01\x02\x03"),
     ("RESTORE 100 1 2 3", b"\x0a\0\0\0\x64\x01\x02\x03"),
+    (
+        "ADJUST 100 1 2 3 60 40",
+        b"\x0b\0\0\0\x64\x01\x02\x03\x3c\x28",
+    ),
 ];
 
 #[test]
@@ -30,7 +35,13 @@ fn each_action_has_its_bytes(rt: HostRuntime) -> Result<(), Fail> {
         let mut bytes = ArrayVec::new();
         write_action(&action, &mut bytes);
         expect_eq(&rt, bytes.as_slice(), due, line);
-        expect_eq(&rt, read_action(due), Some(action), line);
+        let former = if line.starts_with("ADJUST") {
+            None
+        } else {
+            Some(action)
+        };
+        expect_eq(&rt, read_action(DiskFormat::Two, due), Some(action), line);
+        expect_eq(&rt, read_action(DiskFormat::One, due), former, line);
     }
     Ok(())
 }

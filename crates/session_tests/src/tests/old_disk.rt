@@ -209,6 +209,22 @@ fn a_call_on_an_old_disk(rt: HostRuntime) -> Result<(), Fail> {
     Ok(())
 }
 
+// A ruling of the second format alone.
+#[test]
+fn averages_on_an_old_disk(rt: HostRuntime) -> Result<(), Fail> {
+    let made = "ADJUST 100 1 2 1 60 40";
+    for picks in &picks() {
+        let mut store = opened_for(&rt, rt.alloc(), old_disk(rt.alloc())?, u64::MAX);
+        submit(&rt, &mut store, made);
+        confirm(&rt, &mut store);
+        let store = opened_for(&rt, rt.alloc(), cut(store, picks), u64::MAX);
+        expect_state(&rt, rt.alloc(), &store, &[TAKEN, made], 5);
+        let due = b"BD2P\0\0\0\0\0\0\0\x05\0\0\0\x08\0\x08\0\0\0\0\0\x03\x3c\x28";
+        expect_sector(&rt, &mut store.into_disk().into_inner(), 9, due)?;
+    }
+    Ok(())
+}
+
 #[test]
 fn a_part_with_the_mark_of_the_second_format(rt: HostRuntime) -> Result<(), Fail> {
     let mut disk = old_disk(rt.alloc())?;

@@ -4,7 +4,9 @@ use bridge_auction::{Bid, Call, Denomination, Level};
 use bridge_cards::{BoardNumber, Card, CardSet, Seat, deal_board};
 use bridge_config::Key;
 use bridge_movement::Row;
-use bridge_session::{Action, BoardIndex, MadeCount, PlayId, RoundNumber, TableNumber, TrickCount};
+use bridge_session::{
+    Action, Average, BoardIndex, MadeCount, PlayId, RoundNumber, TableNumber, TrickCount,
+};
 
 /// The next of a fixed sequence of numbers, below a limit; 0 where there is none.
 fn next(state: &mut u32, limit: u32) -> u32 {
@@ -64,6 +66,14 @@ fn any_hands(state: &mut u32, board: BoardNumber) -> [CardSet; 4] {
     }
 }
 
+fn any_average(state: &mut u32) -> Average {
+    match next(state, 3) {
+        0 => Average::Minus,
+        1 => Average::Even,
+        _ => Average::Plus,
+    }
+}
+
 /// What the director may do.
 fn ruling(state: &mut u32, round: u8) -> Option<Action> {
     let key = if next(state, 10) == 0 {
@@ -71,7 +81,13 @@ fn ruling(state: &mut u32, round: u8) -> Option<Action> {
     } else {
         Key(100)
     };
-    match next(state, 4) {
+    match next(state, 5) {
+        4 => Some(Action::Adjust {
+            key,
+            play: any_play(state)?,
+            ns: any_average(state),
+            ew: any_average(state),
+        }),
         0 => Some(Action::Tricks {
             key,
             play: any_play(state)?,

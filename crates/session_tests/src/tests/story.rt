@@ -2,7 +2,7 @@
 use bridge_auction::{Auction, Call, CallRefused};
 use bridge_cards::{BoardNumber, Card, Deal, Seat, dealer};
 use bridge_play::Play;
-use bridge_session::{Action, Outcome, Refused};
+use bridge_session::{Action, Average, Outcome, Refused};
 
 #[derive(Drop)]
 pub struct Story {
@@ -12,6 +12,7 @@ pub struct Story {
     pub play: Option<Play>,
     pub ruled_tricks: Option<u8>,
     pub is_void: bool,
+    pub averages: Option<(Average, Average)>,
 }
 
 impl Story {
@@ -23,6 +24,7 @@ impl Story {
             play: None,
             ruled_tricks: None,
             is_void: false,
+            averages: None,
         }
     }
 
@@ -43,6 +45,10 @@ impl Story {
     /// Adds a ruling, of which the latest holds.
     pub fn rule(&mut self, action: &Action) {
         self.is_void = matches!(action, Action::Void { .. });
+        self.averages = match action {
+            Action::Adjust { ns, ew, .. } => Some((*ns, *ew)),
+            _ => None,
+        };
         self.ruled_tricks = match action {
             Action::Tricks { tricks, .. } => Some(tricks.number()),
             _ => None,
@@ -81,6 +87,9 @@ impl Story {
     pub fn outcome(&self) -> Outcome {
         if self.is_void {
             return Outcome::Voided;
+        }
+        if let Some((ns, ew)) = self.averages {
+            return Outcome::Adjusted { ns, ew };
         }
         let tricks = match (self.ruled_tricks, &self.play) {
             (Some(tricks), _) => tricks,

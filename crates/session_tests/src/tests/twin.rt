@@ -3,6 +3,7 @@ use super::story::Story;
 use bridge_cards::{BoardNumber, CardSet, Deal, Seat};
 use bridge_config::{Config, Key};
 use bridge_movement::Row;
+use bridge_score::Scoring;
 use bridge_session::{Action, PlayId, Refused};
 
 /// The configuration, and what was taken, the earliest first.
@@ -109,6 +110,7 @@ impl Twin {
                 Action::NextRound { .. } => round = round.saturating_add(1),
                 Action::Tricks { play, .. }
                 | Action::Void { play, .. }
+                | Action::Adjust { play, .. }
                 | Action::Restore { play, .. } => {
                     if play.round.number() == row.round
                         && play.table.number() == row.table
@@ -153,11 +155,11 @@ impl Twin {
         }
     }
 
-    /// The play of a row's lowest index that is neither finished nor void.
+    /// The play of a row's lowest index that is neither finished, void nor adjusted.
     pub fn current(&self, row: Row) -> Option<Story> {
         for index in 1..4 {
             let story = self.story(row, index)?;
-            if !story.is_over() && !story.is_void {
+            if !story.is_over() && !story.is_void && story.averages.is_none() {
                 return Some(story);
             }
         }
@@ -257,6 +259,8 @@ impl Twin {
             Action::Tricks { .. } if !story.is_over() => Err(Refused::NotFinished),
             Action::Restore { .. } if usize::from(row.round) < self.round() && !story.is_over() =>
                 Err(Refused::NotFinished),
+            Action::Adjust { .. } if self.config.fields().scoring == Scoring::Imps =>
+                Err(Refused::NotMatchPoints),
             _ => Ok(()),
         }
     }
@@ -274,6 +278,7 @@ impl Twin {
             }
             Action::Tricks { key, play, .. }
             | Action::Void { key, play }
+            | Action::Adjust { key, play, .. }
             | Action::Restore { key, play } => {
                 self.check_director(key)?;
                 self.ruling_answer(action, play)
