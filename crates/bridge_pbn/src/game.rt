@@ -1,4 +1,4 @@
-//! The games of a session: the plays that are finished and not void.
+//! The games of a session: the plays that are finished, not void and not adjusted.
 ghost use Rattle.std.specs.Prelude.{◌≡◌, ◌+◌, ◌≤◌, ◌∷◌, ◌++◌, [], Some, None, is_some, if◌then◌else◌, length};
 ghost use Rattle.session_rules.specs.Numbers.{IsRoundNumber, IsTableNumber};
 ghost use Rattle.bridge_pbn.specs.Lines.{lines_text};
