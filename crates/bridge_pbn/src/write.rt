@@ -69,8 +69,8 @@ fn write_games<W: Write>(session: &Session, writer: &mut W) -> Result<bool, Erro
     Ok(begun)
 }
 
-/// Writes the results of the session in Portable Bridge Notation 2.1: all plays that are finished, not void and not adjusted, by board,
-/// round and table. It takes no memory.
+/// Writes the results of the session in Portable Bridge Notation 2.1: all plays that are finished, not void and not
+/// adjusted, by board, round and table. It takes no memory.
 ///
 /// It stops at the writer's first error, or with `WriteZero` where a write takes no byte: the writer then has a prefix of
 /// the text.
