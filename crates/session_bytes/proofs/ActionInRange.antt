@@ -15,6 +15,7 @@ use Rattle.session_rules.specs.declared.deed.Deed.TheVariants as deed
 use Rattle.session_rules.specs.Act.{act_of}
 use Rattle.session_bytes.specs.ActionRange.{IsKey, IsDeedInRange, IsActInRange, IsInRange}
 use Rattle.session_bytes.specs.ActionBytes.{hand_bytes, deed_bytes, correction_bytes, act_bytes, action_bytes, in_range, player_action, turn_in, hand_in, hands_in, deal_in, action_in, action_of}
+use Rattle.session_store.specs.declared.disk_format.DiskFormat.{DiskFormat}
 use Rattle.session_rules.specs.Valid.{IsDeed, IsAct, IsAction}
 use Rattle.session_bytes.proofs.ActionLaws.{map_is, then_is, if_is, in_range_is, last_is, player_is, ruling_is, four_all}
 use Rattle.session_bytes.proofs.PartLemmas.{length-flat_fixed}
@@ -60,8 +61,8 @@ deal_in_range key (board ∷ rest) a is_key is =
     let hands = hands_in_range rest h.0 h.1 in
     subst IsInRange h.2 (is_key, (board_is.1, board_is.2), hands.0, hands.1)
 
-kind_in_range : (kind : ℕ) (key : Key) (bytes : List ℕ) (a : Action) → IsKey key → action_in kind key bytes ≡ Some a → IsInRange a
-kind_in_range kind key bytes a is_key is =
+kind_in_range : (format : DiskFormat) (kind : ℕ) (key : Key) (bytes : List ℕ) (a : Action) → IsKey key → action_in format kind key bytes ≡ Some a → IsInRange a
+kind_in_range format kind key bytes a is_key is =
     elim (if_is (kind == 1) _ _ (Some a) is) [
       | inl here ↦ deal_in_range key bytes a is_key here.1
       | inr other ↦ elim (if_is (kind == 7) _ _ (Some a) other.1) [
@@ -71,23 +72,23 @@ kind_in_range kind key bytes a is_key is =
             subst IsInRange found.2 (is_key, (last.1, last.2))
         | inr other ↦ elim (if_is (nat_le kind 6) _ _ (Some a) other.1) [
           | inl here ↦ turn_in_range kind key bytes a is_key here.1
-          | inr other ↦ (ruling_is kind key bytes a is_key other.1).0
+          | inr other ↦ (ruling_is format kind key bytes a is_key other.1).0
         ]
       ]
     ]
 
 -- an action that is read, also from a list of numbers that are no bytes
-pub read_in_range : (bytes : List ℕ) (a : Action) → action_of bytes ≡ Some a → IsInRange a
-read_in_range [] a is = absurd (let none : None ≡ Some a = is in cc)
-read_in_range (kind ∷ []) a is = absurd (let none : None ≡ Some a = is in cc)
-read_in_range (kind ∷ k ∷ []) a is = absurd (let none : None ≡ Some a = is in cc)
-read_in_range (kind ∷ k ∷ l ∷ []) a is = absurd (let none : None ≡ Some a = is in cc)
-read_in_range (kind ∷ k ∷ l ∷ m ∷ []) a is = absurd (let none : None ≡ Some a = is in cc)
-read_in_range (kind ∷ k ∷ l ∷ m ∷ n ∷ rest) a is =
+pub read_in_range : (format : DiskFormat) (bytes : List ℕ) (a : Action) → action_of format bytes ≡ Some a → IsInRange a
+read_in_range format [] a is = absurd (let none : None ≡ Some a = is in cc)
+read_in_range format (kind ∷ []) a is = absurd (let none : None ≡ Some a = is in cc)
+read_in_range format (kind ∷ k ∷ []) a is = absurd (let none : None ≡ Some a = is in cc)
+read_in_range format (kind ∷ k ∷ l ∷ []) a is = absurd (let none : None ≡ Some a = is in cc)
+read_in_range format (kind ∷ k ∷ l ∷ m ∷ []) a is = absurd (let none : None ≡ Some a = is in cc)
+read_in_range format (kind ∷ k ∷ l ∷ m ∷ n ∷ rest) a is =
     let number : ℕ = from_be_bytes w32 (k ∷ l ∷ m ∷ n ∷ []) in
-    let key = then_is (λ x. action_in kind (record { 0 = x }) rest) (in_range 0 4294967295 number) a is in
+    let key = then_is (λ x. action_in format kind (record { 0 = x }) rest) (in_range 0 4294967295 number) a is in
     let key_is = in_range_is 0 4294967295 number key.0 key.1 in
-    kind_in_range kind (record { 0 = key.0 }) rest a (omega (arith, key_is.2)) key.2
+    kind_in_range format kind (record { 0 = key.0 }) rest a (omega (arith, key_is.2)) key.2
 
 -- the ranges are those of the steps
 range_is_deed : (done : Deed) → IsDeedInRange done → IsDeed done
@@ -114,10 +115,11 @@ few_of_deed (deed.Claim tricks) = omega arith
 few_of_deed deed.Agree = omega arith
 few_of_deed deed.Refuse = omega arith
 
-few_of_correction : (made : Correction) → length (correction_bytes made) ≤ 1
+few_of_correction : (made : Correction) → length (correction_bytes made) ≤ 2
 few_of_correction (correction.Tricks tricks) = omega arith
 few_of_correction correction.Void = omega arith
 few_of_correction correction.Restore = omega arith
+few_of_correction (correction.Adjust ns ew) = omega arith
 
 act_fits : (a : Act) → IsActInRange a → length (act_bytes a) ≤ 480
 act_fits (act.Player key board at done) is = omega (arith, few_of_deed done)

@@ -20,11 +20,17 @@ use Rattle.session_rules.specs.declared.correction.Correction.{Correction}
 use Rattle.session_rules.specs.declared.correction.Correction.TheVariants as correction
 use Rattle.session_rules.specs.declared.deed.Deed.{Deed}
 use Rattle.session_rules.specs.declared.deed.Deed.TheVariants as deed
+use Rattle.session_rules.specs.declared.average.Average.{Average}
+use Rattle.session_rules.specs.declared.average.Average.TheVariants.{Minus, Even, Plus}
 use Rattle.session_rules.specs.Act.{act_of, of_player, of_ruling}
+use Rattle.session_rules.specs.Average.{percent_of, average_of}
 use Rattle.session_rules.specs.StateRange.{IsCorrectionInRange}
 use Rattle.session_rules.proofs.Acts.{action_by, by_its_act, act_of_player, act_of_ruling}
+use Rattle.session_bytes.proofs.Options.{some_is, not_some}
 use Rattle.session_bytes.specs.ActionRange.{IsKey, IsTurn, IsPlay, IsDeedInRange, IsActInRange, IsInRange}
-use Rattle.session_bytes.specs.ActionBytes.{headed, turn_bytes, play_bytes, hand_bytes, deed_kind, deed_bytes, correction_kind, correction_bytes, act_bytes, action_bytes, in_range, only_byte, at_end, deed_in, player_action, turn_in, play_in, play_with, correction_in, ruling_on, ruling_in, hand_in, hands_in, deal_in, action_in, action_of}
+use Rattle.session_bytes.specs.ActionBytes.{headed, turn_bytes, play_bytes, hand_bytes, deed_kind, deed_bytes, correction_kind, correction_bytes, act_bytes, action_bytes, HasCorrection, HasAct, HasAction, in_range, only_byte, at_end, deed_in, player_action, turn_in, play_in, play_with, averages_of, averages_in, correction_in, ruling_on, ruling_in, hand_in, hands_in, deal_in, action_in, action_of}
+use Rattle.session_store.specs.declared.disk_format.DiskFormat.{DiskFormat}
+use Rattle.session_store.specs.declared.disk_format.DiskFormat.TheVariants.{One, Two}
 
 -- What is written is read back
 
@@ -32,12 +38,12 @@ use Rattle.session_bytes.specs.ActionBytes.{headed, turn_bytes, play_bytes, hand
 within : (least most number : ℕ) → least ≤ number → number ≤ most → in_range least most number ≡ Some number
 within least most number low high = rw (le-leb least number low, le-leb number most high) refl
 
-head_back : (kind : ℕ) (key : Key) (rest : List ℕ) → IsKey key → action_of (headed kind key.0 rest) ≡ action_in kind key rest
-head_back kind key rest is =
+head_back : (format : DiskFormat) (kind : ℕ) (key : Key) (rest : List ℕ) → IsKey key → action_of format (headed kind key.0 rest) ≡ action_in format kind key rest
+head_back format kind key rest is =
     let number : from_be_bytes w32 (to_be_bytes w32 key.0) ≡ key.0 = from_be_bytes-to_be_bytes_4 key.0 is in
     let read : in_range 0 4294967295 (from_be_bytes w32 (to_be_bytes w32 key.0)) ≡ Some key.0
     = ap (in_range 0 4294967295) number ∙ within 0 4294967295 key.0 (omega arith) (omega (arith, is)) in
-    ap (option_and_then (λ n. action_in kind (record { 0 = n }) rest)) read
+    ap (option_and_then (λ n. action_in format kind (record { 0 = n }) rest)) read
 
 turn_back : (kind : ℕ) (key : Key) (board at : ℕ) (rest : List ℕ) → IsTurn board at
     → turn_in kind key (turn_bytes board at rest) ≡ player_action kind key board at rest
@@ -55,9 +61,9 @@ play_back play is =
     let index = within 1 3 play.index is.2.0 is.2.1 in
     rw (round, table, index) refl
 
-ruling_back : (kind : ℕ) (key : Key) (play : PlayId) (rest : List ℕ) → IsPlay play
-    → ruling_in kind key (play_bytes play rest) ≡ ruling_on kind key play rest
-ruling_back kind key play rest is = ap (option_and_then (λ p. ruling_on kind key p rest)) (play_back play is)
+ruling_back : (format : DiskFormat) (kind : ℕ) (key : Key) (play : PlayId) (rest : List ℕ) → IsPlay play
+    → ruling_in format kind key (play_bytes play rest) ≡ ruling_on format kind key play rest
+ruling_back format kind key play rest is = ap (option_and_then (λ p. ruling_on format kind key p rest)) (play_back play is)
 
 hand_back : (hand : ℕ) → hand < 2 ^ 52 → hand_in (hand_bytes hand) ≡ Some hand
 hand_back hand few =
@@ -86,44 +92,66 @@ deed_back (deed.Claim tricks) is = ap (option_map deed.Claim) (within 0 13 trick
 deed_back deed.Agree is = refl
 deed_back deed.Refuse is = refl
 
-of_player_kind : (done : Deed) (key : Key) (rest : List ℕ) → action_in (deed_kind done) key rest ≡ turn_in (deed_kind done) key rest
-of_player_kind (deed.Call call) key rest = refl
-of_player_kind (deed.Card card) key rest = refl
-of_player_kind (deed.Claim tricks) key rest = refl
-of_player_kind deed.Agree key rest = refl
-of_player_kind deed.Refuse key rest = refl
+of_player_kind : (format : DiskFormat) (done : Deed) (key : Key) (rest : List ℕ) → action_in format (deed_kind done) key rest ≡ turn_in (deed_kind done) key rest
+of_player_kind format (deed.Call call) key rest = refl
+of_player_kind format (deed.Card card) key rest = refl
+of_player_kind format (deed.Claim tricks) key rest = refl
+of_player_kind format deed.Agree key rest = refl
+of_player_kind format deed.Refuse key rest = refl
+
+-- averages
+pub average_back : (average : Average) → average_of (percent_of average) ≡ Some average
+average_back Minus = refl
+average_back Even = refl
+average_back Plus = refl
+
+averages_back : (ns ew : Average) → averages_of (percent_of ns) (percent_of ew) ≡ Some (correction.Adjust ns ew)
+averages_back ns ew = rw (average_back ns, average_back ew) refl
 
 -- what is ruled
-correction_back : (made : Correction) → IsCorrectionInRange made → correction_in (correction_kind made) (correction_bytes made) ≡ Some made
-correction_back (correction.Tricks tricks) is = ap (option_map correction.Tricks) (within 0 13 tricks (omega arith) is)
-correction_back correction.Void is = refl
-correction_back correction.Restore is = refl
+correction_back : (format : DiskFormat) (made : Correction) → IsCorrectionInRange made → HasCorrection format made
+    → correction_in format (correction_kind made) (correction_bytes made) ≡ Some made
+correction_back format (correction.Tricks tricks) is has = ap (option_map correction.Tricks) (within 0 13 tricks (omega arith) is)
+correction_back format correction.Void is has = refl
+correction_back format correction.Restore is has = refl
+correction_back One (correction.Adjust ns ew) is has = absurd has
+correction_back Two (correction.Adjust ns ew) is has = averages_back ns ew
 
-of_ruling_kind : (made : Correction) (key : Key) (rest : List ℕ) → action_in (correction_kind made) key rest ≡ ruling_in (correction_kind made) key rest
-of_ruling_kind (correction.Tricks tricks) key rest = refl
-of_ruling_kind correction.Void key rest = refl
-of_ruling_kind correction.Restore key rest = refl
+of_ruling_kind : (format : DiskFormat) (made : Correction) (key : Key) (rest : List ℕ)
+    → action_in format (correction_kind made) key rest ≡ ruling_in format (correction_kind made) key rest
+of_ruling_kind format (correction.Tricks tricks) key rest = refl
+of_ruling_kind format correction.Void key rest = refl
+of_ruling_kind format correction.Restore key rest = refl
+of_ruling_kind format (correction.Adjust ns ew) key rest = refl
 
-act_back : (x : Act) → IsActInRange x → action_of (act_bytes x) ≡ Some (action_by x)
-act_back (act.Player key board at done) is =
-    head_back (deed_kind done) key (turn_bytes board at (deed_bytes done)) is.0
-    ∙ of_player_kind done key (turn_bytes board at (deed_bytes done))
+has_correction : (format : DiskFormat) (key : Key) (play : PlayId) (made : Correction) → HasAct format (act.Ruling key play made) → HasCorrection format made
+has_correction One key play made has = has
+has_correction Two key play made has = tt
+
+act_back : (format : DiskFormat) (x : Act) → IsActInRange x → HasAct format x → action_of format (act_bytes x) ≡ Some (action_by x)
+act_back format (act.Player key board at done) is has =
+    head_back format (deed_kind done) key (turn_bytes board at (deed_bytes done)) is.0
+    ∙ of_player_kind format done key (turn_bytes board at (deed_bytes done))
     ∙ turn_back (deed_kind done) key board at (deed_bytes done) is.1
     ∙ ap (option_map (of_player key board at)) (deed_back done is.2)
-act_back (act.Deal key board hands) is =
-    head_back 1 key (board ∷ flat_map hand_bytes hands) is.0
+act_back format (act.Deal key board hands) is has =
+    head_back format 1 key (board ∷ flat_map hand_bytes hands) is.0
     ∙ ap (option_and_then (λ b. option_map (Deal key b) (hands_in (flat_map hand_bytes hands)))) (within 1 36 board is.1.0 is.1.1)
     ∙ ap (option_map (Deal key board)) (hands_back hands is.2 is.3)
-act_back (act.RoundEnd key round) is =
-    head_back 7 key (round ∷ []) is.0 ∙ ap (option_map (NextRound key)) (within 1 12 round is.1.0 is.1.1)
-act_back (act.Ruling key play made) is =
-    head_back (correction_kind made) key (play_bytes play (correction_bytes made)) is.0
-    ∙ of_ruling_kind made key (play_bytes play (correction_bytes made))
-    ∙ ruling_back (correction_kind made) key play (correction_bytes made) is.1
-    ∙ ap (option_map (of_ruling key play)) (correction_back made is.2)
+act_back format (act.RoundEnd key round) is has =
+    head_back format 7 key (round ∷ []) is.0 ∙ ap (option_map (NextRound key)) (within 1 12 round is.1.0 is.1.1)
+act_back format (act.Ruling key play made) is has =
+    head_back format (correction_kind made) key (play_bytes play (correction_bytes made)) is.0
+    ∙ of_ruling_kind format made key (play_bytes play (correction_bytes made))
+    ∙ ruling_back format (correction_kind made) key play (correction_bytes made) is.1
+    ∙ ap (option_map (of_ruling key play)) (correction_back format made is.2 (has_correction format key play made has))
 
-pub read_back : (a : Action) → IsInRange a → action_of (action_bytes a) ≡ Some a
-read_back a is = act_back (act_of a) is ∙ ap Some (by_its_act a)
+own_back : (format : DiskFormat) (a : Action) → IsInRange a → HasAction format a → action_of format (action_bytes a) ≡ Some a
+own_back format a is has = act_back format (act_of a) is has ∙ ap Some (by_its_act a)
+
+-- the second format has every action
+pub read_back : (a : Action) → IsInRange a → action_of Two (action_bytes a) ≡ Some a
+read_back a is = own_back Two a is tt
 
 -- Only actions are read, each from its own bytes
 
@@ -284,8 +312,36 @@ play_is round table index play is =
 abbrev IsCorrectionOf : ℕ → List ℕ → Correction → Type 0
 IsCorrectionOf kind bytes made = IsCorrectionInRange made × (kind ≡ correction_kind made) × (bytes ≡ correction_bytes made)
 
-correction_is : (kind : ℕ) (rest : List ℕ) (made : Correction) → correction_in kind rest ≡ Some made → IsCorrectionOf kind rest made
-correction_is kind rest made is =
+pub average_is : (percent : ℕ) (average : Average) → average_of percent ≡ Some average → percent_of average ≡ percent
+average_is percent average is =
+    elim (if_is (percent == 40) (Some Minus) _ (Some average) is) [
+      | inl here ↦ ap percent_of (sym (some_is Minus average here.1)) ∙ sym (eqb-true percent 40 here.0)
+      | inr other ↦ elim (if_is (percent == 50) (Some Even) _ (Some average) other.1) [
+        | inl here ↦ ap percent_of (sym (some_is Even average here.1)) ∙ sym (eqb-true percent 50 here.0)
+        | inr other ↦ elim (if_is (percent == 60) (Some Plus) _ (Some average) other.1) [
+          | inl here ↦ ap percent_of (sym (some_is Plus average here.1)) ∙ sym (eqb-true percent 60 here.0)
+          | inr other ↦ absurd (not_some average other.1)
+        ]
+      ]
+    ]
+
+-- what is ruled by bytes behind the kind of averages
+averages_are : (kind : ℕ) (format : DiskFormat) (rest : List ℕ) (made : Correction) → kind ≡ 11 → averages_in format rest ≡ Some made → IsCorrectionOf kind rest made
+averages_are kind One rest made eleven is = absurd (not_some made is)
+averages_are kind Two [] made eleven is = absurd (not_some made is)
+averages_are kind Two (ns ∷ []) made eleven is = absurd (not_some made is)
+averages_are kind Two (ns ∷ ew ∷ []) made eleven is =
+    let first = then_is (λ n. option_map (correction.Adjust n) (average_of ew)) (average_of ns) made is in
+    let second = map_is (correction.Adjust first.0) (average_of ew) made first.2 in
+    subst (IsCorrectionOf kind (ns ∷ ew ∷ [])) second.2 (
+      tt,
+      eleven,
+      ap (λ n. n ∷ ew ∷ []) (sym (average_is ns first.0 first.1)) ∙ ap (λ n. percent_of first.0 ∷ n ∷ []) (sym (average_is ew second.0 second.1)),
+    )
+averages_are kind Two (ns ∷ ew ∷ more ∷ rest) made eleven is = absurd (not_some made is)
+
+correction_is : (format : DiskFormat) (kind : ℕ) (rest : List ℕ) (made : Correction) → correction_in format kind rest ≡ Some made → IsCorrectionOf kind rest made
+correction_is format kind rest made is =
     elim (if_is (kind == 8) _ _ (Some made) is) [
       | inl here ↦
           let found = map_is correction.Tricks _ made here.1 in
@@ -299,30 +355,33 @@ correction_is kind rest made is =
           | inl here ↦
               let found = end_is rest correction.Restore made here.1 in
               subst (IsCorrectionOf kind rest) found.1 (tt, eqb-true kind 10 here.0, found.0)
-          | inr other ↦ let none : None ≡ Some made = other.1 in absurd cc
+          | inr other ↦ elim (if_is (kind == 11) _ _ (Some made) other.1) [
+            | inl here ↦ averages_are kind format rest made (eqb-true kind 11 here.0) here.1
+            | inr other ↦ absurd (not_some made other.1)
+          ]
         ]
       ]
     ]
 
-ruled_is : (kind : ℕ) (key : Key) (play : PlayId) (rest : List ℕ) (a : Action) → IsKey key → IsPlay play
-    → ruling_on kind key play rest ≡ Some a → Reads kind key (play_bytes play rest) a
-ruled_is kind key play rest a is_key is_play is =
-    let found = map_is (of_ruling key play) (correction_in kind rest) a is in
-    let known = correction_is kind rest found.0 found.1 in
+ruled_is : (format : DiskFormat) (kind : ℕ) (key : Key) (play : PlayId) (rest : List ℕ) (a : Action) → IsKey key → IsPlay play
+    → ruling_on format kind key play rest ≡ Some a → Reads kind key (play_bytes play rest) a
+ruled_is format kind key play rest a is_key is_play is =
+    let found = map_is (of_ruling key play) (correction_in format kind rest) a is in
+    let known = correction_is format kind rest found.0 found.1 in
     reads kind key (play_bytes play rest) (act.Ruling key play found.0) a
     (ap act_of (sym found.2) ∙ act_of_ruling key play found.0) (is_key, is_play, known.0)
     (ap (λ k. headed k key.0 (play_bytes play (correction_bytes found.0))) (sym known.1)
     ∙ ap (λ xs. headed kind key.0 (play_bytes play xs)) (sym known.2))
 
-pub ruling_is : (kind : ℕ) (key : Key) (bytes : List ℕ) (a : Action) → IsKey key → ruling_in kind key bytes ≡ Some a
+pub ruling_is : (format : DiskFormat) (kind : ℕ) (key : Key) (bytes : List ℕ) (a : Action) → IsKey key → ruling_in format kind key bytes ≡ Some a
     → Reads kind key bytes a
-ruling_is kind key [] a is_key is = absurd (let none : None ≡ Some a = is in cc)
-ruling_is kind key (round ∷ []) a is_key is = absurd (let none : None ≡ Some a = is in cc)
-ruling_is kind key (round ∷ table ∷ []) a is_key is = absurd (let none : None ≡ Some a = is in cc)
-ruling_is kind key (round ∷ table ∷ index ∷ rest) a is_key is =
-    let p = then_is (λ play. ruling_on kind key play rest) (play_in round table index) a is in
+ruling_is format kind key [] a is_key is = absurd (let none : None ≡ Some a = is in cc)
+ruling_is format kind key (round ∷ []) a is_key is = absurd (let none : None ≡ Some a = is in cc)
+ruling_is format kind key (round ∷ table ∷ []) a is_key is = absurd (let none : None ≡ Some a = is in cc)
+ruling_is format kind key (round ∷ table ∷ index ∷ rest) a is_key is =
+    let p = then_is (λ play. ruling_on format kind key play rest) (play_in round table index) a is in
     let play = play_is round table index p.0 p.1 in
-    let known = ruled_is kind key p.0 rest a is_key play.0 p.2 in
+    let known = ruled_is format kind key p.0 rest a is_key play.0 p.2 in
     (known.0, known.1 ∙ ap (λ (q : PlayId). headed kind key.0 (play_bytes q rest)) play.1)
 
 pub four_all : (n e s w : ℕ) → IsCardSet n → IsCardSet e → IsCardSet s → IsCardSet w → All IsCardSet (n ∷ e ∷ s ∷ w ∷ [])
@@ -375,9 +434,9 @@ deal_is key (board ∷ rest) a are is_key is =
     (is_key, (board_is.1, board_is.2), hands.0, hands.1)
     (ap (λ xs. headed 1 key.0 (b.0 ∷ xs)) hands.2 ∙ ap (λ x. headed 1 key.0 (x ∷ rest)) (sym board_is.0))
 
-kind_is : (kind : ℕ) (key : Key) (bytes : List ℕ) (a : Action) → AreBytes bytes → IsKey key → action_in kind key bytes ≡ Some a
+kind_is : (format : DiskFormat) (kind : ℕ) (key : Key) (bytes : List ℕ) (a : Action) → AreBytes bytes → IsKey key → action_in format kind key bytes ≡ Some a
     → Reads kind key bytes a
-kind_is kind key bytes a are is_key is =
+kind_is format kind key bytes a are is_key is =
     elim (if_is (kind == 1) _ _ (Some a) is) [
       | inl here ↦
           let known = deal_is key bytes a are is_key here.1 in
@@ -390,31 +449,33 @@ kind_is kind key bytes a are is_key is =
             (ap (λ k. headed k key.0 (found.0 ∷ [])) (sym (eqb-true kind 7 here.0)) ∙ ap (headed kind key.0) (sym last.0))
         | inr other ↦ elim (if_is (nat_le kind 6) _ _ (Some a) other.1) [
           | inl here ↦ turn_is kind key bytes a are is_key here.1
-          | inr other ↦ ruling_is kind key bytes a is_key other.1
+          | inr other ↦ ruling_is format kind key bytes a is_key other.1
         ]
       ]
     ]
 
 -- an action that is read is within its ranges, and the bytes are those of the action
-pub read_is : (bytes : List ℕ) (a : Action) → AreBytes bytes → action_of bytes ≡ Some a → IsInRange a × (action_bytes a ≡ bytes)
-read_is [] a are is = absurd (let none : None ≡ Some a = is in cc)
-read_is (kind ∷ []) a are is = absurd (let none : None ≡ Some a = is in cc)
-read_is (kind ∷ k ∷ []) a are is = absurd (let none : None ≡ Some a = is in cc)
-read_is (kind ∷ k ∷ l ∷ []) a are is = absurd (let none : None ≡ Some a = is in cc)
-read_is (kind ∷ k ∷ l ∷ m ∷ []) a are is = absurd (let none : None ≡ Some a = is in cc)
-read_is (kind ∷ k ∷ l ∷ m ∷ n ∷ rest) a are is =
+pub read_is : (format : DiskFormat) (bytes : List ℕ) (a : Action) → AreBytes bytes → action_of format bytes ≡ Some a → IsInRange a × (action_bytes a ≡ bytes)
+read_is format [] a are is = absurd (let none : None ≡ Some a = is in cc)
+read_is format (kind ∷ []) a are is = absurd (let none : None ≡ Some a = is in cc)
+read_is format (kind ∷ k ∷ []) a are is = absurd (let none : None ≡ Some a = is in cc)
+read_is format (kind ∷ k ∷ l ∷ []) a are is = absurd (let none : None ≡ Some a = is in cc)
+read_is format (kind ∷ k ∷ l ∷ m ∷ []) a are is = absurd (let none : None ≡ Some a = is in cc)
+read_is format (kind ∷ k ∷ l ∷ m ∷ n ∷ rest) a are is =
     let number : ℕ = from_be_bytes w32 (k ∷ l ∷ m ∷ n ∷ []) in
-    let key = then_is (λ x. action_in kind (record { 0 = x }) rest) (in_range 0 4294967295 number) a is in
+    let key = then_is (λ x. action_in format kind (record { 0 = x }) rest) (in_range 0 4294967295 number) a is in
     let key_is = in_range_is 0 4294967295 number key.0 key.1 in
     let four : to_be_bytes w32 key.0 ≡ k ∷ l ∷ m ∷ n ∷ []
     = be_bytes_4 (k ∷ l ∷ m ∷ n ∷ []) key.0 refl (four_bytes k l m n (are 1) (are 2) (are 3) (are 4)) (sym key_is.0) in
-    let known = kind_is kind (record { 0 = key.0 }) rest a (λ i. are (suc (suc (suc (suc (suc i)))))) (omega (arith, key_is.2)) key.2 in
+    let known = kind_is format kind (record { 0 = key.0 }) rest a (λ i. are (suc (suc (suc (suc (suc i)))))) (omega (arith, key_is.2)) key.2 in
     (known.0, known.1 ∙ ap (λ xs. kind ∷ (xs ++ rest)) four)
 
-pub read_written : (bytes : List ℕ) (o : Option Action) → AreBytes bytes → o ≡ action_of bytes → IfSome o (λ a. action_bytes a ≡ bytes)
-read_written bytes None are is = tt
-read_written bytes (Some a) are is = (read_is bytes a are (sym is)).1
+pub read_written : (format : DiskFormat) (bytes : List ℕ) (o : Option Action) → AreBytes bytes → o ≡ action_of format bytes → IfSome o (λ a. action_bytes a ≡ bytes)
+read_written format bytes None are is = tt
+read_written format bytes (Some a) are is = (read_is format bytes a are (sym is)).1
 
-pub read_other : (bytes : List ℕ) (o : Option Action) → o ≡ action_of bytes → IfNone o ((a : Action) → IsInRange a → action_bytes a ≢ bytes)
-read_other bytes None is = λ a range same. let found : None ≡ Some a = is ∙ ap action_of (sym same) ∙ read_back a range in absurd cc
-read_other bytes (Some a) is = tt
+pub read_other : (format : DiskFormat) (bytes : List ℕ) (o : Option Action) → o ≡ action_of format bytes
+    → IfNone o ((a : Action) → IsInRange a → HasAction format a → action_bytes a ≢ bytes)
+read_other format bytes None is =
+    λ a range has same. not_some a (is ∙ ap (action_of format) (sym same) ∙ own_back format a range has)
+read_other format bytes (Some a) is = tt

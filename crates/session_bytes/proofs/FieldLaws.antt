@@ -15,7 +15,7 @@ use Rattle.bridge_play.specs.declared.claim.Claim.{Claim}
 use Rattle.session_bytes.specs.declared.record_fields.RecordFields.{RecordFields}
 use Rattle.session_rules.specs.declared.ruling.Ruling.{Ruling}
 use Rattle.session_rules.specs.Record.{PlainRecord, contract_in}
-use Rattle.session_bytes.specs.Parts.{text_bytes, value_if, agreed_byte, is_agreed_in, claim_bytes, ruling_bytes, record_part}
+use Rattle.session_bytes.specs.Parts.{text_bytes, value_if, agreed_byte, is_agreed_in, claim_bytes, HasRuling, HasRecord, ruling_bytes, record_part}
 use Rattle.session_rules.specs.StateRange.{IsOfFourSeats, IsRulingInRange, IsRecordInRange}
 use Rattle.session_bytes.specs.PartsRead.{agreed_in}
 use Rattle.session_bytes.specs.Reading.{Fields, fields_in, fields_of, bytes_at, calls_at, cards_at, seat_numbered, claimed_by, marked_at, claim_at, ruling_at, claims_at, fields_at, fields_part, AreFieldsOf}
@@ -204,7 +204,7 @@ join a b c d e n =
 
 claims_take : (format : DiskFormat) (calls cards bytes : List ℕ) (f : Fields) → claims_at format calls cards bytes ≡ Some f
     → (f.calls ≡ calls) × (f.cards ≡ cards) × (f.claims ∷ (claim_bytes f.agreed f.claim ++ ruling_bytes format f.ruling) ≡ bytes)
-    × IfSome f.claim IsOfFourSeats × IfSome f.ruling IsRulingInRange
+    × IfSome f.claim IsOfFourSeats × IfSome f.ruling IsRulingInRange × IfSome f.ruling (HasRuling format)
 claims_take format calls cards [] f is = absurd (not_some f is)
 claims_take format calls cards (claims ∷ rest) f is =
     let made : Option Claim × Bool × List ℕ → Option Ruling → Fields
@@ -215,8 +215,8 @@ claims_take format calls cards (claims ∷ rest) f is =
     let first = claim_take rest both claim.1 in
     let second = ruling_take format both.2 ruled.0 ruled.1 in
     subst (λ (f : Fields). (f.calls ≡ calls) × (f.cards ≡ cards) × (f.claims ∷ (claim_bytes f.agreed f.claim ++ ruling_bytes format f.ruling) ≡ claims ∷ rest)
-    × IfSome f.claim IsOfFourSeats × IfSome f.ruling IsRulingInRange) ruled.2
-    (refl, refl, ap (λ xs. claims ∷ (claim_bytes both.1 both.0 ++ xs)) second.0 ∙ ap (λ xs. claims ∷ xs) first.0, first.1, second.1)
+    × IfSome f.claim IsOfFourSeats × IfSome f.ruling IsRulingInRange × IfSome f.ruling (HasRuling format)) ruled.2
+    (refl, refl, ap (λ xs. claims ∷ (claim_bytes both.1 both.0 ++ xs)) second.0 ∙ ap (λ xs. claims ∷ xs) first.0, first.1, second.1, second.2)
 
 fields_take : (format : DiskFormat) (bytes : List ℕ) (f : Fields) → AreBytes bytes → fields_at format bytes ≡ Some f → AreFieldsOf format bytes f
 fields_take format bytes f are is =
@@ -243,6 +243,7 @@ fields_take format bytes f are is =
       few_cards = omega (arith, long, one, two, three);
       answers = third.3;
       ruled = third.4;
+      of_format = third.5;
     }
 
 -- without a claim none is agreed
@@ -250,9 +251,9 @@ unmarked : (plain : PlainRecord) (contract : Option Contract) → contract_in pl
 unmarked plain None is none = rw is refl
 unmarked plain (Some contract) is none = rw (is, none) refl
 
-pub fields_again : (format : DiskFormat) (plain : PlainRecord) → length plain.calls ≤ 319 → IsRecordInRange plain
+pub fields_again : (format : DiskFormat) (plain : PlainRecord) → length plain.calls ≤ 319 → IsRecordInRange plain → HasRecord format plain
     → fields_at format (record_part format plain) ≡ Some (fields_of plain)
-fields_again format plain few in_range =
+fields_again format plain few in_range has =
     let numbers : List ℕ = map call_number plain.calls in
     let claim : List ℕ = claim_bytes (is_agreed_in plain) plain.claim in
     let behind : List ℕ = plain.claims ∷ (claim ++ ruling_bytes format plain.ruling) in
@@ -264,7 +265,7 @@ fields_again format plain few in_range =
     let second : cards_at (text_bytes plain.cards ++ behind) ≡ Some (plain.cards, behind) = split_again plain.cards behind in
     let third : claim_at (claim ++ ruling_bytes format plain.ruling) ≡ Some (plain.claim, is_agreed_in plain, ruling_bytes format plain.ruling)
     = claim_again (is_agreed_in plain) plain.claim (ruling_bytes format plain.ruling) in_range.claim (unmarked plain (contract_in plain) refl) in
-    let fourth : ruling_at format (ruling_bytes format plain.ruling) ≡ Some plain.ruling = ruling_again format plain.ruling in_range.ruling in
+    let fourth : ruling_at format (ruling_bytes format plain.ruling) ≡ Some plain.ruling = ruling_again format plain.ruling in_range.ruling has in
     rw (first, second, third, fourth) refl
 
 -- what was read, as a result tells it
@@ -274,7 +275,7 @@ fields_written format bytes None are is = tt
 fields_written format bytes (Some fields) are is = fields_take format bytes (fields_in fields) are (sym is)
 
 pub fields_other : (format : DiskFormat) (bytes : List ℕ) (o : Option RecordFields) → option_map fields_in o ≡ fields_at format bytes
-    → IfNone o ((plain : PlainRecord) → length plain.calls ≤ 319 → IsRecordInRange plain → record_part format plain ≢ bytes)
+    → IfNone o ((plain : PlainRecord) → length plain.calls ≤ 319 → IsRecordInRange plain → HasRecord format plain → record_part format plain ≢ bytes)
 fields_other format bytes None is =
-    λ plain few in_range same. not_some (fields_of plain) (is ∙ ap (fields_at format) (sym same) ∙ fields_again format plain few in_range)
+    λ plain few in_range has same. not_some (fields_of plain) (is ∙ ap (fields_at format) (sym same) ∙ fields_again format plain few in_range has)
 fields_other format bytes (Some fields) is = tt

@@ -24,6 +24,8 @@ use Rattle.bridge_play.specs.declared.claim.Claim.{Claim}
 use Rattle.bridge_play.specs.Legal as cards
 use Rattle.bridge_play.specs.Play.{PlayValue, IsPlay, is_over}
 use Rattle.bridge_play.specs.Trick.{turn_of}
+use Rattle.bridge_score.specs.declared.ranking.Scoring.{Scoring}
+use Rattle.bridge_score.specs.declared.ranking.Scoring.TheVariants.{MatchPoints, Imps}
 use Rattle.bridge_table.specs.declared.record.Record.{Record}
 use Rattle.session_rules.specs.declared.refused.Refused.TheVariants.{NotFinished}
 use Rattle.session_rules.specs.declared.ruling.Ruling.{Ruling}
@@ -32,10 +34,10 @@ use Rattle.session_rules.specs.Correction.{tricks_answer}
 use Rattle.session_rules.specs.Record.{PlainRecord, empty_record, contract_in, playing_in, play_of, is_open}
 use Rattle.bridge_table.specs.Kept.{plain_of, is_kept_open, IsTied}
 use Rattle.session_rules.specs.State.{deal_on}
-use Rattle.session_bytes.specs.Parts.{is_agreed_in, record_part}
+use Rattle.session_bytes.specs.Parts.{HasRecord, is_agreed_in, record_part}
 use Rattle.session_rules.specs.StateRange.{AreHands, AreHandsOrNone, IsOfFourSeats, IsRulingInRange, IsRecordInRange}
 use Rattle.session_rules.specs.Valid.{MayStand, IsUnplayed, IsValidRecord}
-use Rattle.session_bytes.specs.Reading.{some_call, Fields, fields_at, fields_of, plain_from, IsPlayed, may_stand, is_in_place}
+use Rattle.session_bytes.specs.Reading.{some_call, Fields, fields_at, fields_of, plain_from, IsPlayed, is_by_matchpoints, may_stand, is_in_place}
 use Rattle.session_store.specs.declared.disk_format.DiskFormat.{DiskFormat}
 use Rattle.session_rules.proofs.Lists.{all_at, not_true}
 use Rattle.session_bytes.proofs.FieldLaws.{fields_again}
@@ -119,9 +121,9 @@ dealt_on deals board all = found_or_none (slice_get deals (board - 1)) (all_at A
 -- The record of the fields
 
 -- the part of a valid record says its fields
-pub valid_fields : (format : DiskFormat) (deals : List (Option (List ℕ))) (now round : ℕ) (plain : PlainRecord) → IsValidRecord deals now round plain
-    → IsRecordInRange plain → fields_at format (record_part format plain) ≡ Some (fields_of plain)
-valid_fields format deals now round plain valid in_range = fields_again format plain (legal_length plain.calls valid.calls) in_range
+pub valid_fields : (format : DiskFormat) (scoring : Scoring) (deals : List (Option (List ℕ))) (now round : ℕ) (plain : PlainRecord) → IsValidRecord scoring deals now round plain
+    → IsRecordInRange plain → HasRecord format plain → fields_at format (record_part format plain) ≡ Some (fields_of plain)
+valid_fields format scoring deals now round plain valid in_range has = fields_again format plain (legal_length plain.calls valid.calls) in_range has
 
 pub plain_is : (plain : PlainRecord) (board : ℕ) (calls : List Call) (fields : Fields) → plain.board ≡ board → IsLegal plain.calls → IsLegal calls
     → map call_number calls ≡ fields.calls → fields_of plain ≡ fields → plain ≡ plain_from board calls fields
@@ -185,19 +187,25 @@ stands_over : (hands : List ℕ) (plain : PlainRecord) (contract : Option Contra
 stands_over hands plain None ok = absurd cc
 stands_over hands plain (Some contract) ok = over_done [] (Some (playing_in [] plain contract)) ok
 
-ruling_stands : (hands : List ℕ) (plain : PlainRecord) (play : Option PlayValue) (made : Option Ruling) → play ≡ play_of hands plain
-    → may_stand play made ≡ true → IfSome made (MayStand (play_of [] plain))
-ruling_stands hands plain play None is stands = tt
-ruling_stands hands plain play (Some (ruling.Tricks tricks)) is stands =
-    over_stands hands plain (contract_in plain) (ap (λ p. option_map_or is_over p false) (sym is) ∙ stands)
-ruling_stands hands plain play (Some ruling.Void) is stands = tt
+is_matchpoints : (scoring : Scoring) → is_by_matchpoints scoring ≡ true → scoring ≡ MatchPoints
+is_matchpoints MatchPoints is = refl
+is_matchpoints Imps is = absurd cc
 
-stands_ruling : (hands : List ℕ) (plain : PlainRecord) (play : Option PlayValue) (made : Option Ruling) → play ≡ play_of hands plain
-    → IfSome made (MayStand (play_of [] plain)) → may_stand play made ≡ true
-stands_ruling hands plain play None is ruled = refl
-stands_ruling hands plain play (Some (ruling.Tricks tricks)) is ruled =
+ruling_stands : (scoring : Scoring) (hands : List ℕ) (plain : PlainRecord) (play : Option PlayValue) (made : Option Ruling) → play ≡ play_of hands plain
+    → may_stand scoring play made ≡ true → IfSome made (MayStand scoring (play_of [] plain))
+ruling_stands scoring hands plain play None is stands = tt
+ruling_stands scoring hands plain play (Some (ruling.Tricks tricks)) is stands =
+    over_stands hands plain (contract_in plain) (ap (λ p. option_map_or is_over p false) (sym is) ∙ stands)
+ruling_stands scoring hands plain play (Some ruling.Void) is stands = tt
+ruling_stands scoring hands plain play (Some (ruling.Adjusted ns ew)) is stands = is_matchpoints scoring stands
+
+stands_ruling : (scoring : Scoring) (hands : List ℕ) (plain : PlainRecord) (play : Option PlayValue) (made : Option Ruling) → play ≡ play_of hands plain
+    → IfSome made (MayStand scoring (play_of [] plain)) → may_stand scoring play made ≡ true
+stands_ruling scoring hands plain play None is ruled = refl
+stands_ruling scoring hands plain play (Some (ruling.Tricks tricks)) is ruled =
     ap (λ p. option_map_or is_over p false) is ∙ stands_over hands plain (contract_in plain) ruled
-stands_ruling hands plain play (Some ruling.Void) is ruled = refl
+stands_ruling scoring hands plain play (Some ruling.Void) is ruled = refl
+stands_ruling scoring hands plain play (Some (ruling.Adjusted ns ew)) is ruled = ap is_by_matchpoints ruled
 
 or_right : (a b : Bool) → (a || b) ≡ true → a ≡ false → b ≡ true
 or_right true b is first = absurd cc
@@ -223,20 +231,20 @@ empty_is plain calls unplayed ruled =
     ∙ ap (λ r. made [] [] 0 None r) ruled
 
 -- what the test of a record's index says
-pub record IsInPlace (now round : ℕ) (plain : PlainRecord) : Type 0 where
-  pub ruled : IfSome plain.ruling (MayStand (play_of [] plain))
+pub record IsInPlace (scoring : Scoring) (now round : ℕ) (plain : PlainRecord) : Type 0 where
+  pub ruled : IfSome plain.ruling (MayStand scoring (play_of [] plain))
   pub later : now < round → plain ≡ empty_record plain.board
   pub earlier : round < now → is_open plain ≡ false
 
-pub in_place : (hands : List ℕ) (now round : ℕ) (kept : Record) → IsTied hands kept → (contract_in (plain_of kept) ≡ None → IsUnplayed (plain_of kept))
-    → is_in_place now round kept ≡ true → IsInPlace now round (plain_of kept)
-in_place hands now round kept tied unplayed is =
+pub in_place : (scoring : Scoring) (hands : List ℕ) (now round : ℕ) (kept : Record) → IsTied hands kept → (contract_in (plain_of kept) ≡ None → IsUnplayed (plain_of kept))
+    → is_in_place scoring now round kept ≡ true → IsInPlace scoring now round (plain_of kept)
+in_place scoring hands now round kept tied unplayed is =
     let plain = plain_of kept in
     let untouched : Bool = length kept.auction.calls == 0 && not (is_some kept.ruling) in
-    let first = and_parts (may_stand kept.play kept.ruling) ((nat_le round now || untouched) && (nat_le now round || not (is_kept_open kept))) is in
+    let first = and_parts (may_stand scoring kept.play kept.ruling) ((nat_le round now || untouched) && (nat_le now round || not (is_kept_open kept))) is in
     let second = and_parts (nat_le round now || untouched) (nat_le now round || not (is_kept_open kept)) first.1 in
     record {
-      ruled = ruling_stands hands plain kept.play kept.ruling tied.play first.0;
+      ruled = ruling_stands scoring hands plain kept.play kept.ruling tied.play first.0;
       later = λ less.
           let both = and_parts (length kept.auction.calls == 0) (not (is_some kept.ruling)) (or_right (nat_le round now) untouched second.0 (lt-leb round now less)) in
           let none : kept.auction.calls ≡ [] = nil_from_length kept.auction.calls (eqb-true (length kept.auction.calls) 0 both.0) in
@@ -246,10 +254,10 @@ in_place hands now round kept tied unplayed is =
           ∙ not_true (is_kept_open kept) (or_right (nat_le now round) (not (is_kept_open kept)) second.1 (lt-leb now round less));
     }
 
-pub placed_in : (hands : List ℕ) (now round : ℕ) (kept : Record) → IsTied hands kept → IsInPlace now round (plain_of kept) → is_in_place now round kept ≡ true
-placed_in hands now round kept tied placed =
+pub placed_in : (scoring : Scoring) (hands : List ℕ) (now round : ℕ) (kept : Record) → IsTied hands kept → IsInPlace scoring now round (plain_of kept) → is_in_place scoring now round kept ≡ true
+placed_in scoring hands now round kept tied placed =
     let plain = plain_of kept in
-    let first = stands_ruling hands plain kept.play kept.ruling tied.play placed.ruled in
+    let first = stands_ruling scoring hands plain kept.play kept.ruling tied.play placed.ruled in
     let second = or_either (nat_le round now) (length kept.auction.calls == 0 && not (is_some kept.ruling)) (λ after.
     let empty = placed.later (leb-false round now after) in
     let calls : kept.auction.calls ≡ [] = ap (λ (x : PlainRecord). x.calls) empty in
@@ -273,14 +281,14 @@ pub record AreRead (deal : Option (List ℕ)) (board : ℕ) (auction : AuctionVa
   pub play_is : play ≡ play_of (unwrap_or deal []) (plain_from board auction.calls fields)
   pub played : IsPlayed (unwrap_or deal []) (plain_from board auction.calls fields)
 
-module _ (deals : List (Option (List ℕ))) (now round : ℕ) (deal : Option (List ℕ)) (board : ℕ) (auction : AuctionValue) (fields : Fields) where
+module _ (scoring : Scoring) (deals : List (Option (List ℕ))) (now round : ℕ) (deal : Option (List ℕ)) (board : ℕ) (auction : AuctionValue) (fields : Fields) where
   -- a valid record of the fields is what they say
   pub valid_is : (plain : PlainRecord) → IsLegal auction.calls → map call_number auction.calls ≡ fields.calls → plain.board ≡ board
-      → IsValidRecord deals now round plain → fields_of plain ≡ fields → IsValidRecord deals now round (plain_from board auction.calls fields)
+      → IsValidRecord scoring deals now round plain → fields_of plain ≡ fields → IsValidRecord scoring deals now round (plain_from board auction.calls fields)
   valid_is plain legal numbers board_is valid is =
-      subst (IsValidRecord deals now round) (plain_is plain board auction.calls fields board_is valid.calls legal numbers is) valid
+      subst (IsValidRecord scoring deals now round) (plain_is plain board auction.calls fields board_is valid.calls legal numbers is) valid
 
-  pub valid_played : deal ≡ deal_on deals board → IsValidRecord deals now round (plain_from board auction.calls fields)
+  pub valid_played : deal ≡ deal_on deals board → IsValidRecord scoring deals now round (plain_from board auction.calls fields)
       → IsPlayed (unwrap_or deal []) (plain_from board auction.calls fields)
   valid_played deal_is valid = record {
     unplayed = valid.unplayed;
@@ -288,8 +296,8 @@ module _ (deals : List (Option (List ℕ))) (now round : ℕ) (deal : Option (Li
   }
 
   pub read_valid : (play : Option PlayValue) → deal ≡ deal_on deals board → AreRead deal board auction fields play
-      → is_in_place now round (kept_of board auction play fields.ruling) ≡ true
-      → IsValidRecord deals now round (plain_of (kept_of board auction play fields.ruling))
+      → is_in_place scoring now round (kept_of board auction play fields.ruling) ≡ true
+      → IsValidRecord scoring deals now round (plain_of (kept_of board auction play fields.ruling))
   read_valid play deal_is read is =
       let hands : List ℕ = unwrap_or deal [] in
       let kept = kept_of board auction play fields.ruling in
@@ -298,8 +306,8 @@ module _ (deals : List (Option (List ℕ))) (now round : ℕ) (deal : Option (Li
       let tied = kept_tied hands board auction fields play read.dealer read.play_is read.played in
       let unplayed : contract_in (plain_of kept) ≡ None → IsUnplayed (plain_of kept)
       = subst (λ (x : PlainRecord). contract_in x ≡ None → IsUnplayed x) (sym same) read.played.unplayed in
-      let placed = subst (IsInPlace now round) same (in_place hands now round kept tied unplayed is) in
-      subst (IsValidRecord deals now round) (sym same) (record {
+      let placed = subst (IsInPlace scoring now round) same (in_place scoring hands now round kept tied unplayed is) in
+      subst (IsValidRecord scoring deals now round) (sym same) (record {
         calls = read.legal;
         dealt = λ none. read.undealt (is_undealt deal (deal_is ∙ none));
         unplayed = read.played.unplayed;
@@ -316,15 +324,15 @@ module _ (deals : List (Option (List ℕ))) (now round : ℕ) (deal : Option (Li
       subst IsRecordInRange (sym (kept_is (unwrap_or deal []) board auction fields play read.play_is read.played)) (record { claim = claim; ruling = made })
 
   -- where the record of the fields is valid it is taken
-  pub valid_taken : (play : Option PlayValue) → AreRead deal board auction fields play → IsValidRecord deals now round (plain_from board auction.calls fields)
-      → is_in_place now round (kept_of board auction play fields.ruling) ≡ true
+  pub valid_taken : (play : Option PlayValue) → AreRead deal board auction fields play → IsValidRecord scoring deals now round (plain_from board auction.calls fields)
+      → is_in_place scoring now round (kept_of board auction play fields.ruling) ≡ true
   valid_taken play read valid =
       let hands : List ℕ = unwrap_or deal [] in
       let kept = kept_of board auction play fields.ruling in
       let plain = plain_from board auction.calls fields in
       let same : plain_of kept ≡ plain = kept_is hands board auction fields play read.play_is read.played in
-      placed_in hands now round kept (kept_tied hands board auction fields play read.dealer read.play_is read.played)
-      (subst (IsInPlace now round) (sym same) (record { ruled = valid.ruled; later = valid.later; earlier = valid.earlier }))
+      placed_in scoring hands now round kept (kept_tied hands board auction fields play read.dealer read.play_is read.played)
+      (subst (IsInPlace scoring now round) (sym same) (record { ruled = valid.ruled; later = valid.later; earlier = valid.earlier }))
 
   pub valid_agreed : (play : Option PlayValue) (plain : PlainRecord) → AreRead deal board auction fields play → map call_number auction.calls ≡ fields.calls
       → plain.board ≡ board → IsLegal plain.calls → fields_of plain ≡ fields

@@ -13,10 +13,11 @@ use Rattle.std.proofs.lemmas.List.Elements.{All-push}
 use Rattle.std.proofs.lemmas.Option.{slice_get_within, slice_get-map, slice_get_past, get_or_from_slice_get}
 use Rattle.bridge_movement.specs.declared.row.Row.{Row}
 use Rattle.bridge_movement.specs.Row.{is_live}
+use Rattle.bridge_score.specs.declared.ranking.Scoring.{Scoring}
 use Rattle.bridge_table.specs.declared.record.Record.{Record}
 use Rattle.session_rules.specs.Record.{PlainRecord, empty_record}
 use Rattle.bridge_table.specs.Kept.{plain_of}
-use Rattle.session_bytes.specs.Parts.{record_part, record_or_empty, row_parts}
+use Rattle.session_bytes.specs.Parts.{HasRecord, record_part, record_or_empty, row_parts}
 use Rattle.session_rules.specs.State.{row_boards}
 use Rattle.session_rules.specs.StateRange.{IsRecordInRange}
 use Rattle.session_rules.specs.Valid.{board_of, IsValidRecord}
@@ -30,20 +31,21 @@ use Rattle.session_bytes.proofs.PartLemmas.{next_taken, length-flat_fixed}
 range_next : (first i : ℕ) → range_with_len first (i + 1) ≡ range_with_len first i ++ (first + i) ∷ []
 range_next first i = ap (range_with_len first) (add-one i) ∙ range-push first i
 
-module _ (deals : List (Option (List ℕ))) (now round : ℕ) where
+module _ (format : DiskFormat) (scoring : Scoring) (deals : List (Option (List ℕ))) (now round : ℕ) where
   -- one record more
-  pub records_push : (format : DiskFormat) (first i board : ℕ) (part : List ℕ) (table : List Record) (kept : Record) → board ≡ first + i
-      → AreRecords deals now round (range_with_len first i) (map plain_of table) → IsReadFrom format deals now round board part kept
-      → AreRecords deals now round (range_with_len first (i + 1)) (map plain_of (table ++ kept ∷ []))
-  records_push format first i board part table kept board_is are read =
+  pub records_push : (first i board : ℕ) (part : List ℕ) (table : List Record) (kept : Record) → board ≡ first + i
+      → AreRecords format scoring deals now round (range_with_len first i) (map plain_of table) → IsReadFrom format scoring deals now round board part kept
+      → AreRecords format scoring deals now round (range_with_len first (i + 1)) (map plain_of (table ++ kept ∷ []))
+  records_push first i board part table kept board_is are read =
       let longer : map plain_of (table ++ kept ∷ []) ≡ map plain_of table ++ plain_of kept ∷ [] = map-append plain_of table (kept ∷ []) in
-      subst (AreRecords deals now round (range_with_len first (i + 1))) (sym longer) (record {
+      subst (AreRecords format scoring deals now round (range_with_len first (i + 1))) (sym longer) (record {
         boards_are = map-append board_of (map plain_of table) (plain_of kept ∷ [])
             ∙ ap (λ bs. bs ++ kept.board ∷ []) are.boards_are
             ∙ ap (λ b. range_with_len first i ++ b ∷ []) (read.board_is ∙ board_is)
             ∙ sym (range_next first i);
-        valid = All-push (IsValidRecord deals now round) (map plain_of table) (plain_of kept) are.valid read.valid;
+        valid = All-push (IsValidRecord scoring deals now round) (map plain_of table) (plain_of kept) are.valid read.valid;
         in_range = All-push IsRecordInRange (map plain_of table) (plain_of kept) are.in_range read.in_range;
+        of_format = All-push (HasRecord format) (map plain_of table) (plain_of kept) are.of_format read.of_format;
       })
 
 -- the number at an index of a range
@@ -61,9 +63,9 @@ board_there first count i records plain is found =
 -- The parts of a row
 
 -- records of so many boards
-pub records_count : (deals : List (Option (List ℕ))) (now round first count : ℕ) (records : List PlainRecord)
-    → AreRecords deals now round (range_with_len first count) records → length records ≡ count
-records_count deals now round first count records are =
+pub records_count : (format : DiskFormat) (scoring : Scoring) (deals : List (Option (List ℕ))) (now round first count : ℕ) (records : List PlainRecord)
+    → AreRecords format scoring deals now round (range_with_len first count) records → length records ≡ count
+records_count format scoring deals now round first count records are =
     sym (length-map records board_of) ∙ ap length are.boards_are ∙ length-range_with_len first count
 
 -- the part of a play in which nothing has happened
@@ -163,26 +165,26 @@ suc_row rows row_index boards within =
 row_length : (format : DiskFormat) (boards : ℕ) (records : List PlainRecord) → length (row_parts format boards records) ≡ boards
 row_length format boards records = length-map-range_with_len (λ index. record_part format (record_or_empty records index)) 0 boards
 
-module _ (deals : List (Option (List ℕ))) (now boards : ℕ) where
+module _ (format : DiskFormat) (scoring : Scoring) (deals : List (Option (List ℕ))) (now boards : ℕ) where
   -- one row more
   pub rows_push : (rows : List Row) (i : ℕ) (row : Row) (tables : List (Vec Record)) (table : Vec Record) → i < length rows → slice_get rows i ≡ Some row
-      → AreRows deals now boards (take i rows) (map plains_of tables) → IsRowOf deals now boards row (plains_of table)
-      → AreRows deals now boards (take (i + 1) rows) (map plains_of (tables ++ table ∷ []))
+      → AreRows format scoring deals now boards (take i rows) (map plains_of tables) → IsRowOf format scoring deals now boards row (plains_of table)
+      → AreRows format scoring deals now boards (take (i + 1) rows) (map plains_of (tables ++ table ∷ []))
   rows_push rows i row tables table within is are own =
       let longer : take (i + 1) rows ≡ take i rows ++ row ∷ [] = next_taken rows i row within (sym (get_or_from_slice_get rows i row row is)) in
       let made : map plains_of (tables ++ table ∷ []) ≡ map plains_of tables ++ plains_of table ∷ [] = map-append plains_of tables (table ∷ []) in
-      subst (λ (rs : List Row). AreRows deals now boards rs (map plains_of (tables ++ table ∷ []))) (sym longer)
-      (subst (AreRows deals now boards (take i rows ++ row ∷ [])) (sym made) (record {
+      subst (λ (rs : List Row). AreRows format scoring deals now boards rs (map plains_of (tables ++ table ∷ []))) (sym longer)
+      (subst (AreRows format scoring deals now boards (take i rows ++ row ∷ [])) (sym made) (record {
         count = omega (arith, are.count, length-append (map plains_of tables) (plains_of table ∷ []), length-append (take i rows) (row ∷ []));
-        each = both_push (IsRowOf deals now boards) (take i rows) (map plains_of tables) row (plains_of table) are.count are.each own;
+        each = both_push (IsRowOf format scoring deals now boards) (take i rows) (map plains_of tables) row (plains_of table) are.count are.each own;
       }))
 
   -- the records of the row at an index have the parts there
-  pub row_there : (format : DiskFormat) (rows : List Row) (records front : List (List PlainRecord)) (rest : List (List ℕ)) (i : ℕ) (row : Row)
-      → AreRows deals now boards rows records → flat_map (row_parts format boards) front ++ rest ≡ flat_map (row_parts format boards) records
+  pub row_there : (rows : List Row) (records front : List (List PlainRecord)) (rest : List (List ℕ)) (i : ℕ) (row : Row)
+      → AreRows format scoring deals now boards rows records → flat_map (row_parts format boards) front ++ rest ≡ flat_map (row_parts format boards) records
       → length front ≡ i → i < length rows → slice_get rows i ≡ Some row
-      → (own : List PlainRecord) × IsRowOf deals now boards row own × (row_parts format boards own ≡ take boards rest)
-  row_there format rows records front rest i row are same before within is =
+      → (own : List PlainRecord) × IsRowOf format scoring deals now boards row own × (row_parts format boards own ≡ take boards rest)
+  row_there rows records front rest i row are same before within is =
       let found = some_there records i (omega (arith, within, are.count)) in
       let long : length (flat_map (row_parts format boards) front) ≡ i * boards = length-flat_fixed (row_parts format boards) boards (row_length format boards) front ∙ ap (λ n. n * boards) before in
       let parts = flat_at (row_parts format boards) boards (row_length format boards) i records found.0 found.1 in (

@@ -11,14 +11,18 @@ use Rattle.bridge_auction.specs.declared.call.Call.TheVariants.{Pass}
 use Rattle.bridge_auction.specs.Call.{call_number, IsCall}
 use Rattle.bridge_auction.proofs.CallNumbers.{call_at-call_number}
 use Rattle.bridge_play.specs.declared.claim.Claim.{Claim}
+use Rattle.session_rules.specs.declared.average.Average.{Average}
 use Rattle.session_rules.specs.declared.ruling.Ruling.{Ruling}
 use Rattle.session_rules.specs.declared.ruling.Ruling.TheVariants as ruling
-use Rattle.session_bytes.specs.Parts.{two_bytes, text_bytes, value_if, agreed_byte, is_agreed_in, claim_bytes, ruling_bytes, record_part}
-use Rattle.session_bytes.specs.PartsRead.{text_in, after_text, call_or_pass, call_count, after_calls, after_cards, agreed_in, claim_in, after_claim, ruling_at_front, record_in}
+use Rattle.session_bytes.specs.Parts.{two_bytes, text_bytes, value_if, agreed_byte, is_agreed_in, claim_bytes, HasRuling, HasRecord, ruling_bytes, record_part}
+use Rattle.session_bytes.specs.PartsRead.{text_in, after_text, call_or_pass, call_count, after_calls, after_cards, agreed_in, claim_in, after_claim, average_or_even, ruling_at_front, record_in}
+use Rattle.session_rules.specs.Average.{percent_of}
 use Rattle.session_rules.specs.Record.{PlainRecord}
 use Rattle.session_rules.specs.StateRange.{IsOfFourSeats}
 use Rattle.session_store.specs.declared.disk_format.DiskFormat.{DiskFormat}
 use Rattle.session_store.specs.declared.disk_format.DiskFormat.TheVariants.{One, Two}
+use Rattle.session_bytes.proofs.Options.{not_some}
+use Rattle.session_bytes.proofs.ActionLaws.{average_back}
 use Rattle.session_bytes.proofs.BytesBack.{take_front, drop_front, all_back, text_back, after_back}
 
 -- calls
@@ -73,13 +77,53 @@ claim_past agreed None rest = refl
 claim_past true (Some claim) rest = refl
 claim_past false (Some claim) rest = refl
 
-ruling_back : (format : DiskFormat) (made : Option Ruling) → ruling_at_front (ruling_bytes format made) ≡ made
+-- the ruling that the format keeps: the first has no averages
+abbrev pub kept_ruling : DiskFormat → Option Ruling → Option Ruling
+kept_ruling One None = None
+kept_ruling One (Some (ruling.Tricks tricks)) = Some (ruling.Tricks tricks)
+kept_ruling One (Some ruling.Void) = Some ruling.Void
+kept_ruling One (Some (ruling.Adjusted ns ew)) = None
+kept_ruling Two made = made
+
+adjusted_back : (ns ew : Average)
+    → Some (ruling.Adjusted (average_or_even (percent_of ns)) (average_or_even (percent_of ew))) ≡ Some (ruling.Adjusted ns ew)
+adjusted_back ns ew = rw (average_back ns, average_back ew) refl
+
+ruling_back : (format : DiskFormat) (made : Option Ruling) → ruling_at_front (ruling_bytes format made) ≡ kept_ruling format made
 ruling_back One None = refl
 ruling_back One (Some (ruling.Tricks tricks)) = refl
 ruling_back One (Some ruling.Void) = refl
+ruling_back One (Some (ruling.Adjusted ns ew)) = refl
 ruling_back Two None = refl
 ruling_back Two (Some (ruling.Tricks tricks)) = refl
 ruling_back Two (Some ruling.Void) = refl
+ruling_back Two (Some (ruling.Adjusted ns ew)) = adjusted_back ns ew
+
+-- the record with the ruling that the format keeps
+abbrev pub kept_record : DiskFormat → PlainRecord → PlainRecord
+kept_record format plain = record plain { ruling = kept_ruling format plain.ruling }
+
+-- it is the record itself where the format has its ruling, and only there
+had_ruling : (format : DiskFormat) (made : Option Ruling) → IfSome made (HasRuling format) → kept_ruling format made ≡ made
+had_ruling One None has = refl
+had_ruling One (Some (ruling.Tricks tricks)) has = refl
+had_ruling One (Some ruling.Void) has = refl
+had_ruling One (Some (ruling.Adjusted ns ew)) has = absurd has
+had_ruling Two made has = refl
+
+has_ruling : (format : DiskFormat) (made : Option Ruling) → kept_ruling format made ≡ made → IfSome made (HasRuling format)
+has_ruling One None same = tt
+has_ruling One (Some (ruling.Tricks tricks)) same = tt
+has_ruling One (Some ruling.Void) same = tt
+has_ruling One (Some (ruling.Adjusted ns ew)) same = not_some (ruling.Adjusted ns ew) same
+has_ruling Two None same = tt
+has_ruling Two (Some made) same = tt
+
+pub had_record : (format : DiskFormat) (plain : PlainRecord) → HasRecord format plain → kept_record format plain ≡ plain
+had_record format plain has = ap (λ made. record plain { ruling = made }) (had_ruling format plain.ruling has)
+
+pub has_record : (format : DiskFormat) (plain : PlainRecord) → kept_record format plain ≡ plain → HasRecord format plain
+has_record format plain same = has_ruling format plain.ruling (ap (λ (p : PlainRecord). p.ruling) same)
 
 -- six lists, one after the other
 six_joined : (a b c d e f : List ℕ) → a ++ b ++ c ++ d ++ e ++ f ≡ a ++ (b ++ (c ++ (d ++ (e ++ f))))
@@ -91,7 +135,7 @@ pub record IsWritten (plain : PlainRecord) : Type 0 where
   pub known : All IsCall plain.calls
   pub claim : IfSome plain.claim IsOfFourSeats
 
-pub record_back : (format : DiskFormat) (plain : PlainRecord) → IsWritten plain → record_in plain.board (record_part format plain) ≡ plain
+pub record_back : (format : DiskFormat) (plain : PlainRecord) → IsWritten plain → record_in plain.board (record_part format plain) ≡ kept_record format plain
 record_back format plain is =
     let agreed : Bool = is_agreed_in plain in
     let n : ℕ = length plain.calls in
@@ -111,7 +155,7 @@ record_back format plain is =
     let claims_are : get_or (after_cards part) 0 0 ≡ plain.claims = ap (λ bytes. get_or bytes 0 0) past_cards in
     let claim_is : claim_in (drop 1 (after_cards part)) ≡ plain.claim
     = ap (λ bytes. claim_in (drop 1 bytes)) past_cards ∙ claim_back agreed plain.claim made is.claim in
-    let ruling_is : ruling_at_front (after_claim (drop 1 (after_cards part))) ≡ plain.ruling
+    let ruling_is : ruling_at_front (after_claim (drop 1 (after_cards part))) ≡ kept_ruling format plain.ruling
     = ap (λ bytes. ruling_at_front (after_claim (drop 1 bytes))) past_cards ∙ ap ruling_at_front (claim_past agreed plain.claim made)
     ∙ ruling_back format plain.ruling in
     ap (record_in plain.board) (six_joined (two_bytes n) calls (text_bytes plain.cards) (plain.claims ∷ []) (claim_bytes agreed plain.claim) made)

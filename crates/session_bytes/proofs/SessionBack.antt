@@ -1,5 +1,5 @@
--- A session is read back from its parts.
-use Rattle.std.proofs.Common.{◌≡◌, ◌+◌, ◌*◌, ℕ, List, [], ◌∷◌, ◌++◌, length, get_or, map, take, drop, All, refl, ap, subst, ◌∙◌, arith, append_assoc}
+-- A session is read back from its parts, but for the averages where the format has none.
+use Rattle.std.proofs.Common.{◌≡◌, ◌+◌, ◌*◌, ℕ, List, [], ◌∷◌, ◌++◌, length, get_or, map, take, drop, All, refl, sym, ap, subst, ◌∙◌, arith, append_assoc}
 use Rattle.std.specs.Prelude.{slice_index}
 use Rattle.std.proofs.lemmas.Bool.{eqb-true, and_parts}
 use Rattle.std.proofs.lemmas.List.{length-map, length-append, get_or_append_left, get_or-append-add}
@@ -9,13 +9,15 @@ use Rattle.bridge_config.specs.Limits.{IsKeyNumber, IsConfiguration}
 use Rattle.bridge_movement.specs.declared.shape.Shape.{Shape}
 use Rattle.bridge_score.specs.declared.ranking.Scoring.{Scoring}
 use Rattle.bridge_score.specs.declared.ranking.Scoring.TheVariants.{MatchPoints, Imps}
-use Rattle.session_bytes.specs.Parts.{text_bytes, four_bytes, scoring_number, size_bytes, configuration_part, movement_part, pair_part, deal_part, play_parts, board_parts, pair_parts, parts_of}
+use Rattle.session_bytes.specs.Parts.{text_bytes, four_bytes, scoring_number, size_bytes, configuration_part, movement_part, pair_part, deal_part, HasRecord, HasRulings, play_parts, board_parts, pair_parts, parts_of}
 use Rattle.session_bytes.specs.PartsRead.{text_in, after_text, scoring_at, numbers_in, shape_in, rows_in, key_in, pair_in, configuration_in, deal_of, tables_in, state_with, state_read}
+use Rattle.session_rules.specs.Record.{PlainRecord}
 use Rattle.session_rules.specs.State.{SessionValue}
 use Rattle.session_rules.specs.StateRange.{IsSession}
 use Rattle.session_store.specs.declared.disk_format.DiskFormat.{DiskFormat}
 use Rattle.session_bytes.proofs.BytesBack.{take_front, drop_front, all_back, text_back, after_back, key_back}
 use Rattle.session_bytes.proofs.PairBack.{pair_back, rows_back, deal_back}
+use Rattle.session_bytes.proofs.RecordBack.{kept_record, had_record, has_record}
 use Rattle.session_bytes.proofs.SessionRecords.{written}
 use Rattle.session_bytes.proofs.TablesBack.{tables_back}
 
@@ -104,8 +106,12 @@ module _ (c : ConfigValue) (round : ℕ) (is : IsConfiguration c) (boards : List
         pairs = pairs i;
       }
 
+-- the session with the rulings that the format keeps
+abbrev pub kept_session : DiskFormat → SessionValue → SessionValue
+kept_session format s = record s { records = map (map (kept_record format)) s.records }
+
 -- the boards and the plays
-rest_back : (format : DiskFormat) (s : SessionValue) → IsSession s → state_with s.configuration s.round (board_parts format s) ≡ s
+rest_back : (format : DiskFormat) (s : SessionValue) → IsSession s → state_with s.configuration s.round (board_parts format s) ≡ kept_session format s
 rest_back format s is =
     let c : ConfigValue = s.configuration in
     let boards : ℕ = c.movement.shape.sets * c.boards in
@@ -113,13 +119,13 @@ rest_back format s is =
     let deals : map deal_of (take boards (board_parts format s)) ≡ s.deals
     = ap (map deal_of) (take_front boards (map deal_part s.deals) (play_parts format s) long)
     ∙ all_back deal_part deal_of s.deals (λ k d within. deal_back (get_or s.deals k d) (is.ranges.deals k d within)) in
-    let records : tables_in c.boards c.movement.rows (drop boards (board_parts format s)) ≡ s.records
+    let records : tables_in c.boards c.movement.rows (drop boards (board_parts format s)) ≡ map (map (kept_record format)) s.records
     = ap (tables_in c.boards c.movement.rows) (drop_front boards (map deal_part s.deals) (play_parts format s) long)
     ∙ tables_back format c.boards c.movement.rows s.records is.valid.of_boards (written s is) in
     λ i. record { configuration = c; round = s.round; deals = deals i; records = records i }
 
-pub session_back : (format : DiskFormat) (s : SessionValue) → IsSession s → state_read (parts_of format s) ≡ s
-session_back format s is =
+whole_back : (format : DiskFormat) (s : SessionValue) → IsSession s → state_read (parts_of format s) ≡ kept_session format s
+whole_back format s is =
     let c : ConfigValue = s.configuration in
     let limits : IsConfiguration c = is.valid.configured in
     let heading : List ℕ = configuration_part c s.round in
@@ -134,3 +140,29 @@ session_back format s is =
     ap (λ (d : ConfigValue). state_with d (slice_index (numbers_in heading) 11) (drop (slice_index (numbers_in heading) 5) (pair_parts format s))) configuration
     ∙ ap (λ n. state_with c n (drop (slice_index (numbers_in heading) 5) (pair_parts format s))) round
     ∙ ap (state_with c s.round) rest ∙ rest_back format s is
+
+module _ {X : Type 0} (f : X → X) (P : X → Type 0) where
+  all_kept : ((x : X) → P x → f x ≡ x) → (xs : List X) → All P xs → map f xs ≡ xs
+  all_kept keeps [] all = refl
+  all_kept keeps (x ∷ xs) all =
+      ap (λ y. y ∷ map f xs) (keeps x (All-head P x xs all)) ∙ ap (λ ys. x ∷ ys) (all_kept keeps xs (All-tail P x xs all))
+
+  kept_all : ((x : X) → f x ≡ x → P x) → (xs : List X) → map f xs ≡ xs → All P xs
+  kept_all holds [] same = All-nil P
+  kept_all holds (x ∷ xs) same =
+      let first : f x ≡ x = cc in
+      let rest : map f xs ≡ xs = cc in
+      All-cons P x xs (holds x first) (kept_all holds xs rest)
+
+-- A session is read back where the format has its rulings.
+pub session_back : (format : DiskFormat) (s : SessionValue) → IsSession s → HasRulings format s → state_read (parts_of format s) ≡ s
+session_back format s is has =
+    whole_back format s is
+    ∙ ap (λ (records : List (List PlainRecord)). record s { records = records })
+    (all_kept (map (kept_record format)) (All (HasRecord format)) (all_kept (kept_record format) (HasRecord format) (had_record format)) s.records has)
+
+-- And only there is it read back.
+pub rulings_back : (format : DiskFormat) (s : SessionValue) → IsSession s → state_read (parts_of format s) ≡ s → HasRulings format s
+rulings_back format s is same =
+    let kept : map (map (kept_record format)) s.records ≡ s.records = ap (λ (t : SessionValue). t.records) (sym (whole_back format s is) ∙ same) in
+    kept_all (map (kept_record format)) (All (HasRecord format)) (kept_all (kept_record format) (HasRecord format) (has_record format)) s.records kept

@@ -13,7 +13,7 @@ use Rattle.session_bytes.proofs.RecordBack.{IsWritten}
 
 -- the record is valid in some round
 abbrev pub IsOfSomeRound : SessionValue → PlainRecord → Type 0
-IsOfSomeRound s plain = (round : ℕ) × IsValidRecord s.deals s.round round plain
+IsOfSomeRound s plain = (round : ℕ) × IsValidRecord s.configuration.scoring s.deals s.round round plain
 
 pub each_record : (s : SessionValue) → IsValid s → All (All (IsOfSomeRound s)) s.records
 each_record s valid row_index d within index e inside =

@@ -15,7 +15,7 @@ use Rattle.session_rules.specs.State.{row_boards}
 use Rattle.session_rules.specs.Valid.{board_of}
 use Rattle.session_store.specs.declared.disk_format.DiskFormat.{DiskFormat}
 use Rattle.session_bytes.proofs.BytesBack.{drop_front}
-use Rattle.session_bytes.proofs.RecordBack.{IsWritten, record_back}
+use Rattle.session_bytes.proofs.RecordBack.{kept_record, IsWritten, record_back}
 
 -- the parts of a row that has a record for each board
 pub full_parts : (format : DiskFormat) (boards : ℕ) (records : List PlainRecord) → length records ≡ boards
@@ -32,11 +32,11 @@ full_parts format boards records full =
     ∙ sym (get_or-map (record_part format) records row_index (empty_record 0) nothing (omega (arith, within, long, full))))
 
 row_back : (format : DiskFormat) (records : List PlainRecord) (more : List (List ℕ)) → All IsWritten records
-    → records_in (map board_of records) (map (record_part format) records ++ more) ≡ records
+    → records_in (map board_of records) (map (record_part format) records ++ more) ≡ map (kept_record format) records
 row_back format [] more written = refl
 row_back format (plain ∷ records) more written =
     ap (λ first. first ∷ records_in (map board_of records) (map (record_part format) records ++ more)) (record_back format plain (All-head IsWritten plain records written))
-    ∙ ap (λ rest. plain ∷ rest) (row_back format records more (All-tail IsWritten plain records written))
+    ∙ ap (λ rest. kept_record format plain ∷ rest) (row_back format records more (All-tail IsWritten plain records written))
 
 -- a row has a record for each board, or none
 boards_long : (boards : ℕ) (row : Row) → (length (row_boards boards row) ≡ boards) ⊎ (row_boards boards row ≡ [])
@@ -55,15 +55,15 @@ row_long boards row records are =
     ]
 
 records_back : (format : DiskFormat) (boards : ℕ) (row : Row) (records : List PlainRecord) (more : List (List ℕ)) → map board_of records ≡ row_boards boards row
-    → All IsWritten records → records_in (row_boards boards row) (row_parts format boards records ++ more) ≡ records
+    → All IsWritten records → records_in (row_boards boards row) (row_parts format boards records ++ more) ≡ map (kept_record format) records
 records_back format boards row records more are written =
     ap (λ bs. records_in bs (row_parts format boards records ++ more)) (sym are) ∙ elim (row_long boards row records are) [
       | inl full ↦ ap (λ parts. records_in (map board_of records) (parts ++ more)) (full_parts format boards records full) ∙ row_back format records more written
-      | inr none ↦ ap (λ (rs : List PlainRecord). records_in (map board_of rs) (row_parts format boards records ++ more)) none ∙ sym none
+      | inr none ↦ ap (λ (rs : List PlainRecord). records_in (map board_of rs) (row_parts format boards records ++ more)) none ∙ ap (map (kept_record format)) (sym none)
     ]
 
 pub tables_back : (format : DiskFormat) (boards : ℕ) (rows : List Row) (tables : List (List PlainRecord)) → map (map board_of) tables ≡ map (row_boards boards) rows
-    → All (All IsWritten) tables → tables_in boards rows (flat_map (row_parts format boards) tables) ≡ tables
+    → All (All IsWritten) tables → tables_in boards rows (flat_map (row_parts format boards) tables) ≡ map (map (kept_record format)) tables
 tables_back format boards [] [] are written = refl
 tables_back format boards [] (records ∷ tables) are written = absurd cc
 tables_back format boards (row ∷ rows) [] are written = absurd cc
@@ -75,5 +75,5 @@ tables_back format boards (row ∷ rows) (records ∷ tables) are written =
     = length-map-range_with_len (λ index. record_part format (record_or_empty records index)) 0 boards in
     ap (λ here. here ∷ tables_in boards rows (drop boards (row_parts format boards records ++ more)))
     (records_back format boards row records more first (All-head (All IsWritten) records tables written))
-    ∙ ap (λ parts. records ∷ tables_in boards rows parts) (drop_front boards (row_parts format boards records) more long)
-    ∙ ap (λ rest. records ∷ rest) (tables_back format boards rows tables others (All-tail (All IsWritten) records tables written))
+    ∙ ap (λ parts. map (kept_record format) records ∷ tables_in boards rows parts) (drop_front boards (row_parts format boards records) more long)
+    ∙ ap (λ rest. map (kept_record format) records ∷ rest) (tables_back format boards rows tables others (All-tail (All IsWritten) records tables written))

@@ -1,4 +1,5 @@
--- The bytes of an action, and the action of such bytes. Numbers of more than one byte are big-endian.
+-- The bytes of an action, and the action of such bytes. Numbers of more than one byte are big-endian. The formats differ in the
+-- averages alone: the first has none.
 use Rattle.std.specs.Prelude.{◌==◌, ◌&&◌, nat_le, ℕ, List, [], ◌∷◌, ◌++◌, flat_map, length, take, drop, if◌then◌else◌, Option, Some, None, option_map, option_and_then}
 use Rattle.std.specs.Int.{w16, w32, w64, to_be_bytes, from_be_bytes}
 use Rattle.bridge_auction.specs.Call.{call_number, call_at}
@@ -13,6 +14,9 @@ use Rattle.session_rules.specs.declared.correction.Correction.TheVariants as cor
 use Rattle.session_rules.specs.declared.deed.Deed.{Deed}
 use Rattle.session_rules.specs.declared.deed.Deed.TheVariants as deed
 use Rattle.session_rules.specs.Act.{act_of, of_player, of_ruling}
+use Rattle.session_rules.specs.Average.{percent_of, average_of}
+use Rattle.session_store.specs.declared.disk_format.DiskFormat.{DiskFormat}
+use Rattle.session_store.specs.declared.disk_format.DiskFormat.TheVariants.{One, Two}
 
 -- every action begins with its kind and the key
 abbrev pub headed : ℕ → ℕ → List ℕ → List ℕ
@@ -45,16 +49,19 @@ deed_bytes (deed.Claim tricks) = tricks ∷ []
 deed_bytes deed.Agree = []
 deed_bytes deed.Refuse = []
 
--- rulings are of the kinds 8 to 10
+-- rulings are of the kinds 8 to 11
 abbrev pub correction_kind : Correction → ℕ
 correction_kind (correction.Tricks tricks) = 8
 correction_kind correction.Void = 9
 correction_kind correction.Restore = 10
+correction_kind (correction.Adjust ns ew) = 11
 
+-- and end with the tricks, or with the averages of both sides in per cent
 abbrev pub correction_bytes : Correction → List ℕ
 correction_bytes (correction.Tricks tricks) = tricks ∷ []
 correction_bytes correction.Void = []
 correction_bytes correction.Restore = []
+correction_bytes (correction.Adjust ns ew) = percent_of ns ∷ percent_of ew ∷ []
 
 abbrev pub act_bytes : Act → List ℕ
 act_bytes (act.Player key board at done) = headed (deed_kind done) key.0 (turn_bytes board at (deed_bytes done))
@@ -64,6 +71,29 @@ act_bytes (act.Ruling key play made) = headed (correction_kind made) key.0 (play
 
 abbrev pub action_bytes : Action → List ℕ
 action_bytes action = act_bytes (act_of action)
+
+-- the format has what is ruled
+abbrev pub HasCorrection : DiskFormat → Correction → Type 0
+HasCorrection One (correction.Tricks tricks) = Unit {0}
+HasCorrection One correction.Void = Unit {0}
+HasCorrection One correction.Restore = Unit {0}
+HasCorrection One (correction.Adjust ns ew) = ⊥
+HasCorrection Two made = Unit {0}
+
+-- the first format has the act
+abbrev pub HadAct : Act → Type 0
+HadAct (act.Player key board at done) = Unit {0}
+HadAct (act.Deal key board hands) = Unit {0}
+HadAct (act.RoundEnd key round) = Unit {0}
+HadAct (act.Ruling key play made) = HasCorrection One made
+
+abbrev pub HasAct : DiskFormat → Act → Type 0
+HasAct One a = HadAct a
+HasAct Two a = Unit {0}
+
+-- The format has the action.
+abbrev pub HasAction : DiskFormat → Action → Type 0
+HasAction format action = HasAct format (act_of action)
 
 -- Reading them
 
@@ -113,24 +143,37 @@ abbrev pub play_in : ℕ → ℕ → ℕ → Option PlayId
 play_in round table index =
     option_and_then (λ r. option_and_then (λ t. option_map (play_with r t) (in_range 1 3 index)) (in_range 1 12 table)) (in_range 1 12 round)
 
+-- the averages of these numbers
+abbrev pub averages_of : ℕ → ℕ → Option Correction
+averages_of ns ew = option_and_then (λ n. option_map (correction.Adjust n) (average_of ew)) (average_of ns)
+
+-- the same by the bytes behind the play
+abbrev pub averages_in : DiskFormat → List ℕ → Option Correction
+averages_in One rest = None
+averages_in Two [] = None
+averages_in Two (ns ∷ []) = None
+averages_in Two (ns ∷ ew ∷ []) = averages_of ns ew
+averages_in Two (ns ∷ ew ∷ more ∷ rest) = None
+
 -- what is ruled by the kind of the action, and by the bytes behind the play
-abbrev pub correction_in : ℕ → List ℕ → Option Correction
-correction_in kind rest =
+abbrev pub correction_in : DiskFormat → ℕ → List ℕ → Option Correction
+correction_in format kind rest =
     if kind == 8 then option_map correction.Tricks (option_and_then (in_range 0 13) (only_byte rest))
     else if kind == 9 then at_end rest correction.Void
     else if kind == 10 then at_end rest correction.Restore
+    else if kind == 11 then averages_in format rest
     else None
 
 -- the ruling of a play
-abbrev pub ruling_on : ℕ → Key → PlayId → List ℕ → Option Action
-ruling_on kind key play rest = option_map (of_ruling key play) (correction_in kind rest)
+abbrev pub ruling_on : DiskFormat → ℕ → Key → PlayId → List ℕ → Option Action
+ruling_on format kind key play rest = option_map (of_ruling key play) (correction_in format kind rest)
 
 -- the same by the bytes behind the key
-abbrev pub ruling_in : ℕ → Key → List ℕ → Option Action
-ruling_in kind key [] = None
-ruling_in kind key (round ∷ []) = None
-ruling_in kind key (round ∷ table ∷ []) = None
-ruling_in kind key (round ∷ table ∷ index ∷ rest) = option_and_then (λ play. ruling_on kind key play rest) (play_in round table index)
+abbrev pub ruling_in : DiskFormat → ℕ → Key → List ℕ → Option Action
+ruling_in format kind key [] = None
+ruling_in format kind key (round ∷ []) = None
+ruling_in format kind key (round ∷ table ∷ []) = None
+ruling_in format kind key (round ∷ table ∷ index ∷ rest) = option_and_then (λ play. ruling_on format kind key play rest) (play_in round table index)
 
 -- the hand of eight bytes, in which no bit above 51 is set
 abbrev pub hand_in : List ℕ → Option ℕ
@@ -150,19 +193,19 @@ deal_in key [] = None
 deal_in key (board ∷ rest) = option_and_then (λ b. option_map (Deal key b) (hands_in rest)) (in_range 1 36 board)
 
 -- the action of that kind, by the bytes behind the key
-abbrev pub action_in : ℕ → Key → List ℕ → Option Action
-action_in kind key rest =
+abbrev pub action_in : DiskFormat → ℕ → Key → List ℕ → Option Action
+action_in format kind key rest =
     if kind == 1 then deal_in key rest
     else if kind == 7 then option_map (NextRound key) (option_and_then (in_range 1 12) (only_byte rest))
     else if nat_le kind 6 then turn_in kind key rest
-    else ruling_in kind key rest
+    else ruling_in format kind key rest
 
--- The action that these bytes are those of, if they are those of one.
-abbrev pub action_of : List ℕ → Option Action
-action_of [] = None
-action_of (kind ∷ []) = None
-action_of (kind ∷ a ∷ []) = None
-action_of (kind ∷ a ∷ b ∷ []) = None
-action_of (kind ∷ a ∷ b ∷ c ∷ []) = None
-action_of (kind ∷ a ∷ b ∷ c ∷ d ∷ rest) =
-    option_and_then (λ number. action_in kind (record { 0 = number }) rest) (in_range 0 4294967295 (from_be_bytes w32 (a ∷ b ∷ c ∷ d ∷ [])))
+-- The action that these bytes are those of on a disk of that format, if they are those of one.
+abbrev pub action_of : DiskFormat → List ℕ → Option Action
+action_of format [] = None
+action_of format (kind ∷ []) = None
+action_of format (kind ∷ a ∷ []) = None
+action_of format (kind ∷ a ∷ b ∷ []) = None
+action_of format (kind ∷ a ∷ b ∷ c ∷ []) = None
+action_of format (kind ∷ a ∷ b ∷ c ∷ d ∷ rest) =
+    option_and_then (λ number. action_in format kind (record { 0 = number }) rest) (in_range 0 4294967295 (from_be_bytes w32 (a ∷ b ∷ c ∷ d ∷ [])))

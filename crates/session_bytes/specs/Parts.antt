@@ -1,6 +1,6 @@
 -- The parts of a session as they stand on a disk of either format: lists of bytes. Numbers of more bytes than one have the
 -- highest first. The formats differ in the ruling alone.
-use Rattle.std.specs.Prelude.{ℕ, ◌+◌, Bool, true, false, if◌then◌else◌, List, [], ◌∷◌, ◌++◌, map, flat_map, length, slice_get, slice_index, slice_index_or, Option, Some, None, unwrap_or}
+use Rattle.std.specs.Prelude.{ℕ, ◌+◌, Bool, true, false, if◌then◌else◌, List, [], ◌∷◌, ◌++◌, map, flat_map, length, slice_get, slice_index, slice_index_or, Option, Some, None, unwrap_or, IfSome, All}
 use Rattle.std.specs.Int.{w16, w32, w64, to_be_bytes}
 use Rattle.std.specs.List.{range_with_len}
 use Rattle.std.specs.Option.{option_map_or}
@@ -16,6 +16,7 @@ use Rattle.bridge_score.specs.declared.ranking.Scoring.TheVariants.{MatchPoints,
 use Rattle.bridge_config.specs.ConfigValue.{ConfigValue, Pair}
 use Rattle.session_rules.specs.declared.ruling.Ruling.{Ruling}
 use Rattle.session_rules.specs.declared.ruling.Ruling.TheVariants as ruling
+use Rattle.session_rules.specs.Average.{percent_of}
 use Rattle.session_rules.specs.Record.{PlainRecord, empty_record, contract_in}
 use Rattle.session_rules.specs.State.{SessionValue}
 use Rattle.session_store.specs.declared.disk_format.DiskFormat.{DiskFormat}
@@ -91,21 +92,38 @@ abbrev pub claim_bytes : Bool → Option Claim → List ℕ
 claim_bytes agreed None = 0 ∷ []
 claim_bytes agreed (Some claim) = (if agreed then 2 else 1) ∷ seat_number claim.claimer ∷ claim.tricks ∷ agreed_byte claim ∷ []
 
--- a ruling: 0 where there is none, 1 and the tricks, or 2 where the play is void; in the second format zeros fill it up to
--- three bytes
+-- the format has the ruling: the first has no averages
+abbrev pub HasRuling : DiskFormat → Ruling → Type 0
+HasRuling One (ruling.Tricks tricks) = Unit {0}
+HasRuling One ruling.Void = Unit {0}
+HasRuling One (ruling.Adjusted ns ew) = ⊥
+HasRuling Two made = Unit {0}
+
+-- a ruling: 0 where there is none, 1 and the tricks, 2 where the play is void, or 3 and the averages of both sides in per cent; in
+-- the second format zeros fill it up to three bytes
 abbrev pub ruling_bytes : DiskFormat → Option Ruling → List ℕ
 ruling_bytes One None = 0 ∷ []
 ruling_bytes One (Some (ruling.Tricks tricks)) = 1 ∷ tricks ∷ []
 ruling_bytes One (Some ruling.Void) = 2 ∷ []
+ruling_bytes One (Some (ruling.Adjusted ns ew)) = []
 ruling_bytes Two None = 0 ∷ 0 ∷ 0 ∷ []
 ruling_bytes Two (Some (ruling.Tricks tricks)) = 1 ∷ tricks ∷ 0 ∷ []
 ruling_bytes Two (Some ruling.Void) = 2 ∷ 0 ∷ 0 ∷ []
+ruling_bytes Two (Some (ruling.Adjusted ns ew)) = 3 ∷ percent_of ns ∷ percent_of ew ∷ []
 
 -- the calls, the cards, how many claims were made, the claim and the ruling
 abbrev pub record_part : DiskFormat → PlainRecord → List ℕ
 record_part format plain =
     two_bytes (length plain.calls) ++ map call_number plain.calls ++ text_bytes plain.cards ++ plain.claims ∷ []
     ++ claim_bytes (is_agreed_in plain) plain.claim ++ ruling_bytes format plain.ruling
+
+-- the format has the record's ruling
+abbrev pub HasRecord : DiskFormat → PlainRecord → Type 0
+HasRecord format plain = IfSome plain.ruling (HasRuling format)
+
+-- the format has each ruling of a session
+abbrev pub HasRulings : DiskFormat → SessionValue → Type 0
+HasRulings format s = All (All (HasRecord format)) s.records
 
 -- the record at an index of a row, or one in which nothing has happened where there is none
 abbrev pub record_or_empty : List PlainRecord → ℕ → PlainRecord

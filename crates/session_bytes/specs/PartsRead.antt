@@ -13,8 +13,11 @@ use Rattle.bridge_play.specs.declared.claim.Claim.{Claim}
 use Rattle.bridge_score.specs.declared.ranking.Scoring.{Scoring}
 use Rattle.bridge_score.specs.declared.ranking.Scoring.TheVariants.{MatchPoints, Imps}
 use Rattle.bridge_config.specs.ConfigValue.{ConfigValue, Pair}
+use Rattle.session_rules.specs.declared.average.Average.{Average}
+use Rattle.session_rules.specs.declared.average.Average.TheVariants.{Even}
 use Rattle.session_rules.specs.declared.ruling.Ruling.{Ruling}
 use Rattle.session_rules.specs.declared.ruling.Ruling.TheVariants as ruling
+use Rattle.session_rules.specs.Average.{average_of}
 use Rattle.session_rules.specs.Record.{PlainRecord}
 use Rattle.session_rules.specs.State.{SessionValue, row_boards}
 
@@ -137,11 +140,17 @@ claim_in bytes =
 abbrev pub after_claim : List ℕ → List ℕ
 after_claim bytes = if slice_index bytes 0 == 0 then drop 1 bytes else drop 4 bytes
 
--- a ruling: none at 0, the tricks at 1, and otherwise a void play
+-- the average of so many per cent, or else that of 50
+abbrev pub average_or_even : ℕ → Average
+average_or_even percent = unwrap_or (average_of percent) Even
+
+-- a ruling: none at 0, the tricks at 1, the averages of both sides at 3, and otherwise a void play
 abbrev pub ruling_at_front : List ℕ → Option Ruling
 ruling_at_front bytes =
     if slice_index bytes 0 == 0 then None
-    else if slice_index bytes 0 == 1 then Some (ruling.Tricks (slice_index bytes 1)) else Some ruling.Void
+    else if slice_index bytes 0 == 1 then Some (ruling.Tricks (slice_index bytes 1))
+    else if slice_index bytes 0 == 3 then Some (ruling.Adjusted (average_or_even (slice_index bytes 1)) (average_or_even (slice_index bytes 2)))
+    else Some ruling.Void
 
 -- the record of the play of a board
 abbrev pub record_in : ℕ → List ℕ → PlainRecord

@@ -13,18 +13,21 @@ use Rattle.bridge_auction.specs.Call.{call_number}
 use Rattle.bridge_movement.specs.declared.row.Row.{Row}
 use Rattle.bridge_play.specs.declared.claim.Claim.{Claim}
 use Rattle.bridge_play.specs.Play.{PlayValue, IsPlay, is_over}
+use Rattle.bridge_score.specs.declared.ranking.Scoring.{Scoring}
+use Rattle.bridge_score.specs.declared.ranking.Scoring.TheVariants.{MatchPoints, Imps}
 use Rattle.bridge_table.specs.declared.record.Record.{Record}
 use Rattle.session_bytes.specs.declared.record_fields.RecordFields.{RecordFields}
 use Rattle.session_rules.specs.declared.ruling.Ruling.{Ruling}
 use Rattle.session_rules.specs.declared.ruling.Ruling.TheVariants as ruling
 use Rattle.session_bytes.specs.ActionBytes.{hands_in}
 use Rattle.session_bytes.specs.PartsRead.{agreed_in}
+use Rattle.session_rules.specs.Average.{average_of}
 use Rattle.session_rules.specs.Record.{PlainRecord, contract_in, play_of}
 use Rattle.session_rules.specs.State.{row_boards}
 use Rattle.bridge_table.specs.Kept.{plain_of, is_kept_open, IsTiedIn}
 use Rattle.session_store.specs.declared.disk_format.DiskFormat.{DiskFormat}
 use Rattle.session_store.specs.declared.disk_format.DiskFormat.TheVariants.{One, Two}
-use Rattle.session_bytes.specs.Parts.{two_bytes, text_bytes, claim_bytes, ruling_bytes, is_agreed_in, record_part}
+use Rattle.session_bytes.specs.Parts.{two_bytes, text_bytes, claim_bytes, HasRuling, HasRecord, ruling_bytes, is_agreed_in, record_part}
 use Rattle.session_rules.specs.StateRange.{AreHandsOrNone, IsOfFourSeats, IsRulingInRange, IsRecordInRange}
 use Rattle.session_rules.specs.Valid.{board_of, IsDealOrNone, IsUnplayed, IsValidRecord}
 
@@ -116,12 +119,17 @@ short_ruling_at (kind ∷ tricks ∷ more ∷ rest) = None
 abbrev pub if_zeros : ℕ → ℕ → Option Ruling → Option (Option Ruling)
 if_zeros first second made = if first == 0 && second == 0 then Some made else None
 
+-- the averages of these numbers
+abbrev pub adjusted_by : ℕ → ℕ → Option (Option Ruling)
+adjusted_by ns ew = option_and_then (λ n. option_map (λ e. Some (ruling.Adjusted n e)) (average_of ew)) (average_of ns)
+
 -- the ruling of a kind and two numbers
 abbrev pub ruling_by : ℕ → ℕ → ℕ → Option (Option Ruling)
 ruling_by kind first second =
     if kind == 0 then if_zeros first second None
     else if kind == 1 then (if second == 0 then tricks_in first else None)
-    else if kind == 2 then if_zeros first second (Some ruling.Void) else None
+    else if kind == 2 then if_zeros first second (Some ruling.Void)
+    else if kind == 3 then adjusted_by first second else None
 
 -- the ruling that the second format has: a kind and two numbers always
 abbrev pub long_ruling_at : List ℕ → Option (Option Ruling)
@@ -188,37 +196,45 @@ fields_part format fields =
     ++ claim_bytes fields.agreed fields.claim ++ ruling_bytes format fields.ruling
 
 -- the fields of a part: there are no more calls or cards than bytes, each seat has agreed to the claim or not, and a ruling
--- is of 0 to 13 tricks
+-- is of 0 to 13 tricks and one that the format has
 pub record AreFieldsOf (format : DiskFormat) (part : List ℕ) (fields : Fields) : Type 0 where
   pub bytes : fields_part format fields ≡ part
   pub few_calls : length fields.calls ≤ length part
   pub few_cards : length fields.cards ≤ length part
   pub answers : IfSome fields.claim IsOfFourSeats
   pub ruled : IfSome fields.ruling IsRulingInRange
+  pub of_format : IfSome fields.ruling (HasRuling format)
 
 -- the cards and the claims are those of a play by the rules where the calls made a contract, and otherwise there are none
 pub record IsPlayed (hands : List ℕ) (plain : PlainRecord) : Type 0 where
   pub unplayed : contract_in plain ≡ None → IsUnplayed plain
   pub play : IfSome (play_of hands plain) IsPlay
 
--- a ruling of tricks stands only where the play is over
-abbrev pub may_stand : Option PlayValue → Option Ruling → Bool
-may_stand play None = true
-may_stand play (Some (ruling.Tricks tricks)) = option_map_or is_over play false
-may_stand play (Some ruling.Void) = true
+abbrev pub is_by_matchpoints : Scoring → Bool
+is_by_matchpoints MatchPoints = true
+is_by_matchpoints Imps = false
+
+-- a ruling of tricks stands only where the play is over, and one of averages where the scoring is by matchpoints
+abbrev pub may_stand : Scoring → Option PlayValue → Option Ruling → Bool
+may_stand scoring play None = true
+may_stand scoring play (Some (ruling.Tricks tricks)) = option_map_or is_over play false
+may_stand scoring play (Some ruling.Void) = true
+may_stand scoring play (Some (ruling.Adjusted ns ew)) = is_by_matchpoints scoring
 
 -- the ruling may stand, in a later round than the current one nothing has happened, and in an earlier one the play is not open
-abbrev pub is_in_place : ℕ → ℕ → Record → Bool
-is_in_place now round kept =
-    may_stand kept.play kept.ruling && ((nat_le round now || (length kept.auction.calls == 0 && not (is_some kept.ruling)))
+abbrev pub is_in_place : Scoring → ℕ → ℕ → Record → Bool
+is_in_place scoring now round kept =
+    may_stand scoring kept.play kept.ruling && ((nat_le round now || (length kept.auction.calls == 0 && not (is_some kept.ruling)))
     && (nat_le now round || not (is_kept_open kept)))
 
--- a record that was read: of the board, of those bytes, valid and within its ranges, and tied to the deal of its board
-pub record IsReadFrom (format : DiskFormat) (deals : List (Option (List ℕ))) (now round board : ℕ) (part : List ℕ) (kept : Record) : Type 0 where
+-- a record that was read: of the board, of those bytes, valid, within its ranges and those of the format, and tied to the deal of
+-- its board
+pub record IsReadFrom (format : DiskFormat) (scoring : Scoring) (deals : List (Option (List ℕ))) (now round board : ℕ) (part : List ℕ) (kept : Record) : Type 0 where
   pub board_is : kept.board ≡ board
   pub bytes : record_part format (plain_of kept) ≡ part
-  pub valid : IsValidRecord deals now round (plain_of kept)
+  pub valid : IsValidRecord scoring deals now round (plain_of kept)
   pub in_range : IsRecordInRange (plain_of kept)
+  pub of_format : HasRecord format (plain_of kept)
   pub tied : IsTiedIn deals kept
 
 -- The parts of all boards and all plays
@@ -240,21 +256,22 @@ pub record AreDeals (deals : List (Option (List ℕ))) : Type 0 where
   pub dealt : All IsDealOrNone deals
   pub hands : All AreHandsOrNone deals
 
--- records of a round, of those boards, valid and within their ranges
-pub record AreRecords (deals : List (Option (List ℕ))) (now round : ℕ) (boards : List ℕ) (records : List PlainRecord) : Type 0 where
+-- records of a round, of those boards, valid, and within their ranges and those of the format
+pub record AreRecords (format : DiskFormat) (scoring : Scoring) (deals : List (Option (List ℕ))) (now round : ℕ) (boards : List ℕ) (records : List PlainRecord) : Type 0 where
   pub boards_are : map board_of records ≡ boards
-  pub valid : All (IsValidRecord deals now round) records
+  pub valid : All (IsValidRecord scoring deals now round) records
   pub in_range : All IsRecordInRange records
+  pub of_format : All (HasRecord format) records
 
 -- the records of the boards of a row
-abbrev pub IsRowOf : List (Option (List ℕ)) → ℕ → ℕ → Row → List PlainRecord → Type 0
-IsRowOf deals now boards row records = AreRecords deals now row.round (row_boards boards row) records
+abbrev pub IsRowOf : DiskFormat → Scoring → List (Option (List ℕ)) → ℕ → ℕ → Row → List PlainRecord → Type 0
+IsRowOf format scoring deals now boards row records = AreRecords format scoring deals now row.round (row_boards boards row) records
 
 -- the records of all rows
-pub record AreRows (deals : List (Option (List ℕ))) (now boards : ℕ) (rows : List Row) (records : List (List PlainRecord)) : Type 0 where
+pub record AreRows (format : DiskFormat) (scoring : Scoring) (deals : List (Option (List ℕ))) (now boards : ℕ) (rows : List Row) (records : List (List PlainRecord)) : Type 0 where
   pub count : length records ≡ length rows
   pub each : (index : ℕ) (row : Row) (own : List PlainRecord) → slice_get rows index ≡ Some row → slice_get records index ≡ Some own →
-      IsRowOf deals now boards row own
+      IsRowOf format scoring deals now boards row own
 
 -- how many zeros are the part of a play in which nothing has happened
 abbrev pub empty_length : DiskFormat → ℕ

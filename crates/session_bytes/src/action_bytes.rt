@@ -92,17 +92,22 @@ fn correction_kind(correction: &Correction) -> u8
         Correction::Tricks(_) => 8,
         Correction::Void => 9,
         Correction::Restore => 10,
+        Correction::Adjust { .. } => 11,
     }
 }
 
-/// Adds the tricks of a ruling.
+/// Adds the tricks of a ruling, or the averages of both sides in per cent.
 fn push_correction(correction: &Correction, bytes: &mut ArrayVec<u8, PAYLOAD_BYTES>)
-    requires { length bytes.old.items < 480 }
+    requires { length bytes.old.items + 2 ≤ 480 }
     ensures bytes { bytes.new.items ≡ bytes.old.items ++ correction_bytes correction.now }
     ensures range { IsCorrectionInRange correction.now }
 {
     match *correction {
         Correction::Tricks(tricks) => bytes.push(tricks.number()),
+        Correction::Adjust { ns, ew } => {
+            bytes.push(ns.percent());
+            bytes.push(ew.percent());
+        }
         Correction::Void | Correction::Restore => {}
     }
 }

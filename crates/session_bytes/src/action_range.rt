@@ -112,6 +112,6 @@ fn range_of_correction(correction: Correction)
 {
     match correction {
         Correction::Tricks(tricks) => range_of_tricks(tricks),
-        Correction::Void | Correction::Restore => {}
+        Correction::Void | Correction::Adjust { .. } | Correction::Restore => {}
     }
 }

@@ -2,31 +2,33 @@
 ghost use Rattle.std.specs.Prelude.{◌≡◌, ◌≢◌, ◌<◌, IfSome, IfNone, List, ℕ, length};
 ghost use Rattle.session_rules.specs.declared.action.Action.{Action as ActionType};
 ghost use Rattle.session_bytes.specs.ActionRange.{IsInRange};
-ghost use Rattle.session_bytes.specs.ActionBytes.{action_bytes, action_of, action_in, turn_in, deed_in, ruling_in, correction_in, play_in, deal_in, hands_in, hand_in, only_byte, at_end};
+ghost use Rattle.session_bytes.specs.ActionBytes.{HasAction, action_bytes, action_of, action_in, turn_in, deed_in, ruling_in, correction_in, averages_in, play_in, deal_in, hands_in, hand_in, only_byte, at_end};
 
 use bridge_auction::Call;
 use bridge_cards::{BoardNumber, Card, CardSet};
 use bridge_config::Key;
 use session_rules::{
-    Action, BoardIndex, Correction, Deed, MadeCount, PlayId, RoundNumber, TableNumber, TrickCount,
+    Action, Average, BoardIndex, Correction, Deed, MadeCount, PlayId, RoundNumber, TableNumber,
+    TrickCount,
 };
+use session_store::DiskFormat;
 
-/// The action that these bytes were written of; `None` for bytes of none.
-pub fn read_action(bytes: &[u8]) -> Option<Action>
-    ensures value { result ≡ action_of bytes.now }
+/// The action that these bytes were written of on a disk of that format; `None` for bytes of none.
+pub fn read_action(format: DiskFormat, bytes: &[u8]) -> Option<Action>
+    ensures value { result ≡ action_of format bytes.now }
     ensures written { IfSome result (λ action. action_bytes action ≡ bytes.now) }
-    ensures other { IfNone result ((action : ActionType) → IsInRange action → action_bytes action ≢ bytes.now) }
+    ensures other { IfNone result ((action : ActionType) → IsInRange action → HasAction format action → action_bytes action ≢ bytes.now) }
 {
     let [kind, a, b, c, d, rest @ ..] = bytes else {
         return None;
     };
     let key = Key(u32::from_be_bytes([*a, *b, *c, *d]));
-    read_behind_key(*kind, key, rest)
+    read_behind_key(format, *kind, key, rest)
 }
 
 /// The action of that kind, by the bytes behind the key.
-fn read_behind_key(kind: u8, key: Key, bytes: &[u8]) -> Option<Action>
-    ensures { result ≡ action_in kind key bytes.now }
+fn read_behind_key(format: DiskFormat, kind: u8, key: Key, bytes: &[u8]) -> Option<Action>
+    ensures { result ≡ action_in format kind key bytes.now }
 {
     match kind {
         1 => read_deal(key, bytes),
@@ -35,7 +37,7 @@ fn read_behind_key(kind: u8, key: Key, bytes: &[u8]) -> Option<Action>
             Some(Action::NextRound { key, round })
         }
         0..=6 => read_turn(kind, key, bytes),
-        _ => read_ruling(kind, key, bytes),
+        _ => read_ruling(format, kind, key, bytes),
     }
 }
 
@@ -102,26 +104,44 @@ fn read_deed(kind: u8, bytes: &[u8]) -> Option<Deed>
 }
 
 /// A ruling of that kind, by the bytes behind the key.
-fn read_ruling(kind: u8, key: Key, bytes: &[u8]) -> Option<Action>
-    ensures { result ≡ ruling_in kind key bytes.now }
+fn read_ruling(format: DiskFormat, kind: u8, key: Key, bytes: &[u8]) -> Option<Action>
+    ensures { result ≡ ruling_in format kind key bytes.now }
 {
     let [round, table, index, rest @ ..] = bytes else {
         return None;
     };
     let play = play_of(*round, *table, *index)?;
-    let correction = read_correction(kind, rest)?;
+    let correction = read_correction(format, kind, rest)?;
     Some(Action::of_ruling(key, play, correction))
 }
 
 /// What is ruled by an action of that kind, by the bytes behind the play.
-fn read_correction(kind: u8, bytes: &[u8]) -> Option<Correction>
-    ensures { result ≡ correction_in kind bytes.now }
+fn read_correction(format: DiskFormat, kind: u8, bytes: &[u8]) -> Option<Correction>
+    ensures { result ≡ correction_in format kind bytes.now }
 {
     match kind {
         8 => Some(Correction::Tricks(TrickCount::new(only_byte(bytes)?)?)),
         9 => at_end(bytes, Correction::Void),
         10 => at_end(bytes, Correction::Restore),
+        11 => read_averages(format, bytes),
         _ => None,
+    }
+}
+
+/// The averages of both sides in per cent, which the first format does not have.
+fn read_averages(format: DiskFormat, bytes: &[u8]) -> Option<Correction>
+    ensures { result ≡ averages_in format bytes.now }
+{
+    match format {
+        DiskFormat::One => None,
+        DiskFormat::Two => match bytes {
+            [ns, ew] => {
+                let ns = Average::of_percent(*ns)?;
+                let ew = Average::of_percent(*ew)?;
+                Some(Correction::Adjust { ns, ew })
+            }
+            _ => None,
+        },
     }
 }
 

@@ -73,6 +73,7 @@ fn put_ruling(part: &mut ArrayVec<u8, PAYLOAD_BYTES>, ruling: &Option<Ruling>)
         None => put(part, &[0, 0, 0]),
         Some(Ruling::Tricks(tricks)) => put(part, &[1, tricks.number(), 0]),
         Some(Ruling::Void) => put(part, &[2, 0, 0]),
+        Some(Ruling::Adjusted { ns, ew }) => put(part, &[3, ns.percent(), ew.percent()]),
     }
 }
 

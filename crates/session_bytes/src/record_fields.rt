@@ -2,13 +2,13 @@
 ghost use Rattle.std.specs.Prelude.{◌≡◌, ◌≢◌, ◌≤◌, length, IfSome, IfNone};
 ghost use Rattle.std.specs.Option.{option_map};
 ghost use Rattle.session_rules.specs.Record.{PlainRecord};
-ghost use Rattle.session_bytes.specs.Parts.{record_part};
+ghost use Rattle.session_bytes.specs.Parts.{HasRecord, record_part};
 ghost use Rattle.session_rules.specs.StateRange.{IsRecordInRange};
-ghost use Rattle.session_bytes.specs.Reading.{AreFieldsOf, fields_in, bytes_at, calls_at, cards_at, seat_numbered, claimed_by, marked_at, claim_at, tricks_in, short_ruling_at, long_ruling_at, ruling_at, claims_at, fields_at};
+ghost use Rattle.session_bytes.specs.Reading.{AreFieldsOf, fields_in, bytes_at, calls_at, cards_at, seat_numbered, claimed_by, marked_at, claim_at, tricks_in, adjusted_by, short_ruling_at, long_ruling_at, ruling_at, claims_at, fields_at};
 
 use bridge_cards::Seat;
 use bridge_play::Claim;
-use session_rules::{Ruling, TrickCount};
+use session_rules::{Average, Ruling, TrickCount};
 use session_store::DiskFormat;
 
 /// What the part of a play says.
@@ -30,7 +30,7 @@ pub struct RecordFields<'a> {
 pub fn read_fields(format: DiskFormat, part: &[u8]) -> Option<RecordFields<'_>>
     ensures value { option_map fields_in result ≡ fields_at format part.now }
     ensures written { IfSome result (λ fields. AreFieldsOf format part.now (fields_in fields)) }
-    ensures other { IfNone result ((plain : PlainRecord) → length plain.calls ≤ 319 → IsRecordInRange plain → record_part format plain ≢ part.now) }
+    ensures other { IfNone result ((plain : PlainRecord) → length plain.calls ≤ 319 → IsRecordInRange plain → HasRecord format plain → record_part format plain ≢ part.now) }
 {
     fields_at(format, part)
 }
@@ -187,6 +187,7 @@ fn read_long_ruling(bytes: &[u8]) -> Option<Option<Ruling>>
         [0, 0, 0] => Some(None),
         [1, tricks, 0] => tricks_in(*tricks),
         [2, 0, 0] => Some(Some(Ruling::Void)),
+        [3, ns, ew] => adjusted_by(*ns, *ew),
         _ => None,
     }
 }
@@ -197,4 +198,13 @@ fn tricks_in(tricks: u8) -> Option<Option<Ruling>>
 {
     let tricks = TrickCount::new(tricks)?;
     Some(Some(Ruling::Tricks(tricks)))
+}
+
+/// The averages of so many per cent, or none where one is not 40, 50 or 60.
+fn adjusted_by(ns: u8, ew: u8) -> Option<Option<Ruling>>
+    ensures { result ≡ adjusted_by ns ew }
+{
+    let ns = Average::of_percent(ns)?;
+    let ew = Average::of_percent(ew)?;
+    Some(Some(Ruling::Adjusted { ns, ew }))
 }

@@ -6,7 +6,7 @@ ghost use Rattle.bridge_auction.specs.Call.{call_number, call_at};
 ghost use Rattle.bridge_auction.specs.Legal.{IsLegal};
 ghost use Rattle.session_rules.specs.Record.{PlainRecord, play_of};
 ghost use Rattle.bridge_table.specs.Kept.{plain_of, IsTiedIn};
-ghost use Rattle.session_bytes.specs.Parts.{record_part};
+ghost use Rattle.session_bytes.specs.Parts.{HasRecord, record_part};
 ghost use Rattle.session_rules.specs.StateRange.{IsOfFourSeats, IsRulingInRange, IsRecordInRange, AreHandsOrNone};
 ghost use Rattle.session_rules.specs.Valid.{IsValidRecord};
 ghost use Rattle.session_bytes.specs.Reading.{some_call, fields_in, fields_of, plain_from, IsPlayed, may_stand, is_in_place, IsReadFrom};
@@ -17,6 +17,7 @@ use arrayvec::ArrayVec;
 use bridge_auction::{Auction, Call};
 use bridge_cards::{BoardNumber, Card, Deal, dealer};
 use bridge_play::Play;
+use bridge_score::Scoring;
 use bridge_table::{Record, deal_on};
 use session_rules::Ruling;
 use session_store::{DiskFormat, PAYLOAD_BYTES};
@@ -25,6 +26,7 @@ use session_store::{DiskFormat, PAYLOAD_BYTES};
 /// is valid by the deals in the current round.
 pub fn read_record(
     format: DiskFormat,
+    scoring: Scoring,
     part: &[u8],
     board: BoardNumber,
     deals: &[Option<Deal>],
@@ -33,11 +35,11 @@ pub fn read_record(
 ) -> Option<Record>
     requires few { length part.now ≤ 480 }
     requires deals { All AreHandsOrNone deals.now }
-    ensures read { IfSome result (IsReadFrom format deals.now now round board part.now) }
-    ensures none { IfNone result ((plain : PlainRecord) → plain.board ≡ board → IsValidRecord deals.now now round plain → IsRecordInRange plain → record_part format plain ≢ part.now) }
+    ensures read { IfSome result (IsReadFrom format scoring deals.now now round board part.now) }
+    ensures none { IfNone result ((plain : PlainRecord) → plain.board ≡ board → IsValidRecord scoring deals.now now round plain → IsRecordInRange plain → HasRecord format plain → record_part format plain ≢ part.now) }
 {
     match read_fields(format, part) {
-        Some(fields) => record_of(&fields, board, deals, now, round),
+        Some(fields) => record_of(scoring, &fields, board, deals, now, round),
         None => None,
     }
 }
@@ -115,30 +117,35 @@ fn play_of(
     Some(Some(play))
 }
 
-/// Whether a ruling of tricks stands only where the play is over.
-fn may_stand(kept: &Record) -> bool
-    ensures { result ≡ may_stand kept.now.play kept.now.ruling }
+/// Whether a ruling of tricks stands only where the play is over, and one of averages where the scoring is by matchpoints.
+fn may_stand(scoring: Scoring, kept: &Record) -> bool
+    ensures { result ≡ may_stand scoring kept.now.play kept.now.ruling }
 {
     match kept.ruling {
         Some(Ruling::Tricks(_)) => match &kept.play {
             Some(play) => play.is_over(),
             None => false,
         },
-        _ => true,
+        Some(Ruling::Adjusted { .. }) => match scoring {
+            Scoring::MatchPoints => true,
+            Scoring::Imps => false,
+        },
+        Some(Ruling::Void) | None => true,
     }
 }
 
 /// Whether the record may be one of that round in the current one.
-fn is_in_place(kept: &Record, now: u8, round: u8) -> bool
-    ensures { result ≡ is_in_place now round kept.now }
+fn is_in_place(scoring: Scoring, kept: &Record, now: u8, round: u8) -> bool
+    ensures { result ≡ is_in_place scoring now round kept.now }
 {
-    may_stand(kept)
+    may_stand(scoring, kept)
         && (round <= now || (kept.auction.calls().is_empty() && kept.ruling.is_none()))
         && (now <= round || !kept.is_open())
 }
 
 /// The record of the fields.
 fn record_of(
+    scoring: Scoring,
     fields: &RecordFields<'_>,
     board: BoardNumber,
     deals: &[Option<Deal>],
@@ -152,10 +159,11 @@ fn record_of(
     requires deals { All AreHandsOrNone deals.now }
     ensures board { IfSome result (λ kept. kept.board ≡ board) }
     ensures fields { IfSome result (λ kept. fields_of (plain_of kept) ≡ fields_in fields.now) }
-    ensures valid { IfSome result (λ kept. IsValidRecord deals.now now round (plain_of kept)) }
+    ensures valid { IfSome result (λ kept. IsValidRecord scoring deals.now now round (plain_of kept)) }
     ensures in_range { IfSome result (λ kept. IsRecordInRange (plain_of kept)) }
+    ensures ruling { IfSome result (λ kept. kept.ruling ≡ fields.now.ruling) }
     ensures tied { IfSome result (IsTiedIn deals.now) }
-    ensures none { IfNone result ((plain : PlainRecord) → plain.board ≡ board → IsValidRecord deals.now now round plain → IsRecordInRange plain → fields_of plain ≢ fields_in fields.now) }
+    ensures none { IfNone result ((plain : PlainRecord) → plain.board ≡ board → IsValidRecord scoring deals.now now round plain → IsRecordInRange plain → fields_of plain ≢ fields_in fields.now) }
 {
     let deal = deal_on(deals, board);
     let auction = auction_of(fields.calls, board, deal.is_some())?;
@@ -166,7 +174,7 @@ fn record_of(
         play,
         ruling: fields.ruling,
     };
-    if is_agreed(&kept) == fields.agreed && is_in_place(&kept, now, round) {
+    if is_agreed(&kept) == fields.agreed && is_in_place(scoring, &kept, now, round) {
         Some(kept)
     } else {
         None

@@ -14,6 +14,7 @@ use crate::record_read::read_record;
 use arrayvec::ArrayVec;
 use bridge_cards::{BoardNumber, Deal};
 use bridge_movement::Row;
+use bridge_score::Scoring;
 use bridge_table::Record;
 use session_store::{DiskFormat, PAYLOAD_BYTES};
 use std::alloc::{AllocError, Global};
@@ -74,6 +75,7 @@ fn are_empty_parts(format: DiskFormat, parts: &[ArrayVec<u8, PAYLOAD_BYTES>]) ->
 fn read_records(
     alloc: Global,
     format: DiskFormat,
+    scoring: Scoring,
     parts: &[ArrayVec<u8, PAYLOAD_BYTES>],
     first: u8,
     deals: &[Option<Deal>],
@@ -84,15 +86,15 @@ fn read_records(
     requires most { first + length parts.now ≤ 37 }
     requires deals { All AreHandsOrNone deals.now }
     ensures written { IfOk result (λ found. IfSome found (λ table. map (part_kept format) table.items ≡ map items_of parts.now)) }
-    ensures records { IfOk result (λ found. IfSome found (λ table. AreRecords deals.now now round (range_with_len first (length parts.now)) (map plain_of table.items))) }
+    ensures records { IfOk result (λ found. IfSome found (λ table. AreRecords format scoring deals.now now round (range_with_len first (length parts.now)) (map plain_of table.items))) }
     ensures tied { IfOk result (λ found. IfSome found (λ table. All (IsTiedIn deals.now) table.items)) }
-    ensures other { IfOk result (λ found. IfNone found ((records : List PlainRecord) → AreRecords deals.now now round (range_with_len first (length parts.now)) records → map (record_part format) records ≢ map items_of parts.now)) }
+    ensures other { IfOk result (λ found. IfNone found ((records : List PlainRecord) → AreRecords format scoring deals.now now round (range_with_len first (length parts.now)) records → map (record_part format) records ≢ map items_of parts.now)) }
 {
     let mut table = Vec::with_capacity(alloc, parts.len())?;
     let mut number = first;
     for part in parts {
         let board = BoardNumber::new(number).unwrap();
-        match read_record(format, part.as_slice(), board, deals, now, round) {
+        match read_record(format, scoring, part.as_slice(), board, deals, now, round) {
             Some(kept) => table.push(kept)?,
             None => return Ok(None),
         }
@@ -106,6 +108,7 @@ fn read_records(
 fn read_table(
     alloc: Global,
     format: DiskFormat,
+    scoring: Scoring,
     parts: &[ArrayVec<u8, PAYLOAD_BYTES>],
     row: &Row,
     boards: u8,
@@ -118,13 +121,13 @@ fn read_table(
     requires boards { boards ≤ 3 }
     requires deals { All AreHandsOrNone deals.now }
     ensures written { IfOk result (λ found. IfSome found (λ table. row_parts format boards (map plain_of table.items) ≡ map items_of parts.now)) }
-    ensures row { IfOk result (λ found. IfSome found (λ table. IsRowOf deals.now now boards row.now (map plain_of table.items))) }
+    ensures row { IfOk result (λ found. IfSome found (λ table. IsRowOf format scoring deals.now now boards row.now (map plain_of table.items))) }
     ensures tied { IfOk result (λ found. IfSome found (λ table. All (IsTiedIn deals.now) table.items)) }
-    ensures other { IfOk result (λ found. IfNone found ((records : List PlainRecord) → IsRowOf deals.now now boards row.now records → row_parts format boards records ≢ map items_of parts.now)) }
+    ensures other { IfOk result (λ found. IfNone found ((records : List PlainRecord) → IsRowOf format scoring deals.now now boards row.now records → row_parts format boards records ≢ map items_of parts.now)) }
 {
     if row.is_live() {
         let first = (row.set - 1) * boards + 1;
-        read_records(alloc, format, parts, first, deals, now, row.round)
+        read_records(alloc, format, scoring, parts, first, deals, now, row.round)
     } else if are_empty_parts(format, parts) {
         Ok(Some(Vec::new(alloc)))
     } else {
@@ -137,6 +140,7 @@ fn read_table(
 pub fn read_tables(
     alloc: Global,
     format: DiskFormat,
+    scoring: Scoring,
     parts: &[ArrayVec<u8, PAYLOAD_BYTES>],
     rows: &[Row],
     boards: u8,
@@ -148,15 +152,15 @@ pub fn read_tables(
     requires boards { boards ≤ 3 }
     requires deals { All AreHandsOrNone deals.now }
     ensures written { IfOk result (λ found. IfSome found (λ tables. flat_map (row_parts format boards) (map plains_of tables.items) ≡ map items_of parts.now)) }
-    ensures rows { IfOk result (λ found. IfSome found (λ tables. AreRows deals.now now boards rows.now (map plains_of tables.items))) }
+    ensures rows { IfOk result (λ found. IfSome found (λ tables. AreRows format scoring deals.now now boards rows.now (map plains_of tables.items))) }
     ensures tied { IfOk result (λ found. IfSome found (λ tables. All (λ table. All (IsTiedIn deals.now) table.items) tables.items)) }
-    ensures other { IfOk result (λ found. IfNone found ((records : List (List PlainRecord)) → AreRows deals.now now boards rows.now records → flat_map (row_parts format boards) records ≢ map items_of parts.now)) }
+    ensures other { IfOk result (λ found. IfNone found ((records : List (List PlainRecord)) → AreRows format scoring deals.now now boards rows.now records → flat_map (row_parts format boards) records ≢ map items_of parts.now)) }
 {
     let mut tables = Vec::with_capacity(alloc, rows.len())?;
     let mut rest = parts;
     for row in rows {
         let (own, later) = rest.split_at(usize::from(boards));
-        match read_table(alloc, format, own, row, boards, deals, now)? {
+        match read_table(alloc, format, scoring, own, row, boards, deals, now)? {
             Some(table) => tables.push(table)?,
             None => return Ok(None),
         }

@@ -10,8 +10,8 @@ returns-clause-value c = grind (arith, common_steps)
 
 -- src/action_read.rt:14:1
 pub returns-clause-written : goal.returns-clause-written
-returns-clause-written c = read_written c.args.bytes.now c.read_behind_key.result (λ i. Fits-lt-pow (c.type_inv.bytes i)) (returns-clause-value c)
+returns-clause-written c = read_written c.args.format c.args.bytes.now c.read_behind_key.result (λ i. Fits-lt-pow (c.type_inv.bytes i)) (returns-clause-value c)
 
 -- src/action_read.rt:14:1
 pub returns-clause-other : goal.returns-clause-other
-returns-clause-other c = read_other c.args.bytes.now c.read_behind_key.result (returns-clause-value c)
+returns-clause-other c = read_other c.args.format c.args.bytes.now c.read_behind_key.result (returns-clause-value c)

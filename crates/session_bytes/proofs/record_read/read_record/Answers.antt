@@ -6,11 +6,11 @@ use Rattle.session_bytes.proofs.record_read.read_record.Goals as goal
 
 pub returns-in-Some-clause-none : goal.returns-in-Some-clause-none
 returns-in-Some-clause-none c =
-    if_none_then _ _ c.record_of.result c.record_of.ensures.none (λ none plain board_is valid in_range is.
+    if_none_then _ _ c.record_of.result c.record_of.ensures.none (λ none plain board_is valid in_range has is.
     none plain board_is valid in_range
     (some_is (fields_of plain) (fields_in c.in-Some.fields)
-    (sym (valid_fields c.args.format c.args.deals.now c.args.now c.args.round plain valid in_range) ∙ ap (fields_at c.args.format) is ∙ sym c.in-Some.ensures.value)))
+    (sym (valid_fields c.args.format c.args.scoring c.args.deals.now c.args.now c.args.round plain valid in_range has) ∙ ap (fields_at c.args.format) is ∙ sym c.in-Some.ensures.value)))
 
 pub returns-in-None-clause-none : goal.returns-in-None-clause-none
-returns-in-None-clause-none c = λ plain board_is valid in_range is.
-    not_some (fields_of plain) (c.in-None.ensures.value ∙ ap (fields_at c.args.format) (sym is) ∙ valid_fields c.args.format c.args.deals.now c.args.now c.args.round plain valid in_range)
+returns-in-None-clause-none c = λ plain board_is valid in_range has is.
+    not_some (fields_of plain) (c.in-None.ensures.value ∙ ap (fields_at c.args.format) (sym is) ∙ valid_fields c.args.format c.args.scoring c.args.deals.now c.args.now c.args.round plain valid in_range has)

@@ -21,8 +21,8 @@ returns-in_err-play-clause-none c =
     let read = c.in_ok-auction.ensures in
     if_none c.from_residual-in_err-play.result _ (λ plain board_is valid in_range is.
     c.in_err-play.ensures.none
-    (valid_played deals c.args.now c.args.round c.deal_on-deal.result board auction fields c.deal_on-deal.ensures
-    (valid_is deals c.args.now c.args.round c.deal_on-deal.result board auction fields plain read.legal read.calls board_is valid is)))
+    (valid_played c.args.scoring deals c.args.now c.args.round c.deal_on-deal.result board auction fields c.deal_on-deal.ensures
+    (valid_is c.args.scoring deals c.args.now c.args.round c.deal_on-deal.result board auction fields plain read.legal read.calls board_is valid is)))
 
 pub returns-then-is_in_place-clause-valid : goal.returns-then-is_in_place-clause-valid
 returns-then-is_in_place-clause-valid c =
@@ -35,7 +35,7 @@ returns-then-is_in_place-clause-valid c =
       play_is = c.in_ok-play.ensures.play;
       played = c.in_ok-play.ensures.played;
     } in
-    read_valid deals c.args.now c.args.round c.deal_on-deal.result c.args.board c.in_ok-auction.auction fields c.in_ok-play.play
+    read_valid c.args.scoring deals c.args.now c.args.round c.deal_on-deal.result c.args.board c.in_ok-auction.auction fields c.in_ok-play.play
     c.deal_on-deal.ensures read_is (sym c.is_in_place.ensures ∙ c.if-is_in_place.true)
 
 pub returns-then-is_in_place-clause-in_range : goal.returns-then-is_in_place-clause-in_range
@@ -49,7 +49,7 @@ returns-then-is_in_place-clause-in_range c =
       play_is = c.in_ok-play.ensures.play;
       played = c.in_ok-play.ensures.played;
     } in
-    read_in_range deals c.args.now c.args.round c.deal_on-deal.result c.args.board c.in_ok-auction.auction fields c.in_ok-play.play read_is
+    read_in_range c.args.scoring deals c.args.now c.args.round c.deal_on-deal.result c.args.board c.in_ok-auction.auction fields c.in_ok-play.play read_is
     c.requires.answers c.requires.ruled
 
 pub returns-else-is_agreed-fields-clause-none : goal.returns-else-is_agreed-fields-clause-none
@@ -67,9 +67,9 @@ returns-else-is_agreed-fields-clause-none c =
       played = c.in_ok-play.ensures.played;
     } in
     λ plain board_is valid in_range is.
-    let good = valid_is deals c.args.now c.args.round c.deal_on-deal.result board auction fields plain read.legal read.calls board_is valid is in
-    let agreed = valid_agreed deals c.args.now c.args.round c.deal_on-deal.result board auction fields c.in_ok-play.play plain read_is read.calls board_is valid.calls is in
-    let placed = valid_taken deals c.args.now c.args.round c.deal_on-deal.result board auction fields c.in_ok-play.play read_is good in
+    let good = valid_is c.args.scoring deals c.args.now c.args.round c.deal_on-deal.result board auction fields plain read.legal read.calls board_is valid is in
+    let agreed = valid_agreed c.args.scoring deals c.args.now c.args.round c.deal_on-deal.result board auction fields c.in_ok-play.play plain read_is read.calls board_is valid.calls is in
+    let placed = valid_taken c.args.scoring deals c.args.now c.args.round c.deal_on-deal.result board auction fields c.in_ok-play.play read_is good in
     elim c.else-is_agreed-fields.branch [
       | else-is_agreed-fields-via-then-is_agreed-fields+else-is_in_place w ↦ let other = w.if-is_in_place.false in let same = w.is_in_place.ensures in absurd cc
       | else-is_agreed-fields-via-else-is_agreed-fields w ↦ differ c.is_agreed.result fields.agreed w.if-is_agreed-fields.false (c.is_agreed.ensures ∙ agreed)

@@ -8,6 +8,6 @@ abbrev pub invariant-loop-part : goal.invariant-loop-part
 invariant-loop-part l = record {
   next : l.number ≡ l.first + l.part-index;
   so_far : map (part_kept l.format) l.table.items ≡ map items_of (take l.part-index l.parts);
-  records : AreRecords l.deals l.now l.round (range_with_len l.first l.part-index) (map plain_of l.table.items);
+  records : AreRecords l.format l.scoring l.deals l.now l.round (range_with_len l.first l.part-index) (map plain_of l.table.items);
   tied : All (IsTiedIn l.deals) l.table.items;
 }

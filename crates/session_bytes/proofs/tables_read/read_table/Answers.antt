@@ -17,11 +17,11 @@ returns-then-is_live-clause-written c =
     let parts = map items_of c.args.parts.now in
     let first : ℕ = (row.set - 1) * boards + 1 in
     found_both (λ (table : Vec Record Global). map (part_kept format) table.items ≡ parts)
-    (λ (table : Vec Record Global). AreRecords c.args.deals.now c.args.now row.round (range_with_len first (length c.args.parts.now)) (map plain_of table.items))
+    (λ (table : Vec Record Global). AreRecords format c.args.scoring c.args.deals.now c.args.now row.round (range_with_len first (length c.args.parts.now)) (map plain_of table.items))
     (λ (table : Vec Record Global). row_parts format boards (map plain_of table.items) ≡ parts)
     c.read_records.result c.read_records.ensures.written c.read_records.ensures.records
     (λ table written are.
-    let count = records_count c.args.deals.now c.args.now row.round first (length c.args.parts.now) (map plain_of table.items) are in
+    let count = records_count format c.args.scoring c.args.deals.now c.args.now row.round first (length c.args.parts.now) (map plain_of table.items) are in
     full_parts format boards (map plain_of table.items) (count ∙ c.requires.count) ∙ sym (kept_parts format table.items) ∙ written)
 
 pub returns-then-is_live-clause-other : goal.returns-then-is_live-clause-other
@@ -32,10 +32,10 @@ returns-then-is_live-clause-other c =
     let first : ℕ = (row.set - 1) * boards + 1 in
     let own = live_boards boards row (sym c.is_live.ensures.test ∙ c.if-is_live.true) in
     found_none _ _ c.read_records.result c.read_records.ensures.other (λ none records are is.
-    let of_boards : AreRecords c.args.deals.now c.args.now row.round (range_with_len first (length c.args.parts.now)) records
-    = subst (λ (bs : List ℕ). AreRecords c.args.deals.now c.args.now row.round bs records)
+    let of_boards : AreRecords format c.args.scoring c.args.deals.now c.args.now row.round (range_with_len first (length c.args.parts.now)) records
+    = subst (λ (bs : List ℕ). AreRecords format c.args.scoring c.args.deals.now c.args.now row.round bs records)
     (own ∙ ap (range_with_len first) (sym c.requires.count)) are in
-    let count = records_count c.args.deals.now c.args.now row.round first (length c.args.parts.now) records of_boards in
+    let count = records_count format c.args.scoring c.args.deals.now c.args.now row.round first (length c.args.parts.now) records of_boards in
     none records of_boards (sym (full_parts format boards records (count ∙ c.requires.count)) ∙ is))
 
 pub returns-then-are_empty_parts-clause-written : goal.returns-then-are_empty_parts-clause-written

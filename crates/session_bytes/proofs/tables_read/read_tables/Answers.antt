@@ -19,7 +19,7 @@ returns-in-None-clause-other c = λ records are is.
     let index = c.loop-row.row-index in
     let front = map plains_of c.loop-row.tables.items in
     let before : length front ≡ index = omega (arith, c.loop-row.invariant.rows.count, length-take index c.args.rows.now, c.loop-row-test.true) in
-    let own = row_there c.args.deals.now c.args.now boards format c.args.rows.now records front (map items_of c.loop-row.rest.now) index _ are
+    let own = row_there format c.args.scoring c.args.deals.now c.args.now boards c.args.rows.now records front (map items_of c.loop-row.rest.now) index _ are
     (c.loop-row.invariant.so_far ∙ sym is) before c.loop-row-test.true (slice_get-get_or c.args.rows.now index _ c.loop-row-test.true) in
     when_none _ c.in_ok-table.field-0 c.in_ok-table.ensures.other c.in-None.is own.0 own.1 (own.2 ∙ take-map items_of boards c.loop-row.rest.now
     ∙ ap (λ n. map items_of (take n c.loop-row.rest.now)) (sym c.from.ensures) ∙ ap (map items_of) (sym c.split_at.ensures.front))
@@ -52,8 +52,8 @@ loop-row-preserved c =
           ∙ ap (λ xs. flat_map (row_parts format boards) (map plains_of tables) ++ xs) whole
           ∙ c.loop-row.invariant.so_far;
       left = omega (arith, c.from.ensures, c.split_at.ensures.back_len, c.loop-row.invariant.left, suc_row (length rows) index boards c.loop-row-test.true);
-      rows = subst (λ (ts : List (Vec Record Global)). AreRows deals c.args.now boards (take (index + 1) rows) (map plains_of ts)) (sym longer)
-          (rows_push deals c.args.now boards rows index _ tables table c.loop-row-test.true (slice_get-get_or rows index _ c.loop-row-test.true) c.loop-row.invariant.rows
+      rows = subst (λ (ts : List (Vec Record Global)). AreRows format c.args.scoring deals c.args.now boards (take (index + 1) rows) (map plains_of ts)) (sym longer)
+          (rows_push format c.args.scoring deals c.args.now boards rows index _ tables table c.loop-row-test.true (slice_get-get_or rows index _ c.loop-row-test.true) c.loop-row.invariant.rows
           (when_some _ c.in_ok-table.field-0 table c.in_ok-table.ensures.row c.in-Some.is));
       tied = subst (All (λ (t : Vec Record Global). All (IsTiedIn deals) t.items)) (sym longer)
           (All-push (λ (t : Vec Record Global). All (IsTiedIn deals) t.items) tables table c.loop-row.invariant.tied tied);
