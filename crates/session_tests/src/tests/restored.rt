@@ -3,7 +3,7 @@ use super::expect_eq;
 use super::script::{A_CLAIM, A_PASS, A_SLAM, after, written};
 use arrayvec::ArrayVec;
 use bridge_session::Session;
-use session_store::PartsFault;
+use session_store::{DiskFormat, PartsFault};
 use std::alloc::Global;
 use std::process::Abort;
 use std::test::Fail;
@@ -24,7 +24,7 @@ pub fn are_of_session(
     alloc: Global,
     parts: &[ArrayVec<u8, 480>],
 ) -> Result<bool, Fail> {
-    match Session::from_parts(alloc, parts) {
+    match Session::from_parts(alloc, DiskFormat::Two, parts) {
         Ok(session) => {
             let again = written(alloc, &session)?;
             expect_eq(
