@@ -21,7 +21,7 @@ use Rattle.session_rules.specs.State.{SessionValue, row_boards}
 use Rattle.bridge_table.specs.Kept.{plain_of, board_kept, IsTiedIn}
 use Rattle.bridge_session.specs.KeptSession.{state_of, StateASession, IsKept}
 use Rattle.session_bytes.specs.Head.{head_parts, IsRound}
-use Rattle.session_bytes.specs.Parts.{deal_part, row_parts, play_parts, board_parts}
+use Rattle.session_bytes.specs.Parts.{HasRecord, HasRulings, deal_part, row_parts, play_parts, board_parts}
 use Rattle.session_bytes.specs.PartsRead.{numbers_in, configuration_in, deal_of}
 use Rattle.session_rules.specs.StateRange.{IsRecordInRange, IsStateInRange, IsSession}
 use Rattle.session_rules.specs.Valid.{board_of, IsValidRecord, IsValid}
@@ -84,8 +84,9 @@ pub session_count : (s : SessionValue) → IsSession s → length s.records ≡ 
 session_count s is =
     sym (length-map s.records (map board_of)) ∙ ap length is.valid.of_boards ∙ length-map s.configuration.movement.rows (row_boards s.configuration.boards)
 
-pub session_rows : (s : SessionValue) → IsSession s → AreRows s.deals s.round s.configuration.boards s.configuration.movement.rows s.records
-session_rows s is = record {
+pub session_rows : (format : DiskFormat) (s : SessionValue) → IsSession s → HasRulings format s
+    → AreRows format s.configuration.scoring s.deals s.round s.configuration.boards s.configuration.movement.rows s.records
+session_rows format s is has = record {
   count = session_count s is;
   each = λ row_index row own found there.
       let boards : ℕ = s.configuration.boards in
@@ -96,9 +97,10 @@ session_rows s is = record {
       ∙ (slice_get-map (row_boards boards) rows row_index ∙ ap (option_map (row_boards boards)) found) in
       record {
         boards_are = cc;
-        valid = all_from (IsValidRecord s.deals s.round row.round) own (λ i x at.
+        valid = all_from (IsValidRecord s.configuration.scoring s.deals s.round row.round) own (λ i x at.
             is.valid.plays row_index i row x found (ap (λ o. slice_get (unwrap_or o []) i) there ∙ at));
         in_range = all_there (All IsRecordInRange) s.records row_index own is.ranges.records there;
+        of_format = all_there (All (HasRecord format)) s.records row_index own has there;
       };
 }
 
@@ -121,12 +123,12 @@ row_boards_few boards row =
     omega (arith, few, length-range_with_len ((row.set - 1) * boards + 1) boards)
 
 -- what was read of the boards and the plays
-pub record AreMade (configuration : ConfigValue) (round : ℕ) (deals : List (Option (List ℕ))) (tables : List (Vec Record)) : Type 0 where
+pub record AreMade (format : DiskFormat) (configuration : ConfigValue) (round : ℕ) (deals : List (Option (List ℕ))) (tables : List (Vec Record)) : Type 0 where
   pub limits : IsConfiguration configuration
   pub in_round : IsRound configuration round
   pub boards : length deals ≡ configuration.movement.shape.sets * configuration.boards
   pub dealt : AreDeals deals
-  pub rows : AreRows deals round configuration.boards configuration.movement.rows (map plains_of tables)
+  pub rows : AreRows format configuration.scoring deals round configuration.boards configuration.movement.rows (map plains_of tables)
   pub tied : All (λ (table : Vec Record). All (IsTiedIn deals) table.items) tables
 
 -- the records of all tables, as contracts see them
@@ -139,7 +141,7 @@ kept_boards (table ∷ tables) =
     ap (λ bs. bs ∷ map (map board_kept) (lists_in tables)) (sym (map-map board_of plain_of table.items))
     ∙ ap (λ bss. map board_of (plains_of table) ∷ bss) (kept_boards tables)
 
-module _ (configuration : ConfigValue) (round : ℕ) (deals : List (Option (List ℕ))) (tables : List (Vec Record)) (made : AreMade configuration round deals tables) where
+module _ (format : DiskFormat) (configuration : ConfigValue) (round : ℕ) (deals : List (Option (List ℕ))) (tables : List (Vec Record)) (made : AreMade format configuration round deals tables) where
   abbrev pub made_state : SessionValue
   made_state = record { configuration = configuration; round = round; deals = deals; records = map plains_of tables }
 
@@ -158,7 +160,7 @@ module _ (configuration : ConfigValue) (round : ℕ) (deals : List (Option (List
     of_boards = of_boards;
     plays = λ row_index index row plain found at.
         let own = row_found (map plains_of tables) row_index index plain at in
-        all_there (IsValidRecord deals round row.round) own.0 index plain (made.rows.each row_index row own.0 found own.1).valid
+        all_there (IsValidRecord configuration.scoring deals round row.round) own.0 index plain (made.rows.each row_index row own.0 found own.1).valid
         (ap (λ rs. slice_get rs index) (sym own.2) ∙ at);
   }
 
@@ -170,6 +172,13 @@ module _ (configuration : ConfigValue) (round : ℕ) (deals : List (Option (List
         let row = some_there configuration.movement.rows row_index (omega (arith, within, made.rows.count)) in
         (made.rows.each row_index row.0 own row.1 there).in_range);
   }
+
+  pub made_rulings : HasRulings format made_state
+  made_rulings =
+      all_from (All (HasRecord format)) (map plains_of tables) (λ row_index own there.
+      let within = slice_get_within (map plains_of tables) row_index own there in
+      let row = some_there configuration.movement.rows row_index (omega (arith, within, made.rows.count)) in
+      (made.rows.each row_index row.0 own row.1 there).of_format)
 
   pub made_session : IsSession made_state
   made_session = record { valid = made_valid; ranges = made_ranges }
@@ -230,7 +239,7 @@ module _ (format : DiskFormat) (s : SessionValue) (is : IsSession s) (configurat
       ∙ ap (λ n. s.configuration.movement.shape.sets * s.configuration.boards + n * s.configuration.boards) (session_count s is)
       ∙ ap (λ (c : ConfigValue). c.movement.shape.sets * c.boards + length c.movement.rows * c.boards) same
 
-  pub rows_of : (round : ℕ) → s.round ≡ round → AreRows s.deals round configuration.boards configuration.movement.rows s.records
-  rows_of round at =
-      subst (λ n. AreRows s.deals n configuration.boards configuration.movement.rows s.records) at
-      (subst (λ (c : ConfigValue). AreRows s.deals s.round c.boards c.movement.rows s.records) same (session_rows s is))
+  pub rows_of : HasRulings format s → (round : ℕ) → s.round ≡ round → AreRows format configuration.scoring s.deals round configuration.boards configuration.movement.rows s.records
+  rows_of has round at =
+      subst (λ n. AreRows format configuration.scoring s.deals n configuration.boards configuration.movement.rows s.records) at
+      (subst (λ (c : ConfigValue). AreRows format c.scoring s.deals s.round c.boards c.movement.rows s.records) same (session_rows format s is has))

@@ -9,6 +9,7 @@ use Rattle.bridge_auction.specs.declared.call.Call.{Call}
 use Rattle.bridge_auction.specs.declared.contract.Contract.{Contract}
 use Rattle.session_rules.specs.declared.correction.Correction.{Correction}
 use Rattle.session_rules.specs.declared.correction.Correction.TheVariants as correction
+use Rattle.bridge_score.specs.declared.ranking.Scoring.{Scoring}
 use Rattle.bridge_table.specs.declared.record.Record.{Record}
 use Rattle.session_rules.specs.declared.refused.Refused.TheVariants.{NotYet}
 use Rattle.session_rules.specs.Record.{PlainRecord, play_of, playing_in, contract_in}
@@ -19,33 +20,34 @@ use Rattle.bridge_table.specs.Kept.{plain_of, with_kept_ruling, kept_rule_answer
 use Rattle.session_rules.proofs.Lists.{changed_at-Some, changed_at-None}
 
 -- the answer to a ruling does not depend on the hands
-by_hands : (calls : List Call) (hands : List ℕ) (plain : PlainRecord) (made : Correction) (over : Bool) (contract : Option Contract) → ruling_answer calls (option_map (playing_in hands plain) contract) made over ≡ ruling_answer calls (option_map (playing_in [] plain) contract) made over
-by_hands calls hands plain (correction.Tricks tricks) over None = refl
-by_hands calls hands plain (correction.Tricks tricks) over (Some contract) = refl
-by_hands calls hands plain correction.Void over contract = refl
-by_hands calls hands plain correction.Restore over None = refl
-by_hands calls hands plain correction.Restore over (Some contract) = refl
+by_hands : (scoring : Scoring) (calls : List Call) (hands : List ℕ) (plain : PlainRecord) (made : Correction) (over : Bool) (contract : Option Contract) → ruling_answer scoring calls (option_map (playing_in hands plain) contract) made over ≡ ruling_answer scoring calls (option_map (playing_in [] plain) contract) made over
+by_hands scoring calls hands plain (correction.Tricks tricks) over None = refl
+by_hands scoring calls hands plain (correction.Tricks tricks) over (Some contract) = refl
+by_hands scoring calls hands plain correction.Void over contract = refl
+by_hands scoring calls hands plain (correction.Adjust ns ew) over contract = refl
+by_hands scoring calls hands plain correction.Restore over None = refl
+by_hands scoring calls hands plain correction.Restore over (Some contract) = refl
 
 -- the answer by what is kept of a play, and by what is seen of it
-answer_seen : (deals : List (Option (List ℕ))) (kept : Record) (now round : ℕ) (made : Correction) → IsTiedIn deals kept → kept_rule_answer now round made (Some kept) ≡ rule_answer now round made (Some (plain_of kept))
-answer_seen deals kept now round made tied =
+answer_seen : (scoring : Scoring) (deals : List (Option (List ℕ))) (kept : Record) (now round : ℕ) (made : Correction) → IsTiedIn deals kept → kept_rule_answer scoring now round made (Some kept) ≡ rule_answer scoring now round made (Some (plain_of kept))
+answer_seen scoring deals kept now round made tied =
     let calls = kept.auction.calls in
     let over = nat_lt round now in
-    let same : ruling_answer calls kept.play made over ≡ ruling_answer calls (play_of [] (plain_of kept)) made over =
-    ap (λ play. ruling_answer calls play made over) tied.tied.play ∙ by_hands calls (hands_on deals kept.board) (plain_of kept) made over (contract_in (plain_of kept)) in
+    let same : ruling_answer scoring calls kept.play made over ≡ ruling_answer scoring calls (play_of [] (plain_of kept)) made over =
+    ap (λ play. ruling_answer scoring calls play made over) tied.tied.play ∙ by_hands scoring calls (hands_on deals kept.board) (plain_of kept) made over (contract_in (plain_of kept)) in
     ap (λ answer. cond (nat_lt now round) (Err NotYet) answer) same
 
-pub rule_seen : (deals : List (Option (List ℕ))) (table : List Record) (index now round : ℕ) (made : Correction) → All (IsTiedIn deals) table → kept_rule_answer now round made (slice_get table index) ≡ rule_answer now round made (slice_get (map plain_of table) index)
-rule_seen deals table index now round made tied =
+pub rule_seen : (scoring : Scoring) (deals : List (Option (List ℕ))) (table : List Record) (index now round : ℕ) (made : Correction) → All (IsTiedIn deals) table → kept_rule_answer scoring now round made (slice_get table index) ≡ rule_answer scoring now round made (slice_get (map plain_of table) index)
+rule_seen scoring deals table index now round made tied =
     let seen = slice_get-map plain_of table index in
     elim (slice_get_cases table index).1 [
       | inl (kept, within, is, found) ↦
-          ap (kept_rule_answer now round made) is
-          ∙ answer_seen deals kept now round made (subst (IsTiedIn deals) found (tied index kept within))
-          ∙ ap (rule_answer now round made) (sym (seen ∙ ap (option_map plain_of) is))
+          ap (kept_rule_answer scoring now round made) is
+          ∙ answer_seen scoring deals kept now round made (subst (IsTiedIn deals) found (tied index kept within))
+          ∙ ap (rule_answer scoring now round made) (sym (seen ∙ ap (option_map plain_of) is))
       | inr (past, none) ↦
-          ap (kept_rule_answer now round made) none
-          ∙ ap (rule_answer now round made) (sym (seen ∙ ap (option_map plain_of) none))
+          ap (kept_rule_answer scoring now round made) none
+          ∙ ap (rule_answer scoring now round made) (sym (seen ∙ ap (option_map plain_of) none))
     ]
 
 -- a change that is seen as another

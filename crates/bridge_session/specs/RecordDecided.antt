@@ -10,6 +10,8 @@ use Rattle.bridge_play.specs.Legal as cards
 use Rattle.bridge_play.specs.Play.{PlayValue, is_claim_in, IsClaimIn, IsPlay}
 use Rattle.bridge_play.specs.Trick.{turn_of}
 use Rattle.bridge_play.proofs.RegularClaim.{regular_claim, claim_regular}
+use Rattle.bridge_score.specs.declared.ranking.Scoring.{Scoring}
+use Rattle.bridge_score.specs.declared.ranking.Scoring.TheVariants.{MatchPoints, Imps}
 use Rattle.session_rules.specs.declared.refused.Refused.{Refused}
 use Rattle.session_rules.specs.declared.ruling.Ruling.{Ruling}
 use Rattle.session_rules.specs.declared.ruling.Ruling.TheVariants as ruling
@@ -64,10 +66,16 @@ decided_accepted : (answer : Result (Unit {0}) Refused) → Decided (answer ≡ 
 decided_accepted (Ok done) = inl refl
 decided_accepted (Err refused) = inr (λ same. cc)
 
+-- whether the scoring is by matchpoints
+decided_scoring : (scoring : Scoring) → Decided (scoring ≡ MatchPoints)
+decided_scoring MatchPoints = inl refl
+decided_scoring Imps = inr (λ same. cc)
+
 -- whether a ruling may stand
-decided_ruling : (play : Option PlayValue) (made : Ruling) → Decided (MayStand play made)
-decided_ruling play (ruling.Tricks tricks) = decided_accepted (tricks_answer play)
-decided_ruling play ruling.Void = inl tt
+decided_ruling : (scoring : Scoring) (play : Option PlayValue) (made : Ruling) → Decided (MayStand scoring play made)
+decided_ruling scoring play (ruling.Tricks tricks) = decided_accepted (tricks_answer play)
+decided_ruling scoring play ruling.Void = inl tt
+decided_ruling scoring play (ruling.Adjusted ns ew) = decided_scoring scoring
 
 -- whether nothing was played or claimed
 decided_unplayed : (plain : PlainRecord) → Decided (IsUnplayed plain)
@@ -101,14 +109,14 @@ decided_untouched plain =
     ))
 
 -- whether the record of a play of that round is valid
-pub decided_record : (deals : List (Option (List ℕ))) (now round : ℕ) (plain : PlainRecord) → Decided (IsValidRecord deals now round plain)
-decided_record deals now round plain =
+pub decided_record : (scoring : Scoring) (deals : List (Option (List ℕ))) (now round : ℕ) (plain : PlainRecord) → Decided (IsValidRecord scoring deals now round plain)
+decided_record scoring deals now round plain =
     decided_like
     (decided_both (decided_calls plain.calls)
     (decided_both (decided_implies (decided_none (deal_on deals plain.board)) (decided_empty plain.calls))
     (decided_both (decided_implies (decided_none (contract_in plain)) (decided_unplayed plain))
     (decided_both (decided_found IsPlay decided_play (play_of (hands_on deals plain.board) plain))
-    (decided_both (decided_found (MayStand (play_of [] plain)) (decided_ruling (play_of [] plain)) plain.ruling)
+    (decided_both (decided_found (MayStand scoring (play_of [] plain)) (decided_ruling scoring (play_of [] plain)) plain.ruling)
     (decided_both (decided_implies (decided_less now round) (decided_untouched plain))
     (decided_implies (decided_less round now) (decided_false (is_open plain)))))))))
     (λ all. record {

@@ -64,13 +64,13 @@ decided_configuration configuration =
 -- the records of the row at an index are valid
 abbrev AreValid : SessionValue → ℕ → Row → Type 0
 AreValid s row_index row =
-    (index : ℕ) (plain : PlainRecord) → slice_get (row_at s.records row_index) index ≡ Some plain → IsValidRecord s.deals s.round row.round plain
+    (index : ℕ) (plain : PlainRecord) → slice_get (row_at s.records row_index) index ≡ Some plain → IsValidRecord s.configuration.scoring s.deals s.round row.round plain
 
 -- whether they are
 decided_plays : (s : SessionValue) (row_index : ℕ) (row : Row) → Decided (AreValid s row_index row)
 decided_plays s row_index row =
-    decided_indexes (λ index plain. IsValidRecord s.deals s.round row.round plain)
-    (λ index plain. decided_record s.deals s.round row.round plain) (row_at s.records row_index)
+    decided_indexes (λ index plain. IsValidRecord s.configuration.scoring s.deals s.round row.round plain)
+    (λ index plain. decided_record s.configuration.scoring s.deals s.round row.round plain) (row_at s.records row_index)
 
 -- whether a state is valid
 decided_valid : (s : SessionValue) → Decided (IsValid s)
@@ -108,6 +108,7 @@ decided_hands hands = decided_both (decided_equal (length hands) 4) (decided_all
 decided_ruling : (made : Ruling) → Decided (IsRulingInRange made)
 decided_ruling (ruling.Tricks tricks) = decided_most tricks 13
 decided_ruling ruling.Void = inl tt
+decided_ruling (ruling.Adjusted ns ew) = inl tt
 
 -- whether a record is within its ranges
 decided_record_range : (plain : PlainRecord) → Decided (IsRecordInRange plain)

@@ -45,6 +45,6 @@ session_keeping = record {
   parts = parts_of Two;
   state_of = session_of;
   action_bytes = action_bytes;
-  action_of = λ format bytes. action_of bytes;
+  action_of = action_of;
   step = λ s action. step_by s action (step_answer s action);
 }

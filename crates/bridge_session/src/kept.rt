@@ -37,8 +37,8 @@ impl Kept for Session {
         session_bytes::write_action(action, bytes);
     }
 
-    fn read_action(_format: DiskFormat, bytes: &[u8]) -> Option<Action> {
-        session_bytes::read_action(bytes)
+    fn read_action(format: DiskFormat, bytes: &[u8]) -> Option<Action> {
+        session_bytes::read_action(format, bytes)
     }
 
     fn step(&mut self, action: &Action) -> Result<(), Refused> {

@@ -1,6 +1,6 @@
 -- A session is read back from its parts, but for the averages where the format has none.
-use Rattle.std.proofs.Common.{◌≡◌, ◌+◌, ◌*◌, ℕ, List, [], ◌∷◌, ◌++◌, length, get_or, map, take, drop, All, refl, sym, ap, subst, ◌∙◌, arith, append_assoc}
-use Rattle.std.specs.Prelude.{slice_index}
+use Rattle.std.proofs.Common.{◌≡◌, ◌+◌, ◌*◌, ℕ, List, [], ◌∷◌, ◌++◌, length, get_or, map, take, drop, Option, None, Some, All, refl, sym, ap, subst, ◌∙◌, arith, append_assoc}
+use Rattle.std.specs.Prelude.{slice_index, IfSome}
 use Rattle.std.proofs.lemmas.Bool.{eqb-true, and_parts}
 use Rattle.std.proofs.lemmas.List.{length-map, length-append, get_or_append_left, get_or-append-add}
 use Rattle.std.proofs.lemmas.List.Elements.{All-nil, All-cons, All-head, All-tail}
@@ -9,12 +9,14 @@ use Rattle.bridge_config.specs.Limits.{IsKeyNumber, IsConfiguration}
 use Rattle.bridge_movement.specs.declared.shape.Shape.{Shape}
 use Rattle.bridge_score.specs.declared.ranking.Scoring.{Scoring}
 use Rattle.bridge_score.specs.declared.ranking.Scoring.TheVariants.{MatchPoints, Imps}
-use Rattle.session_bytes.specs.Parts.{text_bytes, four_bytes, scoring_number, size_bytes, configuration_part, movement_part, pair_part, deal_part, HasRecord, HasRulings, play_parts, board_parts, pair_parts, parts_of}
+use Rattle.session_bytes.specs.Parts.{text_bytes, four_bytes, scoring_number, size_bytes, configuration_part, movement_part, pair_part, deal_part, HasRuling, HasRecord, HasRulings, play_parts, board_parts, pair_parts, parts_of}
 use Rattle.session_bytes.specs.PartsRead.{text_in, after_text, scoring_at, numbers_in, shape_in, rows_in, key_in, pair_in, configuration_in, deal_of, tables_in, state_with, state_read}
+use Rattle.session_rules.specs.declared.ruling.Ruling.{Ruling}
 use Rattle.session_rules.specs.Record.{PlainRecord}
 use Rattle.session_rules.specs.State.{SessionValue}
 use Rattle.session_rules.specs.StateRange.{IsSession}
 use Rattle.session_store.specs.declared.disk_format.DiskFormat.{DiskFormat}
+use Rattle.session_store.specs.declared.disk_format.DiskFormat.TheVariants.{Two}
 use Rattle.session_bytes.proofs.BytesBack.{take_front, drop_front, all_back, text_back, after_back, key_back}
 use Rattle.session_bytes.proofs.PairBack.{pair_back, rows_back, deal_back}
 use Rattle.session_bytes.proofs.RecordBack.{kept_record, had_record, has_record}
@@ -166,3 +168,11 @@ pub rulings_back : (format : DiskFormat) (s : SessionValue) → IsSession s → 
 rulings_back format s is same =
     let kept : map (map (kept_record format)) s.records ≡ s.records = ap (λ (t : SessionValue). t.records) (sym (whole_back format s is) ∙ same) in
     kept_all (map (kept_record format)) (All (HasRecord format)) (kept_all (kept_record format) (HasRecord format) (has_record format)) s.records kept
+
+any_ruling : (made : Option Ruling) → IfSome made (HasRuling Two)
+any_ruling None = tt
+any_ruling (Some made) = tt
+
+-- The second format has each ruling.
+pub two_has_rulings : (s : SessionValue) → HasRulings Two s
+two_has_rulings s row_index d within index e inside = any_ruling (get_or (get_or s.records row_index d) index e).ruling

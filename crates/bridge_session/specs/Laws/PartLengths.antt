@@ -78,6 +78,7 @@ ruling_fits : (made : Option Ruling) → length (ruling_bytes Two made) ≤ 3
 ruling_fits None = omega arith
 ruling_fits (Some (ruling.Tricks tricks)) = omega arith
 ruling_fits (Some ruling.Void) = omega arith
+ruling_fits (Some (ruling.Adjusted ns ew)) = omega arith
 
 record_fits : (plain : PlainRecord) → length plain.calls ≤ 319 → length plain.cards ≤ 52 → Fits (record_part Two plain)
 record_fits plain calls cards =
@@ -87,7 +88,7 @@ record_fits plain calls cards =
     simp length-append (omega (arith, numbers, calls, cards, claim, made))
 
 -- the cards of a play of a deal are few
-module _ (s : SessionValue) (is : IsSession s) (plain : PlainRecord) (round : ℕ) (valid : IsValidRecord s.deals s.round round plain) where
+module _ (s : SessionValue) (is : IsSession s) (plain : PlainRecord) (round : ℕ) (valid : IsValidRecord s.configuration.scoring s.deals s.round round plain) where
   hands_are_deal : (hands : List ℕ) → deal_on s.deals plain.board ≡ Some hands → IsDealtOut hands × AreHands hands
   hands_are_deal hands found =
       elim (slice_get_cases s.deals (plain.board - 1)).1 [

@@ -14,6 +14,7 @@ use Rattle.session_bytes.proofs.ActionInRange.{read_in_range, action_fits}
 use Rattle.session_bytes.proofs.ActionLaws.{read_back}
 use Rattle.bridge_session.specs.Laws.PartLengths.{parts_fit, few_parts}
 use Rattle.session_bytes.proofs.PartIndexes.{count_parts}
+use Rattle.session_bytes.proofs.SessionBack.{two_has_rulings}
 use Rattle.bridge_session.specs.Laws.SessionOf.{session_of_is, has_parts}
 use Rattle.bridge_session.specs.Laws.SessionStays.{step_session}
 
@@ -28,9 +29,9 @@ steps_by s a t (Err refused) given is ranges stepped = let wrong : Err refused �
 pub session_is_lawful : IsLawful session_keeping
 session_is_lawful = record {
   read_back = read_back;
-  is_action = λ format. read_in_range;
+  is_action = read_in_range;
   action_fits = action_fits;
-  restored = λ s is. session_of_is Two s (parts_of Two s) is refl;
+  restored = λ s is. session_of_is Two s (parts_of Two s) is (two_has_rulings s) refl;
   is_state = λ format parts s found. (has_parts format parts s found).0;
   has_parts = λ parts s found. (has_parts Two parts s found).1;
   some_part = λ s is. omega (arith, count_parts Two s);

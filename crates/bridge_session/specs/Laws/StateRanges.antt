@@ -62,6 +62,7 @@ acted_in_range s done (Ok seating) is = record {
 ruling_in_range : (made : Correction) (plain : PlainRecord) → IsCorrectionInRange made → IsRecordInRange plain → IsRecordInRange (with_ruling made plain)
 ruling_in_range (correction.Tricks tricks) plain few is = record { claim = is.claim; ruling = few }
 ruling_in_range correction.Void plain few is = record { claim = is.claim; ruling = tt }
+ruling_in_range (correction.Adjust ns ew) plain few is = record { claim = is.claim; ruling = tt }
 ruling_in_range correction.Restore plain few is = record { claim = is.claim; ruling = tt }
 
 pub ruled_in_range : (s : SessionValue) (play : PlayId) (made : Correction) → IsCorrectionInRange made → IsStateInRange s → IsStateInRange (ruled s play made)

@@ -4,7 +4,7 @@ ghost use Rattle.bridge_config.specs.Limits.{IsConfiguration};
 ghost use Rattle.session_rules.specs.State.{SessionValue};
 ghost use Rattle.session_rules.specs.StateRange.{IsSession};
 ghost use Rattle.session_bytes.specs.Head.{IsRound, board_part_count, HasHead};
-ghost use Rattle.session_bytes.specs.Parts.{parts_of, board_parts};
+ghost use Rattle.session_bytes.specs.Parts.{HasRulings, parts_of, board_parts};
 
 use super::Session;
 use arrayvec::ArrayVec;
@@ -25,7 +25,8 @@ fn read_boards(
     ensures state { IfOk result (λ found. IfSome found (λ s. (s.configuration ≡ config) × (s.round ≡ round))) }
     ensures parts { IfOk result (λ found. IfSome found (λ s. board_parts format s ≡ map (λ part. part.items) parts.now)) }
     ensures session { IfOk result (λ found. IfSome found IsSession) }
-    ensures other { IfOk result (λ found. IfNone found ((s : SessionValue) → IsSession s → s.configuration ≡ config → s.round ≡ round → board_parts format s ≢ map (λ part. part.items) parts.now)) }
+    ensures rulings { IfOk result (λ found. IfSome found (HasRulings format)) }
+    ensures other { IfOk result (λ found. IfNone found ((s : SessionValue) → IsSession s → HasRulings format s → s.configuration ≡ config → s.round ≡ round → board_parts format s ≢ map (λ part. part.items) parts.now)) }
     ensures counted { OnErr result (length parts.now ≡ board_part_count config) }
 {
     let fields = config.fields();
@@ -43,6 +44,7 @@ fn read_boards(
     let tables = match read_tables(
         alloc,
         format,
+        fields.scoring,
         of_plays,
         rows,
         boards,
@@ -61,8 +63,9 @@ fn read_boards(
 }
 
 impl Session {
-    /// The session that the parts of a format were written of. `Bad` where they are not exactly those of a session, `Memory` where it is
-    /// out of memory, of which it takes none before the configuration, the round and the number of the parts are read.
+    /// The session that the parts of a format were written of, in the first format one without averages. `Bad` where they are not exactly
+    /// those of such a session, `Memory` where it is out of memory, of which it takes none before the configuration, the round and the
+    /// number of the parts are read.
     pub fn from_parts(
         alloc: Global,
         format: DiskFormat,
@@ -70,7 +73,8 @@ impl Session {
     ) -> Result<Session, PartsFault>
         ensures parts { IfOk result (λ s. parts_of format s ≡ map (λ part. part.items) parts.now) }
         ensures session { IfOk result IsSession }
-        ensures bad { IsErrOf result PartsFault.Bad → (s : SessionValue) → IsSession s → parts_of format s ≢ map (λ part. part.items) parts.now }
+        ensures rulings { IfOk result (HasRulings format) }
+        ensures bad { IsErrOf result PartsFault.Bad → (s : SessionValue) → IsSession s → HasRulings format s → parts_of format s ≢ map (λ part. part.items) parts.now }
         ensures memory { IsErrOf result PartsFault.Memory → HasHead (map (λ part. part.items) parts.now) }
     {
         let Some(head) = read_head(parts) else {

@@ -15,7 +15,7 @@ use bridge_table::{
 };
 use session_rules::{Act, Action, Correction, Deed, MadeCount, PlayId, Refused, RoundNumber};
 
-/// Whether one of so many tables from an index on has a play that is neither finished nor void.
+/// Whether one of so many tables from an index on has a play that is neither finished, void nor adjusted.
 fn have_open(tables: &[Vec<Record>], start: usize, count: usize) -> bool
     ensures { result ≡ list_any (λ table. list_any is_kept_open table.items) (take count (drop start tables.now)) }
 {
@@ -77,7 +77,7 @@ impl Session {
         Ok(())
     }
 
-    /// Whether a live play of the round is neither finished nor void.
+    /// Whether a live play of the round is neither finished, void nor adjusted.
     fn is_round_open(&self) -> bool
         ensures { result ≡ list_any (list_any is_open) (records_of_round self.now) }
     {
@@ -108,7 +108,7 @@ impl Session {
 
     /// Rules on a play. Refused are: `NoSuchPlay`, `NotYet`, and those of the ruling.
     fn rule(&mut self, key: Key, play: PlayId, correction: Correction) -> Result<(), Refused>
-        ensures answer { result ≡ if_allowed (director_answer self.old.configuration key.0) (rule_answer self.old.round play.round correction (record_of self.old play)) }
+        ensures answer { result ≡ if_allowed (director_answer self.old.configuration key.0) (rule_answer self.old.configuration.scoring self.old.round play.round correction (record_of self.old play)) }
         ensures taken { OnOk result (self.new ≡ ruled self.old play correction) }
         ensures refused { OnErr result (self.new ≡ self.old) }
     {
@@ -123,9 +123,17 @@ impl Session {
         let Some(index) = row_of(&self.config, round, table) else {
             return Err(Refused::NoSuchPlay);
         };
+        let scoring = self.config.fields().scoring;
         let now = self.round;
         let records = &mut self.tables[index];
-        rule_among(records.as_mut_slice(), at, now, of_round, correction)
+        rule_among(
+            records.as_mut_slice(),
+            at,
+            scoring,
+            now,
+            of_round,
+            correction,
+        )
     }
 
     /// Takes an action by who does what.
@@ -159,7 +167,8 @@ impl Session {
     /// `NotHeld` and `MustFollow`; of a claim `ClaimStands`, `NotYourTurn`, `MidTrick`, `TooManyTricks` and
     /// `ClaimsSpent`; of an answer to a claim `NoClaim` and `NotAsked`. Of a deal `Closed`, `NoSuchPlay`,
     /// `AlreadyDealt` and `BadDeal`; of the end of a round `Closed`, `Stale` and `RoundOpen`; of a ruling `NoSuchPlay`
-    /// and `NotYet`, and then of `Tricks` `NoContract` and `NotFinished`, of `Restore` `NotFinished`.
+    /// and `NotYet`, and then of `Tricks` `NoContract` and `NotFinished`, of `Adjust` `NotMatchPoints`, of `Restore`
+    /// `NotFinished`.
     pub fn step(&mut self, action: &Action) -> Result<(), Refused>
         ensures answer { result ≡ step_answer self.old action.now }
         ensures taken { OnOk result (self.new ≡ changed self.old action.now) }

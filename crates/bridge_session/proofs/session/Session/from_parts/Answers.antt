@@ -48,7 +48,7 @@ returns-in-Ok-Some-clause-parts c =
     ∙ ap (λ ps. ps ++ drop (2 + length config.pairs) parts) c.in-Some.ensures.written ∙ take-append-drop (2 + length config.pairs) parts
 
 pub returns-in-Ok-None-clause-bad : goal.returns-in-Ok-None-clause-bad
-returns-in-Ok-None-clause-bad c = λ bad s is of.
+returns-in-Ok-None-clause-bad c = λ bad s is has of.
     let config = c.in-Some.head.config in
     let round = c.in-Some.head.round in
     let parts = map items_of c.args.parts.now in
@@ -58,4 +58,4 @@ returns-in-Ok-None-clause-bad c = λ bad s is of.
     = ap (map items_of) c.split_at.ensures.back ∙ sym (drop-map items_of (2 + c.len-pairs.result) c.args.parts.now) ∙ ap (λ n. drop (2 + n) parts) pairs in
     let head = same_head s.configuration config s.round round (board_parts c.args.format s) (drop (2 + length config.pairs) parts) is.valid.configured c.fields.ensures.limits
     (of ∙ sym (ap (λ ps. ps ++ drop (2 + length config.pairs) parts) c.in-Some.ensures.written ∙ take-append-drop (2 + length config.pairs) parts)) in
-    when_none _ c.in-Ok-None.field-0 c.in-Ok-None.ensures.other c.in-Ok-None.field-0-is s is head.configuration head.round (head.behind ∙ sym behind)
+    when_none _ c.in-Ok-None.field-0 c.in-Ok-None.ensures.other c.in-Ok-None.field-0-is s is has head.configuration head.round (head.behind ∙ sym behind)

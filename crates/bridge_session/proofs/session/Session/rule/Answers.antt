@@ -1,6 +1,8 @@
 use Rattle.std.proofs.Common.{◌≡◌, ◌<◌, ◌≤◌, ◌-◌, ℕ, true, List, length, Some, Result, refl, sym, ap, ◌∙◌, subst, arith}
 use Rattle.std.specs.Prelude.{All, OnOk, map, slice_get, slice_set}
 use Rattle.std.specs.Vec.{with_items}
+use Rattle.bridge_config.specs.ConfigValue.{ConfigValue}
+use Rattle.bridge_score.specs.declared.ranking.Scoring.{Scoring}
 use Rattle.bridge_table.specs.declared.record.Record.{Record}
 use Rattle.session_rules.specs.declared.refused.Refused.{Refused}
 use Rattle.session_rules.specs.Record.{PlainRecord}
@@ -62,15 +64,17 @@ session_before : (c : After-self-1) → IsSession (before c)
 session_before c = kept_session c.self.inside.config c.self.inside.round c.self.inside.deals.items (lists_in c.self.inside.tables.items) c.self.invariant
 
 -- the answer to the ruling
-answered : (c : After-self-1) → c.rule_among.result ≡ rule_answer (before c).round c.args.play.round c.args.correction (record_of (before c) c.args.play)
+answered : (c : After-self-1) → c.rule_among.result ≡ rule_answer (before c).configuration.scoring (before c).round c.args.play.round c.args.correction (record_of (before c) c.args.play)
 answered c =
     let s = c.self.inside in
     let made = c.args.correction in
     let table = c.as_mut_slice.result.now in
+    let scored : c.fields.result.now.scoring ≡ s.config.scoring = ap (λ (k : ConfigValue). k.scoring) c.fields.ensures.fields in
     c.rule_among.ensures.answer
-    ∙ ap (λ round. kept_rule_answer s.round round made (slice_get table c.from-at.result)) c.number-of_round.ensures.number
-    ∙ rule_seen s.deals.items table c.from-at.result s.round c.args.play.round made (tied_there c)
-    ∙ ap (rule_answer s.round c.args.play.round made) (sym (record_is c))
+    ∙ ap (λ (scoring : Scoring). kept_rule_answer scoring s.round c.number-of_round.result made (slice_get table c.from-at.result)) scored
+    ∙ ap (λ round. kept_rule_answer s.config.scoring s.round round made (slice_get table c.from-at.result)) c.number-of_round.ensures.number
+    ∙ rule_seen s.config.scoring s.deals.items table c.from-at.result s.round c.args.play.round made (tied_there c)
+    ∙ ap (rule_answer s.config.scoring s.round c.args.play.round made) (sym (record_is c))
 
 -- the session with what was left in the table
 ruled_is : (c : After-self-1) → c.rule_among.new.table ≡ changed_at (with_kept_ruling c.args.correction) c.as_mut_slice.result.now c.from-at.result →
@@ -126,9 +130,9 @@ invariant_of-self c =
 pub returns-clause-answer : goal.returns-clause-answer
 returns-clause-answer c =
     let answer : SessionValue → Result (Unit {0}) Refused =
-    λ t. if_allowed (director_answer t.configuration c.args.key.0) (rule_answer t.round c.args.play.round c.args.correction (record_of t c.args.play)) in
+    λ t. if_allowed (director_answer t.configuration c.args.key.0) (rule_answer t.configuration.scoring t.round c.args.play.round c.args.correction (record_of t c.args.play)) in
     answered c
-    ∙ ap (λ allowed. if_allowed allowed (rule_answer (before c).round c.args.play.round c.args.correction (record_of (before c) c.args.play))) c.in_ok-check_director.ensures
+    ∙ ap (λ allowed. if_allowed allowed (rule_answer (before c).configuration.scoring (before c).round c.args.play.round c.args.correction (record_of (before c) c.args.play))) c.in_ok-check_director.ensures
     ∙ ap answer c.self.view_is
 
 pub returns-clause-taken : goal.returns-clause-taken
