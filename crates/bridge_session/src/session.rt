@@ -145,9 +145,10 @@ impl Session {
         )
     }
 
-    /// The pairs of a field with what they gained in the plays that count, those that are finished and not void, against
-    /// all other scores on the board, of both fields (Law 78). Under matchpoints a pair's place is by its share of what
-    /// was available to it, under IMPs by the sum. It takes no memory.
+    /// The pairs of a field with what they gained in the plays that count, those that are finished, not void and not
+    /// adjusted, against all other scores on the board, of both fields (Law 78), and under matchpoints by the averages of
+    /// those that are adjusted (Law 12C2). Matchpoints, and what is available, are in tenths. Under matchpoints a pair's
+    /// place is by its share of what was available to it, under IMPs by the sum. It takes no memory.
     ///
     /// The director may ask at any time, a player once the session is closed. Refused are, in this order: `NoKey`,
     /// `NotAllowed`, and `NoSuchPlay` where there is no such field.

@@ -52,7 +52,7 @@ fn ending_in(play: Option<&Play>, cards: u8) -> Result<Ending, Refused>
 
 impl Session {
     /// What is left of a play after its first cards: the hands, the trump suit, and the seat that leads to the next trick.
-    /// It is there for each contract, also of a play that is void. Only the director may ask. Refused are, in this order:
+    /// It is there for each contract, also of a play that is void or adjusted. Only the director may ask. Refused are, in this order:
     /// `NoKey`, `NotAllowed`, `NoSuchPlay`, `NotYet`, `NoContract`, and `NotAnEnding` where so many cards are not whole
     /// tricks, are fewer than 28, which leave six tricks, or more than were played. It takes no memory.
     pub fn ending(&self, key: Key, play: PlayId, cards: u8) -> Result<Ending, Refused>
