@@ -259,8 +259,9 @@ impl Twin {
             Action::Tricks { .. } if !story.is_over() => Err(Refused::NotFinished),
             Action::Restore { .. } if usize::from(row.round) < self.round() && !story.is_over() =>
                 Err(Refused::NotFinished),
-            Action::Adjust { .. } if self.config.fields().scoring == Scoring::Imps =>
-                Err(Refused::NotMatchPoints),
+            Action::Adjust { .. } if self.config.fields().scoring == Scoring::Imps => Err(
+                Refused::NotMatchPoints,
+            ),
             _ => Ok(()),
         }
     }
