@@ -17,6 +17,7 @@ mod formatting;
 mod headers;
 mod kept;
 mod laws;
+mod looking;
 mod opening;
 mod parts;
 mod reading;
@@ -32,4 +33,5 @@ pub use fault::{CheckpointFault, ConfirmFault, PartsFault, StoreFault, SubmitFau
 pub use formatting::format;
 pub use kept::{Kept, PAYLOAD_BYTES};
 pub use laws::{crash_law, former_law, frame_law};
+pub use looking::{is_same_state, read_state};
 pub use store::{MOST_PENDING, Store};
