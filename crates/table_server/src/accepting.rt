@@ -12,28 +12,37 @@ use bridge_session::Session;
 use sector_disk::SectorDisk;
 use session_store::Store;
 use std::net::{Net, OpenListener, OpenStream};
+use std::time::Duration;
+
+/// How long a read or a write of a connection may take.
+const PATIENCE: Duration = Duration::from_secs(30);
+
+/// Has each reply sent at once, and not once the peer has acknowledged the one before, and ends a read or a write after 30
+/// seconds. A connection that knows no such setting is served without it.
+fn set_up<S: OpenStream>(connection: &S) {
+    let _ = connection.set_nodelay(true);
+    let _ = connection.set_read_timeout(Some(PATIENCE));
+    let _ = connection.set_write_timeout(Some(PATIENCE));
+}
 
 /// The two sides of a connection of the listener, the one to read at and the one to write at.
 fn sides<N: Net>(listener: &N::Listener) -> Result<(N::Stream, N::Stream), ServeFault>
     ensures { IfErr result (λ fault. fault ≡ AcceptFault) }
 {
-    let Ok((reader, _)) = listener.accept() else {
-        return Err(ServeFault::Accept);
-    };
-    let Ok(writer) = reader.try_clone() else {
-        return Err(ServeFault::Accept);
-    };
+    let (reader, _) = listener.accept().map_err(|_| ServeFault::Accept)?;
+    let writer = reader.try_clone().map_err(|_| ServeFault::Accept)?;
+    set_up(&reader);
     Ok((reader, writer))
 }
 
 /// Accepts one connection of the listener and serves its lines over a store, as `serve` does: the lines come in at the
-/// connection, and the replies go out at it. It waits for a connection, and for its peer, as long as they take. The
-/// connection is closed at the end, of which no clause speaks. Nothing may be pending in the store, unless it has failed, and nothing is left
-/// pending.
+/// connection, and the replies go out at it. It waits for a connection as long as it takes, and for its peer 30 seconds at
+/// each read and each write, of which no clause speaks; nor does one of the connection's end, at which it is closed.
+/// Nothing may be pending in the store, unless it has failed, and nothing is left pending.
 ///
 /// `Accept` comes where no connection is had, or no second handle of it to write at; the store is then as it was. `Read`
-/// and `Write` are faults of this connection, as `serve` has them; another connection may be served after them. That
-/// `Accept` comes only there no clause says.
+/// and `Write` are faults of this connection, as `serve` has them, and that its peer was silent, or did not read, for 30
+/// seconds; another connection may be served after them. That `Accept` comes only there no clause says.
 pub fn accept_and_serve<N: Net, D: SectorDisk + Drop>(
     _rt: &N,
     listener: &N::Listener,
@@ -46,8 +55,6 @@ pub fn accept_and_serve<N: Net, D: SectorDisk + Drop>(
     ensures ready { store.new.failed ≡ false → store.new.pending ≡ [] }
     ensures faults { FailsWithDisk D.disk store.old store.new }
 {
-    match sides::<N>(listener) {
-        Ok((mut reader, mut writer)) => serve(store, cache, &mut reader, &mut writer),
-        Err(fault) => Err(fault),
-    }
+    let (mut reader, mut writer) = sides::<N>(listener)?;
+    serve(store, cache, &mut reader, &mut writer)
 }
