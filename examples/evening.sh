@@ -4,8 +4,9 @@
 #
 #     examples/evening.sh [DISK]     (DISK is a new file, and is kept; when left out it is one that is removed at the end)
 #
-# Each command runs by `rt try`, which compiles it and proves nothing. PROGRAM names one that was proved and built, as
-# crates/bridge_club/out/bridge_club.
+# The program is the one that PROGRAM names, or the one that .ci/run or rt run has proved and built, which takes no time to
+# start. Where there is none that is as new as its source, each of the four commands runs by `rt try`, which proves nothing,
+# and compiles it anew.
 set -eu
 here=$(cd "$(dirname "$0")" && pwd)
 work=$(mktemp -d)
@@ -20,10 +21,17 @@ if [ -e "$disk" ]; then
     exit 1
 fi
 
+crates=$here/../crates
+built=$crates/bridge_club/out/bridge_club
+if [ -z "${PROGRAM:-}" ] && [ -x "$built" ] && [ -z "$(find "$crates"/*/src -name '*.rt' -newer "$built" | head -n 1)" ]; then
+    PROGRAM=$built
+fi
+
 club() {
     if [ -n "${PROGRAM:-}" ]; then
         "$PROGRAM" "$@"
     else
+        echo "compiling bridge_club for $1, which takes about half a minute" >&2
         (cd "$here/../crates/bridge_club" && rt try bridge_club -- "$@" 2> "$work/errors") || {
             cat "$work/errors" >&2
             exit 1

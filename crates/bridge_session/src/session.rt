@@ -79,6 +79,14 @@ impl Session {
         &self.config
     }
 
+    /// The configuration, of a session that is needed no more.
+    pub fn into_config(self) -> Config
+        ensures { result ≡ self.configuration }
+    {
+        let Session { config, .. } = self;
+        config
+    }
+
     /// What each session is, by its invariant, which holds where a field is read.
     pub(crate) fn is_session(&self)
         ensures { IsSession self.now }

@@ -9,9 +9,11 @@ use Rattle.sector_disk.specs.File.{file_disk}
 use Rattle.sector_disk.specs.Runs.{Remains}
 use Rattle.session_store.specs.declared.fault.StoreFault.TheVariants.{Disk as DiskFault}
 use Rattle.session_store.specs.Base.{HasEpoch}
+use Rattle.session_store.specs.Stands.{recovered}
+use Rattle.bridge_config.specs.ConfigValue.{ConfigValue}
 use Rattle.session_store.specs.Sound.{IsSoundDisk, StandsOnlyFor}
 use Rattle.bridge_session.specs.SessionKeeping.{session_keeping}
-use Rattle.session_rules.specs.State.{SessionValue}
+use Rattle.session_rules.specs.State.{SessionValue, opening}
 use Rattle.table_server.specs.declared.fault.ServeFault.TheVariants.{Read, Write}
 use Rattle.club_commands.specs.declared.fault.RunFault.{RunFault}
 use Rattle.club_commands.specs.declared.fault.RunFault.TheVariants.{Stream as StreamFault, Config, Store}
@@ -19,6 +21,10 @@ use Rattle.club_commands.specs.Opening.{Begins, IsNoSession, IsSessionRead, Stop
 
 abbrev pub formatted_line : List ℕ
 formatted_line = codes "formatted\n"
+
+-- a disk of this image holds the session as a configuration begins it
+abbrev pub IsOpening : Image → Type 0
+IsOpening image = (configuration : ConfigValue) × (recovered session_keeping image ≡ Ok (opening configuration))
 
 module _ {D : Type 0} (disk : Disk D) where
   -- Of a disk one was made that holds the session, and no call of it failed: where it is honest, every image that a power

@@ -2,6 +2,7 @@
 use Rattle.std.specs.Prelude.{◌≡◌, ℕ, List, take, codes, IfSome}
 use Rattle.bridge_cards.specs.Board.{dealer_of}
 use Rattle.line_text.specs.Streams.{Stream, Gives, Takes, TakesPrefix, IsUntouched}
+use Rattle.table_server.specs.declared.fault.ServeFault.TheVariants.{Read}
 use Rattle.table_server.specs.Heard.{StopsAt}
 use Rattle.table_server.specs.Replies.{auction_output, byte_limit}
 use Rattle.command_line.specs.declared.command.Command.{Command}
@@ -11,7 +12,7 @@ use Rattle.command_line.specs.declared.command.WordsFault.TheVariants.{Usage, Me
 use Rattle.club_commands.specs.declared.fault.RunFault.{RunFault}
 use Rattle.club_commands.specs.declared.fault.RunFault.TheVariants.{Stream as StreamFault, Config, Store}
 use Rattle.session_store.specs.declared.fault.StoreFault.TheVariants.{NoMemory}
-use Rattle.club_commands.specs.Faults.{store_line, fault_line, fault_status}
+use Rattle.club_commands.specs.Faults.{store_line, stream_line, fault_line, fault_status}
 use Rattle.club_commands.specs.Formatted.{HasFormatted, StopsFormatting}
 use Rattle.club_commands.specs.OnFile.{HasResults, StopsResults, HasScripted, StopsScripting, HasServedConnections, StopsServingConnections}
 use Rattle.club_commands.specs.Results.{IsRankingText, IsPbnText}
@@ -65,6 +66,10 @@ memory_line = store_line NoMemory
 -- the line on standard error where the program's words cannot be read as text
 abbrev pub text_line : List ℕ
 text_line = codes "a word of the command line is not UTF-8\n"
+
+-- the line on standard error where no file can be opened
+abbrev pub files_line : List ℕ
+files_line = stream_line Read
 
 -- where memory is refused before any command: nothing was read or written, and standard error took a prefix of the line
 -- for that

@@ -5,8 +5,8 @@ ghost use Rattle.sector_disk.specs.File.{file_disk};
 ghost use Rattle.club_commands.specs.Formatted.{Formats, FailsToFormat, FormatsMade, FailsToFormatMade, IsSessionFound, IsNoSessionFound, IsSessionOfFile, IsNoSessionOfFile, HasFormatted, StopsFormatting};
 
 use crate::config_file::read_session;
-use crate::disk_lock::lock_new;
 use crate::fault::RunFault;
+use crate::moving_aside::lock_spare;
 use crate::output::write_output;
 use bridge_session::Session;
 use sector_disk::{DiskFault, FileDisk, SystemFile};
@@ -88,8 +88,10 @@ fn create_locked<S: Files<File = File>>(
 }
 
 /// Makes the file DISK anew, as a disk that holds the session that begins by the configuration in the file CONFIG, and
-/// writes `formatted`. The configuration is read first, and where that fails DISK is not opened; where another run has
-/// locked DISK, it is left as it is. Both are shown by tests: no clause speaks of a file that is left alone.
+/// writes `formatted`. What stood at DISK first gets the name `DISK.1`, or the first such number that is free, unless it is
+/// empty or a disk of whose session nothing is accepted. The configuration is read first, and where that fails DISK is not
+/// opened; where another run has locked DISK, it is left as it is. Tests show these: no clause speaks of a file that is
+/// left alone.
 pub fn run_format<S: Files<File = File>, W: Write>(
     rt: &S,
     alloc: Global,
@@ -100,11 +102,7 @@ pub fn run_format<S: Files<File = File>, W: Write>(
     ensures done { OnOk result (HasFormatted (stream W.contents output.old output.new)) }
     ensures fault { IfErr result (StopsFormatting (stream W.contents output.old output.new)) }
 {
-    match session_of_file(rt, alloc, config) {
-        Ok(session) => {
-            let lock = lock_new(rt, disk);
-            format_made(create_locked(rt, disk, &lock), &session, output)
-        }
-        Err(fault) => Err(fault),
-    }
+    let session = session_of_file(rt, alloc, config)?;
+    let lock = lock_spare(rt, alloc, disk);
+    format_made(create_locked(rt, disk, &lock), &session, output)
 }

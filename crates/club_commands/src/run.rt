@@ -4,23 +4,25 @@ ghost use Rattle.clap.specs.Words.{fault_of};
 ghost use Rattle.command_line.specs.Words.{club_app, Asks};
 ghost use Rattle.line_text.specs.Streams.{stream, TakesPrefix, IsUntouched};
 ghost use Rattle.club_commands.specs.Faults.{fault_line, fault_status};
-ghost use Rattle.club_commands.specs.Run.{HasAuction, StopsAuction, Does, StopsBy, IsDone, IsStopped, IsWithoutMemory, Refuses, memory_line, text_line};
+ghost use Rattle.club_commands.specs.Run.{HasAuction, StopsAuction, Does, StopsBy, IsDone, IsStopped, IsWithoutMemory, Refuses, memory_line, text_line, files_line};
 ghost use Rattle.command_line.specs.declared.command.Command.{Command};
 
 use crate::disk_commands::{run_pbn, run_rank, run_script, run_serve};
 use crate::fault::RunFault;
 use crate::fault_line::{fault_line, fault_status};
 use crate::formatting::run_format;
+use crate::printable::Printable;
 use bridge_cards::BoardNumber;
 use command_line::{Command, WordsFault, read_words};
 use line_text::write_text;
 use session_store::StoreFault;
 use std::alloc::Global;
+use std::fmt::Write as _;
 use std::fs::File;
 use std::io::{ErrorKind, Read, Write};
 use std::net::{Net, TcpListener, TcpStream};
 use std::rt::Files;
-use table_server::run_auction;
+use table_server::{ServeFault, run_auction};
 
 /// The command was done.
 pub const DONE: u8 = 0;
@@ -70,7 +72,7 @@ pub fn refuse<E: Write>(fault: WordsFault, errors: &mut E) -> u8
 {
     match fault {
         WordsFault::Usage(error) => {
-            let _ = write!(errors, "{error}");
+            let _ = write!(Printable { writer: errors }, "{error}");
             USAGE
         }
         WordsFault::Memory => fails(RunFault::Store(StoreFault::NoMemory), errors),
@@ -140,23 +142,26 @@ fn hold_auction<R: Read, W: Write>(
     }
 }
 
-/// The exit status of the program: that of the run, or where its words could not be had, which a line of `errors` says,
-/// 3 where memory is refused, and 2 at any other error, which is taken to be that a word is not UTF-8.
+/// The exit status of the program: that of the run, or where it could not begin, which a line of `errors` says: 3 where memory
+/// is refused, 2 where a word is not UTF-8, and 3 at any other error, which is that no file can be opened.
 pub fn status_of<E: Write>(outcome: Result<u8, ErrorKind>, errors: &mut E) -> u8
     ensures run { IfOk outcome (λ status. (result ≡ status)
         × IsUntouched (stream E.contents errors.old errors.new)) }
     ensures memory { IfErr outcome (λ kind. kind ≡ ErrorKind.OutOfMemory → (result ≡ 3)
         × TakesPrefix (stream E.contents errors.old errors.new) memory_line) }
-    ensures text { IfErr outcome (λ kind. kind ≢ ErrorKind.OutOfMemory → (result ≡ 2)
+    ensures text { IfErr outcome (λ kind. kind ≡ ErrorKind.InvalidData → (result ≡ 2)
         × TakesPrefix (stream E.contents errors.old errors.new) text_line) }
+    ensures files { IfErr outcome (λ kind. kind ≢ ErrorKind.OutOfMemory → kind ≢ ErrorKind.InvalidData → (result ≡ 3)
+        × TakesPrefix (stream E.contents errors.old errors.new) files_line) }
 {
     match outcome {
         Ok(status) => status,
-        Err(ErrorKind::OutOfMemory) => refuse(WordsFault::Memory, errors),
-        Err(_) => {
+        Err(ErrorKind::OutOfMemory) => fails(RunFault::Store(StoreFault::NoMemory), errors),
+        Err(ErrorKind::InvalidData) => {
             let _ = write_text(errors, NOT_TEXT.as_bytes());
             USAGE
         }
+        Err(_) => fails(RunFault::Stream(ServeFault::Read), errors),
     }
 }
 

@@ -14,15 +14,16 @@ use session_store::Store;
 use std::net::{Net, OpenListener, OpenStream};
 use std::time::Duration;
 
-/// How long a read or a write of a connection may take.
-const PATIENCE: Duration = Duration::from_secs(30);
+/// How long a read or a write of a connection may take, in seconds.
+const PATIENCE: u64 = 30;
 
 /// Has each reply sent at once, and not once the peer has acknowledged the one before, and ends a read or a write after 30
 /// seconds. A connection that knows no such setting is served without it.
 fn set_up<S: OpenStream>(connection: &S) {
+    let patience = Some(Duration::from_secs(PATIENCE));
     let _ = connection.set_nodelay(true);
-    let _ = connection.set_read_timeout(Some(PATIENCE));
-    let _ = connection.set_write_timeout(Some(PATIENCE));
+    let _ = connection.set_read_timeout(patience);
+    let _ = connection.set_write_timeout(patience);
 }
 
 /// The two sides of a connection of the listener, the one to read at and the one to write at.

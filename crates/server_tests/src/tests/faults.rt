@@ -4,7 +4,7 @@ use super::disk::{
     serve_all, served,
 };
 use super::expect_eq;
-use super::streams::{Failing, FullOnce, Pen, Pieces};
+use super::streams::{Drops, Failing, FullOnce, Pen, Pieces};
 use bridge_cards::BoardNumber;
 use std::alloc::Global;
 use std::cell::Cell;
@@ -21,29 +21,96 @@ fn expect_confirmed(rt: &impl Abort, alloc: Global, store: ClubStore) -> Result<
     Ok(())
 }
 
-// The writer takes the first reply alone; both actions are confirmed all the same, and no more is read.
+// The writer takes the first reply alone, and then refuses a write or takes no byte; both actions are confirmed all the
+// same, and no more is read.
 #[test]
 fn a_write_that_fails(rt: HostRuntime) -> Result<(), Fail> {
+    for failing in [Failing::Refuses, Failing::TakesNone] {
+        let mut store = opened(rt.alloc(), CLUB, u64::MAX)?;
+        let shown = Cell::new(0);
+        let mut writer = FullOnce {
+            bytes: Vec::new(rt.alloc()),
+            room: 3,
+            failing,
+            failed: false,
+            shown: &shown,
+        };
+        let mut reader = Pieces {
+            pieces: &[DEAL_AND_CALL, "SYNC\n", "SYNC\n"],
+            next: 0,
+            shown: &shown,
+            seen: Vec::new(rt.alloc()),
+        };
+        let result = serve_all(&mut store, &mut reader, &mut writer);
+        expect_eq(&rt, result, Err(ServeFault::Write), failing);
+        expect_eq(&rt, writer.bytes.as_slice(), b"OK\n".as_slice(), failing);
+        expect_eq(&rt, reader.seen.len(), 2, failing);
+        expect_confirmed(&rt, rt.alloc(), store)?;
+    }
+    Ok(())
+}
+
+/// Lines of each kind, of which the last but one has 130 bytes, and their replies.
+const LINES: &str =
+    "DEAL 100 1 N:AKQJT98765432... .AKQJT98765432.. ..AKQJT98765432. ...AKQJT98765432
+CALL 11 1 0 7S\r
+CALL 31 1 1 PASS
+CALL 12 1 2 PASS
+
+CALL  32 1 3 PASS
+CALL 32 1 3 PASS
+CARD 31 1 0 HA
+CARD 11 1 1 SA
+CLAIM 31 1 0 13
+REFUSE 31 1 0
+TRICKS 100 1 1 1 13
+VOID 100 1 2 1
+RESTORE 100 1 2 1
+ADJUST 100 1 2 1 60 40
+RANK 100 1
+SOLVE 100 1 1 1 0
+NEXT 100 1
+aaaaaaaaaaaaaaaaaaaaaaaaaaaaaaaaaaaaaaaaaaaaaaaaaaaaaaaaaaaaaaaaaaaaaaaaaaaaaaaaaaaaaaaaaaaaaaaaaaaaaaaaaaaaaaaaaaaaaaaaaaaaaaaaaa
+SYNC
+SYNC";
+
+const REPLIES: &str = "OK
+OK
+OK
+OK
+ERR 30 BadLine
+ERR 30 BadLine
+OK
+OK
+ERR 20 NotHeld
+ERR 15 MidTrick
+ERR 11 NoClaim
+ERR 26 NotFinished
+OK
+OK
+OK
+OK
+1 1 0.0/0.0 -
+1 2 0.0/0.0 -
+.
+ERR 27 NotAnEnding
+ERR 24 RoundOpen
+ERR 31 LongLine
+OK
+";
+
+// However slowly lines come in, each has the reply that it has where they come in one piece.
+#[test]
+fn lines_that_come_byte_by_byte(rt: HostRuntime) -> Result<(), Fail> {
     let mut store = opened(rt.alloc(), CLUB, u64::MAX)?;
-    let shown = Cell::new(0);
-    let mut writer = FullOnce {
-        bytes: Vec::new(rt.alloc()),
-        room: 3,
-        failing: Failing::Refuses,
-        failed: false,
-        shown: &shown,
+    let mut drops = Drops {
+        text: LINES.as_bytes(),
     };
-    let mut reader = Pieces {
-        pieces: &[DEAL_AND_CALL, "SYNC\n", "SYNC\n"],
-        next: 0,
-        shown: &shown,
-        seen: Vec::new(rt.alloc()),
-    };
-    let result = serve_all(&mut store, &mut reader, &mut writer);
-    expect_eq(&rt, result, Err(ServeFault::Write), "served");
-    expect_eq(&rt, writer.bytes.as_slice(), b"OK\n".as_slice(), "written");
-    expect_eq(&rt, reader.seen.len(), 2, "reads");
-    expect_confirmed(&rt, rt.alloc(), store)
+    let mut written = Vec::new(rt.alloc());
+    let result = serve_all(&mut store, &mut drops, &mut written);
+    expect_eq(&rt, result.is_ok(), true, "served");
+    expect_eq(&rt, written.as_slice(), REPLIES.as_bytes(), "written");
+    Ok(())
 }
 
 // A write that takes a part of what it is given is no fault: the rest is written next.
@@ -80,6 +147,7 @@ fn a_read_that_fails(rt: HostRuntime) -> Result<(), Fail> {
     let result = serve_all(&mut store, &mut reader, &mut written);
     expect_eq(&rt, result, Err(ServeFault::Read), "served");
     expect_eq(&rt, written.as_slice(), b"OK\nOK\n".as_slice(), "written");
+    expect_eq(&rt, reader.seen.len(), 2, "reads");
     expect_confirmed(&rt, rt.alloc(), store)
 }
 

@@ -1,4 +1,4 @@
-//! Streams that fail once and would then go on, and one that takes two bytes at a time.
+//! Streams that fail once and would then go on, one that gives a byte at a time, and one that takes two.
 use std::cell::Cell;
 use std::io::{Error, ErrorKind, Read, Result, Write};
 
@@ -25,6 +25,19 @@ impl Read for Pieces<'_> {
         let (front, _) = piece.as_bytes().split_at(taken);
         buf[..taken].copy_from_slice(front);
         Ok(taken)
+    }
+}
+
+/// Gives one byte at each read.
+#[derive(Drop)]
+pub struct Drops<'a> {
+    pub text: &'a [u8],
+}
+
+impl Read for Drops<'_> {
+    fn read(&mut self, buf: &mut [u8]) -> Result<usize> {
+        let most = buf.len().min(1);
+        self.text.read(&mut buf[..most])
     }
 }
 
