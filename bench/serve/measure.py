@@ -27,6 +27,8 @@ def run(*words, given=None):
 
 
 def make_disk(path=disk):
+    if os.path.exists(path):
+        os.remove(path)
     run("format", path, os.path.join(folder, "config.txt"))
 
 
