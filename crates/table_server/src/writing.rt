@@ -12,8 +12,5 @@ pub fn write_whole<W: Write>(writer: &mut W, text: &str) -> Result<(), ServeFaul
     ensures written { Written (stream W.contents writer.old writer.new) text.now result }
     ensures fault { IfErr result (λ fault. fault ≡ WriteFault) }
 {
-    match write_text(writer, text.as_bytes()) {
-        Ok(()) => Ok(()),
-        Err(_) => Err(ServeFault::Write),
-    }
+    write_text(writer, text.as_bytes()).map_err(|_| ServeFault::Write)
 }
