@@ -9,7 +9,7 @@ use std::fmt;
 use std::marker::Model;
 
 /// The number of a board, 1 to 36.
-#[derive(Clone, Copy, Debug, PartialEq, Eq, PartialOrd, Ord)]
+#[derive(Clone, Copy, Debug, PartialEq, Eq, PartialOrd, Ord, Hash)]
 pub struct BoardNumber {
     number: u8,
 }

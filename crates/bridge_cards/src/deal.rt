@@ -12,7 +12,7 @@ use thiserror::Error;
 pub const HAND_CARDS: usize = 13;
 
 /// The four hands of a board (Law 1): the deck, 13 cards to each seat.
-#[derive(Clone, Copy, Debug, PartialEq, Eq)]
+#[derive(Clone, Copy, Debug, PartialEq, Eq, Hash)]
 pub struct Deal {
     hands: [CardSet; 4],
 }
@@ -31,7 +31,7 @@ impl Model for Deal {
 }
 
 /// Why four hands, or a text, are no deal.
-#[derive(Clone, Copy, Debug, PartialEq, Eq, Error)]
+#[derive(Clone, Copy, Debug, PartialEq, Eq, Hash, Error)]
 pub enum BadDeal {
     /// The text is not in the form of a deal text.
     #[error("the text is not in the form of a deal")]

@@ -13,9 +13,13 @@ use crate::seat::Seat;
 use crate::suit::Suit;
 use arrayvec::ArrayString;
 use line_text::split_once;
+use std::fmt;
 
 /// The bytes of the text of a deal.
 pub const DEAL_BYTES: usize = 69;
+
+/// The most bytes of a hand's text: a letter for each card of the deck, and three dots.
+pub const HAND_BYTES: usize = 55;
 
 /// The hands that the text states, North's first and then clockwise: as
 /// `E:AK.QJ.. .T9.8.7 2.3.. ..4.5`, a seat's letter, a colon, and the four hands clockwise from that
@@ -170,5 +174,34 @@ fn print_suit<const N: usize>(hand: CardSet, suit: Suit, text: &mut ArrayString<
         if hand.has(Card::of(suit, rank)) {
             text.push(char::from(rank.letter()));
         }
+    }
+}
+
+/// The hand's text: its spades, hearts, diamonds and clubs with dots between.
+impl fmt::Display for CardSet {
+    ghost use Rattle.std.specs.Prelude.{Some};
+    ghost use Rattle.bridge_cards.specs.DealText.{hand_text};
+
+    ghost output = { λ hand. Some (hand_text hand) };
+
+    fn fmt<W: fmt::Write>(&self, f: &mut fmt::Formatter<W>) -> fmt::Result {
+        let mut text = ArrayString::<HAND_BYTES>::new();
+        print_hand(*self, &mut text);
+        f.write_str(text.as_str())
+    }
+}
+
+/// The deal's text from North.
+impl fmt::Display for Deal {
+    ghost use Rattle.std.specs.Prelude.{Some};
+    ghost use Rattle.bridge_cards.specs.declared.seat.Seat.TheVariants.{North};
+    ghost use Rattle.bridge_cards.specs.DealText.{deal_text};
+
+    ghost output = { λ deal. Some (deal_text deal North) };
+
+    fn fmt<W: fmt::Write>(&self, f: &mut fmt::Formatter<W>) -> fmt::Result {
+        let mut text = ArrayString::new();
+        print_deal(self, Seat::North, &mut text);
+        f.write_str(text.as_str())
     }
 }

@@ -5,11 +5,15 @@ ghost use Rattle.bridge_cards.specs.declared.suit.Suit.{Suit};
 use std::fmt;
 
 /// A suit, from the lowest to the highest (Law 1).
-#[derive(Clone, Copy, Debug, PartialEq, Eq)]
+#[derive(Clone, Copy, Debug, PartialEq, Eq, PartialOrd, Ord, Hash)]
 pub enum Suit {
+    /// The lowest suit, a minor.
     Clubs,
+    /// The higher minor.
     Diamonds,
+    /// The lower major.
     Hearts,
+    /// The highest suit, a major.
     Spades,
 }
 
