@@ -4,7 +4,7 @@ ghost use Rattle.bridge_auction.specs.Refused.{refusal_number, refusal_name};
 use std::fmt;
 
 /// Why a call is refused. A refused call changes nothing.
-#[derive(Clone, Copy, Debug, PartialEq, Eq)]
+#[derive(Clone, Copy, Debug, PartialEq, Eq, Hash)]
 pub enum CallRefused {
     /// The auction is over (Law 22).
     Ended,
