@@ -1,3 +1,4 @@
+//! Boards: who deals each, and which sides are vulnerable on it (Law 2).
 ghost use Rattle.std.specs.Prelude.{◌≡◌, ◌↔◌, IsSome, IfSome};
 ghost use Rattle.bridge_cards.specs.Board.{IsBoard, dealer_of, vulnerability_on};
 ghost use Rattle.bridge_cards.specs.Vulnerability.{includes_side};

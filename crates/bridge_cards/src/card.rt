@@ -1,3 +1,4 @@
+//! The cards of the deck (Law 1).
 ghost use Rattle.std.specs.Prelude.{◌≡◌, ◌≢◌, ◌↔◌, ℕ, IsSome, IfSome, IfNone};
 ghost use Rattle.bridge_cards.specs.Rank.{IsRank};
 ghost use Rattle.bridge_cards.specs.Card.{IsCard, card_of, card_suit, card_rank, card_text};

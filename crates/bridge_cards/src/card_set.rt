@@ -1,3 +1,4 @@
+//! Sets of cards.
 ghost use Rattle.std.specs.Prelude.{◌≡◌, ℕ, ◌==◌, ◌&&◌, ◌||◌, ◌<◌, ◌≤◌, ◌↔◌, not, true, false, IsSome, IsNone, IfSome, IsTrue, MatchBool};
 ghost use Rattle.bridge_cards.specs.Card.{IsCard};
 ghost use Rattle.bridge_cards.specs.CardSet.{IsCardSet, has_card, card_count, cards_of, is_of_suit};
@@ -130,7 +131,7 @@ impl CardSet {
     /// How many cards the set has.
     pub fn len(self) -> usize
         ensures count { result ≡ card_count self }
-        ensures range { result ≤ 52 }
+        ensures range { result ≤ DECK }
 
         // Each card of the set is one of the deck.
         ensures deck { IsCardSet self }

@@ -1,3 +1,4 @@
+//! Numbers that nothing can be made of.
 use thiserror::Error;
 
 /// A number outside the range of what was to be made of it.

@@ -1,3 +1,4 @@
+//! The ranks of cards (Law 1).
 ghost use Rattle.std.specs.Prelude.{◌≡◌, ◌≢◌, ◌↔◌, ℕ, ◌+◌, ◌<◌, IsSome, IfSome, IfNone};
 ghost use Rattle.bridge_cards.specs.Rank.{IsRank, rank_letter};
 

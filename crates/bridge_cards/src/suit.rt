@@ -1,3 +1,4 @@
+//! The suits (Law 1).
 ghost use Rattle.std.specs.Prelude.{◌≡◌, ◌≢◌, ◌<◌, IfSome, IfNone};
 ghost use Rattle.bridge_cards.specs.Suit.{suit_number, suit_letter};
 ghost use Rattle.bridge_cards.specs.declared.suit.Suit.{Suit};
