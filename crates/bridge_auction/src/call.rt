@@ -1,3 +1,4 @@
+//! The four kinds of call (Laws 17 to 19).
 ghost use Rattle.std.specs.Prelude.{◌≡◌, ◌≢◌, ◌<◌, IfSome, IfNone};
 ghost use Rattle.bridge_auction.specs.Call.{is_pass, is_bid, IsCall, call_number, call_at};
 

@@ -1,3 +1,4 @@
+//! The contract that an auction ends in (Law 22).
 use crate::bid::Bid;
 use crate::spelling::doubling_text;
 use bridge_cards::Seat;

@@ -1,3 +1,4 @@
+//! The levels of bids.
 ghost use Rattle.std.specs.Prelude.{◌≡◌, ◌↔◌, IsSome, IfSome};
 ghost use Rattle.bridge_auction.specs.Level.{IsLevel};
 

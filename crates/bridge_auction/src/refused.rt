@@ -1,3 +1,4 @@
+//! Why a call is refused.
 ghost use Rattle.std.specs.Prelude.{◌≡◌, ◌≤◌, length};
 ghost use Rattle.bridge_auction.specs.Refused.{refusal_number, refusal_name};
 
