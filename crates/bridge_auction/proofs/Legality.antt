@@ -6,7 +6,8 @@ use Rattle.bridge_auction.specs.declared.call.Call.TheVariants.{Pass, Bid, Doubl
 use Rattle.bridge_auction.specs.declared.refused.CallRefused.{CallRefused}
 use Rattle.bridge_auction.specs.declared.refused.CallRefused.TheVariants.{Ended, InsufficientBid, InadmissibleDouble, InadmissibleRedouble}
 use Rattle.bridge_auction.specs.Call.{IsCall}
-use Rattle.bridge_auction.specs.Legal.{is_ended, is_admissible, open_answer, answer_to, MayFollow, IsLegal}
+use Rattle.bridge_auction.specs.Legal.{is_ended, is_admissible, MayFollow, IsLegal}
+use Rattle.bridge_auction.specs.Answer.{open_answer, answer_to}
 
 -- a call is taken only where it is admissible
 taken_means : (admissible : Bool) (refused : CallRefused) → IsOk (if admissible then Ok (tt {0}) else Err refused) → admissible ≡ true

@@ -8,35 +8,25 @@ use Rattle.bridge_auction.specs.Bid.{IsBid, bid_number, bid_at}
 
 abbrev pub is_pass : Call → Bool
 is_pass Pass = true
-is_pass (Bid _) = false
-is_pass Double = false
-is_pass Redouble = false
+is_pass _ = false
 
 abbrev pub is_bid : Call → Bool
-is_bid Pass = false
 is_bid (Bid _) = true
-is_bid Double = false
-is_bid Redouble = false
+is_bid _ = false
 
 abbrev pub is_double : Call → Bool
-is_double Pass = false
-is_double (Bid _) = false
 is_double Double = true
-is_double Redouble = false
+is_double _ = false
 
 -- the bid that a call is, if it is one
 abbrev pub bid_in : Call → Option BidType
-bid_in Pass = None
 bid_in (Bid bid) = Some bid
-bid_in Double = None
-bid_in Redouble = None
+bid_in _ = None
 
 -- one of the 38 calls
 abbrev pub IsCall : Call → Type 0
-IsCall Pass = Unit {0}
 IsCall (Bid bid) = IsBid bid
-IsCall Double = Unit {0}
-IsCall Redouble = Unit {0}
+IsCall _ = Unit {0}
 
 -- the number of a call: 0 for a pass, 1 for a double, 2 for a redouble, and from 3 on the bids in their order
 abbrev pub call_number : Call → ℕ

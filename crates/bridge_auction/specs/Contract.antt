@@ -17,15 +17,13 @@ use Rattle.bridge_auction.specs.Call.{is_bid, bid_in}
 use Rattle.bridge_auction.specs.Legal.{is_ended, last_index, last_but_passes}
 
 -- the bid at that index, if there is one
-abbrev pub bid_at : List Call → ℕ → Option BidType
-bid_at calls index = option_and_then bid_in (slice_get calls index)
+abbrev pub bid_called_at : List Call → ℕ → Option BidType
+bid_called_at calls index = option_and_then bid_in (slice_get calls index)
 
 -- the call is a bid of that denomination
 abbrev pub names : Denomination → Call → Bool
-names denomination Pass = false
 names denomination (Bid bid) = denomination_number bid.denomination == denomination_number denomination
-names denomination Double = false
-names denomination Redouble = false
+names denomination _ = false
 
 -- who makes the call at that index, from 0
 abbrev pub caller_at : Seat → ℕ → Seat
@@ -39,11 +37,9 @@ first_to_name dealer calls side denomination =
 
 -- the doubling that a call leaves
 abbrev pub doubling_by : Option Call → Doubling
-doubling_by None = Undoubled
-doubling_by (Some Pass) = Undoubled
-doubling_by (Some (Bid _)) = Undoubled
 doubling_by (Some Double) = Doubled
 doubling_by (Some Redouble) = Redoubled
+doubling_by _ = Undoubled
 
 -- the doubling after those calls, by the last of them that is no pass
 abbrev pub doubling_of : List Call → Doubling
@@ -55,7 +51,7 @@ contract_at dealer calls last = option_map (λ (bid : BidType). record {
   bid = bid;
   doubling = doubling_of calls;
   declarer = caller_at dealer (unwrap_or (first_to_name dealer calls (side_of (caller_at dealer last)) bid.denomination) last);
-}) (bid_at calls last)
+}) (bid_called_at calls last)
 
 -- the contract of a list of calls: none while the auction is open, or where nobody bid
 abbrev pub contract_of : Seat → List Call → Option Contract

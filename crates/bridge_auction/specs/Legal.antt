@@ -1,15 +1,10 @@
 -- Which lists of calls are an auction (Laws 17 to 22).
-use Rattle.std.specs.Prelude.{◌≡◌, ℕ, suc, ◌-◌, Bool, true, false, not, ◌&&◌, nat_le, nat_lt, if◌then◌else◌, List, [], ◌∷◌, length, drop, slice_get, Option, Some, None, option_and_then, Result, Ok, Err}
+use Rattle.std.specs.Prelude.{◌≡◌, ℕ, suc, ◌-◌, ◌%◌, ◌==◌, Bool, true, false, not, ◌&&◌, nat_le, nat_lt, if◌then◌else◌, List, [], ◌∷◌, length, drop, slice_get, Option, Some, None, option_and_then}
 use Rattle.std.specs.List.{list_all}
 use Rattle.std.specs.Option.{option_map_or}
 use Rattle.bridge_cards.specs.EachMayFollow.{EachMayFollow}
-use Rattle.bridge_cards.specs.declared.seat.Seat.TheVariants.{North}
-use Rattle.bridge_cards.specs.declared.seat.Side.{Side}
-use Rattle.bridge_cards.specs.Seat.{clockwise_from, side_of, same_side}
 use Rattle.bridge_auction.specs.declared.call.Call.{Call}
 use Rattle.bridge_auction.specs.declared.call.Call.TheVariants.{Pass, Bid, Double, Redouble}
-use Rattle.bridge_auction.specs.declared.refused.CallRefused.{CallRefused}
-use Rattle.bridge_auction.specs.declared.refused.CallRefused.TheVariants.{Ended, InsufficientBid, InadmissibleDouble, InadmissibleRedouble}
 use Rattle.bridge_auction.specs.Bid.{bid_number}
 use Rattle.bridge_auction.specs.Call.{is_pass, is_bid, is_double, IsCall}
 
@@ -31,14 +26,10 @@ last_index test (call ∷ calls) = later_or_here (last_index test calls) (test c
 abbrev pub last_but_passes : List Call → Option ℕ
 last_but_passes calls = last_index (λ call. not (is_pass call)) calls
 
--- the side of the player who makes the call at that index, from 0, where North deals: whoever deals, turns go clockwise,
--- and two calls are a side's or of two sides alike
-abbrev pub calling_side : ℕ → Side
-calling_side index = side_of (clockwise_from North index)
-
--- a call at that index was made by an opponent of the player who calls next
+-- A call at that index was made by an opponent of the player who calls next: it stands an odd number of places before the
+-- next call. Turns go clockwise whoever deals, so partners call two places from each other.
 abbrev pub is_opponents : List Call → ℕ → Bool
-is_opponents calls index = not (same_side (calling_side index) (calling_side (length calls)))
+is_opponents calls index = (length calls - index) % 2 == 1
 
 -- the call at that index, if an opponent of the player who calls next made it
 abbrev pub opponents_call_at : List Call → ℕ → Option Call
@@ -50,10 +41,8 @@ opponents_call calls = option_and_then (opponents_call_at calls) (last_but_passe
 
 -- the call is no bid, or one of a lower number
 abbrev pub is_below : ℕ → Call → Bool
-is_below number Pass = true
 is_below number (Bid other) = nat_lt (bid_number other) number
-is_below number Double = true
-is_below number Redouble = true
+is_below number _ = true
 
 -- While the auction is open, a player may pass, bid higher than every bid so far (Law 18),
 -- double an opponent's bid with only passes since, and redouble an opponent's double with only passes since (Law 19).
@@ -72,18 +61,3 @@ pub record MayFollow (earlier : List Call) (call : Call) : Type 0 where
 -- A legal list of calls: each may be made after those before it.
 abbrev pub IsLegal : List Call → Type 0
 IsLegal = EachMayFollow MayFollow
-
--- the answer to a call that is taken where it is admissible, and otherwise refused so
-abbrev pub taken_or : List Call → Call → CallRefused → Result (Unit {0}) CallRefused
-taken_or earlier call refused = if is_admissible earlier call then Ok tt else Err refused
-
--- the answer to a call in an open auction; a pass is always taken
-abbrev pub open_answer : List Call → Call → Result (Unit {0}) CallRefused
-open_answer earlier Pass = Ok tt
-open_answer earlier (Bid bid) = taken_or earlier (Bid bid) InsufficientBid
-open_answer earlier Double = taken_or earlier Double InadmissibleDouble
-open_answer earlier Redouble = taken_or earlier Redouble InadmissibleRedouble
-
--- the answer to a call after a legal list of calls
-abbrev pub answer_to : List Call → Call → Result (Unit {0}) CallRefused
-answer_to earlier call = if is_ended earlier then Err Ended else open_answer earlier call

@@ -2,6 +2,7 @@ pub mod Level
 pub mod Bid
 pub mod Call
 pub mod Legal
+pub mod Answer
 pub mod Contract
 pub mod Auction
 pub mod Spelling

@@ -1,6 +1,8 @@
+//! The auction of one board.
 ghost use Rattle.std.specs.Prelude.{◌≡◌, ◌≤◌, ◌∷◌, ◌++◌, [], ◌↔◌, length, IsOk, OnOk, OnErr, IsSome, IfSome};
 ghost use Rattle.bridge_cards.specs.Seat.{clockwise_from};
-ghost use Rattle.bridge_auction.specs.Legal.{is_ended, answer_to, IsLegal};
+ghost use Rattle.bridge_auction.specs.Legal.{is_ended, IsLegal};
+ghost use Rattle.bridge_auction.specs.Answer.{answer_to};
 ghost use Rattle.bridge_auction.specs.Contract.{contract_of};
 ghost use Rattle.bridge_auction.specs.Auction.{bidding, with_call};
 
@@ -53,9 +55,7 @@ impl Auction {
     {
         let mut auction = Auction::new(dealer);
         for call in calls {
-            if auction.try_call(*call).is_err() {
-                return None;
-            }
+            auction.try_call(*call).ok()?;
         }
         Some(auction)
     }

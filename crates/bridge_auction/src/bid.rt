@@ -1,23 +1,29 @@
+//! Bids and their denominations, in order (Law 18).
 ghost use Rattle.std.specs.Prelude.{◌≡◌, ◌≤◌, ◌<◌};
 ghost use Rattle.bridge_auction.specs.Bid.{denomination_number, denomination_suit, denomination_at, bid_number, bid_at, IsBid};
 
 use crate::level::Level;
 use crate::spelling::denomination_text;
-use bridge_cards::Suit;
+use bridge_cards::{OutOfRange, Suit};
 use std::fmt;
 
 /// What a bid names as trump, from the lowest to the highest (Law 18E).
-#[derive(Clone, Copy, Debug, PartialEq, Eq)]
+#[derive(Clone, Copy, Debug, PartialEq, Eq, PartialOrd, Ord, Hash)]
 pub enum Denomination {
+    /// The lowest, a minor suit.
     Clubs,
+    /// The higher minor suit.
     Diamonds,
+    /// The lower major suit.
     Hearts,
+    /// The higher major suit.
     Spades,
+    /// The highest: no suit is trump.
     NoTrump,
 }
 
 /// A bid: a number of tricks above six, and a denomination (Law 18A). Bids are in order by level, then by denomination.
-#[derive(Clone, Copy, Debug, PartialEq, Eq)]
+#[derive(Clone, Copy, Debug, PartialEq, Eq, PartialOrd, Ord, Hash)]
 pub struct Bid {
     /// The tricks above six, 1 to 7.
     pub level: Level,
@@ -126,5 +132,19 @@ impl fmt::Display for Bid {
     fn fmt<W: fmt::Write>(&self, f: &mut fmt::Formatter<W>) -> fmt::Result {
         f.write_char(char::from(b'0' + self.level.number()))?;
         f.write_str(denomination_text(self.denomination))
+    }
+}
+
+/// As `from_number`, with the number where it is out of range.
+impl TryFrom<u8> for Bid {
+    type Error = OutOfRange;
+
+    ghost use Rattle.std.specs.Prelude.{◌≡◌, Some, None, MatchResult};
+    ghost use Rattle.bridge_auction.specs.Bid.{bid_at};
+
+    ghost try_from_gives = { λ number made. MatchResult made (λ bid. bid_at number ≡ Some bid) (λ _. bid_at number ≡ None) };
+
+    fn try_from(number: u8) -> Result<Bid, OutOfRange> {
+        Bid::from_number(number).ok_or(OutOfRange(number))
     }
 }

@@ -1,15 +1,24 @@
+//! The four kinds of call (Laws 17 to 19).
 ghost use Rattle.std.specs.Prelude.{◌≡◌, ◌≢◌, ◌<◌, IfSome, IfNone};
 ghost use Rattle.bridge_auction.specs.Call.{is_pass, is_bid, IsCall, call_number, call_at};
 
 use crate::bid::Bid;
+use crate::spelling::read_call;
+use bridge_cards::OutOfRange;
 use std::fmt;
+use std::str::FromStr;
+use thiserror::Error;
 
 /// What a player may say in turn (Laws 17 to 19).
-#[derive(Clone, Copy, Debug, PartialEq, Eq)]
+#[derive(Clone, Copy, Debug, PartialEq, Eq, Hash)]
 pub enum Call {
+    /// No bid, no double and no redouble.
     Pass,
+    /// A bid (Law 18).
     Bid(Bid),
+    /// A double of an opponent's bid (Law 19A).
     Double,
+    /// A redouble of an opponent's double (Law 19B).
     Redouble,
 }
 
@@ -84,5 +93,38 @@ impl fmt::Display for Call {
             Call::Double => f.write_str("X"),
             Call::Redouble => f.write_str("XX"),
         }
+    }
+}
+
+/// A text that is no call's.
+#[derive(Clone, Copy, Debug, PartialEq, Eq, Hash, Error)]
+#[error("the text is no call")]
+pub struct BadCall;
+
+/// As `read_call`.
+impl FromStr for Call {
+    type Err = BadCall;
+
+    ghost use Rattle.std.specs.Prelude.{◌≡◌, Some, None, MatchResult};
+    ghost use Rattle.bridge_auction.specs.Spelling.{call_of};
+
+    ghost from_str_gives = { λ text read. MatchResult read (λ call. call_of text ≡ Some call) (λ _. call_of text ≡ None) };
+
+    fn from_str(text: &str) -> Result<Call, BadCall> {
+        read_call(text.as_bytes()).ok_or(BadCall)
+    }
+}
+
+/// As `from_number`, with the number where it is out of range.
+impl TryFrom<u8> for Call {
+    type Error = OutOfRange;
+
+    ghost use Rattle.std.specs.Prelude.{◌≡◌, Some, None, MatchResult};
+    ghost use Rattle.bridge_auction.specs.Call.{call_at};
+
+    ghost try_from_gives = { λ number made. MatchResult made (λ call. call_at number ≡ Some call) (λ _. call_at number ≡ None) };
+
+    fn try_from(number: u8) -> Result<Call, OutOfRange> {
+        Call::from_number(number).ok_or(OutOfRange(number))
     }
 }

@@ -1,11 +1,13 @@
+//! The levels of bids.
 ghost use Rattle.std.specs.Prelude.{◌≡◌, ◌↔◌, IsSome, IfSome};
 ghost use Rattle.bridge_auction.specs.Level.{IsLevel};
 
 use bridge_cards::OutOfRange;
+use std::fmt;
 use std::marker::Model;
 
 /// The level of a bid: the number of tricks above six that it promises, 1 to 7 (Law 18A).
-#[derive(Clone, Copy, Debug, PartialEq, Eq)]
+#[derive(Clone, Copy, Debug, PartialEq, Eq, PartialOrd, Ord, Hash)]
 pub struct Level {
     tricks: u8,
 }
@@ -42,6 +44,18 @@ impl Level {
         ensures range { IsLevel result }
     {
         self.tricks
+    }
+}
+
+/// The level's digit.
+impl fmt::Display for Level {
+    ghost use Rattle.std.specs.Prelude.{Some};
+    ghost use Rattle.bridge_auction.specs.Spelling.{level_text};
+
+    ghost output = { λ level. Some (level_text level) };
+
+    fn fmt<W: fmt::Write>(&self, f: &mut fmt::Formatter<W>) -> fmt::Result {
+        f.write_char(char::from(b'0' + self.tricks))
     }
 }
 

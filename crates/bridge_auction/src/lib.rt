@@ -19,7 +19,7 @@ pub mod spelling;
 
 pub use auction::Auction;
 pub use bid::{Bid, Denomination};
-pub use call::Call;
+pub use call::{BadCall, Call};
 pub use contract::{Contract, Doubling};
 pub use level::Level;
 pub use longest::{MOST_CALLS, longest_auction};

@@ -1,10 +1,11 @@
+//! Why a call is refused.
 ghost use Rattle.std.specs.Prelude.{◌≡◌, ◌≤◌, length};
 ghost use Rattle.bridge_auction.specs.Refused.{refusal_number, refusal_name};
 
 use std::fmt;
 
 /// Why a call is refused. A refused call changes nothing.
-#[derive(Clone, Copy, Debug, PartialEq, Eq)]
+#[derive(Clone, Copy, Debug, PartialEq, Eq, Hash)]
 pub enum CallRefused {
     /// The auction is over (Law 22).
     Ended,

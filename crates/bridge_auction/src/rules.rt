@@ -1,9 +1,10 @@
 //! What the calls so far say of the next call, and of the contract.
-ghost use Rattle.std.specs.Prelude.{◌≡◌, ◌<◌, length, unwrap_or, OnOk};
+ghost use Rattle.std.specs.Prelude.{◌≡◌, ◌<◌, length, IfSome, OnOk};
 ghost use Rattle.std.specs.List.{list_all};
 ghost use Rattle.bridge_auction.specs.Bid.{bid_number, IsBid};
 ghost use Rattle.bridge_auction.specs.Call.{is_pass, is_bid, is_double, IsCall};
-ghost use Rattle.bridge_auction.specs.Legal.{is_ended, last_index, last_but_passes, calling_side, opponents_call, is_below, is_admissible, answer_to};
+ghost use Rattle.bridge_auction.specs.Legal.{is_ended, last_index, last_but_passes, opponents_call, is_below, is_admissible};
+ghost use Rattle.bridge_auction.specs.Answer.{answer_to};
 ghost use Rattle.bridge_auction.specs.Contract.{first_to_name, names, doubling_of};
 
 use crate::bid::{Bid, Denomination};
@@ -28,7 +29,8 @@ pub fn ended(calls: &[Call]) -> bool
 
 /// The index of the last call that is no pass.
 pub fn last_but_passes(calls: &[Call]) -> Option<usize>
-    ensures { result ≡ last_but_passes calls.now }
+    ensures index { result ≡ last_but_passes calls.now }
+    ensures within { IfSome result (λ index. index < length calls.now) }
 {
     calls.iter().rposition(|call| !call.is_pass())
 }
@@ -44,19 +46,10 @@ pub fn last_bid(calls: &[Call]) -> Option<usize>
 pub fn opponents_call(calls: &[Call]) -> Option<Call>
     ensures { result ≡ opponents_call calls.now }
 {
-    let next = calls.len();
     match last_but_passes(calls) {
-        Some(last) if calling_side(last) != calling_side(next) => calls.get(last).copied(),
+        Some(last) if (calls.len() - last) % 2 == 1 => calls.get(last).copied(),
         _ => None,
     }
-}
-
-/// The side of the player who makes the call at that index, where North deals. Who deals makes no difference to whether
-/// two calls are one side's.
-fn calling_side(index: usize) -> Side
-    ensures { result ≡ calling_side index }
-{
-    Seat::North.clockwise(index).side()
 }
 
 /// Whether the call is no bid, or one of a lower number.

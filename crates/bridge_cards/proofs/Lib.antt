@@ -12,5 +12,6 @@ pub mod PrintLemmas
 mod PrintedDeal
 mod DealtHands
 mod DealTests
+mod JudgedDeals
 mod TrickWinner
 pub mod SuitHeld

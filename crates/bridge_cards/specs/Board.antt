@@ -18,5 +18,6 @@ abbrev pub vulnerability_at : ℕ → Vulnerability
 vulnerability_at index =
     if index % 4 == 0 then Neither else if index % 4 == 1 then NorthSouth else if index % 4 == 2 then EastWest else Both
 
+-- which sides are vulnerable on a board
 abbrev pub vulnerability_on : ℕ → Vulnerability
 vulnerability_on board = vulnerability_at ((board - 1) + (board - 1) / 4)

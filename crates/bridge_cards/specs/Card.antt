@@ -4,6 +4,7 @@ use Rattle.bridge_cards.specs.declared.suit.Suit.{Suit}
 use Rattle.bridge_cards.specs.Suit.{suit_number, suit_at, suit_letter}
 use Rattle.bridge_cards.specs.Rank.{rank_letter}
 
+-- a card of the deck
 abbrev pub IsCard : ℕ → Type 0
 IsCard card = card < 52
 

@@ -11,13 +11,15 @@ use Rattle.bridge_cards.specs.Card.{card_of}
 use Rattle.bridge_cards.specs.CardSet.{IsCardSet, has_card}
 use Rattle.bridge_cards.specs.Deal.{hand_at}
 
--- in ASCII
+-- what stands between two hands, in ASCII
 abbrev pub space : ℕ
 space = 32
 
+-- what stands between two suits
 abbrev pub dot : ℕ
 dot = 46
 
+-- what stands after the seat's letter
 abbrev pub colon : ℕ
 colon = 58
 
@@ -29,6 +31,7 @@ pub record Joined (separator : ℕ) (P Q : List ℕ → Type 0) (text : List ℕ
   pub rest : Q after
   pub whole : text ≡ before ++ separator ∷ after
 
+-- some rank's letter
 abbrev pub IsRankLetter : ℕ → Type 0
 IsRankLetter letter = (rank : ℕ) × IsRank rank × (rank_letter rank ≡ letter)
 
@@ -39,6 +42,7 @@ pub record SpellsSuit (hand : ℕ) (suit : Suit) (letters : List ℕ) : Type 0 w
   pub once : (rank : ℕ) → IsRank rank
       → count_by (λ letter. letter == rank_letter rank) letters ≡ (if has_card hand (card_of suit rank) then 1 else 0)
 
+-- the hand's spades, hearts, diamonds and clubs, with dots between
 abbrev pub SpellsHand : ℕ → List ℕ → Type 0
 SpellsHand hand =
     Joined dot (SpellsSuit hand Spades)
@@ -66,9 +70,13 @@ States P text = (hands : List ℕ) × SpellsDeal hands text × P hands
 abbrev pub StatesNone : List ℕ → Type 0
 StatesNone text = (hands : List ℕ) → ¬ SpellsDeal hands text
 
--- the text states these four hands, and no others
+-- the text states no four hands but these
 abbrev pub StatesOnly : List ℕ → List ℕ → Type 0
 StatesOnly text hands = (other : List ℕ) → SpellsDeal other text → other ≡ hands
+
+-- whatever four hands the text states, it states no others
+abbrev pub StatesOnce : List ℕ → Type 0
+StatesOnce text = (hands : List ℕ) → SpellsDeal hands text → StatesOnly text hands
 
 -- the ranks from the ace to the 2
 abbrev pub descending : List ℕ
@@ -82,6 +90,7 @@ letter_of hand suit rank = if has_card hand (card_of suit rank) then rank_letter
 unfoldable pub suit_text : ℕ → Suit → List ℕ
 suit_text hand suit = flat_map (letter_of hand suit) descending
 
+-- a hand as it is printed
 unfoldable pub hand_text : ℕ → List ℕ
 hand_text hand =
     suit_text hand Spades ++ dot ∷ (suit_text hand Hearts ++ dot ∷ (suit_text hand Diamonds ++ dot ∷ suit_text hand Clubs))

@@ -8,5 +8,6 @@ pub mod CardSet
 pub mod Trick
 pub mod Deal
 pub mod DealText
+pub mod BadDeal
 pub mod Shuffle
 pub mod EachMayFollow

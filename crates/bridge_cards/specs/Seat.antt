@@ -1,5 +1,5 @@
 -- Seats and sides of the table.
-use Rattle.std.specs.Prelude.{ℕ, ◌+◌, ◌%◌, ◌==◌, Bool, true, false, if◌then◌else◌}
+use Rattle.std.specs.Prelude.{ℕ, ◌+◌, ◌%◌, ◌==◌, Bool, true, false, if◌then◌else◌, List, codes}
 use Rattle.bridge_cards.specs.declared.seat.Seat.{Seat}
 use Rattle.bridge_cards.specs.declared.seat.Seat.TheVariants.{North, East, South, West}
 use Rattle.bridge_cards.specs.declared.seat.Side.{Side}
@@ -54,3 +54,8 @@ seat_letter North = 78
 seat_letter East = 69
 seat_letter South = 83
 seat_letter West = 87
+
+-- the side as Portable Bridge Notation has it
+abbrev pub side_text : Side → List ℕ
+side_text NorthSouth = codes "NS"
+side_text EastWest = codes "EW"

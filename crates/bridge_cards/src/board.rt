@@ -1,3 +1,4 @@
+//! Boards: who deals each, and which sides are vulnerable on it (Law 2).
 ghost use Rattle.std.specs.Prelude.{◌≡◌, ◌↔◌, IsSome, IfSome};
 ghost use Rattle.bridge_cards.specs.Board.{IsBoard, dealer_of, vulnerability_on};
 ghost use Rattle.bridge_cards.specs.Vulnerability.{includes_side};
@@ -9,7 +10,7 @@ use std::fmt;
 use std::marker::Model;
 
 /// The number of a board, 1 to 36.
-#[derive(Clone, Copy, Debug, PartialEq, Eq, PartialOrd, Ord)]
+#[derive(Clone, Copy, Debug, PartialEq, Eq, PartialOrd, Ord, Hash)]
 pub struct BoardNumber {
     number: u8,
 }

@@ -1,3 +1,4 @@
+//! The cards of the deck (Law 1).
 ghost use Rattle.std.specs.Prelude.{◌≡◌, ◌≢◌, ◌↔◌, ℕ, IsSome, IfSome, IfNone};
 ghost use Rattle.bridge_cards.specs.Rank.{IsRank};
 ghost use Rattle.bridge_cards.specs.Card.{IsCard, card_of, card_suit, card_rank, card_text};
@@ -7,6 +8,8 @@ use crate::rank::Rank;
 use crate::suit::Suit;
 use std::fmt;
 use std::marker::Model;
+use std::str::FromStr;
+use thiserror::Error;
 
 /// How many cards the deck has (Law 1).
 pub const DECK: usize = 52;
@@ -16,7 +19,7 @@ pub const SUIT_CARDS: u8 = 13;
 
 /// A card of the deck (Law 1). Cards are in order by suit, then by rank; the default is the lowest,
 /// the 2 of clubs.
-#[derive(Clone, Copy, Debug, Default, PartialEq, Eq, PartialOrd, Ord)]
+#[derive(Clone, Copy, Debug, Default, PartialEq, Eq, PartialOrd, Ord, Hash)]
 pub struct Card {
     number: u8,
 }
@@ -104,6 +107,26 @@ pub fn read_card(text: &[u8]) -> Option<Card>
         return None;
     };
     Some(Card::of(Suit::from_letter(*suit)?, Rank::from_letter(*rank)?))
+}
+
+/// A text that is no card's.
+#[derive(Clone, Copy, Debug, PartialEq, Eq, Hash, Error)]
+#[error("the text is no card")]
+pub struct BadCard;
+
+/// As `read_card`.
+impl FromStr for Card {
+    type Err = BadCard;
+
+    ghost use Rattle.std.specs.Prelude.{◌≡◌, ◌≢◌, ℕ, MatchResult};
+    ghost use Rattle.bridge_cards.specs.Card.{IsCard, card_text};
+
+    ghost from_str_gives = { λ text read. MatchResult read
+        (λ card. IsCard card × (text ≡ card_text card)) (λ _. (card : ℕ) → IsCard card → text ≢ card_text card) };
+
+    fn from_str(text: &str) -> Result<Card, BadCard> {
+        read_card(text.as_bytes()).ok_or(BadCard)
+    }
 }
 
 /// The card's text: its suit's letter, and its rank's.

@@ -1,14 +1,16 @@
+//! Sets of cards.
 ghost use Rattle.std.specs.Prelude.{◌≡◌, ℕ, ◌==◌, ◌&&◌, ◌||◌, ◌<◌, ◌≤◌, ◌↔◌, not, true, false, IsSome, IsNone, IfSome, IsTrue, MatchBool};
 ghost use Rattle.bridge_cards.specs.Card.{IsCard};
 ghost use Rattle.bridge_cards.specs.CardSet.{IsCardSet, has_card, card_count, cards_of, is_of_suit};
 
 use crate::card::{Card, DECK, SUIT_CARDS};
 use crate::suit::Suit;
-use arrayvec::ArrayVec;
+use arrayvec::{ArrayVec, IntoIter};
 use std::marker::Model;
+use std::ops::{BitAnd, BitOr};
 
 /// A set of cards of the deck; by default it has none.
-#[derive(Clone, Copy, Debug, Default, PartialEq, Eq)]
+#[derive(Clone, Copy, Debug, Default, PartialEq, Eq, Hash)]
 pub struct CardSet {
     bits: u64,
 }
@@ -129,7 +131,7 @@ impl CardSet {
     /// How many cards the set has.
     pub fn len(self) -> usize
         ensures count { result ≡ card_count self }
-        ensures range { result ≤ 52 }
+        ensures range { result ≤ DECK }
 
         // Each card of the set is one of the deck.
         ensures deck { IsCardSet self }
@@ -171,5 +173,49 @@ impl CardSet {
             cards.push(card);
         }
         cards
+    }
+}
+
+/// The union: the cards that either set has.
+impl BitOr for CardSet {
+    type Output = CardSet;
+
+    ghost use Rattle.std.specs.Prelude.{ℕ, ◌≡◌, ◌||◌};
+    ghost use Rattle.bridge_cards.specs.CardSet.{has_card};
+
+    ghost bitor_gives = { λ one other both. (card : ℕ) → has_card both card ≡ (has_card one card || has_card other card) };
+
+    fn bitor(self, other: CardSet) -> CardSet {
+        self.union(other)
+    }
+}
+
+/// The intersection: the cards that both sets have.
+impl BitAnd for CardSet {
+    type Output = CardSet;
+
+    ghost use Rattle.std.specs.Prelude.{ℕ, ◌≡◌, ◌&&◌};
+    ghost use Rattle.bridge_cards.specs.CardSet.{has_card};
+
+    ghost bitand_gives = { λ one other common. (card : ℕ) → has_card common card ≡ (has_card one card && has_card other card) };
+
+    fn bitand(self, other: CardSet) -> CardSet {
+        self.intersection(other)
+    }
+}
+
+/// The set's cards in order.
+impl IntoIterator for CardSet {
+    type Item = Card;
+
+    type IntoIter = IntoIter<Card, DECK>;
+
+    ghost use Rattle.std.specs.Prelude.{◌≡◌};
+    ghost use Rattle.bridge_cards.specs.CardSet.{cards_of};
+
+    ghost into_iter_gives = { λ set cards. cards ≡ cards_of set };
+
+    fn into_iter(self) -> IntoIter<Card, DECK> {
+        self.cards().into_iter()
     }
 }

@@ -1,7 +1,9 @@
-ghost use Rattle.std.specs.Prelude.{◌≡◌, ◌≢◌, ◌↔◌, ◌==◌, ℕ, is_ok, IsOk, IfOk, OnOk, MatchBool, All};
+//! The four hands of a board.
+ghost use Rattle.std.specs.Prelude.{◌≡◌, ◌==◌, ℕ, is_ok, MatchBool, All};
 ghost use Rattle.std.specs.List.{list_all};
-ghost use Rattle.bridge_cards.specs.CardSet.{has_card, card_count};
-ghost use Rattle.bridge_cards.specs.Deal.{hand_at, holders, NoneTwice, SomeTwice, IsHand, SomeNotThirteen, IsUneven, IsDeal, is_each_once, is_dealt_out};
+ghost use Rattle.bridge_cards.specs.CardSet.{card_count};
+ghost use Rattle.bridge_cards.specs.Deal.{hand_at, NoneTwice, SomeTwice, IsHand, SomeNotThirteen, IsDeal, is_each_once, is_dealt_out};
+ghost use Rattle.bridge_cards.specs.BadDeal.{JudgesHands};
 
 use crate::card_set::CardSet;
 use crate::seat::Seat;
@@ -12,7 +14,7 @@ use thiserror::Error;
 pub const HAND_CARDS: usize = 13;
 
 /// The four hands of a board (Law 1): the deck, 13 cards to each seat.
-#[derive(Clone, Copy, Debug, PartialEq, Eq)]
+#[derive(Clone, Copy, Debug, PartialEq, Eq, Hash)]
 pub struct Deal {
     hands: [CardSet; 4],
 }
@@ -31,7 +33,7 @@ impl Model for Deal {
 }
 
 /// Why four hands, or a text, are no deal.
-#[derive(Clone, Copy, Debug, PartialEq, Eq, Error)]
+#[derive(Clone, Copy, Debug, PartialEq, Eq, Hash, Error)]
 pub enum BadDeal {
     /// The text is not in the form of a deal text.
     #[error("the text is not in the form of a deal")]
@@ -48,13 +50,8 @@ impl Deal {
     /// The deal of these hands, North's first and then clockwise. `Twice` where a card is in two of
     /// them, and otherwise `NotThirteen` where one has another number of cards than 13.
     pub fn from_hands(hands: [CardSet; 4]) -> Result<Deal, BadDeal>
-        ensures hands { IfOk result (λ deal. deal ≡ hands) }
-        ensures deal { IfOk result IsDeal }
+        ensures judged { JudgesHands hands result }
         ensures test { is_ok result ≡ is_dealt_out hands }
-        ensures ok { IsOk result ↔ (NoneTwice hands × All (λ hand. card_count hand ≡ 13) hands) }
-        ensures twice { (result ≡ Err BadDeal.Twice) ↔ SomeTwice hands }
-        ensures not_thirteen { (result ≡ Err BadDeal.NotThirteen) ↔ IsUneven hands }
-        ensures form { result ≢ Err BadDeal.Form }
     {
         if !are_disjoint(&hands) {
             return Err(BadDeal::Twice);
@@ -72,6 +69,14 @@ impl Deal {
         ensures thirteen { IsHand result }
     {
         self.hands[usize::from(seat.number())]
+    }
+
+    /// The four hands, North's first and then clockwise.
+    pub fn hands(&self) -> [CardSet; 4]
+        ensures hands { result ≡ self.now }
+        ensures deal { IsDeal self.now }
+    {
+        self.hands
     }
 }
 

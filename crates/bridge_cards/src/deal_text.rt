@@ -1,9 +1,11 @@
-ghost use Rattle.std.specs.Prelude.{◌≡◌, ◌≢◌, ◌↔◌, ℕ, ◌+◌, ◌≤◌, List, ◌∷◌, ◌++◌, false, length, slice_index, IsOk, IfOk, IfSome, IfNone, All};
+//! Hands and deals as texts.
+ghost use Rattle.std.specs.Prelude.{◌≡◌, ℕ, ◌+◌, ◌≤◌, ◌++◌, false, length, slice_index, IfSome, IfNone, All};
 ghost use Rattle.bridge_cards.specs.declared.suit.Suit.{Suit};
 ghost use Rattle.bridge_cards.specs.Seat.{clockwise_from};
 ghost use Rattle.bridge_cards.specs.CardSet.{IsCardSet, has_card, is_of_suit};
-ghost use Rattle.bridge_cards.specs.Deal.{hand_at, IsDeal, SomeTwice, IsUneven};
-ghost use Rattle.bridge_cards.specs.DealText.{SpellsSuit, SpellsHand, SpellsFour, SpellsDeal, States, StatesNone, StatesOnly, suit_text, hand_text, deal_text};
+ghost use Rattle.bridge_cards.specs.Deal.{hand_at, IsDeal};
+ghost use Rattle.bridge_cards.specs.DealText.{SpellsSuit, SpellsHand, SpellsFour, SpellsDeal, StatesNone, StatesOnly, StatesOnce, suit_text, hand_text, deal_text};
+ghost use Rattle.bridge_cards.specs.BadDeal.{JudgesDealText};
 
 use crate::card::{Card, SUIT_CARDS};
 use crate::card_set::CardSet;
@@ -13,9 +15,14 @@ use crate::seat::Seat;
 use crate::suit::Suit;
 use arrayvec::ArrayString;
 use line_text::split_once;
+use std::fmt;
+use std::str::FromStr;
 
 /// The bytes of the text of a deal.
 pub const DEAL_BYTES: usize = 69;
+
+/// The most bytes of a hand's text: a letter for each card of the deck, and three dots.
+pub const HAND_BYTES: usize = 55;
 
 /// The hands that the text states, North's first and then clockwise: as
 /// `E:AK.QJ.. .T9.8.7 2.3.. ..4.5`, a seat's letter, a colon, and the four hands clockwise from that
@@ -38,24 +45,32 @@ pub fn read_hands(text: &[u8]) -> Option<[CardSet; 4]>
 /// that form, then `Twice` where a card is in two hands, then `NotThirteen` where a hand has another
 /// number of cards than 13.
 pub fn read_deal(text: &[u8]) -> Result<Deal, BadDeal>
-    ensures deal { IfOk result (λ deal. IsDeal deal × SpellsDeal deal text.now) }
-    ensures only { IfOk result (StatesOnly text.now) }
-    ensures ok { IsOk result ↔ States IsDeal text.now }
-    ensures form { (result ≡ Err BadDeal.Form) ↔ StatesNone text.now }
-    ensures twice { (result ≡ Err BadDeal.Twice) ↔ States SomeTwice text.now }
-    ensures not_thirteen { (result ≡ Err BadDeal.NotThirteen) ↔ States IsUneven text.now }
+    ensures judged { JudgesDealText text.now result }
+
+    // No text can be read in two ways.
+    ensures once { StatesOnce text.now }
 {
-    let Some(hands) = read_hands(text) else {
-        return Err(BadDeal::Form);
-    };
-    Deal::from_hands(hands)
+    Deal::from_hands(read_hands(text).ok_or(BadDeal::Form)?)
+}
+
+/// As `read_deal`.
+impl FromStr for Deal {
+    type Err = BadDeal;
+
+    ghost use Rattle.bridge_cards.specs.BadDeal.{JudgesDealText};
+
+    ghost from_str_gives = { λ text read. JudgesDealText text read };
+
+    fn from_str(text: &str) -> Result<Deal, BadDeal> {
+        read_deal(text.as_bytes())
+    }
 }
 
 /// Writes the deal into the text in place of what stood there: in the form that `read_deal` reads,
 /// the hand of `first` first, and each suit's ranks from the highest down. It takes 69 bytes.
 pub fn print_deal(deal: &Deal, first: Seat, text: &mut ArrayString<DEAL_BYTES>)
     ensures text { text.new.bytes ≡ deal_text deal.now first }
-    ensures length { length text.new.bytes ≡ 69 }
+    ensures length { length text.new.bytes ≡ DEAL_BYTES }
 
     // The text states the deal, and nothing else.
     ensures states { SpellsDeal deal.now text.new.bytes }
@@ -149,7 +164,7 @@ fn read_suit(letters: &[u8], suit: Suit) -> Option<CardSet>
 pub fn print_hand<const N: usize>(hand: CardSet, text: &mut ArrayString<N>)
     requires { length text.old.bytes + length (hand_text hand) ≤ N }
     ensures text { text.new.bytes ≡ text.old.bytes ++ hand_text hand }
-    ensures short { length (hand_text hand) ≤ 55 }
+    ensures short { length (hand_text hand) ≤ HAND_BYTES }
 {
     print_suit(hand, Suit::Spades, text);
     text.push('.');
@@ -170,5 +185,34 @@ fn print_suit<const N: usize>(hand: CardSet, suit: Suit, text: &mut ArrayString<
         if hand.has(Card::of(suit, rank)) {
             text.push(char::from(rank.letter()));
         }
+    }
+}
+
+/// The hand's text: its spades, hearts, diamonds and clubs with dots between.
+impl fmt::Display for CardSet {
+    ghost use Rattle.std.specs.Prelude.{Some};
+    ghost use Rattle.bridge_cards.specs.DealText.{hand_text};
+
+    ghost output = { λ hand. Some (hand_text hand) };
+
+    fn fmt<W: fmt::Write>(&self, f: &mut fmt::Formatter<W>) -> fmt::Result {
+        let mut text = ArrayString::<HAND_BYTES>::new();
+        print_hand(*self, &mut text);
+        f.write_str(text.as_str())
+    }
+}
+
+/// The deal's text from North.
+impl fmt::Display for Deal {
+    ghost use Rattle.std.specs.Prelude.{Some};
+    ghost use Rattle.bridge_cards.specs.declared.seat.Seat.TheVariants.{North};
+    ghost use Rattle.bridge_cards.specs.DealText.{deal_text};
+
+    ghost output = { λ deal. Some (deal_text deal North) };
+
+    fn fmt<W: fmt::Write>(&self, f: &mut fmt::Formatter<W>) -> fmt::Result {
+        let mut text = ArrayString::new();
+        print_deal(self, Seat::North, &mut text);
+        f.write_str(text.as_str())
     }
 }

@@ -23,7 +23,7 @@ pub mod trick;
 pub mod vulnerability;
 
 pub use board::{BoardNumber, dealer, vulnerability_of, vulnerable};
-pub use card::{Card, DECK, SUIT_CARDS, read_card};
+pub use card::{BadCard, Card, DECK, SUIT_CARDS, read_card};
 pub use card_set::CardSet;
 pub use deal::{BadDeal, Deal, HAND_CARDS};
 pub use deal_text::{DEAL_BYTES, print_deal, print_hand, read_deal, read_hands};

@@ -1,11 +1,13 @@
+//! The ranks of cards (Law 1).
 ghost use Rattle.std.specs.Prelude.{◌≡◌, ◌≢◌, ◌↔◌, ℕ, ◌+◌, ◌<◌, IsSome, IfSome, IfNone};
 ghost use Rattle.bridge_cards.specs.Rank.{IsRank, rank_letter};
 
 use crate::out_of_range::OutOfRange;
+use std::fmt;
 use std::marker::Model;
 
 /// A rank of cards, from the 2 to the ace (Law 1).
-#[derive(Clone, Copy, Debug, PartialEq, Eq)]
+#[derive(Clone, Copy, Debug, PartialEq, Eq, PartialOrd, Ord, Hash)]
 pub struct Rank {
     number: u8,
 }
@@ -86,6 +88,18 @@ impl Rank {
             _ => return None,
         };
         Some(Rank { number })
+    }
+}
+
+/// The rank's letter.
+impl fmt::Display for Rank {
+    ghost use Rattle.std.specs.Prelude.{Some, [], ◌∷◌};
+    ghost use Rattle.bridge_cards.specs.Rank.{rank_letter};
+
+    ghost output = { λ rank. Some (rank_letter rank ∷ []) };
+
+    fn fmt<W: fmt::Write>(&self, f: &mut fmt::Formatter<W>) -> fmt::Result {
+        f.write_char(char::from(self.letter()))
     }
 }
 

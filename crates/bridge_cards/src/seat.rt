@@ -1,3 +1,4 @@
+//! Seats and sides of the table.
 ghost use Rattle.std.specs.Prelude.{◌≡◌, ◌≢◌, ◌<◌, ◌≤◌, ◌∷◌, [], length, IfSome, IfNone};
 ghost use Rattle.bridge_cards.specs.Seat.{seat_number, seat_at, clockwise_from, side_of, other_side, seat_letter};
 ghost use Rattle.bridge_cards.specs.declared.seat.Seat.{Seat};
@@ -5,18 +6,24 @@ ghost use Rattle.bridge_cards.specs.declared.seat.Seat.{Seat};
 use std::fmt;
 
 /// A player's place at the table, clockwise from North.
-#[derive(Clone, Copy, Debug, PartialEq, Eq)]
+#[derive(Clone, Copy, Debug, PartialEq, Eq, Hash)]
 pub enum Seat {
+    /// South's partner.
     North,
+    /// North's left-hand opponent.
     East,
+    /// North's partner.
     South,
+    /// North's right-hand opponent.
     West,
 }
 
 /// The two partners who play together.
-#[derive(Clone, Copy, Debug, PartialEq, Eq)]
+#[derive(Clone, Copy, Debug, PartialEq, Eq, Hash)]
 pub enum Side {
+    /// North and South.
     NorthSouth,
+    /// East and West.
     EastWest,
 }
 
@@ -138,5 +145,20 @@ impl fmt::Display for Seat {
 
     fn fmt<W: fmt::Write>(&self, f: &mut fmt::Formatter<W>) -> fmt::Result {
         f.write_char(char::from(self.letter()))
+    }
+}
+
+/// `NS` or `EW`.
+impl fmt::Display for Side {
+    ghost use Rattle.std.specs.Prelude.{Some};
+    ghost use Rattle.bridge_cards.specs.Seat.{side_text};
+
+    ghost output = { λ side. Some (side_text side) };
+
+    fn fmt<W: fmt::Write>(&self, f: &mut fmt::Formatter<W>) -> fmt::Result {
+        f.write_str(match self {
+            Side::NorthSouth => "NS",
+            Side::EastWest => "EW",
+        })
     }
 }

@@ -1,3 +1,4 @@
+//! The deal of a board by a shuffle of the deck (Law 6).
 ghost use Rattle.std.specs.Prelude.{◌≡◌, ℕ, ◌==◌, IsPermutation};
 ghost use Rattle.std.specs.List.{list_any};
 ghost use Rattle.bridge_cards.specs.CardSet.{has_card, deck};

@@ -1,3 +1,4 @@
+//! The suits (Law 1).
 ghost use Rattle.std.specs.Prelude.{◌≡◌, ◌≢◌, ◌<◌, IfSome, IfNone};
 ghost use Rattle.bridge_cards.specs.Suit.{suit_number, suit_letter};
 ghost use Rattle.bridge_cards.specs.declared.suit.Suit.{Suit};
@@ -5,11 +6,15 @@ ghost use Rattle.bridge_cards.specs.declared.suit.Suit.{Suit};
 use std::fmt;
 
 /// A suit, from the lowest to the highest (Law 1).
-#[derive(Clone, Copy, Debug, PartialEq, Eq)]
+#[derive(Clone, Copy, Debug, PartialEq, Eq, PartialOrd, Ord, Hash)]
 pub enum Suit {
+    /// The lowest suit, a minor.
     Clubs,
+    /// The higher minor.
     Diamonds,
+    /// The lower major.
     Hearts,
+    /// The highest suit, a major.
     Spades,
 }
 

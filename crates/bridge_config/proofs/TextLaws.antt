@@ -11,7 +11,7 @@ use Rattle.bridge_config.specs.ConfigValue.{ConfigValue, heading_of, people_of, 
 use Rattle.bridge_config.specs.Limits.{is_between, IsConfiguration}
 use Rattle.bridge_config.specs.Spelling.{heading_lines, people_lines, Spells}
 use Rattle.bridge_config.specs.LineReading.{◌>>=◌}
-use Rattle.bridge_config.specs.Reading.{due_line, heading_in, people_in, Moved, ReadsMovement, stated_by, after_movement, ReadsAfterHeading, Reads}
+use Rattle.bridge_config.specs.Reading.{due_line, heading_in, people_in, Moved, ReadsMovement, stated_by, after_movement, ReadsAfterHeading, ReadsConfiguration}
 use Rattle.bridge_config.proofs.Steps.{bind_ok, ok_is, All-append_parts, IsShort, TakesLines}
 use Rattle.bridge_config.proofs.Headings.{IsHeading, heading_takes, heading_again}
 use Rattle.bridge_config.proofs.MovementLaws.{movement_takes, movement_again}
@@ -84,7 +84,7 @@ heading_read_spelled text configuration (Ok heading) within heading_is (moved, m
     (people_read_spelled text heading m b.0 within heading_is movement_is' b.1)
 
 -- a configuration that was read of a text is spelled by it
-pub read_is_spelled : (text : List ℕ) (configuration : ConfigValue) → Reads text (Ok configuration) → Spells text configuration
+pub read_is_spelled : (text : List ℕ) (configuration : ConfigValue) → ReadsConfiguration text (Ok configuration) → Spells text configuration
 read_is_spelled text configuration read =
     let long : Type 0 = ◌≡◌ {A = Result ConfigValue ConfigFault} (Ok configuration) (Err (record { line = 0; cause = TooLong })) in
     let after : Type 0 = ReadsAfterHeading (heading_in (lines text)) (Ok configuration) in
@@ -95,7 +95,7 @@ read_is_spelled text configuration read =
     ]
 
 -- a configuration that a text spells is read of it
-pub spelled_is_read : (text : List ℕ) (configuration : ConfigValue) (read : Result ConfigValue ConfigFault) → Spells text configuration → Reads text read → read ≡ Ok configuration
+pub spelled_is_read : (text : List ℕ) (configuration : ConfigValue) (read : Result ConfigValue ConfigFault) → Spells text configuration → ReadsConfiguration text read → read ≡ Ok configuration
 spelled_is_read text configuration read spelled reads =
     let limits : IsConfiguration configuration = spelled.limits in
     let heading : Heading = heading_of configuration in

@@ -11,6 +11,7 @@ pub record Pair : Type 0 where
   pub names : List (List ℕ)
   pub keys : List ℕ
 
+-- what a configuration states
 pub record ConfigValue : Type 0 where
   pub event : List ℕ
   pub site : List ℕ
@@ -21,9 +22,11 @@ pub record ConfigValue : Type 0 where
   pub director : ℕ
   pub pairs : List Pair
 
+-- a key as its number
 abbrev pub key_number : Key → ℕ
 key_number key = key.0
 
+-- a pair, its names as their bytes
 abbrev pub pair_of : PairFields → Pair
 pair_of pair = record { names = map (λ name. name.bytes) pair.names; keys = map key_number pair.keys }
 
@@ -56,6 +59,7 @@ pub record Heading : Type 0 where
   pub scoring : Scoring
   pub boards : ℕ
 
+-- of a configuration, what its first five lines state
 abbrev pub heading_of : ConfigValue → Heading
 heading_of configuration = record {
   event = configuration.event;
@@ -70,5 +74,6 @@ pub record People : Type 0 where
   pub director : ℕ
   pub pairs : List Pair
 
+-- of a configuration, what the lines after the movement's state
 abbrev pub people_of : ConfigValue → People
 people_of configuration = record { director = configuration.director; pairs = configuration.pairs }

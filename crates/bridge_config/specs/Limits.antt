@@ -4,6 +4,7 @@ use Rattle.std.specs.List.{list_all, list_any}
 use Rattle.std.specs.Char.{is_ascii_alphanumeric, is_ascii_digit}
 use Rattle.bridge_movement.specs.Shape.{IsShape}
 use Rattle.bridge_movement.specs.Fair.{IsMovement}
+use Rattle.bridge_config.specs.declared.fields.TheConstants.{NAME_BYTES, DATE_BYTES}
 use Rattle.bridge_config.specs.ConfigValue.{ConfigValue, Pair, keys_of}
 
 -- ASCII letters, digits, dots, hyphens and underscores
@@ -12,26 +13,28 @@ is_name_byte byte = is_ascii_alphanumeric byte || byte == 46 || byte == 45 || by
 
 -- 1 to 24 of them
 abbrev pub is_name : List ℕ → Bool
-is_name text = list_all is_name_byte text && not (length text == 0) && nat_le (length text) 24
+is_name text = list_all is_name_byte text && not (length text == 0) && nat_le (length text) NAME_BYTES
 
 -- four digits, a dot, two digits, a dot and two digits
 abbrev pub is_date_form : List ℕ → Bool
 is_date_form text =
-    length text == 10 && slice_index text 4 == 46 && slice_index text 7 == 46
+    length text == DATE_BYTES && slice_index text 4 == 46 && slice_index text 7 == 46
     && list_all is_ascii_digit (take 4 text) && list_all is_ascii_digit (slice_range text 5 7)
     && list_all is_ascii_digit (drop 8 text)
 
-abbrev pub two_digits : ℕ → ℕ → ℕ
-two_digits tens ones = 10 * (tens - 48) + (ones - 48)
+-- the number of two digits
+abbrev pub number_of_digits : ℕ → ℕ → ℕ
+number_of_digits tens ones = 10 * (tens - 48) + (ones - 48)
 
+-- from the low number to the high one
 abbrev pub is_between : ℕ → ℕ → ℕ → Bool
 is_between low high n = nat_le low n && nat_le n high
 
 -- the month is from 01 to 12 and the day from 01 to 31
 abbrev pub is_date_within : List ℕ → Bool
 is_date_within date =
-    is_between 1 12 (two_digits (slice_index date 5) (slice_index date 6))
-    && is_between 1 31 (two_digits (slice_index date 8) (slice_index date 9))
+    is_between 1 12 (number_of_digits (slice_index date 5) (slice_index date 6))
+    && is_between 1 31 (number_of_digits (slice_index date 8) (slice_index date 9))
 
 -- the key is among those
 abbrev pub stands_in : List ℕ → ℕ → Bool

@@ -9,6 +9,7 @@ use Rattle.bridge_movement.specs.MovementValue.{MovementValue}
 use Rattle.bridge_movement.specs.Shape.{row_count}
 use Rattle.bridge_movement.specs.Fair.{IsMovement}
 use Rattle.bridge_movement.specs.Refused.{IsRefusal, refused_row}
+use Rattle.bridge_config.specs.declared.reading.TheConstants.{TEXT_BYTES}
 use Rattle.bridge_config.specs.declared.refused.ConfigFault.{ConfigFault}
 use Rattle.bridge_config.specs.declared.refused.ConfigRefused.TheVariants.{TooLong, Movement}
 use Rattle.bridge_config.specs.ConfigValue.{ConfigValue, Pair, Heading, People}
@@ -91,6 +92,7 @@ ReadsMitchell texts (Ok tables) (Ok moved) =
     × IsMovement moved.movement.shape moved.movement.rows
 ReadsMitchell texts (Ok tables) (Err fault) = ⊥
 
+-- the sixth line is that of a Mitchell movement, or else that of a shape
 abbrev pub ReadsPlan : List ℕ → List (List ℕ) → Option (List ℕ) → Result Moved ConfigFault → Type 0
 ReadsPlan line texts None moved = ReadsShape texts (shape_line 6 line) moved
 ReadsPlan line texts (Some word) moved = ReadsMitchell texts (number_in 6 2 12 (Some word)) moved
@@ -100,6 +102,7 @@ abbrev pub ReadsMovement : Result (List ℕ × List (List ℕ)) ConfigFault → 
 ReadsMovement (Err fault) moved = moved ≡ Err fault
 ReadsMovement (Ok six) moved = ReadsPlan six.0 six.1 (word_after (codes "MITCHELL") (words_of six.0)) moved
 
+-- what the parts state together
 abbrev pub stated_by : Heading → MovementValue → People → ConfigValue
 stated_by heading movement people = record {
   event = heading.event;
@@ -126,7 +129,7 @@ ReadsAfterHeading (Ok heading) read =
     × (read ≡ (moved >>= after_movement heading.0))
 
 -- The configuration of a text, or its first fault: its length, and then line by line.
-abbrev pub Reads : List ℕ → Result ConfigValue ConfigFault → Type 0
-Reads text read =
-    MatchBool (nat_lt 16384 (length text)) (read ≡ Err (record { line = 0; cause = TooLong }))
+abbrev pub ReadsConfiguration : List ℕ → Result ConfigValue ConfigFault → Type 0
+ReadsConfiguration text read =
+    MatchBool (nat_lt TEXT_BYTES (length text)) (read ≡ Err (record { line = 0; cause = TooLong }))
     (ReadsAfterHeading (heading_in (lines text)) read)

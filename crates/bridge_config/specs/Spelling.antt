@@ -2,7 +2,9 @@
 use Rattle.std.specs.Prelude.{◌≡◌, ℕ, ◌+◌, ◌≤◌, ◌⊎◌, List, [], ◌∷◌, ◌++◌, length, map, codes, All}
 use Rattle.std.specs.Fmt.{decimal}
 use Rattle.std.specs.Str.Lines.{lines}
+use Rattle.line_text.specs.declared.lines.TheConstants.{LINE_BYTES}
 use Rattle.line_text.specs.Words.{spaced}
+use Rattle.bridge_config.specs.declared.reading.TheConstants.{TEXT_BYTES}
 use Rattle.bridge_score.specs.declared.ranking.Scoring.{Scoring}
 use Rattle.bridge_score.specs.declared.ranking.Scoring.TheVariants.{MatchPoints, Imps}
 use Rattle.bridge_movement.specs.declared.row.Row.{Row}
@@ -13,6 +15,7 @@ use Rattle.bridge_movement.specs.Mitchell.{mitchell_shape, FollowsMitchell}
 use Rattle.bridge_config.specs.ConfigValue.{ConfigValue, Pair, Heading, heading_of, People, people_of}
 use Rattle.bridge_config.specs.Limits.{IsConfiguration}
 
+-- the word of a scoring
 abbrev pub scoring_word : Scoring → List ℕ
 scoring_word MatchPoints = codes "MP"
 scoring_word Imps = codes "IMP"
@@ -27,14 +30,17 @@ heading_lines heading =
     ∷ spaced (codes "BOARDS" ∷ decimal heading.boards ∷ [])
     ∷ []
 
+-- the line of a Mitchell movement
 abbrev pub mitchell_line : ℕ → List ℕ
 mitchell_line tables = spaced (codes "MITCHELL" ∷ decimal tables ∷ [])
 
+-- the line of a shape
 abbrev pub shape_text : Shape → List ℕ
 shape_text shape =
     spaced (codes "MOVEMENT" ∷ decimal shape.tables ∷ decimal shape.rounds ∷ decimal shape.sets ∷ decimal shape.pairs
     ∷ decimal shape.split ∷ [])
 
+-- the line of a row
 abbrev pub row_text : Row → List ℕ
 row_text row =
     spaced (codes "ROW" ∷ decimal row.round ∷ decimal row.table ∷ decimal row.ns ∷ decimal row.ew ∷ decimal row.set ∷ [])
@@ -57,6 +63,7 @@ abbrev pub player_words : List (List ℕ) → List ℕ → List (List ℕ)
 player_words (name ∷ names) (key ∷ keys) = name ∷ decimal key ∷ player_words names keys
 player_words _ _ = []
 
+-- the line of a pair
 abbrev pub pair_text : ℕ → Pair → List ℕ
 pair_text index pair = spaced (codes "PAIR" ∷ decimal index ∷ player_words pair.names pair.keys)
 
@@ -72,8 +79,8 @@ people_lines people = spaced (codes "DIRECTOR" ∷ decimal people.director ∷ [
 -- The lines of the text are those of the configuration, which is within the limits. No line has more than 128 bytes, and
 -- the text has at most 16,384.
 pub record Spells (text : List ℕ) (configuration : ConfigValue) : Type 0 where
-  pub length_within : length text ≤ 16384
-  pub lines_within : All (λ line. length line ≤ 128) (lines text)
+  pub length_within : length text ≤ TEXT_BYTES
+  pub lines_within : All (λ line. length line ≤ LINE_BYTES) (lines text)
   pub movement_texts : List (List ℕ)
   pub movement : SpellsMovement configuration.movement movement_texts
   pub whole : lines text ≡ heading_lines (heading_of configuration)

@@ -1,3 +1,4 @@
+//! A configuration within its limits.
 ghost use Rattle.std.specs.Prelude.{◌≡◌, ◌↔◌, ◌≤◌, ◌+◌, ◌++◌, IsSome, IfSome, IsTrue, length, map, All, true};
 ghost use Rattle.std.specs.List.{list_all};
 ghost use Rattle.bridge_config.specs.ConfigValue.{configuration_of, pair_of, keys_of, key_number};
@@ -78,8 +79,9 @@ fn has_names(pair: &PairFields) -> bool
     is_name(pair.names[0].as_str().as_bytes()) && is_name(pair.names[1].as_str().as_bytes())
 }
 
+/// Adds more keys.
 fn push_keys(more: &[Key], keys: &mut ArrayVec<u32, MOST_KEYS>)
-    requires { length keys.old.items + length more.now ≤ 49 }
+    requires { length keys.old.items + length more.now ≤ MOST_KEYS }
     ensures keys { keys.new.items ≡ keys.old.items ++ map key_number more.now }
     ensures count { length keys.new.items ≡ length keys.old.items + length more.now }
 {

@@ -13,7 +13,7 @@ pub const DATE_BYTES: usize = 10;
 pub const MOST_KEYS: usize = 49;
 
 /// The key of a player or of the director, any number: who names it acts for its owner.
-#[derive(Clone, Copy, Debug, Default, PartialEq, Eq)]
+#[derive(Clone, Copy, Debug, Default, PartialEq, Eq, Hash)]
 pub struct Key(pub u32);
 
 /// The two players of a pair. The first sits North or East, the second South or West.

@@ -3,18 +3,20 @@ ghost use Rattle.std.specs.Prelude.{◌≡◌, ◌↔◌, IsTrue, map, length, S
 ghost use Rattle.std.specs.Option.{option_map};
 ghost use Rattle.std.specs.List.{list_all};
 ghost use Rattle.bridge_config.specs.ConfigValue.{key_number};
-ghost use Rattle.bridge_config.specs.Limits.{is_name_byte, is_name, is_date_form, is_date_within, two_digits, stands_in, AreKeys};
+ghost use Rattle.bridge_config.specs.Limits.{is_name_byte, is_name, is_date_form, is_date_within, number_of_digits, stands_in, AreKeys};
 
 use crate::fields::{DATE_BYTES, Key, NAME_BYTES};
 use arrayvec::ArrayString;
 use line_text::{are_digits, inline};
 
+/// Whether the byte may stand in a name.
 fn is_name_byte(byte: u8) -> bool
     ensures { result ≡ is_name_byte byte }
 {
     byte.is_ascii_alphanumeric() || byte == b'.' || byte == b'-' || byte == b'_'
 }
 
+/// Whether each of the bytes may stand in a name.
 fn are_name_bytes(text: &[u8]) -> bool
     ensures { result ≡ list_all is_name_byte text.now }
 {
@@ -54,7 +56,7 @@ pub fn read_date(text: &[u8]) -> Option<ArrayString<DATE_BYTES>>
 pub fn is_date_form(text: &[u8]) -> bool
     ensures { result ≡ is_date_form text.now }
 {
-    text.len() == 10
+    text.len() == DATE_BYTES
         && text[4] == b'.'
         && text[7] == b'.'
         && are_digits(&text[..4])
@@ -64,16 +66,16 @@ pub fn is_date_form(text: &[u8]) -> bool
 
 /// Whether the month is from 01 to 12 and the day from 01 to 31.
 pub fn is_date_within(date: &[u8]) -> bool
-    requires { length date.now ≡ 10 }
+    requires { length date.now ≡ DATE_BYTES }
     ensures { result ≡ is_date_within date.now }
 {
-    (1..=12).contains(&two_digits(date[5], date[6]))
-        && (1..=31).contains(&two_digits(date[8], date[9]))
+    (1..=12).contains(&number_of_digits(date[5], date[6]))
+        && (1..=31).contains(&number_of_digits(date[8], date[9]))
 }
 
 /// The number of two digits.
-fn two_digits(tens: u8, ones: u8) -> u32
-    ensures { result ≡ two_digits tens ones }
+fn number_of_digits(tens: u8, ones: u8) -> u32
+    ensures { result ≡ number_of_digits tens ones }
 {
     10 * u32::from(tens.saturating_sub(b'0')) + u32::from(ones.saturating_sub(b'0'))
 }

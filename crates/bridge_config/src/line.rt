@@ -3,7 +3,7 @@ ghost use Rattle.std.specs.Prelude.{◌≡◌, ◌==◌, not, length, is_some, �
 ghost use Rattle.std.specs.Str.Lines.{lines};
 ghost use Rattle.bridge_config.specs.ConfigValue.{pair_of, key_number};
 ghost use Rattle.line_text.specs.WordViews.{view_of_five};
-ghost use Rattle.bridge_config.specs.LineReading.{Gives, within, name_in, name_line, date_line, scoring_line, number_in, number_line, are_numerals, shape_within, shape_line, row_within, row_line, is_pair_form, keys_after, pair_within, pair_line, form_at, range_at};
+ghost use Rattle.bridge_config.specs.LineReading.{SeenAs, within, name_in, name_line, date_line, scoring_line, number_in, number_line, are_numerals, shape_within, shape_line, row_within, row_line, is_pair_form, keys_after, pair_within, pair_line, form_at, range_at};
 ghost use Rattle.line_text.specs.Words.{word_after, words_of};
 ghost use Rattle.line_text.specs.Numeral.{is_numeral};
 ghost use Rattle.bridge_config.specs.Reading.{due_line};
@@ -19,22 +19,23 @@ use line_text::{Five, first_line, five_after, inline, is_numeral, value_of, word
 /// A line and its number, from 1.
 #[derive(Clone, Copy)]
 pub struct Line<'a> {
+    /// Its number in the text, from 1.
     pub number: u32,
+    /// Its bytes, without the line feed and a carriage return before that.
     pub text: &'a [u8],
 }
 
 /// The first line of the text, which has that number, and what stands after it; `Form` where the text has ended.
 pub fn due_line(number: u32, text: &[u8]) -> Result<(Line<'_>, &[u8]), ConfigFault>
-    ensures line { Gives (λ due. (due.0.text.now, lines due.1.now)) result (due_line number (lines text.now)) }
+    ensures line { SeenAs (λ due. (due.0.text.now, lines due.1.now)) result (due_line number (lines text.now)) }
     ensures number { IfOk result (λ due. due.0.number ≡ number) }
 {
-    match first_line(text) {
-        Some((line, rest)) => Ok((Line { number, text: line }, rest)),
-        None => Err(ConfigFault {
-            line: number,
-            cause: ConfigRefused::Form,
-        }),
-    }
+    let missing = ConfigFault {
+        line: number,
+        cause: ConfigRefused::Form,
+    };
+    let (line, rest) = first_line(text).ok_or(missing)?;
+    Ok((Line { number, text: line }, rest))
 }
 
 /// Whether the text has a line.
@@ -45,6 +46,7 @@ pub fn has_line(text: &[u8]) -> bool
 }
 
 impl Line<'_> {
+    /// The fault that the line is out of form.
     fn form(self) -> ConfigFault
         ensures { result ≡ form_at self.entry.number }
     {
@@ -54,6 +56,7 @@ impl Line<'_> {
         }
     }
 
+    /// The fault that something in the line is out of its range.
     fn range(self) -> ConfigFault
         ensures { result ≡ range_at self.entry.number }
     {
@@ -72,7 +75,7 @@ impl Line<'_> {
 
     /// The name after a keyword.
     pub fn name(self, keyword: &[u8]) -> Result<ArrayString<NAME_BYTES>, ConfigFault>
-        ensures { Gives (λ name. name.bytes) result (name_line self.entry.number keyword.now self.entry.text.now) }
+        ensures { SeenAs (λ name. name.bytes) result (name_line self.entry.number keyword.now self.entry.text.now) }
     {
         match word_after(keyword, self.text) {
             Some(word) if is_name(word) => Ok(inline(word)),
@@ -82,7 +85,7 @@ impl Line<'_> {
 
     /// The date after `DATE`.
     pub fn date(self) -> Result<ArrayString<DATE_BYTES>, ConfigFault>
-        ensures { Gives (λ date. date.bytes) result (date_line self.entry.number self.entry.text.now) }
+        ensures { SeenAs (λ date. date.bytes) result (date_line self.entry.number self.entry.text.now) }
     {
         match word_after(b"DATE", self.text) {
             Some(word) if is_date_form(word) => {
@@ -98,7 +101,7 @@ impl Line<'_> {
 
     /// How scores are compared.
     pub fn scoring(self) -> Result<Scoring, ConfigFault>
-        ensures { Gives (λ scoring. scoring) result (scoring_line self.entry.number self.entry.text.now) }
+        ensures { SeenAs (λ scoring. scoring) result (scoring_line self.entry.number self.entry.text.now) }
     {
         match word_after(b"SCORING", self.text) {
             Some(b"MP") => Ok(Scoring::MatchPoints),
@@ -110,7 +113,7 @@ impl Line<'_> {
     /// The number of a numeral, from low to high.
     fn within(self, low: u32, high: u32, word: &[u8]) -> Result<u32, ConfigFault>
         requires { is_numeral word.now ≡ true }
-        ensures value { Gives (λ n. n) result (within self.entry.number low high word.now) }
+        ensures value { SeenAs (λ n. n) result (within self.entry.number low high word.now) }
         ensures most { IfOk result (λ n. n ≤ high) }
     {
         match value_of(word) {
@@ -122,7 +125,7 @@ impl Line<'_> {
     /// The number of a numeral, from low to high, in a byte.
     fn within_byte(self, low: u8, high: u8, word: &[u8]) -> Result<u8, ConfigFault>
         requires { is_numeral word.now ≡ true }
-        ensures value { Gives (λ n. n) result (within self.entry.number low high word.now) }
+        ensures value { SeenAs (λ n. n) result (within self.entry.number low high word.now) }
         ensures most { IfOk result (λ n. n ≤ high) }
     {
         let value = self.within(u32::from(low), u32::from(high), word)?;
@@ -131,7 +134,7 @@ impl Line<'_> {
 
     /// The number, from low to high, after a keyword.
     pub fn number(self, keyword: &[u8], low: u32, high: u32) -> Result<u32, ConfigFault>
-        ensures value { Gives (λ n. n) result (number_line self.entry.number keyword.now low high self.entry.text.now) }
+        ensures value { SeenAs (λ n. n) result (number_line self.entry.number keyword.now low high self.entry.text.now) }
         ensures most { IfOk result (λ n. n ≤ high) }
     {
         match word_after(keyword, self.text) {
@@ -142,7 +145,7 @@ impl Line<'_> {
 
     /// The shape after `MOVEMENT`.
     pub fn shape(self) -> Result<Shape, ConfigFault>
-        ensures { Gives (λ shape. shape) result (shape_line self.entry.number self.entry.text.now) }
+        ensures { SeenAs (λ shape. shape) result (shape_line self.entry.number self.entry.text.now) }
     {
         match five_after(b"MOVEMENT", self.text) {
             Some(words) if are_numerals(&words) => self.shape_of(&words),
@@ -153,7 +156,7 @@ impl Line<'_> {
     #[tactic(auto, unfolding(crate::specs::LineReading::shape_within))]
     fn shape_of(self, words: &Five<'_>) -> Result<Shape, ConfigFault>
         requires { are_numerals (view_of_five words.now) ≡ true }
-        ensures { Gives (λ shape. shape) result (shape_within self.entry.number (view_of_five words.now)) }
+        ensures { SeenAs (λ shape. shape) result (shape_within self.entry.number (view_of_five words.now)) }
     {
         let tables = self.within_byte(2, MOST_TABLES, words.first)?;
         let rounds = self.within_byte(1, MOST_ROUNDS, words.second)?;
@@ -171,7 +174,7 @@ impl Line<'_> {
 
     /// The row after `ROW`.
     pub fn row(self) -> Result<Row, ConfigFault>
-        ensures { Gives (λ row. row) result (row_line self.entry.number self.entry.text.now) }
+        ensures { SeenAs (λ row. row) result (row_line self.entry.number self.entry.text.now) }
     {
         match five_after(b"ROW", self.text) {
             Some(words) if are_numerals(&words) => self.row_of(&words),
@@ -182,7 +185,7 @@ impl Line<'_> {
     #[tactic(auto, unfolding(crate::specs::LineReading::row_within))]
     fn row_of(self, words: &Five<'_>) -> Result<Row, ConfigFault>
         requires { are_numerals (view_of_five words.now) ≡ true }
-        ensures { Gives (λ row. row) result (row_within self.entry.number (view_of_five words.now)) }
+        ensures { SeenAs (λ row. row) result (row_within self.entry.number (view_of_five words.now)) }
     {
         let round = self.within_byte(0, 255, words.first)?;
         let table = self.within_byte(0, 255, words.second)?;
@@ -200,7 +203,7 @@ impl Line<'_> {
 
     /// The pair of that number after `PAIR`. No key may stand among the earlier ones.
     pub fn pair(self, index: u32, earlier: &[Key]) -> Result<PairFields, ConfigFault>
-        ensures { Gives pair_of result
+        ensures { SeenAs pair_of result
             (pair_line self.entry.number index (map key_number earlier.now) self.entry.text.now) }
     {
         match five_after(b"PAIR", self.text) {
@@ -217,7 +220,7 @@ impl Line<'_> {
         words: &Five<'_>,
     ) -> Result<PairFields, ConfigFault>
         requires { is_pair_form (view_of_five words.now) ≡ true }
-        ensures { Gives pair_of result
+        ensures { SeenAs pair_of result
             (pair_within self.entry.number index (map key_number earlier.now) (view_of_five words.now)) }
     {
         self.within(index, index, words.first)?;
@@ -232,7 +235,7 @@ impl Line<'_> {
 
     /// The two keys, neither of which may stand earlier.
     fn keys_after(self, earlier: &[Key], first: Key, second: Key) -> Result<[Key; 2], ConfigFault>
-        ensures { Gives (map key_number) result
+        ensures { SeenAs (map key_number) result
             (keys_after self.entry.number (map key_number earlier.now) (key_number first) (key_number second)) }
     {
         if stands_in(earlier, first) || stands_in(earlier, second) || first.0 == second.0 {

@@ -5,8 +5,8 @@ ghost use Rattle.bridge_movement.specs.Shape.{IsShape, row_count};
 ghost use Rattle.bridge_config.specs.ConfigValue.{ConfigValue, pair_of, key_number};
 ghost use Rattle.bridge_config.specs.Spelling.{Spells};
 ghost use Rattle.bridge_config.specs.Limits.{IsConfiguration};
-ghost use Rattle.bridge_config.specs.LineReading.{Gives};
-ghost use Rattle.bridge_config.specs.Reading.{heading_in, rows_in, pairs_in, people_in, JudgesRows, ReadsMovement, ReadsAfterHeading, Reads, due_line, stated_by};
+ghost use Rattle.bridge_config.specs.LineReading.{SeenAs};
+ghost use Rattle.bridge_config.specs.Reading.{heading_in, rows_in, pairs_in, people_in, JudgesRows, ReadsMovement, ReadsAfterHeading, ReadsConfiguration, due_line, stated_by};
 ghost use Rattle.bridge_config.specs.Parts.{view_of_heading, view_of_people, moved_of};
 
 use crate::config::Config;
@@ -23,10 +23,15 @@ const TEXT_BYTES: usize = 16384;
 /// What the first five lines state.
 #[derive(Clone, Copy)]
 struct Heading {
+    /// The name after `EVENT`.
     event: ArrayString<NAME_BYTES>,
+    /// The name after `SITE`.
     site: ArrayString<NAME_BYTES>,
+    /// The date after `DATE`.
     date: ArrayString<DATE_BYTES>,
+    /// How scores are compared.
     scoring: Scoring,
+    /// The number of boards in a set.
     boards: u8,
 }
 
@@ -54,15 +59,15 @@ pub fn read_config(text: &[u8]) -> Result<Config, ConfigFault>
     ensures found { IfOk result (Spells text.now) }
     // What is spelled so is read.
     ensures only { (configuration : ConfigValue) → Spells text.now configuration
-        → Gives (λ config. config) result (Ok configuration) }
+        → SeenAs (λ config. config) result (Ok configuration) }
     // Which fault it is.
-    ensures exact { Reads text.now result }
+    ensures exact { ReadsConfiguration text.now result }
 {
     read_text(text)
 }
 
 fn read_text(text: &[u8]) -> Result<Config, ConfigFault>
-    ensures { Reads text.now result }
+    ensures { ReadsConfiguration text.now result }
 {
     if text.len() > TEXT_BYTES {
         return Err(ConfigFault {
@@ -74,18 +79,16 @@ fn read_text(text: &[u8]) -> Result<Config, ConfigFault>
 }
 
 fn read_lines(text: &[u8]) -> Result<Config, ConfigFault>
-    requires { length text.now ≤ 16384 }
+    requires { length text.now ≤ TEXT_BYTES }
     ensures { ReadsAfterHeading (heading_in (lines text.now)) result }
 {
     match read_heading(text) {
-        Ok((heading, rest)) => match read_movement(rest) {
-            Ok(moved) => {
-                let pairs = moved.movement.shape().pairs;
-                let people = read_people(pairs, moved.number, moved.rest)?;
-                Ok(config_of(heading, moved.movement, people))
-            }
-            Err(fault) => Err(fault),
-        },
+        Ok((heading, rest)) => {
+            let moved = read_movement(rest)?;
+            let pairs = moved.movement.shape().pairs;
+            let people = read_people(pairs, moved.number, moved.rest)?;
+            Ok(config_of(heading, moved.movement, people))
+        }
         Err(fault) => Err(fault),
     }
 }
@@ -93,7 +96,7 @@ fn read_lines(text: &[u8]) -> Result<Config, ConfigFault>
 /// Reads the first five lines.
 #[tactic(auto, unfolding(crate::specs::Reading::heading_in))]
 fn read_heading(text: &[u8]) -> Result<(Heading, &[u8]), ConfigFault>
-    ensures { Gives (λ read. (view_of_heading read.0, lines read.1.now)) result (heading_in (lines text.now)) }
+    ensures { SeenAs (λ read. (view_of_heading read.0, lines read.1.now)) result (heading_in (lines text.now)) }
 {
     let (line, rest) = due_line(1, text)?;
     let event = line.name(b"EVENT")?;
@@ -141,23 +144,21 @@ fn read_movement_rows(shape: Shape, text: &[u8]) -> Result<Moved<'_>, ConfigFaul
 {
     let count = shape.row_count() as u32;
     let (rows, rest) = read_rows(count, text)?;
-    match Movement::from_rows(shape, &rows) {
-        Ok(movement) => Ok(Moved {
-            movement,
-            number: 7 + count,
-            rest,
-        }),
-        Err(refused) => Err(ConfigFault {
-            line: 6 + u32::from(refused.row_number()),
-            cause: ConfigRefused::Movement(refused),
-        }),
-    }
+    let movement = Movement::from_rows(shape, &rows).map_err(|refused| ConfigFault {
+        line: 6 + u32::from(refused.row_number()),
+        cause: ConfigRefused::Movement(refused),
+    })?;
+    Ok(Moved {
+        movement,
+        number: 7 + count,
+        rest,
+    })
 }
 
 /// Reads that many rows, from the seventh line on.
 fn read_rows(count: u32, text: &[u8]) -> Result<(ArrayVec<Row, MOST_ROWS>, &[u8]), ConfigFault>
-    requires { count ≤ 144 }
-    ensures { Gives (λ read. (read.0.items, lines read.1.now)) result (rows_in count 7 (lines text.now)) }
+    requires { count ≤ MOST_ROWS }
+    ensures { SeenAs (λ read. (read.0.items, lines read.1.now)) result (rows_in count 7 (lines text.now)) }
 {
     let mut rows = ArrayVec::new();
     let mut rest = text;
@@ -172,9 +173,9 @@ fn read_rows(count: u32, text: &[u8]) -> Result<(ArrayVec<Row, MOST_ROWS>, &[u8]
 /// Reads the director's key and that many pairs, the first of these lines having that number.
 #[tactic(auto, unfolding(crate::specs::Reading::people_in))]
 fn read_people(count: u8, number: u32, text: &[u8]) -> Result<People, ConfigFault>
-    requires count { count ≤ 24 }
+    requires count { count ≤ MOST_PAIRS }
     requires number { number ≤ 151 }
-    ensures { Gives view_of_people result (people_in count number (lines text.now)) }
+    ensures { SeenAs view_of_people result (people_in count number (lines text.now)) }
 {
     let (line, rest) = due_line(number, text)?;
     let director = Key(line.number(b"DIRECTOR", 0, u32::MAX)?);
@@ -195,9 +196,9 @@ fn read_pairs(
     director: Key,
     text: &[u8],
 ) -> Result<(ArrayVec<PairFields, MOST_PAIRS>, &[u8]), ConfigFault>
-    requires count { count ≤ 24 }
+    requires count { count ≤ MOST_PAIRS }
     requires number { number ≤ 152 }
-    ensures { Gives (λ read. (map pair_of read.0.items, lines read.1.now)) result
+    ensures { SeenAs (λ read. (map pair_of read.0.items, lines read.1.now)) result
         (pairs_in count number 1 (key_number director ∷ []) (lines text.now)) }
 {
     let mut pairs = ArrayVec::new();

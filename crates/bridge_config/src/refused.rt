@@ -7,7 +7,7 @@ use std::fmt;
 use thiserror::Error;
 
 /// What is wrong with a line, or with the whole text.
-#[derive(Clone, Copy, Debug, PartialEq, Eq)]
+#[derive(Clone, Copy, Debug, PartialEq, Eq, Hash)]
 pub enum ConfigRefused {
     /// The text has more than 16,384 bytes.
     TooLong,
@@ -54,7 +54,7 @@ impl fmt::Display for ConfigRefused {
 impl std::error::Error for ConfigRefused {}
 
 /// The first fault of a text, with its line.
-#[derive(Clone, Copy, Debug, PartialEq, Eq, Error)]
+#[derive(Clone, Copy, Debug, PartialEq, Eq, Hash, Error)]
 #[error("line {line}: {cause}")]
 pub struct ConfigFault {
     /// The number of the line, from 1, or 0 where the text is too long.

@@ -28,6 +28,7 @@ HasPairsWithin shape row = (row.ns ≤ shape.pairs) × (row.ew ≤ shape.pairs)
 abbrev pub HasTwoPairs : Row → Type 0
 HasTwoPairs row = row.ns ≡ row.ew → row.ns ≡ 0
 
+-- the number of the set is within the shape
 abbrev pub HasSetWithin : Shape → Row → Type 0
 HasSetWithin shape row = (1 ≤ row.set) × (row.set ≤ shape.sets)
 

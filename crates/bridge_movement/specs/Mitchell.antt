@@ -7,6 +7,7 @@ use Rattle.bridge_movement.specs.declared.shape.Shape.{Shape}
 abbrev pub mitchell_rounds : ℕ → ℕ
 mitchell_rounds tables = if tables % 2 == 0 then tables - 1 else tables
 
+-- as many sets as tables, and two fields of as many pairs
 abbrev pub mitchell_shape : ℕ → Shape
 mitchell_shape tables = record {
   tables = tables;

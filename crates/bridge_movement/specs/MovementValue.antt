@@ -3,6 +3,7 @@ use Rattle.std.specs.Prelude.{List}
 use Rattle.bridge_movement.specs.declared.row.Row.{Row}
 use Rattle.bridge_movement.specs.declared.shape.Shape.{Shape}
 
+-- how large it is, and its rows in order
 pub record MovementValue : Type 0 where
   pub shape : Shape
   pub rows : List Row

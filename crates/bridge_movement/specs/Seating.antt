@@ -1,5 +1,5 @@
 -- Where a pair plays in a round.
-use Rattle.std.specs.Prelude.{ℕ, ◌≡◌, ◌==◌, ◌&&◌, not, if◌then◌else◌, List, [], ◌∷◌, ◌<◌, length, Option, None, Some, MatchOption, All, Any}
+use Rattle.std.specs.Prelude.{ℕ, ◌≡◌, ◌==◌, ◌&&◌, if◌then◌else◌, List, [], ◌∷◌, ◌<◌, length, Option, None, Some, MatchOption, All, Any}
 use Rattle.std.specs.List.{HoldsAt, AllWithin}
 use Rattle.std.specs.Option.{option_or}
 use Rattle.bridge_cards.specs.declared.seat.Side.{Side}
@@ -7,7 +7,7 @@ use Rattle.bridge_cards.specs.declared.seat.Side.TheVariants.{NorthSouth, EastWe
 use Rattle.bridge_movement.specs.declared.place.Place.{Place}
 use Rattle.bridge_movement.specs.declared.row.Row.{Row}
 use Rattle.bridge_movement.specs.declared.shape.Shape.{Shape}
-use Rattle.bridge_movement.specs.Row.{IsLive, SitsIn}
+use Rattle.bridge_movement.specs.Row.{IsLive, is_live, SitsIn}
 use Rattle.bridge_movement.specs.Shape.{IsBetween}
 
 -- the pair that sits on a side
@@ -44,7 +44,7 @@ IsPlaceWithin shape place = IsBetween 1 shape.tables place.table × IsBetween 1 
 -- where a row puts the pair in the round, if it is live and has the pair
 abbrev pub seat_of : ℕ → ℕ → Row → Option Place
 seat_of round pair row =
-    if row.round == round && not (row.ns == 0) && not (row.ew == 0) then
+    if row.round == round && is_live row then
     (if row.ns == pair then Some (record { table = row.table; side = NorthSouth; set = row.set })
     else if row.ew == pair then Some (record { table = row.table; side = EastWest; set = row.set }) else None)
     else None

@@ -1,8 +1,10 @@
+//! Where rows are not in order, and what is wrong with a row.
 ghost use Rattle.std.specs.Prelude.{◌≡◌, ◌+◌, ◌<◌, ◌≤◌, ◌↔◌, ℕ, IsTrue, length, IfSome, MatchOption, take, slice_index_or};
 ghost use Rattle.bridge_movement.specs.Shape.{IsShape, row_count};
 ghost use Rattle.bridge_movement.specs.Fair.{IsDue, IsComplete};
 ghost use Rattle.bridge_movement.specs.Refused.{IsFirstMisplaced, IsFaultless, IsFaultOf, refused_row};
 ghost use Rattle.bridge_movement.specs.Refused.{IsFirstFault, IsFaultlessAt};
+ghost use Rattle.bridge_movement.specs.declared.shape.TheConstants.{MOST_ROWS};
 
 use crate::refused::MovementRefused;
 use crate::row::Row;
@@ -23,7 +25,7 @@ fn is_due(shape: Shape, index: usize, row: Row) -> bool
 pub(crate) fn first_misplaced(shape: Shape, rows: &[Row]) -> Option<usize>
     requires { IsShape shape }
     ensures first { MatchOption result (IsComplete shape rows.now) (IsFirstMisplaced shape rows.now) }
-    ensures most { MatchOption result (length rows.now ≤ 144) (λ index. index ≤ 144) }
+    ensures most { MatchOption result (length rows.now ≤ MOST_ROWS) (λ index. index ≤ MOST_ROWS) }
 {
     for (index, row) in rows.iter().enumerate() {
         if !is_due(shape, index, *row) {
@@ -59,7 +61,7 @@ fn fault_of(shape: Shape, earlier: &[Row], row: Row, number: u16) -> Option<Move
 
 /// The fault of the first row that has one.
 pub(crate) fn first_fault(shape: Shape, rows: &[Row]) -> Option<MovementRefused>
-    requires { length rows.now ≤ 144 }
+    requires { length rows.now ≤ MOST_ROWS }
     ensures { MatchOption result
         ((k : ℕ) → k < length rows.now → IsFaultlessAt shape rows.now k)
         (λ refused. (k : ℕ) × (refused_row refused ≡ k + 1) × IsFirstFault shape rows.now k refused) }

@@ -1,3 +1,4 @@
+//! The rows of a Mitchell movement.
 ghost use Rattle.std.specs.Prelude.{◌≡◌, ◌<◌, ◌≤◌};
 ghost use Rattle.bridge_movement.specs.Mitchell.{mitchell_shape, mitchell_row, tables_moved};
 

@@ -1,3 +1,4 @@
+//! Movements: who meets whom, where, with which boards.
 ghost use Rattle.std.specs.Prelude.{◌≡◌, ◌↔◌, ◌+◌, ◌-◌, ◌*◌, ◌<◌, ◌≤◌, ℕ, length, slice_index_or, slice_get, IsOk, IfOk, IfErr, IfSome, IfNone, Some, AllPairs, Contains};
 ghost use Rattle.bridge_movement.specs.Shape.{IsShape};
 ghost use Rattle.bridge_movement.specs.Fair.{IsMovement, HasPairsWithin, HasSetWithin};
@@ -37,7 +38,7 @@ impl Model for Movement {
 
 /// The rows, inline.
 fn inline_rows(rows: &[Row]) -> ArrayVec<Row, MOST_ROWS>
-    requires { length rows.now ≤ 144 }
+    requires { length rows.now ≤ MOST_ROWS }
     ensures { result.items ≡ rows.now }
 {
     let mut inline = ArrayVec::new();
@@ -120,7 +121,7 @@ impl Movement {
     /// The rows, by round, then by table: one for each table in each round.
     pub fn rows(&self) -> &[Row]
         ensures rows { result.now ≡ self.now.rows }
-        ensures most { length result.now ≤ 144 }
+        ensures most { length result.now ≤ MOST_ROWS }
         ensures limits { IsShape self.now.shape }
         ensures fair { IsMovement self.now.shape result.now }
     {

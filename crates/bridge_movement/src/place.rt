@@ -1,3 +1,4 @@
+//! Where a pair plays in a round.
 ghost use Rattle.std.specs.Prelude.{◌≡◌, MatchOption, IfSome, IfNone};
 ghost use Rattle.bridge_movement.specs.Seating.{IsSeat, HasSeat, PlaysAt, SitsOut, seat_of, IsFirstSeat};
 
@@ -5,7 +6,7 @@ use crate::row::Row;
 use bridge_cards::Side;
 
 /// Where a pair plays in a round.
-#[derive(Clone, Copy, Debug, PartialEq, Eq)]
+#[derive(Clone, Copy, Debug, PartialEq, Eq, Hash)]
 pub struct Place {
     /// The table, from 1.
     pub table: u8,

@@ -1,10 +1,11 @@
+//! Why rows are no movement.
 ghost use Rattle.std.specs.Prelude.{◌≡◌, ◌≤◌, length};
 ghost use Rattle.bridge_movement.specs.Refused.{refused_row, refusal_name};
 
 use std::fmt;
 
 /// Why rows are no movement, with the number of the first row at fault, from 1.
-#[derive(Clone, Copy, Debug, PartialEq, Eq)]
+#[derive(Clone, Copy, Debug, PartialEq, Eq, Hash)]
 pub enum MovementRefused {
     /// The row there isn't the one due: rows stand by round, then by table, one for each. Where rows are lacking or
     /// left over and all before are in place, it is the number after them.

@@ -1,8 +1,9 @@
+//! One table in one round.
 ghost use Rattle.std.specs.Prelude.{◌≡◌, ◌↔◌, IsTrue};
 ghost use Rattle.bridge_movement.specs.Row.{IsLive, is_live, SitsIn, ShareAPair, SeatPairTwice, PlaySetAgain};
 
 /// Who meets at one table in one round, and which boards they play.
-#[derive(Clone, Copy, Debug, Default, PartialEq, Eq)]
+#[derive(Clone, Copy, Debug, Default, PartialEq, Eq, Hash)]
 pub struct Row {
     /// The round, from 1.
     pub round: u8,

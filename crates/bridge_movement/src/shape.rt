@@ -1,3 +1,4 @@
+//! How large a movement is.
 ghost use Rattle.std.specs.Prelude.{◌↔◌, ◌≡◌, ◌≤◌, IsTrue};
 ghost use Rattle.bridge_movement.specs.Shape.{IsShape, row_count};
 
@@ -17,7 +18,7 @@ pub const MOST_PAIRS: usize = 24;
 pub const MOST_ROWS: usize = 144;
 
 /// How large a movement is.
-#[derive(Clone, Copy, Debug, PartialEq, Eq)]
+#[derive(Clone, Copy, Debug, PartialEq, Eq, Hash)]
 pub struct Shape {
     /// The number of tables, 2 to 12.
     pub tables: u8,
@@ -47,7 +48,7 @@ impl Shape {
     pub fn row_count(self) -> usize
         requires { IsShape self }
         ensures count { result ≡ row_count self }
-        ensures most { result ≤ 144 }
+        ensures most { result ≤ MOST_ROWS }
     {
         usize::from(self.rounds) * usize::from(self.tables)
     }

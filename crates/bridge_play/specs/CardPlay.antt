@@ -1,5 +1,5 @@
 -- The cards of a play, and what is kept beside them.
-use Rattle.std.specs.Prelude.{◌≡◌, ℕ, ◌/◌, Bool, nat_eq, List, [], ◌∷◌, ◌++◌, length}
+use Rattle.std.specs.Prelude.{◌≡◌, ℕ, Bool, nat_eq, List, [], ◌∷◌, ◌++◌}
 use Rattle.bridge_cards.specs.declared.seat.Seat.{Seat}
 use Rattle.bridge_cards.specs.declared.seat.Side.TheVariants.{NorthSouth}
 use Rattle.std.specs.Cmp.Lexicographic.{pointwise}
@@ -11,7 +11,7 @@ use Rattle.bridge_auction.specs.declared.contract.Contract.{Contract}
 use Rattle.bridge_auction.specs.declared.contract.Doubling.{Doubling}
 use Rattle.bridge_auction.specs.declared.contract.Doubling.TheVariants.{Undoubled, Doubled, Redoubled}
 use Rattle.bridge_auction.specs.Bid.{denomination_number}
-use Rattle.bridge_play.specs.Trick.{leader_of, tricks_won}
+use Rattle.bridge_play.specs.Trick.{whole_tricks, leader_of, tricks_won}
 use Rattle.bridge_play.specs.Legal.{holds}
 
 -- the dealt hands, the contract, and the cards so far
@@ -51,5 +51,5 @@ with_next played card = record played { cards = played.cards ++ card ∷ [] }
 -- not whole, and how many of the whole tricks North and South won.
 pub record IsKept (hands : List ℕ) (contract : Contract) (cards : List ℕ) (left : List ℕ) (leader : Seat) (won : ℕ) : Type 0 where
   pub left_of : (seat : Seat) (card : ℕ) → has_card (hand_at left seat) card ≡ holds hands cards seat card
-  pub leads : leader ≡ leader_of contract cards (length cards / 4)
-  pub won_by : won ≡ tricks_won contract cards NorthSouth (length cards / 4)
+  pub leads : leader ≡ leader_of contract cards (whole_tricks cards)
+  pub won_by : won ≡ tricks_won contract cards NorthSouth (whole_tricks cards)

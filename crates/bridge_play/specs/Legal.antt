@@ -1,5 +1,5 @@
 -- Which lists of cards are legal (Laws 44 and 45).
-use Rattle.std.specs.Prelude.{◌≡◌, ℕ, ◌/◌, Bool, true, not, ◌&&◌, ◌==◌, List, length}
+use Rattle.std.specs.Prelude.{◌≡◌, ℕ, Bool, true, not, ◌&&◌, ◌==◌, List}
 use Rattle.std.specs.List.{list_any}
 use Rattle.bridge_cards.specs.declared.seat.Seat.{Seat}
 use Rattle.bridge_cards.specs.EachMayFollow.{EachMayFollow}
@@ -7,7 +7,7 @@ use Rattle.bridge_cards.specs.CardSet.{has_card}
 use Rattle.bridge_cards.specs.Deal.{hand_at}
 use Rattle.bridge_cards.specs.Trick.{follows_suit}
 use Rattle.bridge_auction.specs.declared.contract.Contract.{Contract}
-use Rattle.bridge_play.specs.Trick.{trick_at, turn_of}
+use Rattle.bridge_play.specs.Trick.{trick_at, whole_tricks, turn_of}
 
 -- whether the card stands in the list
 abbrev pub was_played : List ℕ → ℕ → Bool
@@ -19,7 +19,7 @@ holds hands cards seat card = has_card (hand_at hands seat) card && not (was_pla
 
 -- the cards of the trick that is not whole
 abbrev pub current_trick : List ℕ → List ℕ
-current_trick cards = trick_at cards (length cards / 4)
+current_trick cards = trick_at cards (whole_tricks cards)
 
 -- whether the card leads to a trick, or is of the suit led, or the hand has none of that suit
 abbrev pub follows : List ℕ → List ℕ → Seat → ℕ → Bool

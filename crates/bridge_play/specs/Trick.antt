@@ -16,6 +16,10 @@ trump_of contract = denomination_suit contract.bid.denomination
 abbrev pub trick_at : List ℕ → ℕ → List ℕ
 trick_at cards trick = take 4 (drop (4 * trick) cards)
 
+-- how many tricks are whole after those cards
+abbrev pub whole_tricks : List ℕ → ℕ
+whole_tricks cards = length cards / 4
+
 -- the seat that leads to a trick: declarer's left-hand opponent to the first, and the winner of each trick to the next
 abbrev pub leader_of : Contract → List ℕ → ℕ → Seat
 leader_of contract cards zero = clockwise_from contract.declarer 1
@@ -24,7 +28,7 @@ leader_of contract cards (suc trick) =
 
 -- the hand to play after those cards: the leader's, then clockwise
 abbrev pub turn_of : Contract → List ℕ → Seat
-turn_of contract cards = clockwise_from (leader_of contract cards (length cards / 4)) (length cards % 4)
+turn_of contract cards = clockwise_from (leader_of contract cards (whole_tricks cards)) (length cards % 4)
 
 -- how many of the first tricks the side's seats won: the winner of a trick leads to the next
 abbrev pub tricks_won : Contract → List ℕ → Side → ℕ → ℕ

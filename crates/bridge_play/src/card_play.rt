@@ -1,9 +1,10 @@
-ghost use Rattle.std.specs.Prelude.{◌≡◌, ℕ, ◌*◌, ◌/◌, ◌<◌, ◌≤◌, ◌&&◌, ◌==◌, not, [], length, take, ◌↔◌, IsSome, IfSome};
+//! The cards of a play, and what is kept beside them.
+ghost use Rattle.std.specs.Prelude.{◌≡◌, ℕ, ◌*◌, ◌<◌, ◌≤◌, ◌&&◌, ◌==◌, not, [], length, take, ◌↔◌, IsSome, IfSome};
 ghost use Rattle.bridge_cards.specs.Card.{IsCard};
 ghost use Rattle.bridge_cards.specs.CardSet.{has_card};
 ghost use Rattle.bridge_cards.specs.Deal.{hand_at, IsDeal};
 ghost use Rattle.bridge_cards.specs.Trick.{has_suit};
-ghost use Rattle.bridge_play.specs.Trick.{turn_of, tricks_won};
+ghost use Rattle.bridge_play.specs.Trick.{turn_of, whole_tricks, tricks_won};
 ghost use Rattle.bridge_play.specs.Legal.{holds, follows, may_play, IsLegal};
 ghost use Rattle.bridge_play.specs.CardPlay.{played, with_next};
 
@@ -66,7 +67,7 @@ impl CardPlay {
             deal: *deal,
             contract,
             cards: ArrayVec::new(),
-            left: dealt(deal),
+            left: deal.hands(),
             leader,
             won: 0,
         }
@@ -100,7 +101,7 @@ impl CardPlay {
     /// The cards so far.
     pub fn cards(&self) -> &[Card]
         ensures cards { result.now ≡ self.now.cards }
-        ensures few { length result.now ≤ 52 }
+        ensures few { length result.now ≤ DECK }
     {
         self.cards.as_slice()
     }
@@ -156,8 +157,8 @@ impl CardPlay {
 
     /// How many of the whole tricks the side won.
     pub fn tricks_won(&self, side: Side) -> u8
-        ensures won { result ≡ tricks_won self.now.contract self.now.cards side (length self.now.cards / 4) }
-        ensures most { result ≤ length self.now.cards / 4 }
+        ensures won { result ≡ tricks_won self.now.contract self.now.cards side (whole_tricks self.now.cards) }
+        ensures most { result ≤ whole_tricks self.now.cards }
     {
         match side {
             Side::NorthSouth => self.won,
@@ -167,13 +168,13 @@ impl CardPlay {
 
     /// The cards that each seat held when so many tricks were whole, by the seat's number.
     pub fn left_after(&self, tricks: usize) -> [CardSet; 4]
-        requires { tricks ≤ length self.now.cards / 4 }
+        requires { tricks ≤ whole_tricks self.now.cards }
         ensures four { length result ≡ 4 }
         ensures left { (seat : Seat) (card : ℕ) → has_card (hand_at result seat) card ≡ holds self.now.hands (take (4 * tricks) self.now.cards) seat card }
         ensures deal { IsDeal self.now.hands }
     {
         let (played, _) = self.cards().split_at(4 * tricks);
-        let mut left = dealt(&self.deal);
+        let mut left = self.deal.hands();
         for card in played {
             left = without(&left, *card);
         }
@@ -182,7 +183,7 @@ impl CardPlay {
 
     /// Adds a card, which no hand has then.
     pub fn push(&mut self, card: Card)
-        requires { length self.old.cards < 52 }
+        requires { length self.old.cards < DECK }
         ensures { self.new ≡ with_next self.old card }
     {
         self.left = without(&self.left, card);
@@ -192,20 +193,6 @@ impl CardPlay {
         self.won = next_won(&self.contract, cards, leader, self.won);
         self.leader = leader;
     }
-}
-
-/// The hands as they were dealt, by the seat's number.
-fn dealt(deal: &Deal) -> [CardSet; 4]
-    ensures four { length result ≡ 4 }
-    ensures hands { (seat : Seat) → hand_at result seat ≡ hand_at deal.now seat }
-    ensures deal { IsDeal deal.now }
-{
-    [
-        deal.hand(Seat::North),
-        deal.hand(Seat::East),
-        deal.hand(Seat::South),
-        deal.hand(Seat::West),
-    ]
 }
 
 /// The hands without the card.

@@ -1,3 +1,4 @@
+//! Claims, and who answers them (Law 68).
 ghost use Rattle.std.specs.Prelude.{◌≡◌};
 ghost use Rattle.bridge_play.specs.Claims.{is_asked, has_agreed, needs_no_answer, all_agreed, agrees_if_asked, only_asked_agree, consent_to, with_agreed};
 ghost use Rattle.std.specs.Option.{option_map};
@@ -7,7 +8,7 @@ use bridge_auction::Contract;
 use bridge_cards::Seat;
 
 /// A claim of some of the tricks left (Law 68): it stands until it is refused, and the play is over when it is agreed.
-#[derive(Clone, Copy, Debug, PartialEq, Eq)]
+#[derive(Clone, Copy, Debug, PartialEq, Eq, Hash)]
 pub struct Claim {
     /// Who claims.
     pub claimer: Seat,

@@ -1,8 +1,9 @@
-ghost use Rattle.std.specs.Prelude.{◌≡◌, ◌≢◌, ℕ, ◌+◌, ◌*◌, ◌/◌, ◌<◌, ◌≤◌, ◌++◌, ◌∷◌, [], ◌↔◌, length, take, IsOk, OnOk, OnErr, IfSome, None, All, IsSome};
+//! The play of one board.
+ghost use Rattle.std.specs.Prelude.{◌≡◌, ◌≢◌, ℕ, ◌+◌, ◌*◌, ◌<◌, ◌≤◌, ◌++◌, ◌∷◌, [], ◌↔◌, length, take, IsOk, OnOk, OnErr, IfSome, None, All, IsSome};
 ghost use Rattle.std.specs.Bool.{OnFalse};
 ghost use Rattle.bridge_play.specs.Play.{with_card, is_over, is_agreed, card_answer, MayBePlayed, claim_answer, MayBeClaimed, with_claim, consent_answer, MayAnswer, with_agreement, without_claim, tricks_of, settled_tricks, IsClaimIn, IsPlay, playing, with_claims, is_claim_in};
 ghost use Rattle.bridge_play.specs.Dummy.{actor_of, dummy_of};
-ghost use Rattle.bridge_play.specs.Trick.{turn_of, leader_of, tricks_won};
+ghost use Rattle.bridge_play.specs.Trick.{turn_of, whole_tricks, leader_of, tricks_won};
 ghost use Rattle.bridge_play.specs.Legal.{IsLegal, holds};
 ghost use Rattle.bridge_cards.specs.CardSet.{has_card, card_count};
 ghost use Rattle.bridge_cards.specs.Deal.{hand_at, NoneTwice};
@@ -92,9 +93,7 @@ impl Play {
         if claims > MOST_CLAIMS {
             return None;
         }
-        let Some(card_play) = CardPlay::from_cards(deal, contract, cards) else {
-            return None;
-        };
+        let card_play = CardPlay::from_cards(deal, contract, cards)?;
         if let Some(made) = &claim {
             if !is_claim_in(&card_play, claims, *made) {
                 return None;
@@ -116,7 +115,7 @@ impl Play {
 
     /// The seat that leads to a trick, the tricks counted from 0, of the whole tricks and the next.
     pub fn leader(&self, trick: usize) -> Seat
-        requires { trick ≤ length self.now.cards / 4 }
+        requires { trick ≤ whole_tricks self.now.cards }
         ensures { result ≡ leader_of self.now.contract self.now.cards trick }
     {
         leader(self.card_play.contract(), self.card_play.cards(), trick)
@@ -124,8 +123,8 @@ impl Play {
 
     /// How many of the whole tricks the side won, without those of a claim.
     pub fn tricks_won(&self, side: Side) -> u8
-        ensures won { result ≡ tricks_won self.now.contract self.now.cards side (length self.now.cards / 4) }
-        ensures most { result ≤ length self.now.cards / 4 }
+        ensures won { result ≡ tricks_won self.now.contract self.now.cards side (whole_tricks self.now.cards) }
+        ensures most { result ≤ whole_tricks self.now.cards }
     {
         self.card_play.tricks_won(side)
     }
@@ -141,7 +140,7 @@ impl Play {
     pub fn cards(&self) -> &[Card]
         ensures cards { result.now ≡ self.now.cards }
         ensures legal { IsLegal self.now.hands self.now.contract result.now }
-        ensures few { length result.now ≤ 52 }
+        ensures few { length result.now ≤ DECK }
     {
         self.card_play.cards()
     }
@@ -158,7 +157,7 @@ impl Play {
     /// Whether all tricks were played or a claim is agreed. Before that there are fewer than 52 cards.
     pub fn is_over(&self) -> bool
         ensures over { result ≡ is_over self.now }
-        ensures room { OnFalse result (length self.now.cards < 52) }
+        ensures room { OnFalse result (length self.now.cards < DECK) }
     {
         let played = self.card_play.cards().len();
         played == DECK || self.is_agreed()
@@ -176,7 +175,7 @@ impl Play {
     /// The answer to a card by a player.
     fn card_answer(&self, seat: Seat, card: Card) -> Result<(), CardRefused>
         ensures answer { result ≡ card_answer self.now seat card }
-        ensures room { OnOk result (length self.now.cards < 52) }
+        ensures room { OnOk result (length self.now.cards < DECK) }
     {
         let hand = self.turn();
         if self.is_over() {
@@ -213,7 +212,7 @@ impl Play {
     /// How many claims were made, 0 to 99.
     pub fn claims(&self) -> u8
         ensures claims { result ≡ self.now.claims }
-        ensures most { result ≤ 99 }
+        ensures most { result ≤ MOST_CLAIMS }
     {
         self.claims
     }
@@ -230,7 +229,7 @@ impl Play {
     /// The answer to a claim of that many of the tricks left by a player.
     fn claim_answer(&self, seat: Seat, tricks: u8) -> Result<(), ClaimRefused>
         ensures answer { result ≡ claim_answer self.now seat tricks }
-        ensures room { OnOk result (self.now.claims < 99) }
+        ensures room { OnOk result (self.now.claims < MOST_CLAIMS) }
     {
         let tricks_played = self.card_play.cards().len() / 4;
         if self.is_over() {
@@ -316,7 +315,7 @@ impl Play {
     /// claimed go to the other side (Law 68). Those of both sides are the whole tricks, and 13 when the play is over.
     pub fn tricks(&self, side: Side) -> u8
         ensures tricks { result ≡ tricks_of self.now side }
-        ensures most { result ≤ 13 }
+        ensures most { result ≤ TRICKS }
         ensures both { tricks_of self.now Side.NorthSouth + tricks_of self.now Side.EastWest ≡ settled_tricks self.now }
     {
         let won = self.card_play.tricks_won(side);
@@ -344,10 +343,10 @@ impl Play {
     /// The four hands, North's first and then clockwise, as they were when so many tricks were whole. Each has as many
     /// cards, 13 without those tricks, and no card is in two of them.
     pub fn hands_after(&self, tricks: usize) -> [CardSet; 4]
-        requires { tricks ≤ length self.now.cards / 4 }
+        requires { tricks ≤ whole_tricks self.now.cards }
         ensures four { length result ≡ 4 }
         ensures cards { (seat : Seat) (card : ℕ) → has_card (hand_at result seat) card ≡ holds self.now.hands (take (4 * tricks) self.now.cards) seat card }
-        ensures equal { All (λ hand. card_count hand + tricks ≡ 13) result }
+        ensures equal { All (λ hand. card_count hand + tricks ≡ TRICKS) result }
         ensures once { NoneTwice result }
     {
         self.card_play.left_after(tricks)

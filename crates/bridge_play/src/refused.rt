@@ -1,7 +1,8 @@
+//! Why a card, a claim or an answer to a claim is refused.
 use thiserror::Error;
 
 /// Why a card is refused. A refused card changes nothing.
-#[derive(Clone, Copy, Debug, PartialEq, Eq, Error)]
+#[derive(Clone, Copy, Debug, PartialEq, Eq, Hash, Error)]
 pub enum CardRefused {
     /// The play is over.
     #[error("Over")]
@@ -21,7 +22,7 @@ pub enum CardRefused {
 }
 
 /// Why a claim is refused. A refused claim changes nothing.
-#[derive(Clone, Copy, Debug, PartialEq, Eq, Error)]
+#[derive(Clone, Copy, Debug, PartialEq, Eq, Hash, Error)]
 pub enum ClaimRefused {
     /// The play is over.
     #[error("Over")]
@@ -44,7 +45,7 @@ pub enum ClaimRefused {
 }
 
 /// Why a player's answer to a claim is refused. A refused answer changes nothing.
-#[derive(Clone, Copy, Debug, PartialEq, Eq, Error)]
+#[derive(Clone, Copy, Debug, PartialEq, Eq, Hash, Error)]
 pub enum ConsentRefused {
     /// The number is not the number of claims made.
     #[error("Stale")]

@@ -1,6 +1,6 @@
 //! Who leads to each trick, and how many were won.
 ghost use Rattle.std.specs.Prelude.{◌≡◌, ◌-◌, ◌/◌, ◌<◌, ◌≤◌, length};
-ghost use Rattle.bridge_play.specs.Trick.{leader_of, tricks_won};
+ghost use Rattle.bridge_play.specs.Trick.{whole_tricks, leader_of, tricks_won};
 
 use bridge_auction::Contract;
 use bridge_cards::trick::winning_index;
@@ -9,7 +9,7 @@ use bridge_cards::{Card, Seat, Side};
 /// Who leads to a trick, the tricks counted from 0: declarer's left-hand opponent to the first, and the winner of each
 /// trick to the next (Law 44).
 pub(crate) fn leader(contract: &Contract, cards: &[Card], trick: usize) -> Seat
-    requires { trick ≤ length cards.now / 4 }
+    requires { trick ≤ whole_tricks cards.now }
     ensures { result ≡ leader_of contract.now cards.now trick }
 {
     let mut leader = contract.declarer.clockwise(1);
@@ -26,7 +26,7 @@ pub(crate) fn leader(contract: &Contract, cards: &[Card], trick: usize) -> Seat
 pub fn next_leader(contract: &Contract, cards: &[Card], leader: Seat) -> Seat
     requires some { 0 < length cards.now }
     requires led { leader ≡ leader_of contract.now cards.now ((length cards.now - 1) / 4) }
-    ensures { result ≡ leader_of contract.now cards.now (length cards.now / 4) }
+    ensures { result ≡ leader_of contract.now cards.now (whole_tricks cards.now) }
 {
     if cards.len() % 4 != 0 {
         return leader;
@@ -40,9 +40,9 @@ pub fn next_leader(contract: &Contract, cards: &[Card], leader: Seat) -> Seat
 pub fn next_won(contract: &Contract, cards: &[Card], leader: Seat, won: u8) -> u8
     requires some { 0 < length cards.now }
     requires few { length cards.now ≤ 52 }
-    requires led { leader ≡ leader_of contract.now cards.now (length cards.now / 4) }
+    requires led { leader ≡ leader_of contract.now cards.now (whole_tricks cards.now) }
     requires won { won ≡ tricks_won contract.now cards.now Side.NorthSouth ((length cards.now - 1) / 4) }
-    ensures { result ≡ tricks_won contract.now cards.now Side.NorthSouth (length cards.now / 4) }
+    ensures { result ≡ tricks_won contract.now cards.now Side.NorthSouth (whole_tricks cards.now) }
 {
     if cards.len() % 4 == 0 && leader.side() == Side::NorthSouth {
         won + 1

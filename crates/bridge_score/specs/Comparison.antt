@@ -3,6 +3,7 @@ use Rattle.std.specs.Prelude.{ℕ, if◌then◌else◌, List, length, fold, sum_
 use Rattle.std.specs.List.{range_with_len}
 use Rattle.bridge_score.specs.ImpScale.{imps_of}
 
+-- the score at that place in the list
 abbrev pub score_at : List ℤ → ℕ → ℤ
 score_at scores index = slice_index_or scores index (pos 0)
 
@@ -10,6 +11,7 @@ score_at scores index = slice_index_or scores index (pos 0)
 abbrev pub int_sum_by : {X : Type 0} → (X → ℤ) → List X → ℤ
 int_sum_by f xs = fold (λ total x. total +ℤ f x) (pos 0) xs
 
+-- the sum of signed numbers
 abbrev pub int_sum : List ℤ → ℤ
 int_sum xs = int_sum_by (λ x. x) xs
 
@@ -21,7 +23,7 @@ indexes scores = range_with_len 0 (length scores)
 abbrev pub matchpoints_against : ℤ → ℤ → ℕ
 matchpoints_against own other = if int_lt other own then 20 else (if int_lt own other then 0 else 10)
 
--- against each of the other scores
+-- the matchpoints of the score at that place: those against each of the other scores
 abbrev pub matchpoints_of : List ℤ → ℕ → ℕ
 matchpoints_of scores index = sum_by (matchpoints_against (score_at scores index)) (remove scores index)
 
@@ -30,6 +32,6 @@ abbrev pub imps_against : ℤ → ℤ → ℤ
 imps_against own other =
     let imps = imps_of (unsigned_abs (own -ℤ other)) in if int_lt own other then neg_ℤ (pos imps) else pos imps
 
--- against each of the other scores
+-- the cross-IMPs of the score at that place: those against each of the other scores
 abbrev pub cross_imps_of : List ℤ → ℕ → ℤ
 cross_imps_of scores index = int_sum_by (imps_against (score_at scores index)) (remove scores index)

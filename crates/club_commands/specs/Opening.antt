@@ -3,7 +3,7 @@ use Rattle.std.specs.Prelude.{◌≡◌, ◌⊎◌, ◌≤◌, ◌<◌, ◌++◌
 use Rattle.std.specs.Io.KnownBytes.{IsAtEnd}
 use Rattle.line_text.specs.Streams.{Stream, Gives}
 use Rattle.bridge_config.specs.ConfigValue.{ConfigValue}
-use Rattle.bridge_config.specs.Reading.{Reads}
+use Rattle.bridge_config.specs.Reading.{ReadsConfiguration}
 use Rattle.bridge_config.specs.Spelling.{Spells}
 use Rattle.session_rules.specs.State.{SessionValue, opening}
 use Rattle.session_store.specs.declared.fault.StoreFault.TheVariants.{NoMemory}
@@ -38,7 +38,7 @@ pub record Begins (text : List ℕ) (session : SessionValue) : Type 0 where
 -- why there is no session: the text's first fault, or, where it spells a configuration, memory refused
 abbrev pub IsNoSession : List ℕ → RunFault → Type 0
 IsNoSession text (StreamFault fault) = ⊥
-IsNoSession text (Config fault) = Reads text (Err fault)
+IsNoSession text (Config fault) = ReadsConfiguration text (Err fault)
 IsNoSession text (Store fault) = (fault ≡ NoMemory) × ((configuration : ConfigValue) × Spells text configuration)
 
 -- the reader gave the whole text of a configuration, and the session is its opening

@@ -7,6 +7,7 @@ pub record Stream : Type 0 where
   pub old : Option (List ℕ)
   pub new : Option (List ℕ)
 
+-- the stream of those bytes before and after
 abbrev pub between : Option (List ℕ) → Option (List ℕ) → Stream
 between old new = record { old = old; new = new }
 

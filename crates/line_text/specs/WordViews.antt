@@ -2,6 +2,7 @@
 use Rattle.line_text.specs.declared.words.Five.{Five as FiveWords}
 use Rattle.line_text.specs.Words.{Five}
 
+-- the words that five references give
 abbrev pub view_of_five : FiveWords → Five
 view_of_five words = record {
   first = words.first.now;

@@ -26,6 +26,7 @@ abbrev pub word_after : List ℕ → List (List ℕ) → Option (List ℕ)
 word_after keyword [] = None
 word_after keyword (first ∷ words) = if bytes_eq first keyword then only_word words else None
 
+-- five words, in order
 pub record Five : Type 0 where
   pub first : List ℕ
   pub second : List ℕ

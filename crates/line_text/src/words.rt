@@ -13,10 +13,15 @@ use arrayvec::ArrayString;
 /// Five words of a line.
 #[derive(Clone, Copy)]
 pub struct Five<'a> {
+    /// The first word.
     pub first: &'a [u8],
+    /// The second word.
     pub second: &'a [u8],
+    /// The third word.
     pub third: &'a [u8],
+    /// The fourth word.
     pub fourth: &'a [u8],
+    /// The fifth word.
     pub fifth: &'a [u8],
 }
 

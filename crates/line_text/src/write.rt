@@ -1,3 +1,4 @@
+//! Texts written whole.
 ghost use Rattle.line_text.specs.Streams.{stream, Written};
 
 use std::io::{Error, ErrorKind, Write};
@@ -12,11 +13,11 @@ pub fn write_text<W: Write>(writer: &mut W, text: &[u8]) -> Result<(), Error>
     let mut written = 0;
     while written < text.len() {
         let (_, rest) = text.split_at(written);
-        match writer.write(rest) {
-            Err(error) => return Err(error),
-            Ok(0) => return Err(Error::from(ErrorKind::WriteZero)),
-            Ok(taken) => written += taken,
+        let taken = writer.write(rest)?;
+        if taken == 0 {
+            return Err(Error::from(ErrorKind::WriteZero));
         }
+        written += taken;
     }
     writer.flush()
 }

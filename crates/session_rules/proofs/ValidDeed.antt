@@ -15,7 +15,8 @@ use Rattle.bridge_auction.specs.declared.refused.CallRefused.{CallRefused}
 use Rattle.bridge_auction.specs.declared.refused.CallRefused.TheVariants as call_refused
 use Rattle.bridge_auction.specs.Call.{IsCall}
 use Rattle.bridge_auction.specs.Contract.{contract_of}
-use Rattle.bridge_auction.specs.Legal.{is_ended, is_admissible, open_answer, answer_to, MayFollow, IsLegal}
+use Rattle.bridge_auction.specs.Legal.{is_ended, is_admissible, MayFollow, IsLegal}
+use Rattle.bridge_auction.specs.Answer.{open_answer, answer_to}
 use Rattle.bridge_play.specs.declared.claim.Claim.{Claim}
 use Rattle.bridge_play.specs.declared.refused.CardRefused.TheVariants as card_refused
 use Rattle.bridge_play.specs.declared.refused.ClaimRefused.TheVariants as claim_refused

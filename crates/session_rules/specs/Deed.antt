@@ -7,7 +7,8 @@ use Rattle.bridge_auction.specs.declared.refused.CallRefused.{CallRefused}
 use Rattle.bridge_auction.specs.declared.refused.CallRefused.TheVariants as call_refused
 use Rattle.bridge_auction.specs.declared.call.Call.{Call}
 use Rattle.bridge_auction.specs.Auction.{AuctionValue}
-use Rattle.bridge_auction.specs.Legal.{is_ended, answer_to}
+use Rattle.bridge_auction.specs.Legal.{is_ended}
+use Rattle.bridge_auction.specs.Answer.{answer_to}
 use Rattle.bridge_play.specs.declared.refused.CardRefused.{CardRefused}
 use Rattle.bridge_play.specs.declared.refused.CardRefused.TheVariants as card_refused
 use Rattle.bridge_play.specs.declared.refused.ClaimRefused.{ClaimRefused}

@@ -5,7 +5,8 @@ use Rattle.bridge_cards.specs.declared.seat.Seat.{Seat}
 use Rattle.bridge_auction.specs.declared.call.Call.{Call}
 use Rattle.bridge_auction.specs.declared.contract.Contract.{Contract}
 use Rattle.bridge_auction.specs.declared.refused.CallRefused.{CallRefused}
-use Rattle.bridge_auction.specs.Legal.{is_ended, answer_to}
+use Rattle.bridge_auction.specs.Legal.{is_ended}
+use Rattle.bridge_auction.specs.Answer.{answer_to}
 use Rattle.bridge_auction.specs.Contract.{contract_of}
 use Rattle.bridge_auction.specs.Refused.{refusal_number, refusal_name}
 use Rattle.line_text.specs.Refusal.{refusal_line}

@@ -5,7 +5,7 @@ ghost use Rattle.table_server.specs.Asked.{AsksForDeal, AsksFor, Asks};
 use crate::command::Command;
 use crate::line_command::read_line_command;
 use Asked::{Change, Told};
-use bridge_cards::{BoardNumber, CardSet, Deal, Seat, deal_board};
+use bridge_cards::{BoardNumber, deal_board};
 use bridge_config::Key;
 use bridge_session::{Action, Field, PlayId};
 use line_text::{LINE_BYTES, without_return};
@@ -39,23 +39,11 @@ pub enum Asked {
     LongLine,
 }
 
-/// The hands of a deal, North's first and then clockwise.
-fn hands_of(deal: &Deal) -> [CardSet; 4]
-    ensures { result ≡ deal.now }
-{
-    [
-        deal.hand(Seat::North),
-        deal.hand(Seat::East),
-        deal.hand(Seat::South),
-        deal.hand(Seat::West),
-    ]
-}
-
 /// Asks for the deal of a board by the shuffle of a seed.
 fn shuffled(key: Key, board: BoardNumber, seed: &[u8; 32]) -> Asked
     ensures { AsksForDeal key board seed.now result }
 {
-    let hands = hands_of(&deal_board(seed, board));
+    let hands = deal_board(seed, board).hands();
     Change(Action::Deal { key, board, hands })
 }
 

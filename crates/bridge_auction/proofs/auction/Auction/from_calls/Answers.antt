@@ -1,5 +1,5 @@
-use Rattle.std.proofs.Common.{◌≡◌, ◌∷◌, ◌++◌, [], List, Result, Ok, Err, IsOk, OnOk, take, ◌+◌, add-one, true, false, refl, sym, ap, subst, ◌∙◌}
-use Rattle.std.specs.Result.{is_err}
+use Rattle.std.proofs.Common.{◌≡◌, ◌∷◌, ◌++◌, [], List, Option, Some, None, IsSome, Result, Ok, Err, IsOk, OnOk, take, ◌+◌, add-one, true, false, refl, sym, ap, subst, ◌∙◌}
+use Rattle.std.specs.Prelude.{is_some, is_ok}
 use Rattle.std.proofs.Math.Seq.{take-suc}
 use Rattle.std.proofs.lemmas.List.{take_all}
 use Rattle.bridge_cards.proofs.FollowLaws.{each_may_follow-next}
@@ -8,24 +8,24 @@ use Rattle.bridge_auction.specs.Auction.{AuctionValue, bidding, with_call}
 use Rattle.bridge_auction.specs.Legal.{IsLegal, MayFollow}
 use Rattle.bridge_auction.proofs.auction.Auction.from_calls.Goals as goal
 
--- what is Ok is no Err
-not_ok : {T E : Type 0} (r : Result T E) → is_err r ≡ true → IsOk r → ⊥
-not_ok (Ok v) err ok = cc
-not_ok (Err e) err ok = cc
+-- what holds of an Ok holds where there is one
+ok_gives : {T E : Type 0} (r : Result T E) (P : Type 0) → OnOk r P → IsOk r → P
+ok_gives (Ok v) P gives ok = gives
+ok_gives (Err e) P gives ok = cc
 
--- what is no Err is Ok, and what holds of an Ok holds then
-is_ok_not_err : {T E : Type 0} (r : Result T E) → is_err r ≡ false → IsOk r
-is_ok_not_err (Ok v) not_err = refl
-is_ok_not_err (Err e) not_err = cc
+-- what is no Ok is not Ok, and None is not Some
+not_ok : {T E : Type 0} (r : Result T E) → is_ok r ≡ false → IsOk r → ⊥
+not_ok (Ok v) not ok = cc
+not_ok (Err e) not ok = cc
 
-ok_gives : {T E : Type 0} (r : Result T E) (P : Type 0) → OnOk r P → is_err r ≡ false → P
-ok_gives (Ok v) P gives not_err = gives
-ok_gives (Err e) P gives not_err = cc
+not_some : {T : Type 0} (o : Option T) → o ≡ None → IsSome o → ⊥
+not_some (Some v) none some = cc
+not_some None none some = cc
 
 pub loop-call-preserved : goal.loop-call-preserved
 loop-call-preserved c =
-    let not_err = sym c.is_err.ensures.value ∙ c.if-is_err.false in
-    let taken = ok_gives c.try_call.result (c.try_call.new.self ≡ with_call c.loop-call.auction c.call-item.result) c.try_call.ensures.taken not_err in
+    let ok : IsOk c.try_call.result = sym c.ok.ensures.variant ∙ ap is_some c.in_ok-ok.was in
+    let taken = ok_gives c.try_call.result (c.try_call.new.self ≡ with_call c.loop-call.auction c.call-item.result) c.try_call.ensures.taken ok in
     let next = take-suc c.args.calls.now c.loop-call.call-index c.call-item.result c.loop-call-test.true in
     let longer : take (c.loop-call.call-index + 1) c.args.calls.now ≡ take c.loop-call.call-index c.args.calls.now ++ c.call-item.result ∷ []
     = ap (λ n. take n c.args.calls.now) (add-one c.loop-call.call-index) ∙ next
@@ -34,17 +34,18 @@ loop-call-preserved c =
       so_far = taken ∙ ap (λ (auction : AuctionValue). with_call auction c.call-item.result) c.loop-call.invariant.so_far
           ∙ ap (bidding c.args.dealer) (sym longer);
       legal = subst (λ (auction : AuctionValue). IsLegal auction.calls) (sym taken)
-          (c.try_call.ensures.legal.0 (is_ok_not_err c.try_call.result not_err));
+          (c.try_call.ensures.legal.0 ok);
     }
 
-pub returns-then-is_err-clause-legal : goal.returns-then-is_err-clause-legal
-returns-then-is_err-clause-legal c = (
-  λ none. cc,
+pub returns-in_err-ok-clause-legal : goal.returns-in_err-ok-clause-legal
+returns-in_err-ok-clause-legal c = (
+  λ some. absurd (not_some c.from_residual.result c.from_residual.ensures some),
   λ legal.
       let longer = each_may_follow-next MayFollow c.args.calls.now c.loop-call.call-index c.call-item.result legal c.loop-call-test.true c.call-item.is in
       let so_far = ap (λ (auction : AuctionValue). auction.calls) c.loop-call.invariant.so_far in
       let ok = c.try_call.ensures.legal.1 (subst (λ (calls : List Call). IsLegal (calls ++ c.call-item.result ∷ [])) (sym so_far) longer) in
-      absurd (not_ok c.try_call.result (sym c.is_err.ensures.value ∙ c.if-is_err.true) ok),
+      let none : is_ok c.try_call.result ≡ false = sym c.ok.ensures.variant ∙ ap is_some c.in_err-ok.was in
+      absurd (not_ok c.try_call.result none ok),
 )
 
 pub returns-clause-legal : goal.returns-clause-legal

@@ -6,7 +6,7 @@ use Rattle.bridge_play.specs.Legal.{IsLegal}
 use Rattle.bridge_play.specs.Play.{PlayValue, IsPlay, IsClaimIn, with_claims, playing, is_claim_in}
 use Rattle.bridge_play.proofs.RegularClaim.{regular_claim, claim_regular}
 use Rattle.bridge_play.proofs.play.Play.from_parts.Goals as goal
-use Rattle.bridge_play.proofs.play.Play.from_parts.Goals.{In-Some, in-Some-claim+else-not-is_claim_in, in_default-claim}
+use Rattle.bridge_play.proofs.play.Play.from_parts.Goals.{In-Some, in-Some+else-not-is_claim_in, in_default}
 
 -- the claim of a play, where there is one, holds what a claim must
 claimed_by : (play : PlayValue) (claim : Option Claim) (made : Claim) → claim ≡ Some made → is_claim_in play made ≡ true → IfSome claim (IsClaimIn play)
@@ -33,27 +33,27 @@ returns-then-not-is_claim_in-clause-accepted c = (
   λ some. cc,
   λ is.
       let play = playing c.args.deal.now c.args.contract c.args.cards.now c.args.claims c.args.claim in
-      let cards = c.in-Some.ensures.cards in
-      let regular = claim_of play c.in-Some-claim.made is c.in-Some-claim.is in
+      let cards = c.in_ok-card_play.ensures.cards in
+      let regular = claim_of play c.in-Some.made is c.in-Some.is in
       sym c.if-not-is_claim_in.true ∙ c.is_claim_in.ensures
-      ∙ tested c.in-Some.card_play c.args.claims c.args.claim c.in-Some-claim.made c.in-Some-claim.is
-      ∙ ap (λ (kept : CardPlayValue). is_claim_in (with_claims kept c.args.claims c.args.claim) c.in-Some-claim.made) cards
+      ∙ tested c.in_ok-card_play.card_play c.args.claims c.args.claim c.in-Some.made c.in-Some.is
+      ∙ ap (λ (kept : CardPlayValue). is_claim_in (with_claims kept c.args.claims c.args.claim) c.in-Some.made) cards
       ∙ regular,
 )
 
-is_play : (c : goal.Joined-claim) → IsPlay (with_claims c.in-Some.card_play c.args.claims c.args.claim)
+is_play : (c : goal.Joined-claim) → IsPlay (with_claims c.in_ok-card_play.card_play c.args.claims c.args.claim)
 is_play c =
-    let play = with_claims c.in-Some.card_play c.args.claims c.args.claim in
-    let cards = c.in-Some.ensures.cards in
+    let play = with_claims c.in_ok-card_play.card_play c.args.claims c.args.claim in
+    let cards = c.in_ok-card_play.ensures.cards in
     record {
-      legal = subst (λ (kept : CardPlayValue). IsLegal kept.hands kept.contract kept.cards) (sym cards) (c.in-Some.ensures.legal.0 refl);
+      legal = subst (λ (kept : CardPlayValue). IsLegal kept.hands kept.contract kept.cards) (sym cards) (c.in_ok-card_play.ensures.legal.0 refl);
       few = c.if-claims-gt-MOST_CLAIMS.false;
       claimed = elim c.match-claim.branch [
-        | in-Some-claim+else-not-is_claim_in w ↦
-            let test = sym (tested c.in-Some.card_play c.args.claims c.args.claim w.in-Some-claim.made w.in-Some-claim.is)
+        | in-Some+else-not-is_claim_in w ↦
+            let test = sym (tested c.in_ok-card_play.card_play c.args.claims c.args.claim w.in-Some.made w.in-Some.is)
             ∙ sym w.is_claim_in.ensures ∙ w.if-not-is_claim_in.false in
-            claimed_by play c.args.claim w.in-Some-claim.made w.in-Some-claim.is test
-        | in_default-claim w ↦ unclaimed play c.args.claim w.in_default-claim.is
+            claimed_by play c.args.claim w.in-Some.made w.in-Some.is test
+        | in_default w ↦ unclaimed play c.args.claim w.in_default.is
       ];
     }
 
@@ -63,6 +63,6 @@ invariant_of-result c = is_play c
 pub returns-clause-accepted : goal.returns-clause-accepted
 returns-clause-accepted c = (
   λ some.
-      subst IsPlay (ap (λ (cards : CardPlayValue). with_claims cards c.args.claims c.args.claim) c.in-Some.ensures.cards) (is_play c),
+      subst IsPlay (ap (λ (cards : CardPlayValue). with_claims cards c.args.claims c.args.claim) c.in_ok-card_play.ensures.cards) (is_play c),
   λ is. refl,
 )
