@@ -32,12 +32,12 @@ is_too_small {D = D} result d left fault is small =
 -- why a disk gives no session
 pub refuses_disk : {D : Type 0} (disk : Disk D) (d left : D) (fault : StoreFault) → (disk.count d < 2048 → fault ≡ TooSmall)
     → (2048 ≤ disk.count d → IsCause (disk.honest d) (disk.faults d) (disk.faults left) (reading session_keeping (disk.reads d)) fault)
-    → (disk.honest d → fault ≡ NoMemory → HasNext (disk.reads d)) → RefusesDisk disk d fault
+    → (2048 ≤ disk.count d → disk.honest d → fault ≡ NoMemory → HasNext (disk.reads d)) → RefusesDisk disk d fault
 refuses_disk disk d left fault small cause memory = at (cases_lt (disk.count d) 2048)
   where
     at : (disk.count d < 2048) ⊎ (2048 ≤ disk.count d) → RefusesDisk disk d fault
     at (inl few) = inl (few, small few)
-    at (inr many) = inr (many, (left, cause many), λ is honest. memory honest is)
+    at (inr many) = inr (many, (left, cause many), λ is honest. memory many honest is)
 
 -- why a file gives no session
 pub no_session : {F E : Type 0} (remaining : F → Option (List ℕ)) (found : Result F E) (result : Result SessionValue RunFault)

@@ -11,28 +11,11 @@ use session_store::{Store, StoreFault};
 use std::io::{Read, Write};
 use table_server::{ServeFault, serve};
 
-/// Whether the store has failed, which leaves it as it is. Nothing may be pending in it, unless it has.
-pub fn has_failed<D: SectorDisk + Drop>(store: &mut Store<D, Session>) -> bool
-    requires { store.old.failed ≡ false → store.old.pending ≡ [] }
-    ensures failed { result ≡ store.old.failed }
-    ensures same { store.new ≡ store.old }
-{
-    match store.confirm() {
-        Ok(()) => false,
-        Err(_) => true,
-    }
-}
-
 /// The fault of a run in which the store failed, or else this one.
-pub fn fault_over<D: SectorDisk + Drop>(
-    store: &mut Store<D, Session>,
-    fault: ServeFault,
-) -> RunFault
-    requires { store.old.failed ≡ false → store.old.pending ≡ [] }
-    ensures fault { result ≡ fault_over store.old.failed fault }
-    ensures same { store.new ≡ store.old }
+pub fn fault_over<D: SectorDisk + Drop>(store: &Store<D, Session>, fault: ServeFault) -> RunFault
+    ensures { result ≡ fault_over store.now.failed fault }
 {
-    if has_failed(store) {
+    if store.has_failed() {
         RunFault::Store(StoreFault::Disk)
     } else {
         RunFault::Stream(fault)

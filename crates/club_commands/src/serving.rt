@@ -5,7 +5,6 @@ ghost use Rattle.table_server.specs.Faulted.{FailsWithDisk};
 ghost use Rattle.club_commands.specs.Connections.{ServesNext, ServesAllConnections, StopsConnections};
 
 use crate::fault::RunFault;
-use crate::script::has_failed;
 use bridge_endings::Cache;
 use bridge_session::Session;
 use sector_disk::SectorDisk;
@@ -51,7 +50,7 @@ pub fn serve_connections<N: Net, D: SectorDisk + Drop>(
 {
     let mut left = count;
     loop {
-        if has_failed(store) {
+        if store.has_failed() {
             return Err(RunFault::Store(StoreFault::Disk));
         }
         if left == 0 {

@@ -1,5 +1,6 @@
 -- What a disk in a file means.
-use Rattle.sector_disk.specs.Disk.{Disk}
+use Rattle.std.specs.Prelude.{◌≡◌, ◌<◌, ℕ, replicate}
+use Rattle.sector_disk.specs.Disk.{Disk, Image, IsSame}
 use Rattle.sector_disk.specs.Blocks.{Blocks}
 use Rattle.sector_disk.specs.SystemFile.{system_blocks}
 use Rattle.sector_disk.specs.declared.file.FileDisk.{FileDisk}
@@ -27,3 +28,10 @@ disk_in blocks = record {
 -- a disk in a file of the system
 abbrev pub file_disk : {F : Type 0} → Disk (FileDisk (SystemFile F))
 file_disk = disk_in system_blocks
+
+-- a disk that was made anew: 2,048 sectors of zeros, which a power cut leaves as they are, and no fault so far
+pub record IsNew {D : Type 0} (disk : Disk D) (d : D) : Type 0 where
+  pub count : disk.count d ≡ 2048
+  pub faults : disk.faults d ≡ 0
+  pub zeros : disk.honest d → (k : ℕ) → k < 2048 → disk.reads d k ≡ replicate 512 0
+  pub synced : disk.honest d → (c : Image) → disk.may_leave d c → IsSame c (disk.reads d)

@@ -1,6 +1,5 @@
 //! A disk in a file.
 ghost use Rattle.std.specs.Prelude.{◌≡◌, ◌+◌, ◌*◌, ◌/◌, ◌-◌, ◌<◌, ◌≤◌, ◌^◌, ℕ, min, max, replicate, OnOk, IfOk, IfErr};
-ghost use Rattle.sector_disk.specs.Disk.{Image, IsSame};
 
 #[cfg(test)]
 mod tests;
@@ -27,7 +26,7 @@ pub struct FileDisk<F> {
 
 impl<F: OpenFile + FileExt + Drop> FileDisk<SystemFile<F>> {
     ghost use Rattle.sector_disk.specs.SystemFile.{system_blocks};
-    ghost use Rattle.sector_disk.specs.File.{file_disk, file_of};
+    ghost use Rattle.sector_disk.specs.File.{file_disk, file_of, IsNew};
 
     /// Makes a file of 1,048,576 zero bytes, which is 2,048 sectors, in place of what was there, and syncs it.
     /// No fault is counted yet. `Write` where the system refuses any of it; the file may then be of any length.
@@ -35,12 +34,7 @@ impl<F: OpenFile + FileExt + Drop> FileDisk<SystemFile<F>> {
         rt: &R,
         path: &str,
     ) -> Result<FileDisk<SystemFile<F>>, DiskFault>
-        ensures count { IfOk result (λ disk. file_disk.count disk ≡ 2048) }
-        ensures faults { IfOk result (λ disk. file_disk.faults disk ≡ 0) }
-        ensures zeros { IfOk result (λ disk. file_disk.honest disk
-            → (k : ℕ) → k < 2048 → file_disk.reads disk k ≡ replicate 512 0) }
-        ensures synced { IfOk result (λ disk. file_disk.honest disk
-            → (c : Image) → file_disk.may_leave disk c → IsSame c (file_disk.reads disk)) }
+        ensures made { IfOk result (IsNew file_disk) }
         ensures length { IfOk result (λ disk. file_disk.honest disk
             → 1048576 ≤ system_blocks.length (file_of disk)) }
         ensures fault { IfErr result (λ fault. fault ≡ DiskFault.Write) }
@@ -74,16 +68,11 @@ impl<F: OpenFile + FileExt + Drop> FileDisk<SystemFile<F>> {
 }
 
 impl<F: BlockFile + Drop> FileDisk<F> {
-    ghost use Rattle.sector_disk.specs.File.{disk_in, file_of};
+    ghost use Rattle.sector_disk.specs.File.{disk_in, file_of, IsNew};
 
     /// The disk in a file, of which it fills the first 1,048,576 bytes with zeros and syncs them.
     pub fn filled(file: F) -> Result<FileDisk<F>, DiskFault>
-        ensures count { IfOk result (λ disk. (disk_in F.blocks).count disk ≡ 2048) }
-        ensures faults { IfOk result (λ disk. (disk_in F.blocks).faults disk ≡ 0) }
-        ensures zeros { IfOk result (λ disk. (disk_in F.blocks).honest disk
-            → (k : ℕ) → k < 2048 → (disk_in F.blocks).reads disk k ≡ replicate 512 0) }
-        ensures synced { IfOk result (λ disk. (disk_in F.blocks).honest disk
-            → (c : Image) → (disk_in F.blocks).may_leave disk c → IsSame c ((disk_in F.blocks).reads disk)) }
+        ensures made { IfOk result (IsNew (disk_in F.blocks)) }
         ensures length { IfOk result (λ disk. (disk_in F.blocks).honest disk
             → F.blocks.length (file_of disk) ≡ max (F.blocks.length file) 1048576) }
         ensures fault { IfErr result (λ fault. fault ≡ DiskFault.Write) }

@@ -1,17 +1,21 @@
 -- What opening does to a disk.
-use Rattle.std.proofs.Common.{◌≡◌, ◌<◌, ◌≤◌, ◌+◌, ◌-◌, ◌^◌, ℕ, zero, suc, List, [], take, Some, Ok, false, refl, sym, ap, subst, ◌∙◌, arith}
+use Rattle.std.proofs.Common.{◌≡◌, ◌≢◌, ◌<◌, ◌≤◌, ◌+◌, ◌-◌, ◌^◌, ℕ, zero, suc, List, [], take, Some, Ok, Err, false, inl, refl, sym, ap, subst, ◌∙◌, arith}
 use Rattle.sector_disk.specs.Disk.{Image, Disk}
 use Rattle.sector_disk.specs.Runs.{EveryMoment, Quiet, Remains}
-use Rattle.sector_disk.proofs.RunLaws.{now_has, weakens, joins}
+use Rattle.sector_disk.proofs.RunLaws.{now_has, weakens, joins, remains_joins}
 use Rattle.session_store.specs.declared.disk_format.DiskFormat.TheVariants.{Two}
 use Rattle.session_store.specs.Keeping.{Keeping, IsLawful, fold}
 use Rattle.session_store.specs.Stands.{recovered}
 use Rattle.session_store.specs.Base.{HasEpoch, HasFormat, IsSettled, StandsForPrefix}
-use Rattle.session_store.specs.Snapshot.{IsSnapshotting, WithSnapshot}
+use Rattle.session_store.specs.Snapshot.{IsSnapshotting, WithSnapshot, WritesSnapshot}
 use Rattle.session_store.specs.Sound.{IsSoundDisk, StandsOnlyFor}
 use Rattle.session_store.specs.Value.{StoreValue, IsStore}
 use Rattle.session_store.specs.Store.{IsSoundStore}
-use Rattle.session_store.specs.Opening.{IsStillSound}
+use Rattle.sector_disk.specs.declared.disk.DiskFault.{DiskFault}
+use Rattle.session_store.specs.declared.fault.StoreFault.{StoreFault}
+use Rattle.session_store.specs.declared.fault.StoreFault.TheVariants.{Disk as DiskFailed}
+use Rattle.session_store.specs.Opening.{IsStillSound, IsOnly, IsRead, IsUnread, Begins, first_of, Opens, Refuses}
+use Rattle.session_store.proofs.OpeningLemmas.{cause-stands, disk-not_memory}
 use Rattle.session_store.proofs.StandsLemmas.{fold-nil}
 use Rattle.session_store.proofs.SnapshotLemmas.{stands-settled, settled-nothing_later, has_epoch-none_later, with_snapshot-format}
 use Rattle.session_store.proofs.StoreLemmas.{some_is, sound-stands}
@@ -137,12 +141,83 @@ module _ {D S A R : Type 0} (kept : Keeping S A R) (disk : Disk D) where
         epoch = omega (arith, room);
       })
 
-  -- the new store as it is seen
-  pub opened-view : (new : D) (base s : S) (pending : List A) (epoch : ℕ) → base ≡ s → pending ≡ []
-      → IsSoundStore kept disk (record { disk = new; base = s; pending = []; state = s; epoch = epoch + 1; records = 0; failed = false })
-      → IsSoundStore kept disk (record { disk = new; base = base; pending = pending; state = s; epoch = epoch + 1; records = 0; failed = false })
-  opened-view new base s pending epoch same none sound =
-      let view : (record { disk = new; base = s; pending = []; state = s; epoch = epoch + 1; records = 0; failed = false })
-      ≡ (record { disk = new; base = base; pending = pending; state = s; epoch = epoch + 1; records = 0; failed = false })
-      = λ i. record { disk = new; base = sym same i; pending = sym none i; state = s; epoch = epoch + 1; records = 0; failed = false } in
-      subst (IsSoundStore kept disk) view sound
+  -- a store that begins is the first of its epoch
+  pub first-is : (new : D) (base s : S) (pending : List A) (epoch : ℕ) → base ≡ s → pending ≡ []
+      → (record { disk = new; base = base; pending = pending; state = s; epoch = epoch; records = 0; failed = false }) ≡ first_of kept disk new s epoch
+  first-is new base s pending epoch same none =
+      λ i. record { disk = new; base = same i; pending = none i; state = s; epoch = epoch; records = 0; failed = false }
+
+  -- what was read at rest, and a store that begins in the next epoch: the disk was opened
+  pub opens-from : IsLawful kept → (old mid : D) (epoch : ℕ) (base s : S) (v : StoreValue D S A) → Quiet disk old mid
+      → IsRead kept disk old mid epoch base s → (disk.honest old → IsOnly (disk.may_leave mid) (disk.reads old))
+      → Begins kept disk mid (epoch + 1) s v → Opens kept disk old v
+  opens-from lawful old mid epoch base s v quiet read settled begins =
+      let new = v.disk in
+      let written = begins.snapshot in
+      let remain = remains_joins disk old mid new quiet.remains written.remains in
+      subst (Opens kept disk old) (sym begins.is) (record {
+        opened = record {
+          remains = remain;
+          state = read.state_of;
+          none_pending = refl;
+          accepted = fold-nil kept s;
+          any_moment = λ sound.
+              snapshot-still old mid epoch s sound (settled sound.honest) (read.stands sound.honest) (read.has_epoch sound.honest)
+              lawful read.more written.is_state quiet new written.any_moment;
+          sound = λ sound.
+              opened-sound old mid epoch s sound (settled sound.honest) (read.stands sound.honest) (read.has_epoch sound.honest)
+              lawful read.more written.is_state quiet new (remain.stays_honest sound.honest) written.written;
+        };
+        works = refl;
+        no_records = refl;
+        no_fault = written.no_fault ∙ read.no_fault;
+        next_epoch = λ honest. (epoch, read.has_epoch honest, refl);
+        format = λ honest.
+            opened-format lawful old mid new epoch s read.more written.is_state (read.has_epoch honest) (settled honest)
+            (written.written (quiet.remains.stays_honest honest));
+        stands = λ sound.
+            opened-stands old mid epoch s sound (settled sound.honest) (read.stands sound.honest) (read.has_epoch sound.honest)
+            lawful read.more written.is_state quiet new (remain.stays_honest sound.honest) written.written;
+      })
+
+  -- the next epoch's snapshot was not written: the disk was not opened
+  pub refuses-unwritten : IsLawful kept → (old mid new : D) (epoch : ℕ) (base s : S) (fault : DiskFault) → Quiet disk old mid
+      → IsRead kept disk old mid epoch base s → (disk.honest old → IsOnly (disk.may_leave mid) (disk.reads old))
+      → WritesSnapshot kept disk mid new (epoch + 1) s (Err fault) → Refuses kept disk old new DiskFailed
+  refuses-unwritten lawful old mid new epoch base s fault quiet read settled written =
+      let remain = remains_joins disk old mid new quiet.remains written.remains in record {
+        not_opened = record {
+          remains = remain;
+          any_moment = λ sound.
+              snapshot-still old mid epoch s sound (settled sound.honest) (read.stands sound.honest) (read.has_epoch sound.honest)
+              lawful read.more written.is_state quiet new written.any_moment;
+          stays_sound = λ sound.
+              still-sound old new sound remain
+              (snapshot-still old mid epoch s sound (settled sound.honest) (read.stands sound.honest) (read.has_epoch sound.honest)
+              lawful read.more written.is_state quiet new written.any_moment);
+        };
+        unread = record {
+          cause = inl (refl, omega (arith, read.no_fault, written.fault));
+          memory = λ same honest. disk-not_memory same;
+        };
+        only_read = λ other. absurd (other refl);
+        at_rest = λ other. absurd (other refl);
+        opens = λ sound. inl refl;
+      }
+
+  -- nor was one whose state was not read
+  pub refuses-unread : (old mid : D) (fault : StoreFault) → Quiet disk old mid → IsUnread kept disk old mid fault
+      → (disk.honest old → fault ≢ DiskFailed → IsOnly (disk.may_leave mid) (disk.reads old)) → Refuses kept disk old mid fault
+  refuses-unread old mid fault quiet unread at_rest = record {
+    not_opened = record {
+      remains = quiet.remains;
+      any_moment = λ sound. quiet-still old mid sound quiet;
+      stays_sound = λ sound. still-sound old mid sound quiet.remains (quiet-still old mid sound quiet);
+    };
+    unread = unread;
+    only_read = λ other. quiet.only_read;
+    at_rest = λ other honest. at_rest honest other;
+    opens = λ sound.
+        let stands = sound.stands (disk.reads old) (disk.reads_left old sound.honest) in
+        cause-stands kept (disk.reads old) stands.0 (disk.honest old) _ _ fault sound.honest stands.1 unread.cause;
+  }

@@ -27,6 +27,13 @@ too_small-not_memory same = cc
 pub disk-not_memory : {P : Type 0} → DiskFailed ≡ NoMemory → P
 disk-not_memory same = cc
 
+-- nor is what was found on it
+pub not_memory : {P : Type 0} → NotFormatted ≡ NoMemory → P
+not_memory same = cc
+
+pub spent_not_memory : {P : Type 0} → EpochsSpent ≡ NoMemory → P
+spent_not_memory same = cc
+
 -- what is found is neither a fault of the disk nor of its size
 module _ {X : Type 0} (honest : Type 0) (before now : ℕ) (found : Result X StoreFault) (no_fault : now ≡ before) where
   pub found-not_formatted : (honest → found ≡ Err NotFormatted) → IsCause honest before now found NotFormatted

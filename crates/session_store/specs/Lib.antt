@@ -11,3 +11,5 @@ pub mod Store
 pub mod Answers
 pub mod Opening
 pub mod Run
+pub mod ReadFaults
+pub mod Formatted

@@ -1,6 +1,7 @@
 -- What the writing of a snapshot, of the second format, does to an image.
-use Rattle.std.specs.Prelude.{◌≡◌, ◌⊎◌, ◌<◌, ◌≤◌, ◌+◌, ℕ, List, [], length, slice_index_or, Some}
-use Rattle.sector_disk.specs.Disk.{Image, with_sector}
+use Rattle.std.specs.Prelude.{◌≡◌, ◌⊎◌, ◌<◌, ◌≤◌, ◌+◌, ℕ, List, [], length, slice_index_or, Some, Result, OnOk, OnErr}
+use Rattle.sector_disk.specs.Disk.{Image, with_sector, Disk, Rose}
+use Rattle.sector_disk.specs.Runs.{EveryMoment, Remains}
 use Rattle.session_store.specs.Keeping.{Keeping}
 use Rattle.session_store.specs.declared.disk_format.DiskFormat.TheVariants.{Two}
 use Rattle.session_store.specs.declared.reading.Header.{Header}
@@ -44,3 +45,15 @@ module _ {S A R : Type 0} (kept : Keeping S A R) where
   -- what the writing of a snapshot may leave at any moment
   abbrev pub IsSnapshotting : (Image → Type 0) → ℕ → S → Image → Type 0
   IsSnapshotting images epoch state c = ButForParts images epoch c ⊎ WithSnapshot images epoch state c
+
+-- The writing of a snapshot of this state for this epoch: Ok where it stands on the disk, an error where a call of the disk
+-- failed.
+pub record WritesSnapshot {D S A R E : Type 0} (kept : Keeping S A R) (disk : Disk D) (old new : D) (epoch : ℕ) (state : S)
+    (result : Result (Unit {0}) E) : Type 0 where
+  pub remains : Remains disk old new
+  pub fault : OnErr result (Rose (disk.faults old) (disk.faults new))
+  pub no_fault : OnOk result (disk.faults new ≡ disk.faults old)
+  pub any_moment : disk.honest old → EveryMoment disk old new (IsSnapshotting kept (disk.may_leave old) epoch state)
+  pub written : disk.honest old → OnOk result ((c : Image) → disk.may_leave new c
+      → WithSnapshot kept (disk.may_leave old) epoch state c)
+  pub is_state : kept.IsState state

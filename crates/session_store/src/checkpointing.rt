@@ -1,9 +1,7 @@
 //! Making checkpoints.
 ghost use Rattle.std.specs.Prelude.{◌≡◌, ◌<◌, ◌≤◌, ◌+◌, ◌-◌, ◌^◌, [], false, MatchResult, OnOk};
-ghost use Rattle.sector_disk.specs.Disk.{Image, Rose};
-ghost use Rattle.sector_disk.specs.Runs.{EveryMoment, Remains};
 ghost use Rattle.session_store.specs.Answers.{Checkpoints, after_fault, after_snapshot};
-ghost use Rattle.session_store.specs.Snapshot.{IsSnapshotting, WithSnapshot};
+ghost use Rattle.session_store.specs.Snapshot.{WritesSnapshot};
 ghost use Rattle.session_store.specs.Sound.{StandsOnlyFor};
 ghost use Rattle.session_store.specs.Store.{Continues, IsSoundStore};
 
@@ -18,14 +16,7 @@ impl<D: SectorDisk + Drop, K: Kept> Store<D, K> {
         requires { self.old.epoch < 2 ^ 64 - 1 }
         ensures answer { MatchResult result (λ _. self.new ≡ after_snapshot self.old self.new.disk)
             (λ _. self.new ≡ after_fault self.old self.new.disk) }
-        ensures fault { MatchResult result (λ _. D.disk.faults self.new.disk ≡ D.disk.faults self.old.disk)
-            (λ _. Rose (D.disk.faults self.old.disk) (D.disk.faults self.new.disk)) }
-        ensures remains { Remains D.disk self.old.disk self.new.disk }
-        ensures any_moment { D.disk.honest self.old.disk → EveryMoment D.disk self.old.disk self.new.disk
-            (IsSnapshotting K.kept (D.disk.may_leave self.old.disk) (self.old.epoch + 1) self.old.state) }
-        ensures written { D.disk.honest self.old.disk → OnOk result ((c : Image) → D.disk.may_leave self.new.disk c
-            → WithSnapshot K.kept (D.disk.may_leave self.old.disk) (self.old.epoch + 1) self.old.state c) }
-        ensures state { K.kept.IsState self.old.state }
+        ensures written { WritesSnapshot K.kept D.disk self.old.disk self.new.disk (self.old.epoch + 1) self.old.state result }
     {
         match write_snapshot(&mut self.disk, self.epoch + 1, &self.state) {
             Ok(()) => {

@@ -1,4 +1,6 @@
 //! Why a call of a store fails.
+use crate::room::NoRoom;
+use sector_disk::DiskFault;
 use std::fmt::{Debug, Display};
 use thiserror::Error;
 
@@ -23,6 +25,60 @@ pub enum StoreFault {
     /// Out of memory.
     #[error("no memory")]
     NoMemory,
+}
+
+/// Why the state of a disk was not read.
+#[derive(Clone, Copy)]
+pub(crate) enum ReadFault {
+    /// A call of the disk failed.
+    Disk,
+    /// Neither snapshot has a header.
+    NotFormatted,
+    /// The epoch is 2^64 - 1, and there is none after it.
+    EpochsSpent,
+    /// The sector of this number is out of form, or what it holds is not of a state.
+    Damaged(u32),
+    /// Memory was refused.
+    NoMemory(NoRoom),
+}
+
+impl From<DiskFault> for ReadFault {
+    ghost use Rattle.std.specs.Prelude.{◌≡◌};
+    ghost use Rattle.session_store.specs.declared.fault.ReadFault.TheVariants.{Disk as DiskFailed};
+
+    ghost from_gives = { λ _ fault. fault ≡ DiskFailed };
+
+    fn from(_: DiskFault) -> ReadFault {
+        ReadFault::Disk
+    }
+}
+
+impl From<NoRoom> for ReadFault {
+    ghost use Rattle.std.specs.Prelude.{◌≡◌};
+    ghost use Rattle.session_store.specs.declared.fault.ReadFault.TheVariants.{NoMemory as NoRoomLeft};
+
+    ghost from_gives = { λ room fault. fault ≡ NoRoomLeft room };
+
+    fn from(room: NoRoom) -> ReadFault {
+        ReadFault::NoMemory(room)
+    }
+}
+
+impl From<ReadFault> for StoreFault {
+    ghost use Rattle.std.specs.Prelude.{◌≡◌};
+    ghost use Rattle.session_store.specs.ReadFaults.{store_fault};
+
+    ghost from_gives = { λ fault told. told ≡ store_fault fault };
+
+    fn from(fault: ReadFault) -> StoreFault {
+        match fault {
+            ReadFault::Disk => StoreFault::Disk,
+            ReadFault::NotFormatted => StoreFault::NotFormatted,
+            ReadFault::EpochsSpent => StoreFault::EpochsSpent,
+            ReadFault::Damaged(sector) => StoreFault::Damaged(sector),
+            ReadFault::NoMemory(_) => StoreFault::NoMemory,
+        }
+    }
 }
 
 /// Why no state was made of parts.

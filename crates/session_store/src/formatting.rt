@@ -1,11 +1,9 @@
 //! Formatting a disk.
-ghost use Rattle.std.specs.Prelude.{◌≡◌, ◌<◌, ◌≤◌, Err, IfOk, IfErr, MatchResult, OnOk, OnErr, ℕ, replicate};
+ghost use Rattle.std.specs.Prelude.{◌≡◌, ◌<◌, ◌≤◌, Err, IfOk, IfErr, OnOk, OnErr, ℕ, replicate};
 ghost use Rattle.sector_disk.specs.Disk.{Image, Rose};
 ghost use Rattle.sector_disk.specs.Runs.{EveryMoment, Remains};
-ghost use Rattle.session_store.specs.declared.disk_format.DiskFormat.TheVariants.{Two};
-ghost use Rattle.session_store.specs.Base.{HasEpoch, HasFormat};
+ghost use Rattle.session_store.specs.Formatted.{IsFormatted, IsUnformatted};
 ghost use Rattle.session_store.specs.Snapshot.{SameBehind};
-ghost use Rattle.session_store.specs.Sound.{IsSoundDisk, StandsOnlyFor};
 
 use crate::snapshot::write_snapshot;
 use crate::{Kept, StoreFault};
@@ -35,38 +33,21 @@ fn clear<D: SectorDisk>(disk: &mut D) -> Result<(), DiskFault>
 /// Clears the disk, and writes a snapshot of the state for epoch 1.
 fn write_first<D: SectorDisk, K: Kept>(disk: &mut D, state: &K) -> Result<(), DiskFault>
     requires { 2048 ≤ D.disk.count disk.old }
-    ensures remains { Remains D.disk disk.old disk.new }
-    ensures fault { OnErr result (Rose (D.disk.faults disk.old) (D.disk.faults disk.new)) }
-    ensures no_fault { OnOk result (D.disk.faults disk.new ≡ D.disk.faults disk.old) }
-    ensures epoch { D.disk.honest disk.old → OnOk result ((c : Image) → D.disk.may_leave disk.new c → HasEpoch 1 c) }
-    ensures format { D.disk.honest disk.old → OnOk result ((c : Image) → D.disk.may_leave disk.new c → HasFormat Two c) }
-    ensures stands { D.disk.honest disk.old → OnOk result (StandsOnlyFor K.kept D.disk state.now disk.new) }
-    ensures sound { D.disk.honest disk.old → OnOk result (IsSoundDisk K.kept D.disk disk.new) }
-    ensures behind { D.disk.honest disk.old
-        → EveryMoment D.disk disk.old disk.new (SameBehind (D.disk.may_leave disk.old)) }
+    ensures formatted { OnOk result (IsFormatted K.kept D.disk state.now disk.old disk.new) }
+    ensures fault { OnErr result (IsUnformatted D.disk disk.old disk.new) }
 {
     clear(disk)?;
     write_snapshot(disk, 1, state)?;
     Ok(())
 }
 
-/// Makes of the disk one of the second format that holds this state, in epoch 1, and hands it back, at an error too. `TooSmall` where it
-/// has fewer than 2,048 sectors, and then nothing was called; `Disk` where a call of the disk failed. After `Disk`,
-/// and after a power cut inside the call, the disk is to be formatted again. Sectors from 2,048 on are left alone.
+/// Makes of the disk one of the second format that holds this state, in epoch 1, and hands it back, at an error too.
+/// `TooSmall` where it has fewer than 2,048 sectors, and then nothing was called; `Disk` where a call of the disk failed.
+/// After `Disk`, and after a power cut inside the call, the disk is to be formatted again. Sectors from 2,048 on are left alone.
 pub fn format<D: SectorDisk, K: Kept>(mut disk: D, state: &K) -> Result<D, (D, StoreFault)>
     ensures too_small { D.disk.count disk < 2048 → result ≡ Err (disk, StoreFault.TooSmall) }
-    ensures fault { 2048 ≤ D.disk.count disk → IfErr result (λ e.
-        (e.1 ≡ StoreFault.Disk) × Rose (D.disk.faults disk) (D.disk.faults e.0)) }
-    ensures remains { MatchResult result (Remains D.disk disk) (λ e. Remains D.disk disk e.0) }
-    ensures no_fault { IfOk result (λ new. D.disk.faults new ≡ D.disk.faults disk) }
-    ensures epoch { D.disk.honest disk → IfOk result (λ new. (c : Image) → D.disk.may_leave new c → HasEpoch 1 c) }
-    ensures format { D.disk.honest disk → IfOk result (λ new. (c : Image) → D.disk.may_leave new c → HasFormat Two c) }
-    ensures stands { D.disk.honest disk → IfOk result (StandsOnlyFor K.kept D.disk state.now) }
-    ensures sound { D.disk.honest disk → IfOk result (IsSoundDisk K.kept D.disk) }
-    ensures large { IfOk result (λ new. 2048 ≤ D.disk.count new) }
-    ensures behind { D.disk.honest disk → MatchResult result
-        (λ new. EveryMoment D.disk disk new (SameBehind (D.disk.may_leave disk)))
-        (λ e. EveryMoment D.disk disk e.0 (SameBehind (D.disk.may_leave disk))) }
+    ensures formatted { IfOk result (IsFormatted K.kept D.disk state.now disk) }
+    ensures fault { 2048 ≤ D.disk.count disk → IfErr result (λ e. (e.1 ≡ StoreFault.Disk) × IsUnformatted D.disk disk e.0) }
 {
     if disk.count() < SECTORS {
         return Err((disk, StoreFault::TooSmall));

@@ -23,6 +23,7 @@ mod parts;
 mod reading;
 mod recovering;
 mod replaying;
+mod room;
 mod sectors;
 mod snapshot;
 mod store;

@@ -1,17 +1,18 @@
 //! Reading the parts of a snapshot.
-ghost use Rattle.std.specs.Prelude.{◌≡◌, ◌⊎◌, ◌<◌, ◌≤◌, ◌+◌, Err, IfErr, IfOk, None, Ok, OnErr, OnOk, Some, map};
+ghost use Rattle.std.specs.Prelude.{◌≡◌, ◌⊎◌, ◌<◌, ◌≤◌, ◌+◌, [], Err, IfErr, IfOk, None, Ok, OnErr, OnOk, Some, map, vec_capacity};
 ghost use Rattle.sector_disk.specs.Disk.{Rose};
 ghost use Rattle.sector_disk.specs.Runs.{Quiet};
 ghost use Rattle.session_store.specs.Form.{part_mark, payload_in, place};
 ghost use Rattle.session_store.specs.Opening.{IsCause};
+ghost use Rattle.session_store.specs.ReadFaults.{store_fault};
 ghost use Rattle.session_store.specs.Stands.{parts_from};
 
+use crate::fault::ReadFault;
 use crate::reading::{Header, read_payload};
 use crate::snapshot::place_of;
-use crate::{DiskFormat, PAYLOAD_BYTES, StoreFault};
+use crate::{DiskFormat, PAYLOAD_BYTES};
 use arrayvec::ArrayVec;
 use sector_disk::{SECTOR_BYTES, SectorDisk};
-use std::alloc::Global;
 
 /// Reads part `i` of this epoch's snapshot, in a format.
 fn read_part<D: SectorDisk>(
@@ -19,7 +20,7 @@ fn read_part<D: SectorDisk>(
     format: DiskFormat,
     epoch: u64,
     i: u32,
-) -> Result<ArrayVec<u8, PAYLOAD_BYTES>, StoreFault>
+) -> Result<ArrayVec<u8, PAYLOAD_BYTES>, ReadFault>
     requires sectors { 2048 ≤ D.disk.count disk.old }
     requires few { i < 494 }
     ensures quiet { Quiet D.disk disk.old disk.new }
@@ -27,53 +28,44 @@ fn read_part<D: SectorDisk>(
     ensures part { D.disk.honest disk.old → IfOk result (λ part.
         payload_in (part_mark format) epoch i (D.disk.reads disk.old (place epoch + 1 + i)) ≡ Some part.items) }
     ensures fault { IfErr result (λ fault.
-        ((fault ≡ StoreFault.Disk) × Rose (D.disk.faults disk.old) (D.disk.faults disk.new))
-        ⊎ ((fault ≡ StoreFault.Damaged (place epoch + 1 + i)) × (D.disk.faults disk.new ≡ D.disk.faults disk.old)
+        ((fault ≡ ReadFault.Disk) × Rose (D.disk.faults disk.old) (D.disk.faults disk.new))
+        ⊎ ((fault ≡ ReadFault.Damaged (place epoch + 1 + i)) × (D.disk.faults disk.new ≡ D.disk.faults disk.old)
         × (D.disk.honest disk.old → payload_in (part_mark format) epoch i (D.disk.reads disk.old (place epoch + 1 + i)) ≡ None))) }
 {
     let at = place_of(epoch) + 1 + i;
     let mut bytes = [0; SECTOR_BYTES];
-    match disk.read(at, &mut bytes) {
-        Err(_) => Err(StoreFault::Disk),
-        Ok(()) => match read_payload(&format.part_mark(), epoch, i, &bytes) {
-            None => Err(StoreFault::Damaged(at)),
-            Some(payload) => {
-                let mut part = ArrayVec::new();
-                let _ = part.try_extend_from_slice(payload);
-                Ok(part)
-            }
-        },
+    disk.read(at, &mut bytes)?;
+    match read_payload(&format.part_mark(), epoch, i, &bytes) {
+        None => Err(ReadFault::Damaged(at)),
+        Some(payload) => {
+            let mut part = ArrayVec::new();
+            let _ = part.try_extend_from_slice(payload);
+            Ok(part)
+        }
     }
 }
 
-/// Reads the parts that this header tells of.
+/// Reads the parts that this header tells of, into a list that has room for them.
 pub(crate) fn read_parts<D: SectorDisk>(
-    alloc: Global,
     disk: &mut D,
     header: Header,
-) -> Result<Vec<ArrayVec<u8, PAYLOAD_BYTES>>, StoreFault>
+    room: Vec<ArrayVec<u8, PAYLOAD_BYTES>>,
+) -> Result<Vec<ArrayVec<u8, PAYLOAD_BYTES>>, ReadFault>
     requires sectors { 2048 ≤ D.disk.count disk.old }
     requires few { header.parts ≤ 494 }
+    requires empty { room.items ≡ [] }
+    requires room { header.parts ≤ vec_capacity room }
     ensures quiet { Quiet D.disk disk.old disk.new }
     ensures no_fault { OnOk result (D.disk.faults disk.new ≡ D.disk.faults disk.old) }
     ensures parts { D.disk.honest disk.old → IfOk result (λ parts.
         parts_from header.format (D.disk.reads disk.old) header.epoch 0 header.parts ≡ Ok (map (λ part. part.items) parts.items)) }
-    ensures fault { IfErr result (IsCause (D.disk.honest disk.old) (D.disk.faults disk.old) (D.disk.faults disk.new)
-        (parts_from header.format (D.disk.reads disk.old) header.epoch 0 header.parts)) }
+    ensures fault { IfErr result (λ fault. IsCause (D.disk.honest disk.old) (D.disk.faults disk.old) (D.disk.faults disk.new)
+        (parts_from header.format (D.disk.reads disk.old) header.epoch 0 header.parts) (store_fault fault)) }
 {
-    match Vec::with_capacity(alloc, header.parts as usize) {
-        Err(_) => Err(StoreFault::NoMemory),
-        Ok(mut parts) => {
-            for i in 0..header.parts {
-                match read_part(disk, header.format, header.epoch, i) {
-                    Err(fault) => return Err(fault),
-                    Ok(part) => match parts.push(part) {
-                        Ok(()) => {}
-                        Err(_) => return Err(StoreFault::NoMemory),
-                    },
-                }
-            }
-            Ok(parts)
-        }
+    let mut parts = room;
+    for i in 0..header.parts {
+        let part = read_part(disk, header.format, header.epoch, i)?;
+        parts.push_reserved(part);
     }
+    Ok(parts)
 }

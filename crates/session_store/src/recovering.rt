@@ -1,115 +1,105 @@
 //! Reading the state that a disk stands for.
-ghost use Rattle.std.specs.Prelude.{◌≡◌, ◌<◌, ◌≤◌, ◌-◌, ◌^◌, IfErr, IfOk, IsErrOf, None, Ok, OnOk, Some, map};
+ghost use Rattle.std.specs.Prelude.{◌≡◌, ◌<◌, ◌≤◌, ◌+◌, ◌-◌, ◌^◌, Err, IfErr, IfOk, Ok, OnOk};
 ghost use Rattle.sector_disk.specs.Runs.{Quiet};
-ghost use Rattle.session_store.specs.Base.{HasEpoch};
-ghost use Rattle.session_store.specs.Opening.{HasNext, IsCause, reading};
-ghost use Rattle.session_store.specs.Stands.{after_parts, parts_from, recovered};
+ghost use Rattle.session_store.specs.Opening.{Begins, IsCause, IsRead, IsUnread};
+ghost use Rattle.session_store.specs.ReadFaults.{store_fault};
+ghost use Rattle.session_store.specs.Snapshot.{WritesSnapshot};
+ghost use Rattle.session_store.specs.Stands.{after_parts, parts_from};
 
+use crate::fault::ReadFault;
 use crate::headers::find_header;
 use crate::parts::read_parts;
 use crate::reading::Header;
 use crate::replaying::replay_records;
-use crate::snapshot::place_of;
-use crate::{DiskFormat, Kept, PAYLOAD_BYTES, PartsFault, StoreFault};
+use crate::room::{make_states, room_for_parts};
+use crate::snapshot::{place_of, write_snapshot};
+use crate::{Kept, Store};
 use arrayvec::ArrayVec;
-use sector_disk::SectorDisk;
+use sector_disk::{DiskFault, SectorDisk};
 use std::alloc::Global;
 
 /// What was read of a disk: its epoch, and its state twice.
 #[derive(Drop)]
 pub(crate) struct Recovered<K: Kept> {
-    pub(crate) epoch: u64,
-    pub(crate) base: K,
-    pub(crate) state: K,
+    epoch: u64,
+    base: K,
+    state: K,
 }
 
-/// Two states of the same parts of a format.
-fn make_states<K: Kept>(
-    alloc: Global,
-    format: DiskFormat,
-    parts: &[ArrayVec<u8, PAYLOAD_BYTES>],
-) -> Result<(K, K), PartsFault>
-    ensures state { IfOk result (λ both. K.kept.state_of format (map (λ part. part.items) parts.now) ≡ Some both.1) }
-    ensures same { IfOk result (λ both. both.0 ≡ both.1) }
-    ensures bad { IsErrOf result PartsFault.Bad → K.kept.state_of format (map (λ part. part.items) parts.now) ≡ None }
-{
-    match K::from_parts(alloc, format, parts) {
-        Err(fault) => Err(fault),
-        Ok(base) => match K::from_parts(alloc, format, parts) {
-            Err(fault) => Err(fault),
-            Ok(state) => Ok((base, state)),
-        },
-    }
-}
-
-/// Reads the state of this header's parts and of its epoch's records.
+/// Reads the state of this header's parts and of its epoch's records. All memory is taken before the first record is read.
 fn recover_from<D: SectorDisk, K: Kept>(
     alloc: Global,
     disk: &mut D,
     header: Header,
-) -> Result<Recovered<K>, StoreFault>
+) -> Result<Recovered<K>, ReadFault>
     requires sectors { 2048 ≤ D.disk.count disk.old }
     requires few { header.parts ≤ 494 }
     ensures quiet { Quiet D.disk disk.old disk.new }
     ensures no_fault { OnOk result (D.disk.faults disk.new ≡ D.disk.faults disk.old) }
     ensures found { D.disk.honest disk.old → IfOk result (λ found. after_parts K.kept (D.disk.reads disk.old) header
         (parts_from header.format (D.disk.reads disk.old) header.epoch 0 header.parts) ≡ Ok found.state) }
-    ensures epoch { IfOk result (λ found. found.epoch ≡ header.epoch) }
-    ensures same { IfOk result (λ found. found.base ≡ found.state) }
-    ensures fault { IfErr result (IsCause (D.disk.honest disk.old) (D.disk.faults disk.old) (D.disk.faults disk.new)
+    ensures epoch { IfOk result (λ found. (found.epoch ≡ header.epoch) × (found.base ≡ found.state)) }
+    ensures fault { IfErr result (λ fault. IsCause (D.disk.honest disk.old) (D.disk.faults disk.old) (D.disk.faults disk.new)
         (after_parts K.kept (D.disk.reads disk.old) header
-        (parts_from header.format (D.disk.reads disk.old) header.epoch 0 header.parts))) }
+        (parts_from header.format (D.disk.reads disk.old) header.epoch 0 header.parts)) (store_fault fault)) }
 {
-    match read_parts(alloc, disk, header) {
-        Err(fault) => Err(fault),
-        Ok(parts) => match make_states::<K>(alloc, header.format, parts.as_slice()) {
-            Err(PartsFault::Bad) => Err(StoreFault::Damaged(place_of(header.epoch))),
-            Err(PartsFault::Memory) => Err(StoreFault::NoMemory),
-            Ok((mut base, mut state)) => {
-                match replay_records(disk, header.format, header.epoch, &mut base, &mut state) {
-                    Err(fault) => Err(fault),
-                    Ok(()) => Ok(Recovered {
-                        epoch: header.epoch,
-                        base,
-                        state,
-                    }),
-                }
-            }
-        },
-    }
+    let room = room_for_parts(alloc, header.parts)?;
+    let parts = read_parts(disk, header, room)?;
+    let Some((mut base, mut state)) = make_states::<K>(alloc, header.format, parts.as_slice())?
+    else {
+        return Err(ReadFault::Damaged(place_of(header.epoch)));
+    };
+    replay_records(disk, header.format, header.epoch, &mut base, &mut state)?;
+    Ok(Recovered {
+        epoch: header.epoch,
+        base,
+        state,
+    })
 }
 
 /// Reads the state that the disk stands for.
 pub(crate) fn recover<D: SectorDisk, K: Kept>(
     alloc: Global,
     disk: &mut D,
-) -> Result<Recovered<K>, StoreFault>
+) -> Result<Recovered<K>, ReadFault>
     requires { 2048 ≤ D.disk.count disk.old }
     ensures quiet { Quiet D.disk disk.old disk.new }
-    ensures no_fault { OnOk result (D.disk.faults disk.new ≡ D.disk.faults disk.old) }
-    ensures found { D.disk.honest disk.old → IfOk result (λ found.
-        (reading K.kept (D.disk.reads disk.old) ≡ Ok found.state)
-        × (recovered K.kept (D.disk.reads disk.old) ≡ Ok found.state)
-        × HasEpoch found.epoch (D.disk.reads disk.old)) }
-    ensures epoch { IfOk result (λ found. found.epoch < 2 ^ 64 - 1) }
-    ensures same { IfOk result (λ found. found.base ≡ found.state) }
-    ensures fault { IfErr result (IsCause (D.disk.honest disk.old) (D.disk.faults disk.old) (D.disk.faults disk.new)
-        (reading K.kept (D.disk.reads disk.old))) }
-    ensures memory { D.disk.honest disk.old → IsErrOf result StoreFault.NoMemory → HasNext (D.disk.reads disk.old) }
+    ensures read { IfOk result (λ found. IsRead K.kept D.disk disk.old disk.new found.epoch found.base found.state) }
+    ensures unread { IfErr result (λ fault. IsUnread K.kept D.disk disk.old disk.new (store_fault fault)) }
 {
-    match find_header(disk) {
-        Err(_) => Err(StoreFault::Disk),
-        Ok(found) => match found {
-            None => Err(StoreFault::NotFormatted),
-            Some(header) => {
-                if header.epoch == u64::MAX {
-                    return Err(StoreFault::EpochsSpent);
-                }
-                match recover_from::<D, K>(alloc, disk, header) {
-                    Err(fault) => Err(fault),
-                    Ok(state) => Ok(state),
-                }
-            }
-        },
+    let Some(header) = find_header(disk)? else {
+        return Err(ReadFault::NotFormatted);
+    };
+    if header.epoch == u64::MAX {
+        return Err(ReadFault::EpochsSpent);
+    }
+    Ok(recover_from::<D, K>(alloc, disk, header)?)
+}
+
+impl<K: Kept> Recovered<K> {
+    /// Writes the snapshot of the next epoch, and begins a store there. It has no error of memory to give.
+    pub(crate) fn begin<D: SectorDisk + Drop>(
+        self,
+        mut disk: D,
+    ) -> Result<Store<D, K>, (D, DiskFault)>
+        requires sectors { 2048 ≤ D.disk.count disk }
+        requires more { self.epoch < 2 ^ 64 - 1 }
+        requires same { self.base ≡ self.state }
+        ensures begins { IfOk result (Begins K.kept D.disk disk (self.epoch + 1) self.state) }
+        ensures fault { IfErr result (λ e. WritesSnapshot K.kept D.disk disk e.0 (self.epoch + 1) self.state (Err e.1)) }
+    {
+        let Recovered { epoch, base, state } = self;
+        match write_snapshot(&mut disk, epoch + 1, &state) {
+            Err(fault) => Err((disk, fault)),
+            Ok(()) => Ok(Store {
+                disk,
+                base,
+                state,
+                pending: ArrayVec::new(),
+                epoch: epoch + 1,
+                records: 0,
+                failed: false,
+            }),
+        }
     }
 }

@@ -4,12 +4,14 @@ ghost use Rattle.sector_disk.specs.Disk.{Rose};
 ghost use Rattle.sector_disk.specs.Runs.{Quiet};
 ghost use Rattle.session_store.specs.Form.{entry_in};
 ghost use Rattle.session_store.specs.Opening.{IsCause};
+ghost use Rattle.session_store.specs.ReadFaults.{store_fault};
 ghost use Rattle.session_store.specs.Stands.{replay};
 
 use crate::entry::read_entry;
+use crate::fault::ReadFault;
 use crate::reading::Entry;
 use crate::submitting::{JOURNAL, RECORDS};
-use crate::{DiskFormat, Kept, StoreFault};
+use crate::{DiskFormat, Kept};
 use sector_disk::{DiskFault, SECTOR_BYTES, SectorDisk};
 
 /// Reads what its sector of the journal is to the record of this epoch and number, in a format.
@@ -28,10 +30,8 @@ fn read_record<D: SectorDisk, K: Kept>(
         entry ≡ entry_in K.kept format epoch number (D.disk.reads disk.old (1024 + number))) }
 {
     let mut bytes = [0; SECTOR_BYTES];
-    match disk.read(JOURNAL + number, &mut bytes) {
-        Err(fault) => Err(fault),
-        Ok(()) => Ok(read_entry::<K>(format, epoch, number, &bytes)),
-    }
+    disk.read(JOURNAL + number, &mut bytes)?;
+    Ok(read_entry::<K>(format, epoch, number, &bytes))
 }
 
 /// Takes an action on two equal states.
@@ -41,13 +41,9 @@ fn step_both<K: Kept>(base: &mut K, state: &mut K, action: &K::Action) -> Result
         (λ refusal. K.kept.step state.old action.now ≡ Err refusal) }
     ensures same { OnOk result (base.new ≡ state.new) }
 {
-    match base.step(action) {
-        Err(refusal) => Err(refusal),
-        Ok(()) => match state.step(action) {
-            Err(refusal) => Err(refusal),
-            Ok(()) => Ok(()),
-        },
-    }
+    base.step(action)?;
+    state.step(action)?;
+    Ok(())
 }
 
 /// Takes the actions of this epoch's records, in a format, up to the first that is missing, on two equal states.
@@ -57,7 +53,7 @@ pub(crate) fn replay_records<D: SectorDisk, K: Kept>(
     epoch: u64,
     base: &mut K,
     state: &mut K,
-) -> Result<(), StoreFault>
+) -> Result<(), ReadFault>
     requires sectors { 2048 ≤ D.disk.count disk.old }
     requires same { base.old ≡ state.old }
     ensures quiet { Quiet D.disk disk.old disk.new }
@@ -65,19 +61,16 @@ pub(crate) fn replay_records<D: SectorDisk, K: Kept>(
     ensures replayed { D.disk.honest disk.old → OnOk result
         (replay K.kept format 1024 (D.disk.reads disk.old) epoch 0 state.old ≡ Ok state.new) }
     ensures same { OnOk result (base.new ≡ state.new) }
-    ensures fault { IfErr result (IsCause (D.disk.honest disk.old) (D.disk.faults disk.old) (D.disk.faults disk.new)
-        (replay K.kept format 1024 (D.disk.reads disk.old) epoch 0 state.old)) }
+    ensures fault { IfErr result (λ fault. IsCause (D.disk.honest disk.old) (D.disk.faults disk.old) (D.disk.faults disk.new)
+        (replay K.kept format 1024 (D.disk.reads disk.old) epoch 0 state.old) (store_fault fault)) }
 {
     for number in 0..RECORDS {
-        match read_record::<D, K>(disk, format, epoch, number) {
-            Err(_) => return Err(StoreFault::Disk),
-            Ok(entry) => match entry {
-                Entry::Missing => return Ok(()),
-                Entry::Damaged => return Err(StoreFault::Damaged(JOURNAL + number)),
-                Entry::Holds(action) => match step_both(base, state, &action) {
-                    Err(_) => return Err(StoreFault::Damaged(JOURNAL + number)),
-                    Ok(()) => {}
-                },
+        match read_record::<D, K>(disk, format, epoch, number)? {
+            Entry::Missing => return Ok(()),
+            Entry::Damaged => return Err(ReadFault::Damaged(JOURNAL + number)),
+            Entry::Holds(action) => match step_both(base, state, &action) {
+                Err(_) => return Err(ReadFault::Damaged(JOURNAL + number)),
+                Ok(()) => {}
             },
         }
     }

@@ -5,7 +5,7 @@ ghost use Rattle.sector_disk.specs.Calls.{WriteCall};
 ghost use Rattle.sector_disk.specs.Runs.{EveryMoment, Remains};
 ghost use Rattle.session_store.specs.declared.disk_format.DiskFormat.TheVariants.{Two};
 ghost use Rattle.session_store.specs.Form.{sector, part_mark, place};
-ghost use Rattle.session_store.specs.Snapshot.{ButForParts, HasParts, header_sector, IsSnapshotting, WithSnapshot};
+ghost use Rattle.session_store.specs.Snapshot.{ButForParts, HasParts, header_sector, WritesSnapshot};
 
 use crate::sectors::make_sector;
 use crate::{DiskFormat, Kept};
@@ -90,14 +90,7 @@ pub(crate) fn write_snapshot<D: SectorDisk, K: Kept>(
     state: &K,
 ) -> Result<(), DiskFault>
     requires { 2048 ≤ D.disk.count disk.old }
-    ensures remains { Remains D.disk disk.old disk.new }
-    ensures fault { OnErr result (Rose (D.disk.faults disk.old) (D.disk.faults disk.new)) }
-    ensures no_fault { OnOk result (D.disk.faults disk.new ≡ D.disk.faults disk.old) }
-    ensures any_moment { D.disk.honest disk.old
-        → EveryMoment D.disk disk.old disk.new (IsSnapshotting K.kept (D.disk.may_leave disk.old) epoch state.now) }
-    ensures written { D.disk.honest disk.old → OnOk result ((c : Image)
-        → D.disk.may_leave disk.new c → WithSnapshot K.kept (D.disk.may_leave disk.old) epoch state.now c) }
-    ensures state { K.kept.IsState state.now }
+    ensures { WritesSnapshot K.kept D.disk disk.old disk.new epoch state.now result }
 {
     write_parts(disk, epoch, state)?;
     disk.sync()?;

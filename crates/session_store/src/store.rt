@@ -79,6 +79,13 @@ impl<D: SectorDisk + Drop, K: Kept> Store<D, K> {
         self.epoch
     }
 
+    /// Whether a call of the disk has failed; `submit`, `confirm` and `checkpoint` then answer `Failed`.
+    pub fn has_failed(&self) -> bool
+        ensures { result ≡ self.now.failed }
+    {
+        self.failed
+    }
+
     /// Gives the disk back. What is pending is not confirmed.
     pub fn into_disk(self) -> D
         ensures disk { result ≡ self.disk }

@@ -1,8 +1,12 @@
 //! A counter kept on a disk in memory: power cuts, faults, and disks that a test wrote.
+mod checkpoints;
 mod counter;
 mod disks;
+mod epochs;
 mod faults;
 mod formats;
+mod formatting;
+mod memory;
 mod rows;
 
 use arrayvec::ArrayVec;

@@ -1,6 +1,8 @@
 //! Disks that a test wrote, and what opening them answers.
-use super::{Content, expect_eq, opened, opened_behind, opened_until, put, put_snapshot};
-use sector_disk::{DiskFault, Fail, Fuse, MemoryDisk};
+use super::{
+    Content, expect_eq, opened, opened_behind, opened_until, put, put_snapshot, sector_of,
+};
+use sector_disk::{DiskFault, Fail, Fuse, MemoryDisk, SectorDisk};
 use session_store::{DiskFormat, StoreFault};
 use std::alloc::Global;
 use std::process::Abort;
@@ -17,7 +19,7 @@ type Row = (
     Result<(u16, u64), StoreFault>,
 );
 
-const ROWS: [Row; 25] = [
+const ROWS: [Row; 30] = [
     ("no records", &[], Ok((65_000, 2))),
     (
         "no record 2",
@@ -93,6 +95,31 @@ const ROWS: [Row; 25] = [
         "another counter's part 3",
         &[(4, 1, true, Content::Part(3, 0))],
         Err(StoreFault::Damaged(0)),
+    ),
+    (
+        "part 3 a byte longer",
+        &[(4, 1, true, Content::Bytes(b'P', 3, b"\xfd\xe8\0"))],
+        Err(StoreFault::Damaged(0)),
+    ),
+    (
+        "part 3 a byte shorter",
+        &[(4, 1, true, Content::Bytes(b'P', 3, b"\xfd"))],
+        Err(StoreFault::Damaged(0)),
+    ),
+    (
+        "the first part a byte longer",
+        &[(1, 1, true, Content::Bytes(b'P', 0, b"\xfd\xe8\0"))],
+        Err(StoreFault::Damaged(0)),
+    ),
+    (
+        "the first part a byte shorter",
+        &[(1, 1, true, Content::Bytes(b'P', 0, b"\xfd"))],
+        Err(StoreFault::Damaged(0)),
+    ),
+    (
+        "a header of a part more",
+        &[(0, 1, true, Content::Header(10))],
+        Err(StoreFault::Damaged(10)),
     ),
     (
         "part 3 of the other format",
@@ -201,6 +228,21 @@ fn expect_answers(
 fn what_opening_answers(rt: HostRuntime) -> Result<(), Failure> {
     for format in [DiskFormat::One, DiskFormat::Two] {
         expect_answers(&rt, rt.alloc(), format, ROWS.as_slice())?;
+    }
+    Ok(())
+}
+
+// A part of 480 bytes is in form, though of no counter; the length of one of 481 is not.
+#[test]
+fn parts_of_the_most_bytes(rt: HostRuntime) -> Result<(), Failure> {
+    for (bytes, at) in [([0xfd; 480].as_slice(), 0), (&[0xfd; 481], 4)] {
+        let mut disk = MemoryDisk::new(rt.alloc(), 2048)?;
+        put_snapshot(&mut disk, DiskFormat::Two, 0, 1, 65_000)?;
+        if 4 < disk.count() {
+            disk.write(4, &sector_of(b"BD2P", 1, 3, bytes))?;
+        }
+        let found = opened(rt.alloc(), disk).1;
+        expect_eq(&rt, found, Err(StoreFault::Damaged(at)), at);
     }
     Ok(())
 }

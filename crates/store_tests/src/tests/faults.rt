@@ -3,9 +3,7 @@ use super::counter::Counter;
 use super::{expect_eq, formatted, open, opened, put_snapshot};
 use arrayvec::ArrayVec;
 use sector_disk::{Fail, Fuse, MemoryDisk, SectorDisk};
-use session_store::{
-    CheckpointFault, ConfirmFault, DiskFormat, Store, StoreFault, SubmitFault, format,
-};
+use session_store::{CheckpointFault, ConfirmFault, DiskFormat, Store, StoreFault, SubmitFault};
 use std::alloc::Global;
 use std::process::Abort;
 use std::test::Fail as Failure;
@@ -54,7 +52,7 @@ fn submit<D: SectorDisk + Drop>(store: &mut Store<D, Counter>, twin: &mut Twin, 
     match store.submit(&n) {
         Ok(()) => {
             twin.accept(n);
-            true
+            !twin.failed
         }
         Err(SubmitFault::Disk) => {
             twin.accept(n);
@@ -76,7 +74,7 @@ fn take_step<D: SectorDisk + Drop>(
         Step::Confirm => match store.confirm() {
             Ok(()) => {
                 twin.confirm();
-                true
+                !twin.failed
             }
             Err(ConfirmFault::Disk) => twin.fault(),
             Err(ConfirmFault::Failed) => twin.failed,
@@ -84,7 +82,7 @@ fn take_step<D: SectorDisk + Drop>(
         Step::Checkpoint => match store.checkpoint() {
             Ok(()) => {
                 twin.confirm();
-                true
+                !twin.failed
             }
             Err(CheckpointFault::Disk) => twin.fault(),
             Err(CheckpointFault::Failed) => twin.failed,
@@ -92,6 +90,7 @@ fn take_step<D: SectorDisk + Drop>(
         },
     };
     expect_eq(rt, is_due, true, step);
+    expect_eq(rt, store.has_failed(), twin.failed, step);
     expect_eq(rt, store.state().total() == twin.total(), true, step);
 }
 
@@ -106,17 +105,11 @@ const STEPS: [Step; 8] = [
     Step::Submit(64),
 ];
 
-/// Opens a disk, which may fail from these causes, and takes the steps.
-fn run(
-    rt: &impl Abort,
-    alloc: Global,
-    disk: Fuse<MemoryDisk>,
-    twin: &mut Twin,
-    causes: &[StoreFault],
-) -> MemoryDisk {
+/// Opens a disk, which fails where a call of it does, and takes the steps.
+fn run(rt: &impl Abort, alloc: Global, disk: Fuse<MemoryDisk>, twin: &mut Twin) -> MemoryDisk {
     match Store::<Fuse<MemoryDisk>, Counter>::open(alloc, disk) {
         Err((disk, fault)) => {
-            let is_due = causes.contains(&fault) && twin.fault();
+            let is_due = fault == StoreFault::Disk && twin.fault();
             expect_eq(rt, is_due, true, fault);
             disk.into_inner()
         }
@@ -177,7 +170,7 @@ fn fail_every_call(
             let row = (fail, effect, passes);
             let (disk, mut twin) = prepared(rt, alloc)?;
             let fuse = Fuse::new(disk, passes, fail, effect);
-            let mut disk = run(rt, alloc, fuse, &mut twin, &[StoreFault::Disk]);
+            let mut disk = run(rt, alloc, fuse, &mut twin);
             expect_eq(rt, twin.failed, passes < 46, row);
             disk.crash(picks);
             expect_prefix(rt, opened(alloc, disk).1, &twin);
@@ -208,84 +201,3 @@ pub const FUSES: [(Fail, bool); 4] = [
     (Fail::Always, false),
     (Fail::Always, true),
 ];
-
-/// After a `format` that failed, another gives the disk of the new state. Each of the 2,048 writes that clear the disk meets
-/// one of the 16 kinds of fault and power cut in turn, each later call all of them.
-fn fail_formatting(rt: &impl Abort, alloc: Global, from: usize, to: usize) -> Result<(), Failure> {
-    let lists = picks();
-    let mut disk = formatted(rt, alloc)?;
-    for turn in from..to {
-        let passes = if turn < 2048 {
-            turn
-        } else {
-            2048 + (turn - 2048) / 16
-        };
-        let (fail, effect) = FUSES[turn / 4 % 4];
-        let fuse = Fuse::new(disk, passes as u64, fail, effect);
-        let (fuse, fault) = match format(fuse, &Counter::new(9)) {
-            Ok(fuse) => (fuse, None),
-            Err((fuse, fault)) => (fuse, Some(fault)),
-        };
-        let failed = passes < 2061;
-        let due = if failed { Some(StoreFault::Disk) } else { None };
-        expect_eq(rt, fault, due, turn);
-        disk = fuse.into_inner();
-        disk.crash(&lists[turn % 4]);
-        if failed {
-            disk = format(disk, &Counter::new(9)).ok().expect(rt, "formatted");
-        }
-        let (left, found) = opened(alloc, disk);
-        expect_eq(rt, found, Ok((0, 2)), turn);
-        disk = left;
-    }
-    Ok(())
-}
-
-#[test]
-fn a_fault_at_each_of_the_first_calls_of_formatting(rt: HostRuntime) -> Result<(), Failure> {
-    fail_formatting(&rt, rt.alloc(), 0, 600)
-}
-
-#[test]
-fn a_fault_at_each_of_the_next_calls_of_formatting(rt: HostRuntime) -> Result<(), Failure> {
-    fail_formatting(&rt, rt.alloc(), 600, 1200)
-}
-
-#[test]
-fn a_fault_at_each_of_the_later_calls_of_formatting(rt: HostRuntime) -> Result<(), Failure> {
-    fail_formatting(&rt, rt.alloc(), 1200, 1800)
-}
-
-#[test]
-fn a_fault_at_each_of_the_last_calls_of_formatting(rt: HostRuntime) -> Result<(), Failure> {
-    fail_formatting(&rt, rt.alloc(), 1800, 2048 + 14 * 16)
-}
-
-// `rt try --test --fail-alloc N` refuses the Nth allocation, and every other run none.
-#[test]
-fn a_store_whose_memory_may_be_refused(rt: HostRuntime) {
-    let Ok(mut disk) = MemoryDisk::new(rt.alloc(), 2048) else {
-        return;
-    };
-    let mut twin = Twin {
-        totals: ArrayVec::new(),
-        confirmed: 0,
-        failed: false,
-    };
-    twin.accept(0);
-    if put_snapshot(&mut disk, DiskFormat::Two, 0, 1, 0).is_err() {
-        return;
-    }
-    let fuse = Fuse::new(disk, u64::MAX, Fail::Once, false);
-    let causes = [StoreFault::Disk, StoreFault::NoMemory];
-    let mut disk = run(&rt, rt.alloc(), fuse, &mut twin, &causes);
-    disk.crash(&[1; 2048]);
-    let (disk, found) = opened(rt.alloc(), disk);
-    match found {
-        Err(fault) => {
-            expect_eq(&rt, causes.contains(&fault), true, fault);
-            expect_prefix(&rt, opened(rt.alloc(), disk).1, &twin);
-        }
-        Ok(_) => expect_prefix(&rt, found, &twin),
-    }
-}

@@ -87,7 +87,7 @@ fn a_power_cut_leaves_a_prefix(rt: HostRuntime) -> Result<(), Failure> {
 }
 
 // Takes 1 in each of 1,024 actions, confirming after each 64, and answers whether every call was Ok.
-fn fill<D: SectorDisk + Drop>(store: &mut Store<D, Counter>) -> bool {
+pub fn fill<D: SectorDisk + Drop>(store: &mut Store<D, Counter>) -> bool {
     for _ in 0..16 {
         for _ in 0..64 {
             if store.submit(&1).is_err() {
@@ -101,34 +101,27 @@ fn fill<D: SectorDisk + Drop>(store: &mut Store<D, Counter>) -> bool {
     true
 }
 
-// 1,024 actions and 16 confirms are one call of the disk each. The 1,025th action makes a checkpoint of 12 calls.
+// 1,024 actions and 16 confirms are one call of the disk each. The 1,025th action makes a checkpoint of 12 calls, and the
+// 1,026th is a record again.
 #[test]
 fn a_full_journal_goes_over_to_a_checkpoint(rt: HostRuntime) -> Result<(), Failure> {
-    let ones = [1; 2048];
-    for calls in 0..14 {
-        for (kept, picks) in [(false, [].as_slice()), (true, &ones)] {
-            let disk = formatted(&rt, rt.alloc())?;
-            let fuse = Fuse::new(disk, 25 + 1024 + 16 + calls, Fail::Always, false);
-            let mut store = open(&rt, rt.alloc(), fuse);
-            expect_eq(&rt, fill(&mut store), true, "filled");
-            expect_eq(&rt, store.submit(&1).is_ok(), 12 <= calls, calls);
-            expect_eq(&rt, store.epoch(), if calls < 12 { 2 } else { 3 }, calls);
-            expect_eq(&rt, store.submit(&1).is_ok(), calls == 13, calls);
-            let mut disk = store.into_disk().into_inner();
-            disk.crash(picks);
-            let total = if calls < 11 || (calls == 11 && !kept) {
-                1024
-            } else {
-                1025
-            };
-            let total = if calls == 13 && kept {
-                total + 1
-            } else {
-                total
-            };
-            let found = opened(rt.alloc(), disk).1;
-            expect_eq(&rt, found.map(|it| it.0), Ok(total), (calls, kept));
-        }
+    for (calls, picks, total) in [
+        (12, [].as_slice(), 1025),
+        (12, &[1; 2048], 1025),
+        (13, &[], 1025),
+        (13, &[1; 2048], 1026),
+    ] {
+        let disk = formatted(&rt, rt.alloc())?;
+        let fuse = Fuse::new(disk, 25 + 1024 + 16 + calls, Fail::Always, false);
+        let mut store = open(&rt, rt.alloc(), fuse);
+        expect_eq(&rt, fill(&mut store), true, "filled");
+        expect_eq(&rt, store.submit(&1).is_ok(), true, calls);
+        expect_eq(&rt, store.epoch(), 3, calls);
+        expect_eq(&rt, store.submit(&1).is_ok(), calls == 13, calls);
+        let mut disk = store.into_disk().into_inner();
+        disk.crash(picks);
+        let found = opened(rt.alloc(), disk).1;
+        expect_eq(&rt, found.map(|it| it.0), Ok(total), (calls, total));
     }
     Ok(())
 }

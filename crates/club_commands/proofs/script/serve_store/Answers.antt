@@ -24,9 +24,9 @@ returns-else-served-clause-done g c = record {
 }
 
 pub returns-in-Err-clause-fault : goal.returns-in-Err-clause-fault
-returns-in-Err-clause-fault g c = inr (rw c.fault_over.ensures.same (record {
+returns-in-Err-clause-fault g c = inr (record {
   cause = c.in-Err.fault;
   stops = c.in-Err.ensures.fault;
-  named = c.fault_over.ensures.fault;
+  named = c.fault_over.ensures;
   faults = c.serve.ensures.faults;
-}))
+})

@@ -16,17 +16,14 @@ returns-then-has_failed-clause-fault g c =
     let disk = g.D.SectorDisk.disk in
     let start = c.args.store.now in
     let last = c.loop-count.store in
-    let checked = c.has_failed.new.store in
-    let same = c.has_failed.ensures.same in
     let before = c.loop-count.invariant.served in
-    let failed = ap (λ store. store.failed) same ∙ (sym c.has_failed.ensures.failed ∙ c.if-has_failed.true) in inl (
+    let failed = sym c.has_failed.ensures ∙ c.if-has_failed.true in inl (
       record {
         served = before.0;
         most = omega (arith, before.1);
-        serves = with_same_store disk g.N.Stream.Read.remaining g.N.Stream.Write.contents before.0 start last checked same before.2;
+        serves = before.2;
         failed = failed;
-        faults = met_one disk start checked
-            (fails_on disk start last checked c.loop-count.invariant.faults (same_store disk last checked same)) c.requires.works failed;
+        faults = met_one disk start last c.loop-count.invariant.faults c.requires.works failed;
       },
       refl,
     )
@@ -36,16 +33,13 @@ returns-then-left-eq0-clause-done g c =
     let disk = g.D.SectorDisk.disk in
     let start = c.args.store.now in
     let last = c.loop-count.store in
-    let checked = c.has_failed.new.store in
-    let same = c.has_failed.ensures.same in
     let before = c.loop-count.invariant.served in
-    let works = ap (λ store. store.failed) same ∙ (sym c.has_failed.ensures.failed ∙ c.if-has_failed.false) in record {
-      serves = with_same_count disk g.N.Stream.Read.remaining g.N.Stream.Write.contents before.0 c.args.count start checked
+    let works = sym c.has_failed.ensures ∙ c.if-has_failed.false in record {
+      serves = with_same_count disk g.N.Stream.Read.remaining g.N.Stream.Write.contents before.0 c.args.count start last
           (omega (arith, before.1, c.if-left-eq0.true))
-          (with_same_store disk g.N.Stream.Read.remaining g.N.Stream.Write.contents before.0 start last checked same before.2);
+          before.2;
       works = works;
-      no_fault = met_none disk start checked
-          (fails_on disk start last checked c.loop-count.invariant.faults (same_store disk last checked same)) works;
+      no_fault = met_none disk start last c.loop-count.invariant.faults works;
     }
 
 pub loop-count-preserved : goal.loop-count-preserved
@@ -53,22 +47,19 @@ loop-count-preserved g c =
     let disk = g.D.SectorDisk.disk in
     let start = c.args.store.now in
     let last = c.loop-count.store in
-    let checked = c.has_failed.new.store in
-    let same = c.has_failed.ensures.same in
     let before = c.loop-count.invariant.served in record {
       served = (
         suc before.0,
         omega (arith, before.1, c.if-left-eq0.false),
         (
-          checked,
-          with_same_store disk g.N.Stream.Read.remaining g.N.Stream.Write.contents before.0 start last checked same before.2,
-          ap (λ store. store.failed) same ∙ (sym c.has_failed.ensures.failed ∙ c.if-has_failed.false),
+          last,
+          before.2,
+          sym c.has_failed.ensures ∙ c.if-has_failed.false,
           c.in-Ok.ensures.served,
         ),
       );
       ready = c.serve_next.ensures.ready;
-      faults = fails_on disk start checked c.serve_next.new.store
-          (fails_on disk start last checked c.loop-count.invariant.faults (same_store disk last checked same)) c.serve_next.ensures.faults;
+      faults = fails_on disk start last c.serve_next.new.store c.loop-count.invariant.faults c.serve_next.ensures.faults;
     }
 
 pub returns-in-Err-clause-fault : goal.returns-in-Err-clause-fault
@@ -78,8 +69,8 @@ returns-in-Err-clause-fault g c =
     let last = c.loop-count.store in
     let now = c.serve_next.new.store in
     let before = c.loop-count.invariant.served in
-    let same = c.in-Err.ensures.unserved ∙ c.has_failed.ensures.same in
-    let works = ap (λ store. store.failed) same ∙ (sym c.has_failed.ensures.failed ∙ c.if-has_failed.false) in inr (
+    let same = c.in-Err.ensures.unserved in
+    let works = ap (λ store. store.failed) same ∙ (sym c.has_failed.ensures ∙ c.if-has_failed.false) in inr (
       record {
         served = before.0;
         fewer = omega (arith, before.1, c.if-left-eq0.false);

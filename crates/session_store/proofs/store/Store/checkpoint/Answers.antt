@@ -26,7 +26,7 @@ returns-in-Ok-clause-continues g c =
     let done = c.in-Ok.ensures in
     subst (Continues kept disk old []) (sym done.answer)
     (snapshot-continues kept disk g.met.K.Kept.lawful old [] old.state c.take_snapshot.new.self.disk store works room
-    c.take_snapshot.ensures.state made c.take_snapshot.ensures.remains c.take_snapshot.ensures.any_moment done.written)
+    c.take_snapshot.ensures.written.is_state made c.take_snapshot.ensures.written.remains c.take_snapshot.ensures.written.any_moment done.written.written)
 
 pub returns-in-Ok-clause-stands : goal.returns-in-Ok-clause-stands
 returns-in-Ok-clause-stands g c =
@@ -42,7 +42,7 @@ returns-in-Ok-clause-stands g c =
     let same = ap (λ v. v.state) done.answer in
     λ sound. subst (λ s. StandsOnlyFor kept disk s c.take_snapshot.new.self.disk) (sym same)
     (snapshot-stands kept disk g.met.K.Kept.lawful old [] old.state c.take_snapshot.new.self.disk store works room
-    c.take_snapshot.ensures.state made c.take_snapshot.ensures.remains done.written sound)
+    c.take_snapshot.ensures.written.is_state made c.take_snapshot.ensures.written.remains done.written.written sound)
 
 pub returns-in-Err-clause-continues : goal.returns-in-Err-clause-continues
 returns-in-Err-clause-continues g c =
@@ -57,4 +57,4 @@ returns-in-Err-clause-continues g c =
     let failed = c.in-Err.ensures in
     subst (Continues kept disk old []) (fault-same kept disk old c.take_snapshot.new.self.disk ∙ sym failed.answer)
     (snapshot_fault-continues kept disk g.met.K.Kept.lawful old [] old.state c.take_snapshot.new.self.disk store works room
-    c.take_snapshot.ensures.state made c.take_snapshot.ensures.remains c.take_snapshot.ensures.any_moment)
+    c.take_snapshot.ensures.written.is_state made c.take_snapshot.ensures.written.remains c.take_snapshot.ensures.written.any_moment)

@@ -62,12 +62,12 @@ returns-in-Ok-take_snapshot-clause-continues g c =
     let accepted = ap (λ v. kept.step v.state a) (sym c.self.view_is) ∙ c.in-Ok.ensures.step in
     let view = action-view _ old a t _ c.self.view_is c.push.ensures.items in
     let done : new ≡ after_snapshot (with_action old a t) new.disk = c.in-Ok-take_snapshot.ensures.answer ∙ ap (λ v. after_snapshot v new.disk) view in
-    let run = subst (SnapshotRuns kept disk new.disk) view c.take_snapshot.ensures.any_moment in
-    let written = subst (SnapshotWritten kept disk new.disk) view c.in-Ok-take_snapshot.ensures.written in
-    let remains = subst (λ v. Remains disk v.disk new.disk) view c.take_snapshot.ensures.remains in
+    let run = subst (SnapshotRuns kept disk new.disk) view c.take_snapshot.ensures.written.any_moment in
+    let written = subst (SnapshotWritten kept disk new.disk) view c.in-Ok-take_snapshot.ensures.written.written in
+    let remains = subst (λ v. Remains disk v.disk new.disk) view c.take_snapshot.ensures.written.remains in
     subst (Continues kept disk old (a ∷ [])) (sym done)
     (snapshot-continues kept disk g.met.K.Kept.lawful old (a ∷ []) t new.disk store c.requires.works c.requires.room
-    c.take_snapshot.ensures.state (more-made kept disk old a t store accepted) remains run written)
+    c.take_snapshot.ensures.written.is_state (more-made kept disk old a t store accepted) remains run written)
 
 pub returns-in-Ok-take_snapshot-clause-stands : goal.returns-in-Ok-take_snapshot-clause-stands
 returns-in-Ok-take_snapshot-clause-stands g c =
@@ -81,11 +81,11 @@ returns-in-Ok-take_snapshot-clause-stands g c =
     let accepted = ap (λ v. kept.step v.state a) (sym c.self.view_is) ∙ c.in-Ok.ensures.step in
     let view = action-view _ old a t _ c.self.view_is c.push.ensures.items in
     let done : new ≡ after_snapshot (with_action old a t) new.disk = c.in-Ok-take_snapshot.ensures.answer ∙ ap (λ v. after_snapshot v new.disk) view in
-    let written = subst (SnapshotWritten kept disk new.disk) view c.in-Ok-take_snapshot.ensures.written in
-    let remains = subst (λ v. Remains disk v.disk new.disk) view c.take_snapshot.ensures.remains in
+    let written = subst (SnapshotWritten kept disk new.disk) view c.in-Ok-take_snapshot.ensures.written.written in
+    let remains = subst (λ v. Remains disk v.disk new.disk) view c.take_snapshot.ensures.written.remains in
     λ sound. subst (λ s. StandsOnlyFor kept disk s new.disk) (sym (ap (λ v. v.state) done))
     (snapshot-stands kept disk g.met.K.Kept.lawful old (a ∷ []) t new.disk store c.requires.works c.requires.room
-    c.take_snapshot.ensures.state (more-made kept disk old a t store accepted) remains written sound)
+    c.take_snapshot.ensures.written.is_state (more-made kept disk old a t store accepted) remains written sound)
 
 pub returns-in-Err-take_snapshot-clause-answer : goal.returns-in-Err-take_snapshot-clause-answer
 returns-in-Err-take_snapshot-clause-answer g c =
@@ -101,7 +101,7 @@ returns-in-Err-take_snapshot-clause-answer g c =
       (c.requires.works, c.requires.batch, room-epoch old c.requires.room),
       accepted ∙ ap (λ s. Ok s) state,
       subst (λ s. new ≡ after_failed_submit old a s new.disk) state (stopped ∙ sym (after_failed-full old a t new.disk c.requires.full)),
-      subst (λ v. Rose (disk.faults v.disk) (disk.faults new.disk)) view c.in-Err-take_snapshot.ensures.fault,
+      subst (λ v. Rose (disk.faults v.disk) (disk.faults new.disk)) view c.in-Err-take_snapshot.ensures.written.fault,
     )
 
 pub returns-in-Err-take_snapshot-clause-continues : goal.returns-in-Err-take_snapshot-clause-continues
@@ -116,11 +116,11 @@ returns-in-Err-take_snapshot-clause-continues g c =
     let accepted = ap (λ v. kept.step v.state a) (sym c.self.view_is) ∙ c.in-Ok.ensures.step in
     let view = action-view _ old a t _ c.self.view_is c.push.ensures.items in
     let stopped : new ≡ after_fault (with_action old a t) new.disk = c.in-Err-take_snapshot.ensures.answer ∙ ap (λ v. after_fault v new.disk) view in
-    let run = subst (SnapshotRuns kept disk new.disk) view c.take_snapshot.ensures.any_moment in
-    let remains = subst (λ v. Remains disk v.disk new.disk) view c.take_snapshot.ensures.remains in
+    let run = subst (SnapshotRuns kept disk new.disk) view c.take_snapshot.ensures.written.any_moment in
+    let remains = subst (λ v. Remains disk v.disk new.disk) view c.take_snapshot.ensures.written.remains in
     subst (Continues kept disk old (a ∷ [])) (sym stopped)
     (snapshot_fault-continues kept disk g.met.K.Kept.lawful old (a ∷ []) t new.disk store c.requires.works c.requires.room
-    c.take_snapshot.ensures.state (more-made kept disk old a t store accepted) remains run)
+    c.take_snapshot.ensures.written.is_state (more-made kept disk old a t store accepted) remains run)
 
 pub invariant_of-self : goal.invariant_of-self
 invariant_of-self g c = rw c.in-Err.ensures.refused c.self.invariant
@@ -132,4 +132,4 @@ pub take_snapshot-requires : goal.take_snapshot-requires
 take_snapshot-requires g c = let room = rw (← c.self.view_is) at c.requires.room in omega (arith, room)
 
 pub returns-in-Ok-take_snapshot-clause-no_fault : goal.returns-in-Ok-take_snapshot-clause-no_fault
-returns-in-Ok-take_snapshot-clause-no_fault g c = rw (← c.self.view_is) c.in-Ok-take_snapshot.ensures.fault
+returns-in-Ok-take_snapshot-clause-no_fault g c = rw (← c.self.view_is) c.in-Ok-take_snapshot.ensures.written.no_fault

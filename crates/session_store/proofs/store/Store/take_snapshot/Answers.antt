@@ -53,38 +53,14 @@ returns-in-Ok-clause-answer g c =
     let caught_up = some_is _ _ (sym c.catch_up.ensures.base ∙ c.self.invariant.accepted) in
     rw (← c.self.view_is) (sym (snapshot-same kept g.D.SectorDisk.disk v c.write_snapshot.new.disk _ _ caught_up c.catch_up.ensures.none))
 
-pub returns-in-Ok-clause-fault : goal.returns-in-Ok-clause-fault
-returns-in-Ok-clause-fault g c = rw (← c.self.view_is) c.in-Ok.ensures.no_fault
-
-pub returns-in-Ok-clause-remains : goal.returns-in-Ok-clause-remains
-returns-in-Ok-clause-remains g c = rw (← c.self.view_is) c.write_snapshot.ensures.remains
-
-pub returns-in-Ok-clause-any_moment : goal.returns-in-Ok-clause-any_moment
-returns-in-Ok-clause-any_moment g c = rw (← c.self.view_is) c.write_snapshot.ensures.any_moment
-
 pub returns-in-Ok-clause-written : goal.returns-in-Ok-clause-written
-returns-in-Ok-clause-written g c = rw (← c.self.view_is) c.in-Ok.ensures.written
-
-pub returns-in-Ok-clause-state : goal.returns-in-Ok-clause-state
-returns-in-Ok-clause-state g c = rw (← c.self.view_is) c.write_snapshot.ensures.state
+returns-in-Ok-clause-written g c = rw (← c.self.view_is) c.in-Ok.ensures
 
 pub returns-in-Err-clause-answer : goal.returns-in-Err-clause-answer
 returns-in-Err-clause-answer g c = rw (← c.self.view_is) refl
 
-pub returns-in-Err-clause-fault : goal.returns-in-Err-clause-fault
-returns-in-Err-clause-fault g c = rw (← c.self.view_is) c.in-Err.ensures.fault
-
-pub returns-in-Err-clause-remains : goal.returns-in-Err-clause-remains
-returns-in-Err-clause-remains g c = rw (← c.self.view_is) c.write_snapshot.ensures.remains
-
-pub returns-in-Err-clause-any_moment : goal.returns-in-Err-clause-any_moment
-returns-in-Err-clause-any_moment g c = rw (← c.self.view_is) c.write_snapshot.ensures.any_moment
-
 pub returns-in-Err-clause-written : goal.returns-in-Err-clause-written
-returns-in-Err-clause-written g c = λ _. tt
-
-pub returns-in-Err-clause-state : goal.returns-in-Err-clause-state
-returns-in-Err-clause-state g c = rw (← c.self.view_is) c.write_snapshot.ensures.state
+returns-in-Err-clause-written g c = rw (← c.self.view_is) c.in-Err.ensures
 
 pub write_snapshot-requires : goal.write_snapshot-requires
 write_snapshot-requires g c = c.self.invariant.large
