@@ -1,7 +1,7 @@
 //! Looking at the state of a disk that is left as it is.
-ghost use Rattle.std.specs.Prelude.{◌≡◌, ◌↔◌, ◌<◌, ◌≤◌, [], length, slice_index_or, true, Ok, Err, IfOk, IfErr, IsErrOf};
+ghost use Rattle.std.specs.Prelude.{◌≡◌, ◌↔◌, ◌<◌, ◌≤◌, [], length, slice_index_or, true, Ok, Err, IfOk, IfErr};
 ghost use Rattle.sector_disk.specs.Runs.{Quiet};
-ghost use Rattle.session_store.specs.Opening.{HasNext, IsCause, reading};
+ghost use Rattle.session_store.specs.Opening.{IsUnread};
 ghost use Rattle.session_store.specs.Stands.{recovered};
 
 use crate::formatting::SECTORS;
@@ -18,17 +18,15 @@ pub fn read_state<D: SectorDisk, K: Kept>(alloc: Global, disk: &mut D) -> Result
     ensures too_small { D.disk.count disk.old < 2048 → result ≡ Err StoreFault.TooSmall }
     ensures state { D.disk.honest disk.old → IfOk result (λ state.
         recovered K.kept (D.disk.reads disk.old) ≡ Ok state) }
-    ensures fault { 2048 ≤ D.disk.count disk.old → IfErr result (IsCause (D.disk.honest disk.old)
-        (D.disk.faults disk.old) (D.disk.faults disk.new) (reading K.kept (D.disk.reads disk.old))) }
-    ensures memory { D.disk.honest disk.old → IsErrOf result StoreFault.NoMemory → HasNext (D.disk.reads disk.old) }
+    ensures unread { 2048 ≤ D.disk.count disk.old → IfErr result (IsUnread K.kept D.disk disk.old disk.new) }
     ensures quiet { Quiet D.disk disk.old disk.new }
 {
     if disk.count() < SECTORS {
         return Err(StoreFault::TooSmall);
     }
     match recover::<D, K>(alloc, disk) {
-        Ok(found) => Ok(found.state),
-        Err(fault) => Err(fault),
+        Ok(found) => Ok(found.into_state()),
+        Err(fault) => Err(StoreFault::from(fault)),
     }
 }
 

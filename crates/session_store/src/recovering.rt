@@ -77,6 +77,14 @@ pub(crate) fn recover<D: SectorDisk, K: Kept>(
 }
 
 impl<K: Kept> Recovered<K> {
+    /// The state that was read.
+    pub(crate) fn into_state(self) -> K
+        ensures { result ≡ self.state }
+    {
+        let Recovered { state, .. } = self;
+        state
+    }
+
     /// Writes the snapshot of the next epoch, and begins a store there. It has no error of memory to give.
     pub(crate) fn begin<D: SectorDisk + Drop>(
         self,
