@@ -15,6 +15,7 @@ mod fault_line;
 mod formatting;
 mod moving_aside;
 mod output;
+mod over_disk;
 mod printable;
 mod results;
 mod run;
