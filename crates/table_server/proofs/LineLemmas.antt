@@ -5,9 +5,10 @@ use Rattle.std.proofs.lemmas.Bool.Decides.{leb_tells}
 use Rattle.std.proofs.lemmas.List.{take_all, length-take}
 use Rattle.bridge_auction.specs.declared.call.Call.{Call}
 use Rattle.line_text.specs.Lines.{complete_lines, is_long}
-use Rattle.table_server.specs.declared.reply.Reply.{Reply}
+use Rattle.table_server.specs.declared.short_reply.ShortReply.{ShortReply}
 use Rattle.table_server.specs.LineFeed.{kept_lines}
-use Rattle.table_server.specs.Replies.{line_call, line_reply, calls_with, calls_after, replies_to, reply_text}
+use Rattle.table_server.specs.Replies.{line_call, line_reply, calls_with, calls_after, replies_to}
+use Rattle.table_server.specs.ReplyTexts.{short_text}
 
 -- whether a line is longer than what is kept of a line that is not too long
 abbrev IsCut : List ℕ → Type 0
@@ -33,7 +34,7 @@ replies_kept : (calls : List Call) (lines : List (List ℕ)) → replies_to call
 replies_kept calls [] = refl
 replies_kept calls (line ∷ lines) =
     rw (kept_reply calls line (leb_tells 129 (length line)), kept_call line (leb_tells 129 (length line)))
-    (ap (λ text. reply_text (line_reply calls line) ++ text) (replies_kept (calls_with calls (line_call line)) lines))
+    (ap (λ text. short_text (line_reply calls line) ++ text) (replies_kept (calls_with calls (line_call line)) lines))
 
 -- and make the same calls
 calls_kept : (calls : List Call) (lines : List (List ℕ)) → calls_after calls (map (take 129) lines) ≡ calls_after calls lines
@@ -55,15 +56,15 @@ calls_same calls bytes same is =
     sym (calls_kept calls (complete_lines bytes)) ∙ (ap (calls_after calls) is ∙ calls_kept calls (complete_lines same))
 
 -- a line is complete: the reply to it is written, and the rest stays to be written
-pub replies_fed : (calls calls' : List Call) (bytes rest line slice out out' : List ℕ) (reply : Reply) → kept_lines bytes ≡ line ∷ kept_lines rest
-    → slice ≡ line → reply ≡ line_reply calls slice → calls' ≡ calls_with calls (line_call slice) → out' ≡ out ++ reply_text reply
+pub replies_fed : (calls calls' : List Call) (bytes rest line slice out out' : List ℕ) (reply : ShortReply) → kept_lines bytes ≡ line ∷ kept_lines rest
+    → slice ≡ line → reply ≡ line_reply calls slice → calls' ≡ calls_with calls (line_call slice) → out' ≡ out ++ short_text reply
     → out ++ replies_to calls (complete_lines bytes) ≡ out' ++ replies_to calls' (complete_lines rest)
 replies_fed calls calls' bytes rest line slice out out' reply completes same replied called written =
-    let whole : replies_to calls (complete_lines bytes) ≡ reply_text (line_reply calls line) ++ replies_to (calls_with calls (line_call line)) (complete_lines rest)
+    let whole : replies_to calls (complete_lines bytes) ≡ short_text (line_reply calls line) ++ replies_to (calls_with calls (line_call line)) (complete_lines rest)
     = sym (replies_kept calls (complete_lines bytes)) ∙ (ap (replies_to calls) completes
-    ∙ ap (λ text. reply_text (line_reply calls line) ++ text) (replies_kept (calls_with calls (line_call line)) (complete_lines rest))) in
+    ∙ ap (λ text. short_text (line_reply calls line) ++ text) (replies_kept (calls_with calls (line_call line)) (complete_lines rest))) in
     rw (written, called, replied, same, whole)
-    (sym (append_assoc out (reply_text (line_reply calls line)) (replies_to (calls_with calls (line_call line)) (complete_lines rest))))
+    (sym (append_assoc out (short_text (line_reply calls line)) (replies_to (calls_with calls (line_call line)) (complete_lines rest))))
 
 -- and its call is made
 pub calls_fed : (calls calls' : List Call) (bytes rest line slice : List ℕ) → kept_lines bytes ≡ line ∷ kept_lines rest → slice ≡ line

@@ -8,34 +8,26 @@ use Rattle.bridge_auction.specs.declared.refused.CallRefused.{CallRefused}
 use Rattle.bridge_auction.specs.Legal.{is_ended}
 use Rattle.bridge_auction.specs.Answer.{answer_to}
 use Rattle.bridge_auction.specs.Contract.{contract_of}
-use Rattle.bridge_auction.specs.Refused.{refusal_number, refusal_name}
-use Rattle.line_text.specs.Refusal.{refusal_line}
-use Rattle.table_server.specs.declared.reply.Reply.{Reply}
-use Rattle.table_server.specs.declared.reply.Reply.TheVariants.{Accepted, Refused, BadLine, LongLine}
+use Rattle.table_server.specs.declared.short_reply.ShortReply.{ShortReply}
+use Rattle.table_server.specs.declared.short_reply.ShortReply.TheVariants.{Done, Illegal, BadLine, LongLine}
+use Rattle.table_server.specs.ReplyTexts.{short_text}
 use Rattle.bridge_auction.specs.Spelling.{contract_text, call_of}
 use Rattle.line_text.specs.Lines.{complete_lines, is_long}
-
--- the text of a reply, with its line feed
-abbrev pub reply_text : Reply → List ℕ
-reply_text Accepted = codes "OK\n"
-reply_text (Refused refused) = refusal_line (refusal_number refused) (refusal_name refused)
-reply_text BadLine = refusal_line 30 (codes "BadLine")
-reply_text LongLine = refusal_line 31 (codes "LongLine")
 
 -- the call that a line spells, without one carriage return (byte 13) at its end
 abbrev pub line_call : List ℕ → Option Call
 line_call line = if is_long line then None else call_of (strip_carriage_return line)
 
-abbrev pub answer_reply : Result (Unit {0}) CallRefused → Reply
-answer_reply (Ok _) = Accepted
-answer_reply (Err refused) = Refused refused
+abbrev pub answer_reply : Result (Unit {0}) CallRefused → ShortReply
+answer_reply (Ok _) = Done
+answer_reply (Err refused) = Illegal refused
 
-abbrev pub call_reply : List Call → Option Call → Reply
+abbrev pub call_reply : List Call → Option Call → ShortReply
 call_reply calls None = BadLine
 call_reply calls (Some call) = answer_reply (answer_to calls call)
 
 -- the reply to a line after those calls
-abbrev pub line_reply : List Call → List ℕ → Reply
+abbrev pub line_reply : List Call → List ℕ → ShortReply
 line_reply calls line = if is_long line then LongLine else call_reply calls (line_call line)
 
 abbrev pub calls_by : Result (Unit {0}) CallRefused → List Call → Call → List Call
@@ -54,7 +46,7 @@ calls_after calls (line ∷ lines) = calls_after (calls_with calls (line_call li
 -- the replies to those lines, one after another
 abbrev pub replies_to : List Call → List (List ℕ) → List ℕ
 replies_to calls [] = []
-replies_to calls (line ∷ lines) = reply_text (line_reply calls line) ++ replies_to (calls_with calls (line_call line)) lines
+replies_to calls (line ∷ lines) = short_text (line_reply calls line) ++ replies_to (calls_with calls (line_call line)) lines
 
 abbrev pub contract_line : Option Contract → List ℕ
 contract_line None = codes "PASSED OUT\n"

@@ -2,6 +2,7 @@
 use Rattle.std.specs.Prelude.{ℕ, ◌/◌, ◌%◌, ◌+◌, List, [], ◌∷◌, ◌++◌, codes, map, flat_map, unsigned_abs, int_le, nat_le, pos, Bool, ◌&&◌, if◌then◌else◌, Option, Some, None}
 use Rattle.std.specs.Fmt.{decimal, signed_decimal}
 use Rattle.line_text.specs.Refusal.{refusal_line}
+use Rattle.bridge_auction.specs.Refused.{refusal_number as call_refusal_number, refusal_name as call_refusal_name}
 use Rattle.bridge_score.specs.declared.ranking.Ranked.{Ranked}
 use Rattle.bridge_score.specs.declared.ranking.Scoring.{Scoring}
 use Rattle.bridge_score.specs.declared.ranking.Scoring.TheVariants.{MatchPoints, Imps}
@@ -9,12 +10,13 @@ use Rattle.bridge_score.specs.Percent.{percent_hundredths_of}
 use Rattle.bridge_pbn.specs.Lines.{lines_text}
 use Rattle.session_rules.specs.Refused.{refusal_number, refusal_name}
 use Rattle.table_server.specs.declared.short_reply.ShortReply.{ShortReply}
-use Rattle.table_server.specs.declared.short_reply.ShortReply.TheVariants.{Done, Refused, BadLine, LongLine, Disk, EpochsSpent}
+use Rattle.table_server.specs.declared.short_reply.ShortReply.TheVariants.{Done, Refused, Illegal, BadLine, LongLine, Disk, EpochsSpent}
 
 -- `OK`, or `ERR`, the refusal's number and its name
 abbrev pub short_text : ShortReply → List ℕ
 short_text Done = codes "OK\n"
 short_text (Refused refused) = refusal_line (refusal_number refused) (refusal_name refused)
+short_text (Illegal refused) = refusal_line (call_refusal_number refused) (call_refusal_name refused)
 short_text BadLine = refusal_line 30 (codes "BadLine")
 short_text LongLine = refusal_line 31 (codes "LongLine")
 short_text Disk = refusal_line 40 (codes "Disk")

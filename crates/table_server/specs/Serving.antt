@@ -15,7 +15,7 @@ use Rattle.table_server.specs.declared.fault.ServeFault.TheVariants.{Write}
 use Rattle.table_server.specs.declared.held_replies.HeldReplies.{HeldReplies}
 use Rattle.table_server.specs.declared.served.Served.{Served}
 use Rattle.table_server.specs.declared.short_reply.ShortReply.{ShortReply}
-use Rattle.table_server.specs.declared.short_reply.ShortReply.TheVariants.{Done, Refused, BadLine, LongLine, Disk as DiskReply, EpochsSpent}
+use Rattle.table_server.specs.declared.short_reply.ShortReply.TheVariants.{Done, Refused, Illegal, BadLine, LongLine, Disk as DiskReply, EpochsSpent}
 use Rattle.table_server.specs.Answered.{AreReplies, after_all, accepted_all, held_after, is_held, disk_errors}
 use Rattle.table_server.specs.Served.{IsServed}
 use Rattle.table_server.specs.Standing.{Standing, standing_of, change_reply, after_change, accepted_change}
@@ -35,6 +35,7 @@ pub record Fits (held : HeldReplies) : Type 0 where
 abbrev pub accepted_count : ShortReply → ℕ
 accepted_count Done = 1
 accepted_count (Refused refused) = 0
+accepted_count (Illegal refused) = 0
 accepted_count BadLine = 0
 accepted_count LongLine = 0
 accepted_count DiskReply = 0

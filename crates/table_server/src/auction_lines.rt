@@ -6,7 +6,8 @@ ghost use Rattle.table_server.specs.AuctionLines.{replies_from, calls_from};
 ghost use Rattle.std.specs.List.{list_all};
 
 use crate::line_feed::LineFeed;
-use crate::reply::{REPLY_BYTES, Reply};
+use crate::reply_text::SHORT_BYTES;
+use crate::short_reply::ShortReply;
 use arrayvec::ArrayString;
 use bridge_auction::{Auction, Contract, doubling_text, print_bid, read_call};
 use bridge_cards::Seat;
@@ -17,7 +18,7 @@ use std::marker::Model;
 pub const PIECE_BYTES: usize = 1024;
 
 /// The room for replies: that of the longest for each byte of a piece.
-pub const REPLIES_BYTES: usize = REPLY_BYTES * PIECE_BYTES;
+pub const REPLIES_BYTES: usize = SHORT_BYTES * PIECE_BYTES;
 
 /// An auction that is fed the bytes of its lines, in whatever pieces they come.
 #[derive(Drop)]
@@ -57,7 +58,7 @@ impl AuctionLines {
     /// What is written and what is still to be written for any bytes to come stay the same text together,
     /// so how the lines are cut into pieces makes no difference.
     pub fn feed(&mut self, piece: &[u8], out: &mut ArrayString<REPLIES_BYTES>)
-        requires { array_string_len out.old + REPLY_BYTES * length piece.now ≤ REPLIES_BYTES }
+        requires { array_string_len out.old + SHORT_BYTES * length piece.now ≤ REPLIES_BYTES }
         ensures replies { (rest : List ℕ) → out.old.bytes ++ replies_from self.old (piece.now ++ rest)
             ≡ out.new.bytes ++ replies_from self.new rest }
         ensures calls { (rest : List ℕ) → calls_from self.old (piece.now ++ rest) ≡ calls_from self.new rest }
@@ -72,13 +73,13 @@ impl AuctionLines {
     }
 
     fn feed_byte(&mut self, byte: u8, out: &mut ArrayString<REPLIES_BYTES>)
-        requires { array_string_len out.old + REPLY_BYTES ≤ REPLIES_BYTES }
+        requires { array_string_len out.old + SHORT_BYTES ≤ REPLIES_BYTES }
         ensures replies { (rest : List ℕ) → out.old.bytes ++ replies_from self.old (byte ∷ rest)
             ≡ out.new.bytes ++ replies_from self.new rest }
         ensures calls { (rest : List ℕ) → calls_from self.old (byte ∷ rest) ≡ calls_from self.new rest }
         ensures dealer { self.new.dealer ≡ self.old.dealer }
         ensures within { list_all is_within_line self.new.line ≡ true }
-        ensures room { array_string_len out.new ≤ array_string_len out.old + REPLY_BYTES }
+        ensures room { array_string_len out.new ≤ array_string_len out.old + SHORT_BYTES }
     {
         match self.feed.take_byte(byte) {
             None => {}
@@ -119,19 +120,19 @@ fn push_contract(contract: &Contract, out: &mut ArrayString<REPLIES_BYTES>)
 }
 
 /// Answers a line, making its call where it spells a legal one.
-fn answer(auction: &mut Auction, line: &[u8]) -> Reply
+fn answer(auction: &mut Auction, line: &[u8]) -> ShortReply
     ensures reply { result ≡ line_reply auction.old.calls line.now }
     ensures calls { auction.new.calls ≡ calls_with auction.old.calls (line_call line.now) }
     ensures dealer { auction.new.dealer ≡ auction.old.dealer }
 {
     if line.len() > LINE_BYTES {
-        return Reply::LongLine;
+        return ShortReply::LongLine;
     }
     match read_call(without_return(line)) {
-        None => Reply::BadLine,
+        None => ShortReply::BadLine,
         Some(call) => match auction.try_call(call) {
-            Ok(()) => Reply::Accepted,
-            Err(refused) => Reply::Refused(refused),
+            Ok(()) => ShortReply::Done,
+            Err(refused) => ShortReply::Illegal(refused),
         },
     }
 }

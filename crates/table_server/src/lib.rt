@@ -19,7 +19,6 @@ mod line_service;
 mod line_words;
 pub mod pbn_reply;
 pub mod ranking_reply;
-mod reply;
 pub mod reply_text;
 mod run;
 mod served;

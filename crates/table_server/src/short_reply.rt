@@ -1,20 +1,24 @@
+//! Replies of one line.
 ghost use Rattle.std.specs.Prelude.{◌≡◌, ◌+◌, ◌≤◌, ◌++◌};
 ghost use Rattle.arrayvec.specs.ArrayString.{array_string_len};
 ghost use Rattle.table_server.specs.ReplyTexts.{short_text};
 
 use crate::reply_text::SHORT_BYTES;
 use arrayvec::ArrayString;
+use bridge_auction::CallRefused;
 use bridge_session::Refused as SessionRefused;
 use line_text::push_refusal;
 
-/// A reply of one line: that a line was accepted, or why it was not.
+/// A reply of one line, of the protocol or of an auction by itself: that a line was accepted, or why it was not.
 #[derive(Clone, Copy, Debug, PartialEq, Eq)]
 pub enum ShortReply {
-    /// What the line asked for is done and confirmed.
+    /// What the line asked for is done and confirmed, or its call is made.
     Done,
     /// The session refuses it.
     Refused(SessionRefused),
-    /// The line states no command.
+    /// The call that it spells, in an auction by itself, is not legal.
+    Illegal(CallRefused),
+    /// The line states no command, or spells no call.
     BadLine,
     /// The line has more than 128 bytes.
     LongLine,
@@ -34,6 +38,7 @@ impl ShortReply {
         match self {
             ShortReply::Done => out.push_str("OK\n"),
             ShortReply::Refused(refused) => push_refusal(out, refused.number(), refused.name()),
+            ShortReply::Illegal(refused) => push_refusal(out, refused.number(), refused.name()),
             ShortReply::BadLine => push_refusal(out, 30, "BadLine"),
             ShortReply::LongLine => push_refusal(out, 31, "LongLine"),
             ShortReply::Disk => push_refusal(out, 40, "Disk"),
