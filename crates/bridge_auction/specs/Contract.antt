@@ -8,7 +8,7 @@ use Rattle.bridge_cards.specs.Seat.{clockwise_from, side_of, plays_for}
 use Rattle.bridge_auction.specs.declared.bid.Bid.{Bid as BidType}
 use Rattle.bridge_auction.specs.declared.bid.Denomination.{Denomination}
 use Rattle.bridge_auction.specs.declared.call.Call.{Call}
-use Rattle.bridge_auction.specs.declared.call.Call.TheVariants.{Pass, Bid, Double, Redouble}
+use Rattle.bridge_auction.specs.declared.call.Call.TheVariants.{Bid, Double, Redouble}
 use Rattle.bridge_auction.specs.declared.contract.Contract.{Contract}
 use Rattle.bridge_auction.specs.declared.contract.Doubling.{Doubling}
 use Rattle.bridge_auction.specs.declared.contract.Doubling.TheVariants.{Undoubled, Doubled, Redoubled}

@@ -42,6 +42,7 @@ abbrev pub contract_text : Contract → List ℕ
 contract_text contract =
     ((bid_text contract.bid ++ doubling_text contract.doubling) ++ codes " ") ++ seat_letter contract.declarer ∷ []
 
+-- the denomination of those letters, if they are one's
 abbrev pub denomination_of : List ℕ → Option Denomination
 denomination_of text =
     if bytes_eq text (codes "C") then Some Clubs

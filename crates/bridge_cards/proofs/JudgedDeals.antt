@@ -3,7 +3,7 @@ use Rattle.std.proofs.Common.{◌≡◌, ℕ, List, Option, Some, IfSome, Result
 use Rattle.bridge_cards.specs.declared.deal.BadDeal.{BadDeal}
 use Rattle.bridge_cards.specs.declared.deal.BadDeal.TheVariants.{Form, Twice, NotThirteen}
 use Rattle.bridge_cards.specs.CardSet.{card_count}
-use Rattle.bridge_cards.specs.Deal.{NoneTwice, SomeTwice, SomeNotThirteen, IsDeal}
+use Rattle.bridge_cards.specs.Deal.{NoneTwice, SomeTwice}
 use Rattle.bridge_cards.specs.DealText.{SpellsDeal}
 use Rattle.bridge_cards.specs.BadDeal.{JudgesHands, JudgesDealText}
 

@@ -10,7 +10,7 @@ use Rattle.bridge_auction.specs.declared.call.Call.TheVariants.{Pass, Bid, Doubl
 use Rattle.bridge_auction.specs.declared.contract.Contract.{Contract}
 use Rattle.bridge_auction.specs.Spelling.{bid_text}
 use Rattle.bridge_play.specs.Play.{PlayValue}
-use Rattle.bridge_play.specs.Trick.{leader_of}
+use Rattle.bridge_play.specs.Trick.{whole_tricks, leader_of}
 use Rattle.bridge_pbn.specs.Lines.{tag, spaced}
 
 -- a call, as `Pass`, `X`, `XX` or `1NT`
@@ -52,7 +52,7 @@ star_lines tricks = if nat_lt tricks 13 then codes "*" ∷ [] else []
 abbrev pub trick_lines : Contract → List ℕ → List (List ℕ)
 trick_lines contract cards =
     tag (codes "Play") (seat_letter (leader_of contract cards 0) ∷ [])
-    ∷ (map (trick_line contract cards) (range_with_len 0 (length cards / 4)) ++ star_lines (length cards / 4))
+    ∷ (map (trick_line contract cards) (range_with_len 0 (whole_tricks cards)) ++ star_lines (whole_tricks cards))
 
 -- none where the board was passed out
 abbrev pub play_lines : Option PlayValue → List (List ℕ)

@@ -1,8 +1,9 @@
 //! The Play section of a game.
-ghost use Rattle.std.specs.Prelude.{◌≡◌, ◌+◌, ◌*◌, ◌/◌, ◌<◌, ◌≤◌, ◌++◌, ◌∷◌, [], length, map};
+ghost use Rattle.std.specs.Prelude.{◌≡◌, ◌+◌, ◌*◌, ◌<◌, ◌≤◌, ◌++◌, ◌∷◌, [], map};
 ghost use Rattle.std.specs.List.{range_with_len};
 ghost use Rattle.arrayvec.specs.ArrayString.{array_string_len};
 ghost use Rattle.bridge_cards.specs.Card.{card_text};
+ghost use Rattle.bridge_play.specs.Trick.{whole_tricks};
 ghost use Rattle.bridge_pbn.specs.Lines.{lines_text};
 ghost use Rattle.bridge_pbn.specs.Sections.{places_from, card_by, column_text, trick_line, star_lines, trick_lines};
 
@@ -26,7 +27,7 @@ fn places_from(first: Seat, seat: Seat) -> usize
 
 /// The card that a seat played to a trick.
 fn card_by(play: &Play, trick: usize, seat: Seat) -> Card
-    requires { trick < length play.now.cards / 4 }
+    requires { trick < whole_tricks play.now.cards }
     ensures { result ≡ card_by play.now.contract play.now.cards trick seat }
 {
     play.cards()[4 * trick + places_from(play.leader(trick), seat)]
@@ -44,7 +45,7 @@ fn push_card(text: &mut GameText, card: Card)
 
 /// Adds the card in a column of a trick's line.
 fn push_column(text: &mut GameText, play: &Play, trick: usize, column: usize)
-    requires trick { trick < length play.now.cards / 4 }
+    requires trick { trick < whole_tricks play.now.cards }
     requires room { array_string_len text.old + 2 ≤ GAME_BYTES }
     ensures text { text.new.bytes ≡ text.old.bytes ++ column_text play.now.contract play.now.cards trick column }
     ensures room { array_string_len text.new ≤ array_string_len text.old + 2 }
@@ -55,7 +56,7 @@ fn push_column(text: &mut GameText, play: &Play, trick: usize, column: usize)
 
 /// Adds the line of a trick.
 fn push_trick(text: &mut GameText, play: &Play, trick: usize)
-    requires trick { trick < length play.now.cards / 4 }
+    requires trick { trick < whole_tricks play.now.cards }
     requires room { array_string_len text.old + TRICK_BYTES ≤ GAME_BYTES }
     ensures line { text.new.bytes ≡ text.old.bytes ++ (trick_line play.now.contract play.now.cards trick ++ 10 ∷ []) }
     ensures room { array_string_len text.new ≤ array_string_len text.old + TRICK_BYTES }
@@ -84,7 +85,7 @@ fn push_star(text: &mut GameText, tricks: usize)
 /// Adds the lines of the first tricks.
 fn push_tricks(text: &mut GameText, play: &Play, tricks: usize)
     requires few { tricks ≤ 13 }
-    requires played { tricks ≤ length play.now.cards / 4 }
+    requires played { tricks ≤ whole_tricks play.now.cards }
     requires room { array_string_len text.old + 13 * TRICK_BYTES ≤ GAME_BYTES }
     ensures lines { text.new.bytes ≡ text.old.bytes ++ lines_text (map (trick_line play.now.contract play.now.cards) (range_with_len 0 tricks)) }
     ensures room { array_string_len text.new ≤ array_string_len text.old + 13 * TRICK_BYTES }

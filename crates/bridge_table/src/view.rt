@@ -1,7 +1,8 @@
 //! What a player is shown of the current play of the table.
-ghost use Rattle.std.specs.Prelude.{◌≡◌, ◌≤◌, ◌/◌, length, take, [], None, Some, IfSome, map, All, MatchResult, Err};
+ghost use Rattle.std.specs.Prelude.{◌≡◌, ◌≤◌, length, take, [], None, Some, IfSome, map, All, MatchResult, Err};
 ghost use Rattle.std.specs.Option.{option_map};
 ghost use Rattle.bridge_cards.specs.CardSet.{cards_of};
+ghost use Rattle.bridge_play.specs.Trick.{whole_tricks};
 ghost use Rattle.session_rules.specs.See.{shown_among, shown_with, plain_trick, last_trick, shown_dummy, cards_left};
 ghost use Rattle.bridge_table.specs.Kept.{plain_of, IsTied, IsTiedIn};
 ghost use Rattle.bridge_cards.specs.Board.{dealer_of};
@@ -24,7 +25,7 @@ fn first_four(cards: &[Card]) -> &[Card]
 
 /// A whole trick, or the one that is not, the tricks counted from 0.
 pub fn trick_at(play: &Play, trick: usize) -> Trick
-    requires { trick ≤ length play.now.cards / 4 }
+    requires { trick ≤ whole_tricks play.now.cards }
     ensures { plain_seen result ≡ plain_trick play.now.contract play.now.cards trick }
 {
     let (_, rest) = play.cards().split_at(4 * trick);

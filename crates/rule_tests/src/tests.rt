@@ -7,6 +7,7 @@ mod movement;
 mod play;
 mod score;
 mod text;
+mod values;
 
 use std::fmt::Debug;
 use std::process::Abort;

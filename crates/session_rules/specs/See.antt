@@ -1,5 +1,5 @@
 -- What a player is shown.
-use Rattle.std.specs.Prelude.{ℕ, ◌+◌, ◌-◌, ◌/◌, ◌==◌, if◌then◌else◌, List, [], length, filter, slice_get, Option, None, Some, Result, Ok, Err}
+use Rattle.std.specs.Prelude.{ℕ, ◌+◌, ◌-◌, ◌==◌, if◌then◌else◌, List, [], length, filter, slice_get, Option, None, Some, Result, Ok, Err}
 use Rattle.std.specs.Option.{option_map, option_map_or}
 use Rattle.bridge_cards.specs.declared.seat.Seat.{Seat}
 use Rattle.bridge_cards.specs.declared.seat.Side.TheVariants.{NorthSouth, EastWest}
@@ -12,7 +12,7 @@ use Rattle.bridge_play.specs.declared.claim.Claim.{Claim}
 use Rattle.bridge_play.specs.Dummy.{dummy_of}
 use Rattle.bridge_play.specs.Legal.{holds}
 use Rattle.bridge_play.specs.Play.{PlayValue}
-use Rattle.bridge_play.specs.Trick.{leader_of, trick_at, tricks_won}
+use Rattle.bridge_play.specs.Trick.{leader_of, trick_at, whole_tricks, tricks_won}
 use Rattle.session_rules.specs.declared.refused.Refused.{Refused}
 use Rattle.session_rules.specs.declared.refused.Refused.TheVariants.{NotCurrent, NotDealt}
 use Rattle.session_rules.specs.declared.seating.Seating.{Seating}
@@ -55,17 +55,17 @@ plain_trick contract cards trick = record { leader = leader_of contract cards tr
 
 -- the last of the whole tricks
 abbrev pub last_trick : Contract → List ℕ → Option PlainTrick
-last_trick contract cards = if length cards / 4 == 0 then None else Some (plain_trick contract cards (length cards / 4 - 1))
+last_trick contract cards = if whole_tricks cards == 0 then None else Some (plain_trick contract cards (whole_tricks cards - 1))
 
 abbrev pub shown_dummy : PlayValue → Option (List ℕ)
 shown_dummy play = if length play.cards == 0 then None else Some (cards_left play.hands play.cards (dummy_of play.contract))
 
 abbrev pub shown_play : PlayValue → ShownPlay
 shown_play play = record {
-  trick = plain_trick play.contract play.cards (length play.cards / 4);
+  trick = plain_trick play.contract play.cards (whole_tricks play.cards);
   last = last_trick play.contract play.cards;
-  tricks_ns = tricks_won play.contract play.cards NorthSouth (length play.cards / 4);
-  tricks_ew = tricks_won play.contract play.cards EastWest (length play.cards / 4);
+  tricks_ns = tricks_won play.contract play.cards NorthSouth (whole_tricks play.cards);
+  tricks_ew = tricks_won play.contract play.cards EastWest (whole_tricks play.cards);
   dummy = shown_dummy play;
 }
 

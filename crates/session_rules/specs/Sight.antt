@@ -1,11 +1,11 @@
 -- What the view of a player depends on: two sessions that agree there.
-use Rattle.std.specs.Prelude.{◌≡◌, ◌≢◌, ℕ, ◌/◌, length, List, [], slice_get, Option, None, Some, Ok}
+use Rattle.std.specs.Prelude.{◌≡◌, ◌≢◌, ℕ, length, List, [], slice_get, Option, None, Some, Ok}
 use Rattle.std.specs.Option.{option_map_or}
 use Rattle.bridge_cards.specs.declared.seat.Seat.{Seat}
 use Rattle.bridge_cards.specs.declared.seat.Side.{Side}
 use Rattle.bridge_play.specs.Dummy.{dummy_of}
 use Rattle.bridge_play.specs.Play.{PlayValue}
-use Rattle.bridge_play.specs.Trick.{tricks_won}
+use Rattle.bridge_play.specs.Trick.{whole_tricks, tricks_won}
 use Rattle.session_rules.specs.declared.seating.Seating.{Seating}
 use Rattle.session_rules.specs.Record.{PlainRecord, play_of}
 use Rattle.session_rules.specs.State.{SessionValue, deal_on, row_at, current_index, seating_of}
@@ -17,9 +17,9 @@ pub record PlaysLookAlike (p q : PlayValue) : Type 0 where
   pub cards_made : length p.cards ≡ length q.cards
   pub claims_made : p.claims ≡ q.claims
   pub claim : p.claim ≡ q.claim
-  pub trick : plain_trick p.contract p.cards (length p.cards / 4) ≡ plain_trick q.contract q.cards (length q.cards / 4)
+  pub trick : plain_trick p.contract p.cards (whole_tricks p.cards) ≡ plain_trick q.contract q.cards (whole_tricks q.cards)
   pub last : last_trick p.contract p.cards ≡ last_trick q.contract q.cards
-  pub tricks : (side : Side) → tricks_won p.contract p.cards side (length p.cards / 4) ≡ tricks_won q.contract q.cards side (length q.cards / 4)
+  pub tricks : (side : Side) → tricks_won p.contract p.cards side (whole_tricks p.cards) ≡ tricks_won q.contract q.cards side (whole_tricks q.cards)
   pub dummy : length p.cards ≢ 0 → cards_left p.hands p.cards (dummy_of p.contract) ≡ cards_left q.hands q.cards (dummy_of q.contract)
 
 -- both have a contract, or neither

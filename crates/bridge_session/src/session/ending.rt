@@ -1,8 +1,9 @@
 //! Endings of plays, for the solver.
-ghost use Rattle.std.specs.Prelude.{◌≡◌, ◌*◌, ◌/◌, ◌≤◌, length, Ok, Err, IfOk, MatchResult};
+ghost use Rattle.std.specs.Prelude.{◌≡◌, ◌*◌, ◌/◌, ◌≤◌, Ok, Err, IfOk, MatchResult};
 ghost use Rattle.std.specs.Bool.{OnTrue};
 ghost use Rattle.std.specs.Option.{option_copied};
 ghost use Rattle.bridge_endings.specs.Ending.{IsEnding};
+ghost use Rattle.bridge_play.specs.Trick.{whole_tricks};
 ghost use Rattle.bridge_session.specs.Ending.{plain_ending, ending_after, leave_an_ending, ending_in, ending_answer};
 
 use super::Session;
@@ -18,7 +19,7 @@ const LEAST_CARDS: usize = 28;
 /// What is left of a play after so many of its whole tricks.
 fn ending_after(play: &Play, tricks: usize) -> Ending
     requires few_left { 7 ≤ tricks }
-    requires played { tricks ≤ length play.now.cards / 4 }
+    requires played { tricks ≤ whole_tricks play.now.cards }
     ensures left { plain_ending result ≡ ending_after play.now (4 * tricks) }
     ensures ending { IsEnding result.hands }
 {
@@ -29,7 +30,7 @@ fn ending_after(play: &Play, tricks: usize) -> Ending
 /// Whether so many cards are whole tricks, leave at most six, and were played.
 fn leave_an_ending(play: &Play, cards: usize) -> bool
     ensures answer { result ≡ leave_an_ending play.now cards }
-    ensures tricks { OnTrue result ((4 * (cards / 4) ≡ cards) × (7 ≤ cards / 4) × (cards / 4 ≤ length play.now.cards / 4)) }
+    ensures tricks { OnTrue result ((4 * (cards / 4) ≡ cards) × (7 ≤ cards / 4) × (cards / 4 ≤ whole_tricks play.now.cards)) }
 {
     cards % 4 == 0 && cards >= LEAST_CARDS && cards <= play.cards().len()
 }

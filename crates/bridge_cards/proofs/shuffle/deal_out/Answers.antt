@@ -1,4 +1,4 @@
-use Rattle.std.proofs.Common.{◌≡◌, ℕ, List, subst, sym}
+use Rattle.std.proofs.Common.{subst, sym}
 use Rattle.bridge_cards.specs.Shuffle.{IsDealtFrom}
 use Rattle.bridge_cards.specs.BadDeal.{JudgesHands}
 use Rattle.bridge_cards.proofs.DealtHands.{parts_dealt}

@@ -1,4 +1,4 @@
-use Rattle.std.proofs.Common.{◌≡◌, ◌∷◌, ◌++◌, [], List, Option, Some, None, IsSome, Result, Ok, Err, IsOk, OnOk, take, ◌+◌, add-one, true, false, refl, sym, ap, subst, ◌∙◌}
+use Rattle.std.proofs.Common.{◌≡◌, ◌∷◌, ◌++◌, [], List, Option, Some, None, IsSome, Result, Ok, Err, IsOk, OnOk, take, ◌+◌, add-one, false, refl, sym, ap, subst, ◌∙◌}
 use Rattle.std.specs.Prelude.{is_some, is_ok}
 use Rattle.std.proofs.Math.Seq.{take-suc}
 use Rattle.std.proofs.lemmas.List.{take_all}

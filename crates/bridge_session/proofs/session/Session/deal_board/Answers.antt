@@ -41,8 +41,8 @@ pub invariant_of-self : goal.invariant_of-self
 invariant_of-self c =
     let s = c.self.inside in
     let lists = lists_in s.tables.items in
-    let dealt : AreHands c.in-Ok.deal = (c.in-Ok.ensures.deal.four, λ index d within. (c.in-Ok.ensures.deal.each index d within).set) in
-    let hands = subst AreHands c.in-Ok.ensures.hands dealt in
+    let dealt : AreHands c.in-Ok.deal = (c.in-Ok.ensures.judged.1.four, λ index d within. (c.in-Ok.ensures.judged.1.each index d within).set) in
+    let hands = subst AreHands c.in-Ok.ensures.judged.0 dealt in
     let is : IsSession (state_of s.config s.round (slice_set s.deals.items (c.args.board - 1) (Some c.args.hands)) lists) = record {
       valid = deal_valid (before c) c.args.board c.args.hands (session_before c).valid (accepted c);
       ranges = record {
@@ -50,7 +50,7 @@ invariant_of-self c =
         records = (session_before c).ranges.records;
       };
     } in
-    let session = subst (λ hands. IsSession (state_of s.config s.round (slice_set s.deals.items (c.args.board - 1) (Some hands)) lists)) (sym c.in-Ok.ensures.hands) is in
+    let session = subst (λ hands. IsSession (state_of s.config s.round (slice_set s.deals.items (c.args.board - 1) (Some hands)) lists)) (sym c.in-Ok.ensures.judged.0) is in
     subst (λ index. IsKept s.config s.round (slice_set s.deals.items index (Some c.in-Ok.deal)) lists) (sym (index_is c))
     (kept_dealt s.config s.round s.deals.items lists c.args.board c.in-Ok.deal (none_there c) session c.self.invariant)
 
