@@ -57,15 +57,17 @@ pub record Syncs {D T E : Type 0} (disk : Disk D) (old new : D) (result : Result
   pub ok : OnOk result (IsSynced disk old new)
   pub err : OnErr result (IsSynced disk old new ⊎ IsUntouched disk old new)
 
--- all that is said of a read, a write, a sync
+-- all that is said of a read
 pub record ReadCall {D T E : Type 0} (disk : Disk D) (old new : D) (i : ℕ) (bytes : List ℕ) (result : Result T E) : Type 0 where
   pub called : Called disk old new result
   pub reads : disk.honest old → Reads disk old new i bytes result
 
+-- all that is said of a write
 pub record WriteCall {D T E : Type 0} (disk : Disk D) (old new : D) (i : ℕ) (bytes : List ℕ) (result : Result T E) : Type 0 where
   pub called : Called disk old new result
   pub writes : disk.honest old → Writes disk old new i bytes result
 
+-- all that is said of a sync
 pub record SyncCall {D T E : Type 0} (disk : Disk D) (old new : D) (result : Result T E) : Type 0 where
   pub called : Called disk old new result
   pub syncs : disk.honest old → Syncs disk old new result

@@ -89,6 +89,7 @@ last_in : (v : List ℕ) (ws : List (List ℕ)) → Contains (v ∷ ws) (last_of
 last_in v [] = (0, omega arith, refl)
 last_in v (w ∷ ws) = Contains-append_right (v ∷ []) (w ∷ ws) (last_of w ws) (last_in w ws)
 
+-- so the disk as it reads is one of the images that a power cut may leave
 pub newest_left : (sectors : ℕ → SectorValue) → IsImage sectors (λ k. newest (sectors k))
 newest_left sectors k = last_in (sectors k).synced (sectors k).since
 
@@ -98,10 +99,12 @@ module _ (sectors : ℕ → SectorValue) (events : List Event) (replayed : IsRep
   all_events k =
       ap (λ (es : List Event). replay k (restarted (sectors k)) es) (take_all (length events) events (omega arith)) ∙ replayed k
 
+  -- what a power cut may leave now, it might have left since an earlier moment
   pub left_now : (t : ℕ) (c : Image) → t ≤ length events → IsImage sectors c → LeftSince sectors events t c
   left_now t c le image =
       (length events, le, omega arith, λ k. subst (λ (h : SectorValue). Contains (possible h) (c k)) (sym (all_events k)) (image k))
 
+  -- since this moment it can have left nothing else
   pub left_only_now : (c : Image) → LeftSince sectors events (length events) c → IsImage sectors c
   left_only_now c left = let all : left.0 ≡ length events = omega (arith, left.1, left.2) in
       λ k. subst (λ (h : SectorValue). Contains (possible h) (c k))

@@ -1,3 +1,4 @@
+//! What the tests of disks share.
 use std::fmt::Debug;
 use std::process::Abort;
 

@@ -19,12 +19,15 @@ digit Two = 50
 abbrev pub mark : DiskFormat → ℕ → List ℕ
 mark format kind = 66 ∷ 68 ∷ digit format ∷ kind ∷ []
 
+-- of a header, by the letter H
 abbrev pub header_mark : DiskFormat → List ℕ
 header_mark format = mark format 72
 
+-- of a part, by the letter P
 abbrev pub part_mark : DiskFormat → List ℕ
 part_mark format = mark format 80
 
+-- of a record, by the letter R
 abbrev pub record_mark : DiskFormat → List ℕ
 record_mark format = mark format 82
 
@@ -37,13 +40,15 @@ unfoldable pub sector : List ℕ → ℕ → ℕ → List ℕ → List ℕ
 sector mark epoch number payload =
     label mark epoch number ++ to_be_bytes w16 (length payload) ++ payload ++ replicate (494 - length payload) 0
 
--- the epoch, the number and the payload that a sector states
+-- the epoch that a sector states
 unfoldable pub epoch_field : List ℕ → ℕ
 epoch_field bytes = from_be_bytes w64 (take 8 (drop 4 bytes))
 
+-- the number that it states: of parts in a header, else the part's or the record's own
 unfoldable pub number_field : List ℕ → ℕ
 number_field bytes = from_be_bytes w32 (take 4 (drop 12 bytes))
 
+-- the payload that it states, by the payload's length
 unfoldable pub payload_field : List ℕ → List ℕ
 payload_field bytes = take (from_be_bytes w16 (take 2 (drop 16 bytes))) (drop 18 bytes)
 

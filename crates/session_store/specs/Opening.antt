@@ -37,6 +37,7 @@ module _ {S A R : Type 0} (kept : Keeping S A R) where
   reading_from image None = Err NotFormatted
   reading_from image (Some h) = if h.epoch == 2 ^ 64 - 1 then Err EpochsSpent else recovered kept image
 
+  -- the same by the header that counts
   unfoldable pub reading : Image → Result S StoreFault
   reading image = reading_from image (header_in image)
 

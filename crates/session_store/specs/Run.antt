@@ -112,6 +112,7 @@ module _ {D S A R : Type 0} (kept : Keeping S A R) (disk : Disk D) where
   IsCut start s x image d t = ((n : ℕ) × IsLongest start (s.accepted ++ accepts x) image n × (t.accepted ≡ take n (s.accepted ++ accepts x)))
       × MayLeave s.place x image × HoldsOnly image d × (t.place ≡ AtRest d) × (t.confirmed ≡ s.confirmed)
 
+  -- an event: something is done, or power is cut while it might have been done
   abbrev pub Happens : S → Standing D S A → Event D S A → Standing D S A → Type 0
   Happens start s (Done x) t = Does start s.place s.accepted s.confirmed x t
   Happens start s (Cut x image d) t =

@@ -5,6 +5,7 @@ use Rattle.session_store.specs.Keeping.{Keeping}
 use Rattle.session_store.specs.Stands.{recovered, IsInOrder}
 
 module _ {S A R D : Type 0} (kept : Keeping S A R) (disk : Disk D) where
+  -- an honest disk, large enough, of which every power cut leaves a state
   pub record IsSoundDisk (d : D) : Type 0 where
     pub honest : disk.honest d
     pub large : 2048 ≤ disk.count d

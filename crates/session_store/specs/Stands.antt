@@ -16,6 +16,7 @@ unfoldable pub placed : ℕ → Option Header → Option Header
 placed at None = None
 placed at (Some h) = if place h.epoch == at then Some h else None
 
+-- the header that these bytes are at this sector
 abbrev pub header_at : ℕ → List ℕ → Option Header
 header_at at bytes = placed at (header_of bytes)
 
@@ -25,6 +26,7 @@ newer None b = b
 newer (Some a) None = Some a
 newer (Some a) (Some b) = if nat_lt a.epoch b.epoch then Some b else Some a
 
+-- the header that counts
 unfoldable pub header_in : Image → Option Header
 header_in image = newer (header_at 0 (image 0)) (header_at 512 (image 512))
 
@@ -46,11 +48,12 @@ parts_from format image epoch i (suc left) =
     (parts_from format image epoch (i + 1) left)
 
 module _ {S A R : Type 0} (kept : Keeping S A R) where
-  -- after record k's step, and after its sector: the records go on where it is accepted
+  -- after record k's step: the records go on where it is accepted
   unfoldable pub after_step : ℕ → (S → Result S StoreFault) → Result S R → Result S StoreFault
   after_step k next (Ok s) = next s
   after_step k next (Err _) = Err (Damaged (1024 + k))
 
+  -- after record k's sector: the records end where it is missing
   unfoldable pub after_entry : ℕ → S → (S → Result S StoreFault) → Entry A → Result S StoreFault
   after_entry k s next Missing = Ok s
   after_entry k s next DamagedEntry = Err (Damaged (1024 + k))
@@ -63,15 +66,17 @@ module _ {S A R : Type 0} (kept : Keeping S A R) where
   replay format (suc left) image epoch k s =
       after_entry k s (λ t. replay format left image epoch (k + 1) t) (entry_in kept format epoch k (image (1024 + k)))
 
-  -- after the parts, and after the header: the state of its parts and of its epoch's records
+  -- after the state of the header's parts: that of its epoch's records, if the parts have one
   unfoldable pub after_state : Image → Header → Option S → Result S StoreFault
   after_state image h None = Err (Damaged (place h.epoch))
   after_state image h (Some s) = replay h.format 1024 image h.epoch 0 s
 
+  -- after the parts, if each is in form
   unfoldable pub after_parts : Image → Header → Result (List (List ℕ)) StoreFault → Result S StoreFault
   after_parts image h (Err fault) = Err fault
   after_parts image h (Ok parts) = after_state image h (kept.state_of h.format parts)
 
+  -- after the header, if there is one
   unfoldable pub after_header : Image → Option Header → Result S StoreFault
   after_header image None = Err NotFormatted
   after_header image (Some h) = after_parts image h (parts_from h.format image h.epoch 0 h.parts)

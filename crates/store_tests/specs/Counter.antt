@@ -8,6 +8,7 @@ use Rattle.session_store.specs.Keeping.{Keeping}
 use Rattle.session_store.specs.declared.disk_format.DiskFormat.{DiskFormat}
 use Rattle.session_store.specs.declared.disk_format.DiskFormat.TheVariants.{One, Two}
 
+-- a counter: in how many parts it is written, and its total
 pub record CounterValue : Type 0 where
   pub parts : ℕ
   pub total : ℕ
@@ -16,6 +17,7 @@ pub record CounterValue : Type 0 where
 abbrev pub count_code : Coded CounterValue
 count_code = code_by (ℕ × ℕ) (coded× coded_ℕ coded_ℕ) (λ c. (c.parts, c.total)) (λ t. record { parts = t.0; total = t.1 }) (λ _. refl)
 
+-- from 1 to 494 parts, and a total of two bytes
 pub record IsCount (c : CounterValue) : Type 0 where
   pub some : 1 ≤ c.parts
   pub few : c.parts ≤ 494
@@ -26,10 +28,11 @@ abbrev pub total_of : DiskFormat → ℕ → ℕ → ℕ
 total_of One low high = 256 * high + low
 total_of Two high low = 256 * high + low
 
--- the two bytes of a total, and the total of two bytes
+-- the two bytes of a total
 abbrev pub total_bytes : ℕ → List ℕ
 total_bytes n = (n / 256) ∷ (n % 256) ∷ []
 
+-- the total of two bytes, if they are two
 abbrev pub total_in : DiskFormat → List ℕ → Option ℕ
 total_in format [] = None
 total_in format (first ∷ []) = None
@@ -43,6 +46,7 @@ count_from first rest None = None
 count_from first rest (Some n) =
     if nat_lt (length rest) 494 && list_all (bytes_eq first) rest then Some (record { parts = length rest + 1; total = n }) else None
 
+-- the counter of these parts, if it is one
 abbrev pub count_in : DiskFormat → List (List ℕ) → Option CounterValue
 count_in format [] = None
 count_in format (first ∷ rest) = count_from first rest (total_in format first)
@@ -51,10 +55,12 @@ count_in format (first ∷ rest) = count_from first rest (total_in format first)
 abbrev pub add_bytes : ℕ → List ℕ
 add_bytes n = 1 ∷ n ∷ []
 
+-- the first byte of an action
 abbrev pub add_kind : DiskFormat → ℕ
 add_kind One = 7
 add_kind Two = 1
 
+-- the number that the bytes of an action add, if they are those of one
 abbrev pub add_in : DiskFormat → List ℕ → Option ℕ
 add_in format [] = None
 add_in format (kind ∷ []) = None
@@ -65,6 +71,7 @@ add_in format (kind ∷ n ∷ more ∷ rest) = None
 abbrev pub add : CounterValue → ℕ → Result CounterValue ℕ
 add c n = if nat_lt (c.total + n) 65536 then Ok (record c { total = c.total + n }) else Err c.total
 
+-- what the counter means to a store
 abbrev pub counting : Keeping CounterValue ℕ ℕ
 counting = record {
   IsState = IsCount;

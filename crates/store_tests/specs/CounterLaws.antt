@@ -153,6 +153,7 @@ add_is c n d is added =
           let stated : Err c.total ≡ Ok d = sym (cond-false test (Ok made) (Err c.total) large) ∙ added in cc
     ]
 
+-- all of them
 pub count_lawful : IsLawful counting
 count_lawful = record {
   read_back = read_back;
