@@ -51,11 +51,7 @@ fn opening_table(alloc: Global, row: Row, boards: u8) -> Result<Vec<Record>, All
 }
 
 /// The records of all the rows.
-fn opening_tables(
-    alloc: Global,
-    rows: &[Row],
-    boards: u8,
-) -> Result<Vec<Vec<Record>>, AllocError>
+fn opening_tables(alloc: Global, rows: &[Row], boards: u8) -> Result<Vec<Vec<Record>>, AllocError>
     requires sets { All (λ row. (1 ≤ row.set) × (row.set ≤ 12)) rows.now }
     requires boards { boards ≤ 3 }
     ensures { IfOk result (λ tables. map (λ table. table.items) tables.items ≡ map (new_table boards) rows.now) }

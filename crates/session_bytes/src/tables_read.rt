@@ -20,10 +20,7 @@ use bridge_table::Record;
 use session_store::{DiskFormat, PAYLOAD_BYTES};
 
 /// Reads the deals of the boards that the parts were written of; `None` where these are the parts of no boards.
-pub fn read_deals(
-    parts: &[ArrayVec<u8, PAYLOAD_BYTES>],
-    deals: &mut [Option<Deal>],
-) -> Option<()>
+pub fn read_deals(parts: &[ArrayVec<u8, PAYLOAD_BYTES>], deals: &mut [Option<Deal>]) -> Option<()>
     requires { length deals.old ≡ length parts.now }
     ensures written { OnSome result (map deal_part deals.new ≡ map items_of parts.now) }
     ensures deals { OnSome result (AreDeals deals.new) }

@@ -1,12 +1,11 @@
 -- The director's rulings: the answer, and what is left of them.
-use Rattle.std.specs.Prelude.{Bool, not, ◌&&◌, if◌then◌else◌, List, Option, None, Some, Result, Ok, Err}
+use Rattle.std.specs.Prelude.{Bool, not, ◌&&◌, if◌then◌else◌, List, Option, None, Some, Ok, Err}
 use Rattle.bridge_auction.specs.declared.call.Call.{Call}
 use Rattle.bridge_score.specs.declared.Scoring.{Scoring}
 use Rattle.bridge_score.specs.declared.Scoring.TheVariants.{MatchPoints, Imps}
 use Rattle.bridge_play.specs.Play.{PlayValue, is_over}
 use Rattle.session_rules.specs.declared.correction.Correction.{Correction}
 use Rattle.session_rules.specs.declared.correction.Correction.TheVariants as correction
-use Rattle.session_rules.specs.declared.refused.Refused.{Refused}
 use Rattle.session_rules.specs.declared.refused.Refused.TheVariants.{NoContract, NotFinished, NotMatchPoints}
 use Rattle.session_rules.specs.declared.ruling.Ruling.{Ruling}
 use Rattle.session_rules.specs.declared.ruling.Ruling.TheVariants as ruling

@@ -1,5 +1,5 @@
 -- What contracts see of a view.
-use Rattle.std.specs.Prelude.{◌≡◌, ◌≤◌, ℕ, length, is_some, option_and_then, List, Option, Ok}
+use Rattle.std.specs.Prelude.{◌≡◌, ◌≤◌, ℕ, length, is_some, option_and_then, List, Ok}
 use Rattle.std.specs.Option.{option_map, option_map_or}
 use Rattle.bridge_cards.specs.declared.seat.Seat.{Seat}
 use Rattle.bridge_cards.specs.Board.{dealer_of, vulnerability_on}
