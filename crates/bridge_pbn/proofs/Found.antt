@@ -11,8 +11,7 @@ use Rattle.session_rules.specs.declared.action.PlayId.{PlayId}
 use Rattle.session_rules.specs.declared.outcome.Outcome.{Outcome}
 use Rattle.session_rules.specs.Outcome.{outcome_of}
 use Rattle.session_rules.specs.Record.{PlainRecord, bidding_of, playing_in, play_of, contract_in}
-use Rattle.session_rules.specs.State.{SessionValue, deal_on, hands_on}
-use Rattle.session_rules.specs.Step.{record_of}
+use Rattle.session_rules.specs.State.{SessionValue, deal_on, hands_on, record_of}
 use Rattle.bridge_pbn.specs.Games.{game_by, game_lines, game_at, play_at, listed, is_listed}
 
 -- the hands do not matter to the cards of a play

@@ -11,8 +11,7 @@ use Rattle.session_rules.specs.declared.outcome.Outcome.{Outcome}
 use Rattle.session_rules.specs.declared.outcome.Outcome.TheVariants.{Unfinished, PassedOut, Played, Voided, Adjusted}
 use Rattle.session_rules.specs.Record.{PlainRecord, play_of}
 use Rattle.session_rules.specs.Outcome.{outcome_of}
-use Rattle.session_rules.specs.State.{SessionValue, deal_on, is_of_set}
-use Rattle.session_rules.specs.Step.{record_of}
+use Rattle.session_rules.specs.State.{SessionValue, deal_on, is_of_set, record_of}
 use Rattle.bridge_pbn.specs.Lines.{lines_text, parted}
 use Rattle.bridge_pbn.specs.Tags.{event_tags, player_tags, board_tags, outcome_tags, table_tags}
 use Rattle.bridge_pbn.specs.Sections.{auction_lines, play_lines}

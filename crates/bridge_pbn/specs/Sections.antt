@@ -41,6 +41,7 @@ card_by contract cards trick seat = slice_index cards (4 * trick + places_from (
 abbrev pub column_text : Contract → List ℕ → ℕ → ℕ → List ℕ
 column_text contract cards trick column = card_text (card_by contract cards trick (clockwise_from (leader_of contract cards 0) column))
 
+-- the line of a trick: a card in each column
 abbrev pub trick_line : Contract → List ℕ → ℕ → List ℕ
 trick_line contract cards trick = spaced (map (column_text contract cards trick) (0 ∷ 1 ∷ 2 ∷ 3 ∷ []))
 

@@ -18,6 +18,7 @@ use Rattle.bridge_pbn.specs.Lines.{tag}
 abbrev pub player_name : List Pair → ℕ → ℕ → List ℕ
 player_name pairs pair index = unwrap_or (option_and_then (λ (p : Pair). slice_get p.names index) (slice_get pairs (pair - 1))) []
 
+-- the scoring, as PBN names it
 abbrev pub scoring_text : Scoring → List ℕ
 scoring_text MatchPoints = codes "MP"
 scoring_text Imps = codes "IMP"
@@ -49,28 +50,21 @@ board_tags board hands scoring =
     ∷ tag (codes "Scoring") (scoring_text scoring)
     ∷ []
 
+-- the declarer, if there is one
 abbrev pub declarer_text : Outcome → List ℕ
-declarer_text Unfinished = []
-declarer_text PassedOut = []
 declarer_text (Played contract tricks) = seat_letter contract.declarer ∷ []
-declarer_text Voided = []
-declarer_text (Adjusted ns ew) = []
+declarer_text _ = []
 
 -- the last bid and its doubling, or that nobody bid
 abbrev pub contract_text : Outcome → List ℕ
-contract_text Unfinished = []
-contract_text PassedOut = codes "Pass"
 contract_text (Played contract tricks) = bid_text contract.bid ++ doubling_text contract.doubling
-contract_text Voided = []
-contract_text (Adjusted ns ew) = []
+contract_text PassedOut = codes "Pass"
+contract_text _ = []
 
 -- declarer's tricks, those of a ruling where there is one
 abbrev pub result_text : Outcome → List ℕ
-result_text Unfinished = []
-result_text PassedOut = []
 result_text (Played contract tricks) = decimal tricks
-result_text Voided = []
-result_text (Adjusted ns ew) = []
+result_text _ = []
 
 -- what came of the play
 abbrev pub outcome_tags : Outcome → List (List ℕ)

@@ -25,13 +25,11 @@ fn write_game<W: Write>(
     requires table { IsTableNumber row.table }
     ensures { WrittenGames (stream W.contents writer.old writer.new) begun (option_to_list (game_at session.now board row)) result }
 {
-    match game_text(session, board, row, begun) {
-        Some(game) => match write_text(writer, game.as_str().as_bytes()) {
-            Ok(()) => Ok(true),
-            Err(error) => Err(error),
-        },
-        None => Ok(begun),
-    }
+    let Some(game) = game_text(session, board, row, begun) else {
+        return Ok(begun);
+    };
+    write_text(writer, game.as_str().as_bytes())?;
+    Ok(true)
 }
 
 /// Writes the games of a board. The answer is whether a game stands there now.
@@ -46,10 +44,7 @@ fn write_board<W: Write>(
     let rows = session.config().fields().movement.rows();
     let mut begun_now = begun;
     for row in rows {
-        match write_game(session, board, *row, begun_now, writer) {
-            Ok(now) => begun_now = now,
-            Err(error) => return Err(error),
-        }
+        begun_now = write_game(session, board, *row, begun_now, writer)?;
     }
     Ok(begun_now)
 }
@@ -61,10 +56,7 @@ fn write_games<W: Write>(session: &Session, writer: &mut W) -> Result<bool, Erro
     let mut begun = false;
     for number in 1..37 {
         let board = BoardNumber::new(number).unwrap();
-        match write_board(session, board, begun, writer) {
-            Ok(now) => begun = now,
-            Err(error) => return Err(error),
-        }
+        begun = write_board(session, board, begun, writer)?;
     }
     Ok(begun)
 }
@@ -77,11 +69,7 @@ fn write_games<W: Write>(session: &Session, writer: &mut W) -> Result<bool, Erro
 pub fn write_pbn<W: Write>(session: &Session, writer: &mut W) -> Result<(), Error>
     ensures { Written (stream W.contents writer.old writer.new) (session_text session.now) result }
 {
-    match write_text(writer, b"% PBN 2.1\n") {
-        Ok(()) => match write_games(session, writer) {
-            Ok(_) => Ok(()),
-            Err(error) => Err(error),
-        },
-        Err(error) => Err(error),
-    }
+    write_text(writer, b"% PBN 2.1\n")?;
+    write_games(session, writer)?;
+    Ok(())
 }

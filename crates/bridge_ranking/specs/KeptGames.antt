@@ -15,6 +15,7 @@ use Rattle.bridge_score.specs.ScoringTable.{IsScore}
 abbrev pub kept_game : Row → Record → Option Game
 kept_game row kept = game_by row kept.board (outcome_by kept.auction.calls kept.play kept.ruling)
 
+-- the games of a row with its table's records
 abbrev pub kept_games_in : Row × List Record → List Game
 kept_games_in both = filter_map (kept_game both.0) both.1
 
@@ -25,7 +26,7 @@ kept_games rows tables = flat_map kept_games_in (zip rows tables)
 -- a score is within the scoring table
 abbrev pub IsResult : PlayResult → Type 0
 IsResult (Score score) = IsScore score
-IsResult (Averages ns ew) = Unit {0}
+IsResult _ = Unit {0}
 
 -- the score of a game is within the scoring table, and its board is one
 abbrev pub IsGame : Game → Type 0

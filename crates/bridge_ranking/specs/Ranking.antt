@@ -28,12 +28,12 @@ use Rattle.session_rules.specs.declared.average.Average.{Average}
 use Rattle.session_rules.specs.Average.{percent_of}
 use Rattle.session_rules.specs.declared.outcome.Outcome.{Outcome}
 use Rattle.session_rules.specs.declared.outcome.Outcome.TheVariants.{Unfinished, PassedOut, Played, Voided, Adjusted}
-use Rattle.session_rules.specs.declared.refused.Refused.{Refused}
+use Rattle.session_rules.specs.Answer.{Answer}
 use Rattle.session_rules.specs.declared.refused.Refused.TheVariants.{NoSuchPlay}
 use Rattle.session_rules.specs.Record.{PlainRecord}
 use Rattle.session_rules.specs.Outcome.{outcome_of}
 use Rattle.session_rules.specs.State.{SessionValue, ranking_asker}
-use Rattle.session_rules.specs.Step.{if_allowed}
+use Rattle.session_rules.specs.DirectorStep.{if_allowed}
 
 -- The plays that are compared
 
@@ -49,12 +49,12 @@ played_score board contract tricks =
 
 -- what a play is compared by: its score where it is finished and not void, or its averages
 abbrev pub result_of : ℕ → Outcome → Option PlayResult
-result_of board Unfinished = None
 result_of board PassedOut = Some (Score (pos 0))
 result_of board (Played contract tricks) = Some (Score (played_score board contract tricks))
-result_of board Voided = None
 result_of board (Adjusted ns ew) = Some (Averages ns ew)
+result_of board _ = None
 
+-- the game of a row on a board with that outcome, if it is compared
 abbrev pub game_by : Row → ℕ → Outcome → Option Game
 game_by row board outcome =
     option_map (λ result. record { board = board; ns = row.ns; ew = row.ew; result = result }) (result_of board outcome)
@@ -63,7 +63,7 @@ game_by row board outcome =
 abbrev pub game_in : Row → PlainRecord → Option Game
 game_in row plain = game_by row plain.board (outcome_of plain)
 
--- of a row's records
+-- the games of a row's records
 abbrev pub games_in : Row × List PlainRecord → List Game
 games_in both = filter_map (game_in both.0) both.1
 
@@ -73,6 +73,7 @@ games_of s = flat_map games_in (zip s.configuration.movement.rows s.records)
 
 -- What a pair gains
 
+-- the game is on the board
 abbrev pub is_on : ℕ → Game → Bool
 is_on board game = game.board == board
 
@@ -107,6 +108,7 @@ abbrev pub award : Scoring → Average → ℕ → ℤ
 award MatchPoints average available = pos (percent_of average * available / 100)
 award Imps average available = pos 0
 
+-- the average of a side
 abbrev pub average_for : Side → Average → Average → Average
 average_for NorthSouth ns ew = ns
 average_for EastWest ns ew = ew
@@ -120,11 +122,12 @@ gained scoring scores side (Averages ns ew) = award scoring (average_for side ns
 abbrev pub side_in : ℕ → Game → Option Side
 side_in pair game = if game.ns == pair then Some NorthSouth else if game.ew == pair then Some EastWest else None
 
--- what the pair gained in a game, and what was available to it, if it played there
+-- what the pair gained in a game, if it played there
 abbrev pub value_in : Scoring → List Game → ℕ → Game → ℤ
 value_in scoring games pair game =
     option_map_or (λ side. gained scoring (scores_on games side game.board) side game.result) (side_in pair game) (pos 0)
 
+-- what was available to the pair in a game
 abbrev pub available_in : List Game → ℕ → Game → ℕ
 available_in games pair game = option_map_or (λ side. available_of (scores_on games side game.board)) (side_in pair game) 0
 
@@ -149,10 +152,11 @@ pairs_of_field shape First = range_with_len 1 shape.split
 pairs_of_field shape Second = range_with_len (shape.split + 1) (shape.pairs - shape.split)
 
 -- the answer to who asks for the ranking of a field
-abbrev pub ranking_answer : SessionValue → ℕ → Field → Result (Unit {0}) Refused
+abbrev pub ranking_answer : SessionValue → ℕ → Field → Answer
 ranking_answer s key field =
     if_allowed (ranking_asker s.configuration s.round key) (if has_field s.configuration.movement.shape field then Ok tt else Err NoSuchPlay)
 
+-- the lines of a field in a session
 abbrev pub lines_of : SessionValue → Field → List Line
 lines_of s field =
     map (line_of s.configuration.scoring (games_of s)) (pairs_of_field s.configuration.movement.shape field)

@@ -11,9 +11,11 @@ use Rattle.bridge_table.specs.declared.record.Record.{Record}
 use Rattle.session_rules.specs.declared.refused.Refused.{Refused}
 use Rattle.session_rules.specs.declared.refused.Refused.TheVariants.{NotCurrent}
 use Rattle.session_rules.specs.declared.seating.Seating.{Seating}
+use Rattle.session_rules.specs.Answer.{Answer, ◌>>◌, require}
 use Rattle.session_rules.specs.Record.{PlainRecord}
-use Rattle.session_rules.specs.State.{SessionValue, deal_on, row_at, seating_of, is_of_set, index_of_row}
-use Rattle.session_rules.specs.Step.{seen_by, seen_deal, seen_records, answer_among, answer_seated, player_answer, acted_among, acted_at, acted, is_row_within, record_of}
+use Rattle.session_rules.specs.State.{SessionValue, deal_on, row_at, seating_of, is_of_set, index_of_row, is_row_within, record_of}
+use Rattle.session_rules.specs.PlayerStep.{seen_by, seen_deal, seen_records, answer_among, player_answer, acted_among, acted_at, acted}
+use Rattle.session_rules.proofs.PlayerAnswer.{answer_seated}
 use Rattle.session_rules.specs.StateRange.{IsSession}
 use Rattle.bridge_table.specs.Kept.{plain_of, board_kept, IsTiedIn}
 use Rattle.bridge_session.specs.KeptSession.{state_of, StateASession, IsKept}
@@ -29,8 +31,8 @@ answer_by s board at done seating =
 pub seated_answer : (s : SessionValue) (key board at : ℕ) (done : Deed) (seating : Seating) → seating_of s.configuration s.round key ≡ Ok seating → is_of_set s.configuration seating.set board ≡ true → player_answer (seen_by s key board) key board at done ≡ answer_among (row_at s.records seating.row) (deal_on s.deals board) board seating.seat at done
 unfolding answer_by
 seated_answer s key board at done seating sits of_set =
-    let among : Bool → Result (Unit {0}) Refused = λ b.
-    cond b (answer_among (row_at s.records seating.row) (cond b (deal_on s.deals board) None) board seating.seat at done) (Err NotCurrent) in
+    let among : Bool → Answer = λ b.
+    require b NotCurrent >> answer_among (row_at s.records seating.row) (cond b (deal_on s.deals board) None) board seating.seat at done in
     ap (answer_by s board at done) sits ∙ ap among of_set
 
 -- the session after what a player did

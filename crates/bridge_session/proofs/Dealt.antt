@@ -14,7 +14,7 @@ use Rattle.session_rules.specs.Record.{playing_in, contract_in}
 use Rattle.session_rules.specs.declared.refused.Refused.{Refused}
 use Rattle.session_rules.specs.declared.refused.Refused.TheVariants.{Closed, NoSuchPlay, AlreadyDealt, BadDeal}
 use Rattle.session_rules.specs.State.{SessionValue, deal_on, hands_on, is_closed}
-use Rattle.session_rules.specs.Step.{deal_answer}
+use Rattle.session_rules.specs.DirectorStep.{deal_answer}
 use Rattle.session_rules.specs.StateRange.{IsSession}
 use Rattle.bridge_table.specs.Kept.{plain_of, IsTied, IsTiedIn}
 use Rattle.bridge_session.specs.KeptSession.{state_of, StateASession, IsKept}

@@ -6,10 +6,4 @@ pub mod Ruled
 pub mod LeftEndings
 pub mod PlayIndexes
 pub mod PartCount
-pub use Rattle.bridge_session.specs.Laws.DealtOut
-pub use Rattle.bridge_session.specs.Laws.PartLengths
-pub use Rattle.bridge_session.specs.Laws.SessionOf
-pub use Rattle.bridge_session.specs.Laws.StateRanges
-pub use Rattle.bridge_session.specs.Laws.SessionStays
-pub use Rattle.bridge_session.specs.Laws.SessionLawful
 pub mod Restored

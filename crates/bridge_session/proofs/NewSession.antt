@@ -16,7 +16,7 @@ use Rattle.session_rules.specs.State.{SessionValue, opening, opening_row, row_bo
 use Rattle.session_rules.specs.StateRange.{IsSession}
 use Rattle.bridge_table.specs.Kept.{plain_of, board_kept, new_record, IsTiedIn}
 use Rattle.bridge_session.specs.KeptSession.{state_of, StateASession, new_table, IsKept}
-use Rattle.bridge_session.specs.Laws.SessionStays.{opening_session}
+use Rattle.session_bytes.proofs.SessionStays.{opening_session}
 
 -- a new record is tied to whatever is dealt
 new_tied : (deals : List (Option (List ℕ))) (board : ℕ) → IsTiedIn deals (new_record board)
@@ -51,7 +51,7 @@ new_boards : (boards : List ℕ) → map board_kept (map new_record boards) ≡ 
 new_boards [] = refl
 new_boards (board ∷ boards) = ap (λ rest. board ∷ rest) (new_boards boards)
 
-rows_boards : (boards : ℕ) (rows : List Row) → map (map board_kept) (map (new_table boards) rows) ≡ map (row_boards boards) rows
+pub rows_boards : (boards : ℕ) (rows : List Row) → map (map board_kept) (map (new_table boards) rows) ≡ map (row_boards boards) rows
 rows_boards boards [] = refl
 rows_boards boards (row ∷ rows) =
     ap (λ first. first ∷ map (map board_kept) (map (new_table boards) rows)) (new_boards (row_boards boards row))

@@ -10,7 +10,7 @@ use Rattle.bridge_config.specs.ConfigValue.{ConfigValue}
 use Rattle.session_rules.specs.declared.refused.Refused.{Refused}
 use Rattle.session_rules.specs.declared.refused.Refused.TheVariants.{Closed, Stale, RoundOpen}
 use Rattle.session_rules.specs.State.{SessionValue, is_closed, hands_on}
-use Rattle.session_rules.specs.Step.{records_of_round, next_answer}
+use Rattle.session_rules.specs.DirectorStep.{records_of_round, next_answer}
 use Rattle.session_rules.specs.StateRange.{IsSession}
 use Rattle.bridge_table.specs.Kept.{plain_of, is_kept_open, IsTiedIn}
 use Rattle.bridge_session.specs.KeptSession.{state_of, StateASession, IsKept}

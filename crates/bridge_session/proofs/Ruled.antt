@@ -15,7 +15,7 @@ use Rattle.session_rules.specs.declared.refused.Refused.TheVariants.{NotYet}
 use Rattle.session_rules.specs.Record.{PlainRecord, play_of, playing_in, contract_in}
 use Rattle.session_rules.specs.Correction.{ruling_answer}
 use Rattle.session_rules.specs.State.{changed_at, hands_on}
-use Rattle.session_rules.specs.Step.{rule_answer}
+use Rattle.session_rules.specs.DirectorStep.{rule_answer}
 use Rattle.bridge_table.specs.Kept.{plain_of, with_kept_ruling, kept_rule_answer, IsTiedIn}
 use Rattle.session_rules.proofs.Lists.{changed_at-Some, changed_at-None}
 

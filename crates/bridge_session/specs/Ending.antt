@@ -1,5 +1,5 @@
 -- The ending of a play: what is left of it after its first cards, and who may ask for it.
-use Rattle.std.specs.Prelude.{ℕ, ◌/◌, ◌%◌, nat_lt, nat_le, Bool, ◌==◌, ◌&&◌, if◌then◌else◌, List, [], ◌∷◌, length, map, take, Option, None, Some, Result, Ok, Err}
+use Rattle.std.specs.Prelude.{ℕ, ◌/◌, ◌%◌, nat_lt, nat_le, not, Bool, ◌==◌, ◌&&◌, ok_or, List, [], ◌∷◌, length, map, take, Option, Result, Ok}
 use Rattle.bridge_cards.specs.declared.suit.Suit.{Suit}
 use Rattle.bridge_cards.specs.declared.seat.Seat.{Seat}
 use Rattle.bridge_cards.specs.declared.seat.Seat.TheVariants.{North, East, South, West}
@@ -10,9 +10,9 @@ use Rattle.bridge_endings.specs.EndingValue.{EndingValue}
 use Rattle.session_rules.specs.declared.action.PlayId.{PlayId}
 use Rattle.session_rules.specs.declared.refused.Refused.{Refused}
 use Rattle.session_rules.specs.declared.refused.Refused.TheVariants.{NoSuchPlay, NotYet, NoContract, NotAnEnding}
-use Rattle.session_rules.specs.Record.{PlainRecord, play_of}
-use Rattle.session_rules.specs.State.{SessionValue, director_answer, hands_on}
-use Rattle.session_rules.specs.Step.{record_of}
+use Rattle.session_rules.specs.Answer.{◌>>=◌, ◌>>◌, require}
+use Rattle.session_rules.specs.Record.{play_of}
+use Rattle.session_rules.specs.State.{SessionValue, director_answer, hands_on, record_of}
 use Rattle.session_rules.specs.See.{cards_left}
 
 -- the cards of each hand in order, North's first and then clockwise, the trump suit if there is one, and the seat to lead
@@ -37,22 +37,17 @@ ending_after play cards = record {
 abbrev pub leave_an_ending : PlayValue → ℕ → Bool
 leave_an_ending play cards = cards % 4 == 0 && (nat_le 28 cards && nat_le cards (length play.cards))
 
--- the ending of a play after so many cards
+-- the ending of a play after so many cards, where there is a contract
 abbrev pub ending_in : ℕ → Option PlayValue → Result PlainEnding Refused
-ending_in cards None = Err NoContract
-ending_in cards (Some play) = if leave_an_ending play cards then Ok (ending_after play cards) else Err NotAnEnding
-
--- that of the play of a record, if there is such a play
-abbrev pub ending_of_record : SessionValue → PlayId → ℕ → Option PlainRecord → Result PlainEnding Refused
-ending_of_record s play cards None = Err NoSuchPlay
-ending_of_record s play cards (Some plain) =
-    if nat_lt s.round play.round then Err NotYet else ending_in cards (play_of (hands_on s.deals plain.board) plain)
-
-abbrev pub if_director : Result (Unit {0}) Refused → Result PlainEnding Refused → Result PlainEnding Refused
-if_director (Err refused) answer = Err refused
-if_director (Ok allowed) answer = answer
+ending_in cards play = do
+  playing ← ok_or play NoContract
+  require (leave_an_ending playing cards) NotAnEnding
+  Ok (ending_after playing cards)
 
 -- the ending of a play after so many cards, to the director
 abbrev pub ending_answer : SessionValue → ℕ → PlayId → ℕ → Result PlainEnding Refused
-ending_answer s key play cards =
-    if_director (director_answer s.configuration key) (ending_of_record s play cards (record_of s play))
+ending_answer s key play cards = do
+  director_answer s.configuration key
+  plain ← ok_or (record_of s play) NoSuchPlay
+  require (not (nat_lt s.round play.round)) NotYet
+  ending_in cards (play_of (hands_on s.deals plain.board) plain)

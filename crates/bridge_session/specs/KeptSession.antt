@@ -4,12 +4,12 @@ use Rattle.bridge_table.specs.declared.record.Record.{Record}
 use Rattle.bridge_movement.specs.declared.row.Row.{Row}
 use Rattle.bridge_movement.specs.Shape.{row_count}
 use Rattle.bridge_config.specs.ConfigValue.{ConfigValue}
-use Rattle.session_rules.specs.State.{SessionValue, row_boards}
+use Rattle.session_rules.specs.State.{SessionValue, Deals, row_boards}
 use Rattle.session_rules.specs.StateRange.{IsSession}
 use Rattle.bridge_table.specs.Kept.{plain_of, board_kept, IsTiedIn, new_record}
 
 -- what contracts see of a session
-abbrev pub state_of : ConfigValue → ℕ → List (Option (List ℕ)) → List (List Record) → SessionValue
+abbrev pub state_of : ConfigValue → ℕ → Deals → List (List Record) → SessionValue
 state_of configuration round deals tables = record {
   configuration = configuration;
   round = round;
@@ -18,12 +18,12 @@ state_of configuration round deals tables = record {
 }
 
 -- what the fields of a session state is a session
-unfoldable pub StateASession : ConfigValue → ℕ → List (Option (List ℕ)) → List (List Record) → Type 0
+unfoldable pub StateASession : ConfigValue → ℕ → Deals → List (List Record) → Type 0
 StateASession configuration round deals tables = IsSession (state_of configuration round deals tables)
 
 -- The fields of a session: they state one, there are as many as the configuration says, and the records are tied to
 -- the deals and of the boards of their rows.
-pub record IsKept (configuration : ConfigValue) (round : ℕ) (deals : List (Option (List ℕ))) (tables : List (List Record)) : Type 0 where
+pub record IsKept (configuration : ConfigValue) (round : ℕ) (deals : Deals) (tables : List (List Record)) : Type 0 where
   pub session : StateASession configuration round deals tables
   pub begun : 1 ≤ round
   pub boards : length deals ≡ configuration.movement.shape.sets * configuration.boards

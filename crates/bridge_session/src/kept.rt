@@ -8,8 +8,8 @@ use session_store::{DiskFormat, Kept, PAYLOAD_BYTES, PartsFault};
 use std::alloc::Global;
 
 impl Kept for Session {
-    ghost use Rattle.bridge_session.specs.SessionKeeping.{session_keeping};
-    ghost use Rattle.bridge_session.specs.Laws.SessionLawful.{session_is_lawful};
+    ghost use Rattle.session_bytes.specs.SessionKeeping.{session_keeping};
+    ghost use Rattle.session_bytes.proofs.SessionLawful.{session_is_lawful};
 
     type Action = Action;
 
@@ -42,6 +42,7 @@ impl Kept for Session {
     }
 
     fn step(&mut self, action: &Action) -> Result<(), Refused> {
+        // What the trait says of a step holds within these ranges, which the clauses of both calls state.
         ranges_of_action(action);
         self.is_session();
         Session::step(self, action)

@@ -2,8 +2,7 @@ ghost use Rattle.std.specs.Prelude.{◌≡◌, IfOk, IfSome, MatchResult, Err};
 ghost use Rattle.std.specs.Option.{option_copied, option_map};
 ghost use Rattle.session_rules.specs.Record.{bidding_of, play_of};
 ghost use Rattle.session_rules.specs.Outcome.{outcome_of};
-ghost use Rattle.session_rules.specs.State.{opening, deal_on, hands_on};
-ghost use Rattle.session_rules.specs.Step.{record_of};
+ghost use Rattle.session_rules.specs.State.{opening, deal_on, hands_on, record_of};
 ghost use Rattle.session_rules.specs.See.{shown_to};
 ghost use Rattle.session_rules.specs.Views.{IsViewTo};
 ghost use Rattle.bridge_ranking.specs.Ranking.{ranking_answer, IsRankingTo};
@@ -11,13 +10,13 @@ ghost use Rattle.session_rules.specs.StateRange.{IsSession};
 ghost use Rattle.bridge_table.specs.Kept.{plain_of, IsTiedIn};
 
 use crate::entry::Entry;
-use crate::opening::{opening_tables, undealt};
+use crate::opening::room_of;
 use arrayvec::ArrayVec;
 use bridge_cards::{BoardNumber, Deal};
 use bridge_config::{Config, Key};
 use bridge_ranking::{Field, games_of, has_field, lines_of};
 use bridge_score::{MOST_LINES, Ranked, rank};
-use bridge_table::{Record, check_asker, record_at, row_of, seat_by, view_among};
+use bridge_table::{Record, check_asker, deal_on, record_at, row_of, seat_by, view_among};
 use session_rules::{PlayId, Refused, RoundNumber, TableNumber, View};
 use std::alloc::{AllocError, Global};
 use std::marker::Model;
@@ -60,15 +59,12 @@ impl Session {
     pub fn new(alloc: Global, config: Config) -> Result<Session, AllocError>
         ensures opening { IfOk result (λ session. session ≡ opening config) }
     {
-        let fields = config.fields();
-        let count = usize::from(fields.movement.shape().sets) * usize::from(fields.boards);
-        let deals = undealt(alloc, count)?;
-        let tables = opening_tables(alloc, fields.movement.rows(), fields.boards)?;
+        let room = room_of(alloc, &config)?;
         Ok(Session {
             config,
             round: 1,
-            deals,
-            tables,
+            deals: room.deals,
+            tables: room.tables,
         })
     }
 
@@ -105,10 +101,7 @@ impl Session {
     pub fn deal(&self, board: BoardNumber) -> Option<&Deal>
         ensures { option_copied result ≡ deal_on self.now.deals board }
     {
-        match self.deals.get(usize::from(board.number() - 1)) {
-            Some(deal) => deal.as_ref(),
-            None => None,
-        }
+        deal_on(self.deals.as_slice(), board)
     }
 
     /// The record of a play, if there is such a play at a live row.

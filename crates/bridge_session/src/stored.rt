@@ -3,7 +3,7 @@ ghost use Rattle.std.specs.Prelude.{All};
 ghost use Rattle.session_store.specs.Keeping.{IsLawful};
 ghost use Rattle.bridge_config.specs.ConfigValue.{ConfigValue};
 ghost use Rattle.bridge_config.specs.Limits.{IsConfiguration};
-ghost use Rattle.bridge_session.specs.SessionKeeping.{session_keeping};
+ghost use Rattle.session_bytes.specs.SessionKeeping.{session_keeping};
 ghost use Rattle.session_rules.specs.State.{opening};
 ghost use Rattle.session_rules.specs.StateRange.{IsSession};
 

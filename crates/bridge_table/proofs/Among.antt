@@ -1,5 +1,5 @@
 -- The current play among the records of a table.
-use Rattle.std.proofs.Common.{◌≡◌, ◌<◌, ◌==◌, ℕ, true, false, cond, List, [], length, Option, Some, None, Ok, Err, refl, sym, ap, ◌∙◌, subst}
+use Rattle.std.proofs.Common.{◌≡◌, ◌<◌, ◌==◌, ℕ, true, false, List, [], length, Option, Some, None, Ok, Err, refl, sym, ap, ◌∙◌, subst}
 use Rattle.std.specs.Prelude.{All, map, position, slice_get, slice_set, slice_index_or, unwrap_or}
 use Rattle.std.specs.List.{position_or_len}
 use Rattle.std.specs.Option.{option_map}
@@ -11,15 +11,14 @@ use Rattle.session_rules.specs.declared.deed.Deed.{Deed}
 use Rattle.bridge_table.specs.declared.record.Record.{Record}
 use Rattle.session_rules.specs.declared.refused.Refused.TheVariants.{NotCurrent, NotDealt}
 use Rattle.session_rules.specs.Record.{PlainRecord, is_open, play_of}
+use Rattle.session_rules.specs.Answer.{◌>>◌, require}
 use Rattle.session_rules.specs.Deed.{deed_answer, with_deed}
-use Rattle.session_rules.specs.State.{deal_on, current_index, hands_on}
-use Rattle.session_rules.specs.Step.{answer_current, answer_dealt, acted_among}
+use Rattle.session_rules.specs.State.{Deals, deal_on, current_index, hands_on}
+use Rattle.session_rules.proofs.PlayerAnswer.{answer_current, answer_dealt}
+use Rattle.session_rules.specs.PlayerStep.{acted_among}
 use Rattle.bridge_table.specs.Kept.{plain_of, is_kept_open, after_deed, IsTied, IsTiedIn}
 use Rattle.session_rules.proofs.Lists.{position_or_len-map, position_is, position_none, changed_at-Some}
 use Rattle.bridge_table.proofs.Tied.{open_same, after_is, IsAfter}
-
-abbrev Deals : Type 0
-Deals = List (Option (List ℕ))
 
 -- the current play is found by what is kept
 index_same : (deals : Deals) (table : List Record) → All (IsTiedIn deals) table → current_index (map plain_of table) ≡ position_or_len is_kept_open table
@@ -51,18 +50,18 @@ tied_there deals table index kept tied found is =
 
 -- the answer where another board is played
 pub other_board : (deal : Option (List ℕ)) (kept : Record) (board : ℕ) (seat : Seat) (at : ℕ) (done : Deed) → (kept.board == board) ≡ false → answer_current deal board seat at done (Some (plain_of kept)) ≡ Err NotCurrent
-other_board deal kept board seat at done other = ap (λ b. cond b (answer_dealt (plain_of kept) seat at done deal) (Err NotCurrent)) other
+other_board deal kept board seat at done other = ap (λ b. require b NotCurrent >> answer_dealt (plain_of kept) seat at done deal) other
 
 -- the answer where the board is not dealt
 pub not_dealt : (deal : Option (List ℕ)) (kept : Record) (board : ℕ) (seat : Seat) (at : ℕ) (done : Deed) → (kept.board == board) ≡ true → deal ≡ None → answer_current deal board seat at done (Some (plain_of kept)) ≡ Err NotDealt
 not_dealt deal kept board seat at done same none =
-    ap (λ b. cond b (answer_dealt (plain_of kept) seat at done deal) (Err NotCurrent)) same ∙ ap (answer_dealt (plain_of kept) seat at done) none
+    ap (λ b. require b NotCurrent >> answer_dealt (plain_of kept) seat at done deal) same ∙ ap (answer_dealt (plain_of kept) seat at done) none
 
 -- the answer in the play that is found
 pub answer_there : (deals : Deals) (kept : Record) (hands : List ℕ) (board : ℕ) (seat : Seat) (at : ℕ) (done : Deed) → IsTiedIn deals kept → (kept.board == board) ≡ true → kept.board ≡ board → deal_on deals board ≡ Some hands → answer_current (deal_on deals board) board seat at done (Some (plain_of kept)) ≡ deed_answer kept.auction kept.play seat at done
 answer_there deals kept hands board seat at done tied test same dealt =
     let there : hands_on deals kept.board ≡ hands = ap (λ b. unwrap_or (deal_on deals b) []) same ∙ ap (λ o. unwrap_or o []) dealt in
-    ap (λ b. cond b (answer_dealt (plain_of kept) seat at done (deal_on deals board)) (Err NotCurrent)) test
+    ap (λ b. require b NotCurrent >> answer_dealt (plain_of kept) seat at done (deal_on deals board)) test
     ∙ ap (answer_dealt (plain_of kept) seat at done) dealt
     ∙ ap (λ dealer. deed_answer (record { dealer = dealer; calls = kept.auction.calls }) (play_of hands (plain_of kept)) seat at done) (sym tied.tied.dealer)
     ∙ ap (λ h. deed_answer kept.auction (play_of h (plain_of kept)) seat at done) (sym there)

@@ -12,7 +12,7 @@ use Rattle.bridge_table.specs.declared.record.Record.{Record}
 use Rattle.session_rules.specs.declared.refused.Refused.{Refused}
 use Rattle.session_rules.specs.Record.{PlainRecord}
 use Rattle.session_rules.specs.State.{row_at, changed_at, current_index}
-use Rattle.session_rules.specs.Step.{acted_among}
+use Rattle.session_rules.specs.PlayerStep.{acted_among}
 use Rattle.bridge_table.specs.Kept.{plain_of, board_kept, IsTiedIn}
 use Rattle.session_rules.proofs.Lists.{changed_at-Some, at_result, map-changed_at}
 use Rattle.session_rules.proofs.PlainRecords.{deed_board}

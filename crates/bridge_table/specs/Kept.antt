@@ -1,5 +1,5 @@
 -- The records that the code keeps, and what contracts see of them.
-use Rattle.std.specs.Prelude.{◌≡◌, ℕ, nat_lt, if◌then◌else◌, Err, Bool, not, ◌&&◌, List, [], ◌∷◌, ◌++◌, Option, None, Some, Result}
+use Rattle.std.specs.Prelude.{◌≡◌, ℕ, nat_lt, if◌then◌else◌, Err, Bool, not, ◌&&◌, List, [], ◌∷◌, ◌++◌, Option, None, Some}
 use Rattle.std.specs.Option.{option_map, option_map_or}
 use Rattle.bridge_cards.specs.declared.seat.Seat.{Seat}
 use Rattle.bridge_cards.specs.Board.{dealer_of}
@@ -12,10 +12,10 @@ use Rattle.bridge_table.specs.declared.record.Record.{Record}
 use Rattle.session_rules.specs.declared.deed.Deed.{Deed}
 use Rattle.session_rules.specs.declared.deed.Deed.TheVariants as deed
 use Rattle.session_rules.specs.declared.correction.Correction.{Correction}
-use Rattle.session_rules.specs.declared.refused.Refused.{Refused}
 use Rattle.session_rules.specs.declared.refused.Refused.TheVariants.{NoSuchPlay, NotYet}
+use Rattle.session_rules.specs.Answer.{Answer}
 use Rattle.session_rules.specs.Correction.{ruling_by, ruling_answer}
-use Rattle.session_rules.specs.State.{deal_on, hands_on}
+use Rattle.session_rules.specs.State.{Deals, deal_on, hands_on}
 use Rattle.session_rules.specs.Record.{PlainRecord, play_of, is_done, is_ruled_out}
 
 -- the play that is begun with those hands in that contract
@@ -42,26 +42,32 @@ pub record IsTied (hands : List ℕ) (kept : Record) : Type 0 where
 abbrev pub is_kept_open : Record → Bool
 is_kept_open kept = not (is_ruled_out kept.ruling) && not (is_done kept.auction.calls kept.play)
 
--- the record after what a player did
+-- the record after what a player did in the play of the cards
+abbrev pub after_play : Seat → Deed → Record → Record
+after_play seat (deed.Card card) kept = record kept { play = option_map (λ (play : PlayValue). with_card play card) kept.play }
+after_play seat (deed.Claim tricks) kept = record kept { play = option_map (λ (play : PlayValue). with_claim play seat tricks) kept.play }
+after_play seat deed.Agree kept = record kept { play = option_map (λ (play : PlayValue). with_agreement play seat) kept.play }
+after_play seat deed.Refuse kept = record kept { play = option_map without_claim kept.play }
+after_play seat (deed.Call call) kept = kept
+
+-- the record after what a player did: a call may make a contract, in which the play of those hands begins
 abbrev pub after_deed : List ℕ → Seat → Deed → Record → Record
 after_deed hands seat (deed.Call call) kept = record kept {
   auction = with_call kept.auction call;
   play = option_map (begun_with hands) (contract_of kept.auction.dealer (kept.auction.calls ++ call ∷ []));
 }
-after_deed hands seat (deed.Card card) kept = record kept { play = option_map (λ (play : PlayValue). with_card play card) kept.play }
-after_deed hands seat (deed.Claim tricks) kept = record kept { play = option_map (λ (play : PlayValue). with_claim play seat tricks) kept.play }
-after_deed hands seat deed.Agree kept = record kept { play = option_map (λ (play : PlayValue). with_agreement play seat) kept.play }
-after_deed hands seat deed.Refuse kept = record kept { play = option_map without_claim kept.play }
+after_deed hands seat deed kept = after_play seat deed kept
 
 -- the answer to a ruling on the play
-abbrev pub kept_ruling_answer : Scoring → Record → Correction → Bool → Result (Unit {0}) Refused
+abbrev pub kept_ruling_answer : Scoring → Record → Correction → Bool → Answer
 kept_ruling_answer scoring kept correction round_is_over = ruling_answer scoring kept.auction.calls kept.play correction round_is_over
 
 -- the record is tied to the deal of its board, and has calls only where the board is dealt
-pub record IsTiedIn (deals : List (Option (List ℕ))) (kept : Record) : Type 0 where
+pub record IsTiedIn (deals : Deals) (kept : Record) : Type 0 where
   pub tied : IsTied (hands_on deals kept.board) kept
   pub undealt : deal_on deals kept.board ≡ None → kept.auction.calls ≡ []
 
+-- the board of a record
 abbrev pub board_kept : Record → ℕ
 board_kept kept = kept.board
 
@@ -74,7 +80,7 @@ abbrev pub with_kept_ruling : Correction → Record → Record
 with_kept_ruling correction kept = record kept { ruling = ruling_by correction }
 
 -- the answer to a ruling on the play of a record, if there is one
-abbrev pub kept_rule_answer : Scoring → ℕ → ℕ → Correction → Option Record → Result (Unit {0}) Refused
+abbrev pub kept_rule_answer : Scoring → ℕ → ℕ → Correction → Option Record → Answer
 kept_rule_answer scoring now round correction None = Err NoSuchPlay
 kept_rule_answer scoring now round correction (Some kept) =
     if nat_lt now round then Err NotYet else kept_ruling_answer scoring kept correction (nat_lt round now)

@@ -8,7 +8,7 @@ ghost use Rattle.session_rules.specs.Outcome.{outcome_of_play, outcome_by, HasFe
 ghost use Rattle.session_rules.specs.declared.ruling.Ruling.TheVariants as ruling;
 ghost use Rattle.session_rules.specs.Valid.{IsDeed};
 ghost use Rattle.session_rules.specs.StateRange.{IsCorrectionInRange};
-ghost use Rattle.bridge_table.specs.Kept.{new_record, is_kept_open, after_deed, kept_ruling_answer};
+ghost use Rattle.bridge_table.specs.Kept.{new_record, is_kept_open, after_deed, after_play, kept_ruling_answer};
 ghost use Rattle.session_rules.specs.declared.deed.Deed.TheVariants as deed;
 
 use bridge_auction::{Auction, Call, CallRefused};
@@ -183,9 +183,9 @@ impl Record {
         answer
     }
 
-    fn card(&mut self, seat: Seat, at: MadeCount, card: Card, deal: &Deal) -> Result<(), Refused>
+    fn card(&mut self, seat: Seat, at: MadeCount, card: Card) -> Result<(), Refused>
         ensures answer { result ≡ answer_if_play self.old.play seat at (deed.Card card) }
-        ensures taken { OnOk result (self.new ≡ after_deed deal.now seat (deed.Card card) self.old) }
+        ensures taken { OnOk result (self.new ≡ after_play seat (deed.Card card) self.old) }
         ensures refused { OnErr result (self.new ≡ self.old) }
     {
         let Some(play) = &mut self.play else {
@@ -197,15 +197,9 @@ impl Record {
         card_result(play.try_card(seat, card))
     }
 
-    fn claim(
-        &mut self,
-        seat: Seat,
-        at: MadeCount,
-        tricks: TrickCount,
-        deal: &Deal,
-    ) -> Result<(), Refused>
+    fn claim(&mut self, seat: Seat, at: MadeCount, tricks: TrickCount) -> Result<(), Refused>
         ensures answer { result ≡ answer_if_play self.old.play seat at (deed.Claim tricks) }
-        ensures taken { OnOk result (self.new ≡ after_deed deal.now seat (deed.Claim tricks) self.old) }
+        ensures taken { OnOk result (self.new ≡ after_play seat (deed.Claim tricks) self.old) }
         ensures refused { OnErr result (self.new ≡ self.old) }
     {
         let Some(play) = &mut self.play else {
@@ -217,9 +211,9 @@ impl Record {
         claim_result(play.try_claim(seat, tricks.number()))
     }
 
-    fn agree(&mut self, seat: Seat, at: MadeCount, deal: &Deal) -> Result<(), Refused>
+    fn agree(&mut self, seat: Seat, at: MadeCount) -> Result<(), Refused>
         ensures answer { result ≡ answer_if_play self.old.play seat at deed.Agree }
-        ensures taken { OnOk result (self.new ≡ after_deed deal.now seat deed.Agree self.old) }
+        ensures taken { OnOk result (self.new ≡ after_play seat deed.Agree self.old) }
         ensures refused { OnErr result (self.new ≡ self.old) }
     {
         let Some(play) = &mut self.play else {
@@ -232,9 +226,9 @@ impl Record {
         consent_result(play.agree(seat, claims))
     }
 
-    fn refuse(&mut self, seat: Seat, at: MadeCount, deal: &Deal) -> Result<(), Refused>
+    fn refuse(&mut self, seat: Seat, at: MadeCount) -> Result<(), Refused>
         ensures answer { result ≡ answer_if_play self.old.play seat at deed.Refuse }
-        ensures taken { OnOk result (self.new ≡ after_deed deal.now seat deed.Refuse self.old) }
+        ensures taken { OnOk result (self.new ≡ after_play seat deed.Refuse self.old) }
         ensures refused { OnErr result (self.new ≡ self.old) }
     {
         let Some(play) = &mut self.play else {
@@ -256,10 +250,10 @@ impl Record {
     {
         match deed {
             Deed::Call(call) => self.call(seat, at, call, deal),
-            Deed::Card(card) => self.card(seat, at, card, deal),
-            Deed::Claim(tricks) => self.claim(seat, at, tricks, deal),
-            Deed::Agree => self.agree(seat, at, deal),
-            Deed::Refuse => self.refuse(seat, at, deal),
+            Deed::Card(card) => self.card(seat, at, card),
+            Deed::Claim(tricks) => self.claim(seat, at, tricks),
+            Deed::Agree => self.agree(seat, at),
+            Deed::Refuse => self.refuse(seat, at),
         }
     }
 

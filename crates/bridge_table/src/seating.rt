@@ -3,10 +3,8 @@ ghost use Rattle.std.specs.Prelude.{◌≡◌, ◌==◌, ◌<◌, ◌≤◌, sli
 ghost use Rattle.bridge_config.specs.ConfigValue.{pair_of};
 ghost use Rattle.bridge_config.specs.declared.fields.PairFields.{PairFields as PairType};
 ghost use Rattle.bridge_movement.specs.Shape.{row_count};
-ghost use Rattle.session_rules.specs.State.{has_key, player_in, player_of, acting_player, director_answer, seat_on, is_closed, seating_of, is_of_set, index_of_row};
+ghost use Rattle.session_rules.specs.State.{has_key, player_in, player_of, acting_player, director_answer, seat_on, is_closed, seating_of, is_of_set, index_of_row, ranking_asker, is_row_within};
 ghost use Rattle.session_rules.specs.Numbers.{IsTableNumber};
-ghost use Rattle.session_rules.specs.State.{ranking_asker};
-ghost use Rattle.session_rules.specs.Step.{is_row_within};
 
 use bridge_cards::{BoardNumber, Seat, Side};
 use bridge_config::{Config, Key, PairFields};

@@ -3,7 +3,7 @@ ghost use Rattle.std.specs.Prelude.{◌≡◌, ◌<◌, length, map, position, u
 ghost use Rattle.std.specs.List.{list_any};
 ghost use Rattle.std.specs.Option.{option_copied};
 ghost use Rattle.session_rules.specs.State.{deal_on, current_index, changed_at};
-ghost use Rattle.session_rules.specs.Step.{answer_among, acted_among};
+ghost use Rattle.session_rules.specs.PlayerStep.{answer_among, acted_among};
 ghost use Rattle.session_rules.specs.Valid.{IsDeed};
 ghost use Rattle.session_rules.specs.StateRange.{IsCorrectionInRange};
 ghost use Rattle.bridge_table.specs.Kept.{plain_of, is_kept_open, with_kept_ruling, kept_rule_answer, IsTiedIn};
@@ -21,13 +21,10 @@ pub fn current(table: &[Record]) -> Option<usize>
 }
 
 /// The deal of a board, if the session has the board and it is dealt.
-pub fn deal_on(deals: &[Option<Deal>], board: BoardNumber) -> Option<Deal>
-    ensures { result ≡ deal_on deals.now board }
+pub fn deal_on(deals: &[Option<Deal>], board: BoardNumber) -> Option<&Deal>
+    ensures { option_copied result ≡ deal_on deals.now board }
 {
-    match deals.get(usize::from(board.number() - 1)) {
-        Some(deal) => *deal,
-        None => None,
-    }
+    deals.get(usize::from(board.number() - 1))?.as_ref()
 }
 
 /// The record of that index, from 0, if there is one.
@@ -53,16 +50,12 @@ pub fn act_among(
     ensures known { OnOk result (IsDeed deed) }
     ensures refused { OnErr result (table.new ≡ table.old) }
 {
-    let Some(index) = current(table) else {
-        return Err(Refused::NotCurrent);
-    };
+    let index = current(table).ok_or(Refused::NotCurrent)?;
     if table[index].board != board {
         return Err(Refused::NotCurrent);
     }
-    let Some(deal) = deal_on(deals, board) else {
-        return Err(Refused::NotDealt);
-    };
-    table[index].act(seat, at, deed, &deal)
+    let deal = deal_on(deals, board).ok_or(Refused::NotDealt)?;
+    table[index].act(seat, at, deed, deal)
 }
 
 /// The answer to a ruling on the play of that index, from 0, in a round, and the ruling.

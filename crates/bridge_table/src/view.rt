@@ -165,17 +165,13 @@ pub fn view_among<'a>(
     requires few { length table.now ≤ 3 }
     ensures { MatchResult result (IsViewAmong deals.now (map plain_of table.now) round number seat) (λ refused. shown_among deals.now seat (map plain_of table.now) ≡ Err refused) }
 {
-    let Some(index) = current(table) else {
-        return Err(Refused::NotCurrent);
-    };
+    let index = current(table).ok_or(Refused::NotCurrent)?;
     let kept = &table[index];
-    let Some(deal) = deal_on(deals, kept.board) else {
-        return Err(Refused::NotDealt);
-    };
+    let deal = deal_on(deals, kept.board).ok_or(Refused::NotDealt)?;
     let id = PlayId {
         round,
         table: number,
         index: BoardIndex::new(index as u8 + 1).unwrap(),
     };
-    Ok(view_of(kept, id, seat, &deal))
+    Ok(view_of(kept, id, seat, deal))
 }

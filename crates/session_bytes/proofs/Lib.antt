@@ -16,3 +16,9 @@ pub mod DealLaws
 pub mod HeadLaws
 pub mod ReadLists
 pub mod ReadTables
+pub mod StateRanges
+pub mod SessionStays
+pub mod DealtOut
+pub mod PartLengths
+pub mod SessionOf
+pub mod SessionLawful

@@ -1,7 +1,7 @@
 -- Lists that are written element by element, and the indexes of parts.
 use Rattle.std.proofs.Common.{◌≡◌, ◌+◌, ◌*◌, ◌/◌, ◌%◌, ◌<◌, ℕ, List, [], ◌∷◌, ◌++◌, length, take, get_or, sym, ap, ◌∙◌, arith, add-one, length-append}
-use Rattle.std.specs.Prelude.{flat_map}
-use Rattle.std.proofs.Math.Seq.{take-suc}
+use Rattle.std.specs.Prelude.{flat_map, slice_set}
+use Rattle.std.proofs.Math.Seq.{take-suc, take-suc-set}
 use Rattle.std.proofs.Math.Nat.{div-lt_iff_lt-mul, mod-lt}
 use Rattle.std.proofs.lemmas.Nat.{div-add-mod'}
 use Rattle.std.proofs.lemmas.List.{length-take-le}
@@ -11,6 +11,10 @@ module _ {X : Type 0} where
   -- the elements before an index, and the one there
   pub next_taken : (xs : List X) (i : ℕ) (x : X) → i < length xs → x ≡ get_or xs i x → take (i + 1) xs ≡ take i xs ++ x ∷ []
   next_taken xs i x within is = ap (λ n. take n xs) (add-one i) ∙ take-suc xs i x within ∙ ap (λ y. take i xs ++ y ∷ []) (sym is)
+
+  -- the elements up to the one that was set
+  pub set_taken : (xs : List X) (i : ℕ) (x : X) → i < length xs → take (i + 1) (slice_set xs i x) ≡ take i xs ++ x ∷ []
+  set_taken xs i x within = ap (λ n. take n (slice_set xs i x)) (add-one i) ∙ take-suc-set xs i x within
 
   -- lists of one length, one after the other
   module _ {Y : Type 0} (f : X → List Y) (n : ℕ) (fixed : (x : X) → length (f x) ≡ n) where

@@ -1,12 +1,12 @@
 -- Lists that are read element by element.
 use Rattle.std.proofs.Common.{◌≡◌, ◌+◌, ◌*◌, ◌<◌, ℕ, zero, suc, List, [], ◌∷◌, ◌++◌, length, get_or, map, take, drop, Some, refl, sym, ap, ◌∙◌, subst, arith, inl, inr, length-append}
-use Rattle.std.specs.Prelude.{All, IfSome, slice_get, flat_map}
+use Rattle.std.specs.Prelude.{All, IfSome, slice_get, slice_set, flat_map}
 use Rattle.std.specs.Option.{option_map}
 use Rattle.std.proofs.lemmas.Bool.{cases_lt}
-use Rattle.std.proofs.lemmas.List.{take_at, drop_at, drop-drop}
+use Rattle.std.proofs.lemmas.List.{take_at, drop_at, drop-drop, map-set}
 use Rattle.std.proofs.lemmas.Option.{slice_get_read, slice_get-map, slice_get_cases, slice_get_within}
 use Rattle.bridge_cards.proofs.FollowLaws.{slice_get-left, slice_get-seam}
-use Rattle.session_rules.proofs.Lists.{all_at}
+use Rattle.session_rules.proofs.Lists.{all_at, set_there}
 use Rattle.session_rules.proofs.StaysValid.{mapped_from, none_of}
 
 -- what holds of all holds of the one at an index
@@ -66,3 +66,9 @@ flat_at f n fixed (suc i) (y ∷ ys) x is =
     ∙ ap (take n) (sym (drop-drop (i * n) n (f y ++ flat_map f ys)))
     ∙ ap (λ zs. take n (drop (i * n) zs)) (drop_at (f y) (flat_map f ys) n (fixed y))
     ∙ flat_at f n fixed i ys x is
+
+-- an element that is seen as the one before it in its place
+pub set_same : {A B : Type 0} (f : A → B) (xs : List A) (i : ℕ) (x y : A) → i < length xs → x ≡ get_or xs i x → f y ≡ f x → map f (slice_set xs i y) ≡ map f xs
+set_same f xs i x y within is same =
+    map-set f xs i y
+    ∙ set_there (map f xs) i (f y) (slice_get-map f xs i ∙ ap (option_map f) (slice_get_read xs (length xs) i x refl within is) ∙ ap Some (sym same))

@@ -323,6 +323,17 @@ module _ (scoring : Scoring) (deals : List (Option (List ℕ))) (now round : ℕ
   read_in_range play read claim made =
       subst IsRecordInRange (sym (kept_is (unwrap_or deal []) board auction fields play read.play_is read.played)) (record { claim = claim; ruling = made })
 
+  -- what is kept says what the fields do
+  pub read_is_said : (play : Option PlayValue) → AreRead deal board auction fields play → map call_number auction.calls ≡ fields.calls
+      → is_agreed_in (plain_of (kept_of board auction play fields.ruling)) ≡ fields.agreed → fields_of (plain_of (kept_of board auction play fields.ruling)) ≡ fields
+  read_is_said play read numbers agreed =
+      let kept = kept_of board auction play fields.ruling in
+      let said : List ℕ → Bool → PlainRecord → Fields
+      = λ calls marked x. record { calls = calls; cards = x.cards; claims = x.claims; claim = x.claim; agreed = marked; ruling = x.ruling } in
+      ap (said (map call_number auction.calls) (is_agreed_in (plain_of kept))) (kept_is (unwrap_or deal []) board auction fields play read.play_is read.played)
+      ∙ ap (λ calls. said calls (is_agreed_in (plain_of kept)) (plain_from board auction.calls fields)) numbers
+      ∙ ap (λ marked. said fields.calls marked (plain_from board auction.calls fields)) agreed
+
   -- where the record of the fields is valid it is taken
   pub valid_taken : (play : Option PlayValue) → AreRead deal board auction fields play → IsValidRecord scoring deals now round (plain_from board auction.calls fields)
       → is_in_place scoring now round (kept_of board auction play fields.ruling) ≡ true

@@ -1,6 +1,6 @@
 -- The records of a row and of all rows, one after the other.
-use Rattle.std.proofs.Common.{◌≡◌, ◌+◌, ◌-◌, ◌*◌, ◌<◌, ◌==◌, ℕ, zero, suc, true, false, cond, Result, Ok, Err, List, [], ◌∷◌, ◌++◌, length, map, take, drop, Option, Some, None, refl, sym, ap, ◌∙◌, subst, arith, add-one, length-append}
-use Rattle.std.specs.Prelude.{IfOk, IfSome, IfNone, slice_get, flat_map, replicate, unwrap_or}
+use Rattle.std.proofs.Common.{◌≡◌, ◌+◌, ◌-◌, ◌*◌, ◌<◌, ◌==◌, ℕ, zero, suc, true, false, cond, Result, Ok, Err, List, [], ◌∷◌, ◌++◌, length, get_or, map, take, drop, Option, Some, None, refl, sym, ap, ◌∙◌, subst, arith, add-one, length-append}
+use Rattle.std.specs.Prelude.{All, IfSome, IfNone, OnSome, slice_get, flat_map, replicate, unwrap_or}
 use Rattle.arrayvec.specs.ArrayVec.{ArrayVec}
 use Rattle.std.specs.List.{range_with_len, list_all}
 use Rattle.std.specs.Option.{option_map}
@@ -9,64 +9,59 @@ use Rattle.std.specs.Global.{Vec}
 use Rattle.std.proofs.lemmas.List.{map-append, length-map, drop_at}
 use Rattle.std.proofs.lemmas.List.FromFn.{length-range_with_len, length-map-range_with_len}
 use Rattle.std.proofs.lemmas.Simd.{map-map}
-use Rattle.std.proofs.lemmas.List.Elements.{All-push}
-use Rattle.std.proofs.lemmas.Option.{slice_get_within, slice_get-map, slice_get_past, get_or_from_slice_get}
+use Rattle.std.proofs.lemmas.List.Elements.{All-nil, All-push}
+use Rattle.std.proofs.lemmas.Option.{slice_get_within, slice_get_read, slice_get-map, slice_get_past, get_or_from_slice_get}
 use Rattle.bridge_movement.specs.declared.row.Row.{Row}
 use Rattle.bridge_movement.specs.Row.{is_live}
 use Rattle.bridge_score.specs.declared.ranking.Scoring.{Scoring}
 use Rattle.bridge_table.specs.declared.record.Record.{Record}
 use Rattle.session_rules.specs.Record.{PlainRecord, empty_record}
-use Rattle.bridge_table.specs.Kept.{plain_of}
+use Rattle.bridge_table.specs.Kept.{plain_of, board_kept}
 use Rattle.session_bytes.specs.Parts.{HasRecord, record_part, record_or_empty, row_parts}
-use Rattle.session_rules.specs.State.{row_boards}
+use Rattle.session_rules.specs.State.{Deals, row_boards}
 use Rattle.session_rules.specs.StateRange.{IsRecordInRange}
 use Rattle.session_rules.specs.Valid.{board_of, IsValidRecord}
 use Rattle.session_store.specs.declared.disk_format.DiskFormat.{DiskFormat}
 use Rattle.session_store.specs.declared.disk_format.DiskFormat.TheVariants.{One, Two}
 use Rattle.session_bytes.specs.Reading.{items_of, empty_length, is_empty_part, part_kept, plains_of, AreRecords, IsRowOf, AreRows, IsReadFrom}
-use Rattle.session_rules.proofs.Lists.{range-push}
 use Rattle.session_bytes.proofs.ReadLists.{some_there, both_push, flat_at, suc_times}
 use Rattle.session_bytes.proofs.PartLemmas.{next_taken, length-flat_fixed}
 
-range_next : (first i : ℕ) → range_with_len first (i + 1) ≡ range_with_len first i ++ (first + i) ∷ []
-range_next first i = ap (range_with_len first) (add-one i) ∙ range-push first i
+-- the boards that are kept are those of what is seen
+pub boards_seen : (table : List Record) → map board_of (map plain_of table) ≡ map board_kept table
+boards_seen table = map-map board_of plain_of table
 
-module _ (format : DiskFormat) (scoring : Scoring) (deals : List (Option (List ℕ))) (now round : ℕ) where
+module _ (format : DiskFormat) (scoring : Scoring) (deals : Deals) (now round : ℕ) where
   -- one record more
-  pub records_push : (first i board : ℕ) (part : List ℕ) (table : List Record) (kept : Record) → board ≡ first + i
-      → AreRecords format scoring deals now round (range_with_len first i) (map plain_of table) → IsReadFrom format scoring deals now round board part kept
-      → AreRecords format scoring deals now round (range_with_len first (i + 1)) (map plain_of (table ++ kept ∷ []))
-  records_push first i board part table kept board_is are read =
+  pub records_push : (board : ℕ) (part : List ℕ) (table : List Record) (kept : Record)
+      → AreRecords format scoring deals now round (map board_kept table) (map plain_of table) → IsReadFrom format scoring deals now round board part kept
+      → AreRecords format scoring deals now round (map board_kept (table ++ kept ∷ [])) (map plain_of (table ++ kept ∷ []))
+  records_push board part table kept are read =
       let longer : map plain_of (table ++ kept ∷ []) ≡ map plain_of table ++ plain_of kept ∷ [] = map-append plain_of table (kept ∷ []) in
-      subst (AreRecords format scoring deals now round (range_with_len first (i + 1))) (sym longer) (record {
-        boards_are = map-append board_of (map plain_of table) (plain_of kept ∷ [])
-            ∙ ap (λ bs. bs ++ kept.board ∷ []) are.boards_are
-            ∙ ap (λ b. range_with_len first i ++ b ∷ []) (read.board_is ∙ board_is)
-            ∙ sym (range_next first i);
-        valid = All-push (IsValidRecord scoring deals now round) (map plain_of table) (plain_of kept) are.valid read.valid;
-        in_range = All-push IsRecordInRange (map plain_of table) (plain_of kept) are.in_range read.in_range;
-        of_format = All-push (HasRecord format) (map plain_of table) (plain_of kept) are.of_format read.of_format;
-      })
+      record {
+        boards_are = boards_seen (table ++ kept ∷ []);
+        valid = subst (All (IsValidRecord scoring deals now round)) (sym longer) (All-push (IsValidRecord scoring deals now round) (map plain_of table) (plain_of kept) are.valid read.valid);
+        in_range = subst (All IsRecordInRange) (sym longer) (All-push IsRecordInRange (map plain_of table) (plain_of kept) are.in_range read.in_range);
+        of_format = subst (All (HasRecord format)) (sym longer) (All-push (HasRecord format) (map plain_of table) (plain_of kept) are.of_format read.of_format);
+      }
 
--- the number at an index of a range
-pub range_at : (first count i n : ℕ) → slice_get (range_with_len first count) i ≡ Some n → n ≡ first + i
-range_at first zero i n is = let within = slice_get_within {A = ℕ} [] i n is in absurd (omega (arith, within))
-range_at first (suc count) zero n is = let same : first ≡ n = cc in omega (arith, same)
-range_at first (suc count) (suc i) n is = let next = range_at (first + 1) count i n is in omega (arith, next)
-
--- the board of a record by its index
-pub board_there : (first count i : ℕ) (records : List PlainRecord) (plain : PlainRecord) → map board_of records ≡ range_with_len first count
-    → slice_get records i ≡ Some plain → plain.board ≡ first + i
-board_there first count i records plain is found =
-    range_at first count i plain.board (ap (λ bs. slice_get bs i) (sym is) ∙ slice_get-map board_of records i ∙ ap (option_map board_of) found)
+-- a record is of the board of the one that is kept in its place
+pub board_there : (table : List Record) (records : List PlainRecord) (i : ℕ) (kept : Record) (plain : PlainRecord) → map board_of records ≡ map board_kept table
+    → i < length table → kept ≡ get_or table i kept → slice_get records i ≡ Some plain → plain.board ≡ kept.board
+board_there table records i kept plain same within is found =
+    let both : Some plain.board ≡ Some kept.board
+    = sym (slice_get-map board_of records i ∙ ap (option_map board_of) found)
+    ∙ ap (λ bs. slice_get bs i) same
+    ∙ slice_get-map board_kept table i ∙ ap (option_map board_kept) (slice_get_read table (length table) i kept refl within is) in
+    cc
 
 -- The parts of a row
 
--- records of so many boards
-pub records_count : (format : DiskFormat) (scoring : Scoring) (deals : List (Option (List ℕ))) (now round first count : ℕ) (records : List PlainRecord)
-    → AreRecords format scoring deals now round (range_with_len first count) records → length records ≡ count
-records_count format scoring deals now round first count records are =
-    sym (length-map records board_of) ∙ ap length are.boards_are ∙ length-range_with_len first count
+-- as many records as boards
+pub records_count : (format : DiskFormat) (scoring : Scoring) (deals : Deals) (now round : ℕ) (boards : List ℕ) (records : List PlainRecord)
+    → AreRecords format scoring deals now round boards records → length records ≡ length boards
+records_count format scoring deals now round boards records are =
+    sym (length-map records board_of) ∙ ap length are.boards_are
 
 -- the part of a play in which nothing has happened
 abbrev empty_part : DiskFormat → List ℕ
@@ -130,6 +125,15 @@ pub no_records : (records : List PlainRecord) → map board_of records ≡ [] �
 no_records [] is = refl
 no_records (x ∷ xs) is = absurd cc
 
+-- no records
+pub no_rows : (format : DiskFormat) (scoring : Scoring) (deals : Deals) (now round : ℕ) → AreRecords format scoring deals now round [] []
+no_rows format scoring deals now round = record {
+  boards_are = refl;
+  valid = All-nil (IsValidRecord scoring deals now round);
+  in_range = All-nil IsRecordInRange;
+  of_format = All-nil (HasRecord format);
+}
+
 -- the boards of a row
 pub live_boards : (boards : ℕ) (row : Row) → is_live row ≡ true → row_boards boards row ≡ range_with_len ((row.set - 1) * boards + 1) boards
 live_boards boards row is = ap (λ b. cond b (range_with_len ((row.set - 1) * boards + 1) boards) []) is
@@ -137,22 +141,29 @@ live_boards boards row is = ap (λ b. cond b (range_with_len ((row.set - 1) * bo
 pub other_boards : (boards : ℕ) (row : Row) → is_live row ≡ false → row_boards boards row ≡ []
 other_boards boards row is = ap (λ b. cond b (range_with_len ((row.set - 1) * boards + 1) boards) []) is
 
+-- a table of a row that is live has a record for each board of a set
+pub live_count : (boards : ℕ) (row : Row) (table : List Record) → map board_kept table ≡ row_boards boards row → is_live row ≡ true → length table ≡ boards
+live_count boards row table of is =
+    sym (length-map table board_kept) ∙ ap length (of ∙ live_boards boards row is) ∙ length-range_with_len ((row.set - 1) * boards + 1) boards
+
+-- and one of another row none
+pub other_none : (boards : ℕ) (row : Row) (table : List Record) → map board_kept table ≡ row_boards boards row → is_live row ≡ false → table ≡ []
+other_none boards row [] of is = refl
+other_none boards row (kept ∷ table) of is = let none = of ∙ other_boards boards row is in absurd cc
+
 -- what is kept of records has their parts
 pub kept_parts : (format : DiskFormat) (table : List Record) → map (part_kept format) table ≡ map (record_part format) (map plain_of table)
 kept_parts format table = sym (map-map (record_part format) plain_of table)
 
 -- what was found, or not
 
-pub found_both : {A E : Type 0} (P Q R : A → Type 0) (r : Result (Option A) E) → IfOk r (λ o. IfSome o P) → IfOk r (λ o. IfSome o Q)
-    → ((x : A) → P x → Q x → R x) → IfOk r (λ o. IfSome o R)
-found_both P Q R (Ok None) one two then = tt
-found_both P Q R (Ok (Some x)) one two then = then x one two
-found_both P Q R (Err e) one two then = tt
+pub found_both : (P Q R : Type 0) (o : Option (Unit {0})) → OnSome o P → OnSome o Q → (P → Q → R) → OnSome o R
+found_both P Q R None one two then = tt
+found_both P Q R (Some x) one two then = then one two
 
-pub found_none : {A E : Type 0} (P Q : Type 0) (r : Result (Option A) E) → IfOk r (λ o. IfNone o P) → (P → Q) → IfOk r (λ o. IfNone o Q)
-found_none P Q (Ok None) holds then = then holds
-found_none P Q (Ok (Some x)) holds then = tt
-found_none P Q (Err e) holds then = tt
+pub found_none : (P Q : Type 0) (o : Option (Unit {0})) → IfNone o P → (P → Q) → IfNone o Q
+found_none P Q None holds then = then holds
+found_none P Q (Some x) holds then = tt
 
 -- All rows
 
@@ -165,7 +176,7 @@ suc_row rows row_index boards within =
 row_length : (format : DiskFormat) (boards : ℕ) (records : List PlainRecord) → length (row_parts format boards records) ≡ boards
 row_length format boards records = length-map-range_with_len (λ index. record_part format (record_or_empty records index)) 0 boards
 
-module _ (format : DiskFormat) (scoring : Scoring) (deals : List (Option (List ℕ))) (now boards : ℕ) where
+module _ (format : DiskFormat) (scoring : Scoring) (deals : Deals) (now boards : ℕ) where
   -- one row more
   pub rows_push : (rows : List Row) (i : ℕ) (row : Row) (tables : List (Vec Record)) (table : Vec Record) → i < length rows → slice_get rows i ≡ Some row
       → AreRows format scoring deals now boards (take i rows) (map plains_of tables) → IsRowOf format scoring deals now boards row (plains_of table)
@@ -199,3 +210,20 @@ when_none P (Some x) holds is = absurd (let wrong : Some x ≡ None = is in cc)
 
 pub when_some : {A : Type 0} (P : A → Type 0) (o : Option A) (x : A) → IfSome o P → o ≡ Some x → P x
 when_some P o x holds is = subst (λ p. IfSome p P) is holds
+
+-- the boards of the table of a row
+pub boards_of_row : (tables : List (Vec Record)) (rows : List Row) (boards index : ℕ) (table : Vec Record) (row : Row)
+    → map (λ (t : Vec Record). map board_kept t.items) tables ≡ map (row_boards boards) rows → slice_get tables index ≡ Some table → slice_get rows index ≡ Some row
+    → map board_kept table.items ≡ row_boards boards row
+boards_of_row tables rows boards index table row same of_table of_row =
+    let both : Some (map board_kept table.items) ≡ Some (row_boards boards row)
+    = sym (slice_get-map (λ (t : Vec Record). map board_kept t.items) tables index ∙ ap (option_map (λ (t : Vec Record). map board_kept t.items)) of_table)
+    ∙ ap (λ bs. slice_get bs index) same
+    ∙ slice_get-map (row_boards boards) rows index ∙ ap (option_map (row_boards boards)) of_row in
+    cc
+
+-- as many tables as rows
+pub rows_long : (tables : List (Vec Record)) (rows : List Row) (boards : ℕ) → map (λ (t : Vec Record). map board_kept t.items) tables ≡ map (row_boards boards) rows
+    → length tables ≡ length rows
+rows_long tables rows boards same =
+    sym (length-map tables (λ (t : Vec Record). map board_kept t.items)) ∙ ap length same ∙ length-map rows (row_boards boards)

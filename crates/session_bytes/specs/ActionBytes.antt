@@ -30,6 +30,7 @@ turn_bytes board at rest = board ∷ to_be_bytes w16 at ++ rest
 abbrev pub play_bytes : PlayId → List ℕ → List ℕ
 play_bytes play rest = play.round ∷ play.table ∷ play.index ∷ rest
 
+-- a hand, a bit for each card
 abbrev pub hand_bytes : ℕ → List ℕ
 hand_bytes hand = to_be_bytes w64 hand
 
@@ -63,33 +64,26 @@ correction_bytes correction.Void = []
 correction_bytes correction.Restore = []
 correction_bytes (correction.Adjust ns ew) = percent_of ns ∷ percent_of ew ∷ []
 
+-- the bytes of an act
 abbrev pub act_bytes : Act → List ℕ
-act_bytes (act.Player key board at done) = headed (deed_kind done) key.0 (turn_bytes board at (deed_bytes done))
+act_bytes (act.Player key board at deed) = headed (deed_kind deed) key.0 (turn_bytes board at (deed_bytes deed))
 act_bytes (act.Deal key board hands) = headed 1 key.0 (board ∷ flat_map hand_bytes hands)
 act_bytes (act.RoundEnd key round) = headed 7 key.0 (round ∷ [])
 act_bytes (act.Ruling key play made) = headed (correction_kind made) key.0 (play_bytes play (correction_bytes made))
 
+-- The bytes of an action, in either format.
 abbrev pub action_bytes : Action → List ℕ
 action_bytes action = act_bytes (act_of action)
 
 -- the format has what is ruled
 abbrev pub HasCorrection : DiskFormat → Correction → Type 0
-HasCorrection One (correction.Tricks tricks) = Unit {0}
-HasCorrection One correction.Void = Unit {0}
-HasCorrection One correction.Restore = Unit {0}
 HasCorrection One (correction.Adjust ns ew) = ⊥
-HasCorrection Two made = Unit {0}
+HasCorrection _ _ = Unit {0}
 
--- the first format has the act
-abbrev pub HadAct : Act → Type 0
-HadAct (act.Player key board at done) = Unit {0}
-HadAct (act.Deal key board hands) = Unit {0}
-HadAct (act.RoundEnd key round) = Unit {0}
-HadAct (act.Ruling key play made) = HasCorrection One made
-
+-- the format has the act
 abbrev pub HasAct : DiskFormat → Act → Type 0
-HasAct One a = HadAct a
-HasAct Two a = Unit {0}
+HasAct One (act.Ruling key play made) = HasCorrection One made
+HasAct _ _ = Unit {0}
 
 -- The format has the action.
 abbrev pub HasAction : DiskFormat → Action → Type 0
@@ -103,14 +97,13 @@ in_range least most number = if nat_le least number && nat_le number most then S
 
 -- the byte, if it is the only one
 abbrev pub only_byte : List ℕ → Option ℕ
-only_byte [] = None
 only_byte (byte ∷ []) = Some byte
-only_byte (byte ∷ more ∷ rest) = None
+only_byte _ = None
 
 -- the value, if no byte is left
 abbrev pub at_end : {A : Type 0} → List ℕ → A → Option A
 at_end [] value = Some value
-at_end (byte ∷ rest) value = None
+at_end _ value = None
 
 -- what a player does by the kind of the action, and by the bytes behind the count
 abbrev pub deed_in : ℕ → List ℕ → Option Deed
@@ -128,13 +121,12 @@ player_action kind key board at rest = option_map (of_player key board at) (deed
 
 -- the same by the bytes behind the key
 abbrev pub turn_in : ℕ → Key → List ℕ → Option Action
-turn_in kind key [] = None
-turn_in kind key (board ∷ []) = None
-turn_in kind key (board ∷ high ∷ []) = None
 turn_in kind key (board ∷ high ∷ low ∷ rest) =
     option_and_then (λ b. option_and_then (λ at. player_action kind key b at rest) (in_range 0 999 (from_be_bytes w16 (high ∷ low ∷ []))))
     (in_range 1 36 board)
+turn_in kind key _ = None
 
+-- the play of a round and a table
 abbrev pub play_with : ℕ → ℕ → ℕ → PlayId
 play_with round table index = record { round = round; table = table; index = index }
 
@@ -149,11 +141,8 @@ averages_of ns ew = option_and_then (λ n. option_map (correction.Adjust n) (ave
 
 -- the same by the bytes behind the play
 abbrev pub averages_in : DiskFormat → List ℕ → Option Correction
-averages_in One rest = None
-averages_in Two [] = None
-averages_in Two (ns ∷ []) = None
 averages_in Two (ns ∷ ew ∷ []) = averages_of ns ew
-averages_in Two (ns ∷ ew ∷ more ∷ rest) = None
+averages_in _ _ = None
 
 -- what is ruled by the kind of the action, and by the bytes behind the play
 abbrev pub correction_in : DiskFormat → ℕ → List ℕ → Option Correction
@@ -170,10 +159,8 @@ ruling_on format kind key play rest = option_map (of_ruling key play) (correctio
 
 -- the same by the bytes behind the key
 abbrev pub ruling_in : DiskFormat → ℕ → Key → List ℕ → Option Action
-ruling_in format kind key [] = None
-ruling_in format kind key (round ∷ []) = None
-ruling_in format kind key (round ∷ table ∷ []) = None
 ruling_in format kind key (round ∷ table ∷ index ∷ rest) = option_and_then (λ play. ruling_on format kind key play rest) (play_in round table index)
+ruling_in format kind key _ = None
 
 -- the hand of eight bytes, in which no bit above 51 is set
 abbrev pub hand_in : List ℕ → Option ℕ
@@ -202,10 +189,6 @@ action_in format kind key rest =
 
 -- The action that these bytes are those of on a disk of that format, if they are those of one.
 abbrev pub action_of : DiskFormat → List ℕ → Option Action
-action_of format [] = None
-action_of format (kind ∷ []) = None
-action_of format (kind ∷ a ∷ []) = None
-action_of format (kind ∷ a ∷ b ∷ []) = None
-action_of format (kind ∷ a ∷ b ∷ c ∷ []) = None
 action_of format (kind ∷ a ∷ b ∷ c ∷ d ∷ rest) =
     option_and_then (λ number. action_in format kind (record { 0 = number }) rest) (in_range 0 4294967295 (from_be_bytes w32 (a ∷ b ∷ c ∷ d ∷ [])))
+action_of format _ = None

@@ -15,6 +15,7 @@ use Rattle.session_rules.specs.Act.{act_of}
 use Rattle.session_rules.specs.Numbers.{IsRoundNumber, IsTableNumber, IsBoardIndex, IsTrickCount, IsMadeCount}
 use Rattle.session_rules.specs.StateRange.{IsCorrectionInRange}
 
+-- a key has 32 bits
 abbrev pub IsKey : Key → Type 0
 IsKey key = key.0 < 2 ^ 32
 
@@ -22,6 +23,7 @@ IsKey key = key.0 < 2 ^ 32
 abbrev pub IsTurn : ℕ → ℕ → Type 0
 IsTurn board at = IsBoard board × IsMadeCount at
 
+-- the round, the table and the index of a play
 abbrev pub IsPlay : PlayId → Type 0
 IsPlay play = IsRoundNumber play.round × IsTableNumber play.table × IsBoardIndex play.index
 
@@ -30,11 +32,11 @@ abbrev pub IsDeedInRange : Deed → Type 0
 IsDeedInRange (deed.Call call) = IsCall call
 IsDeedInRange (deed.Card card) = IsCard card
 IsDeedInRange (deed.Claim tricks) = IsTrickCount tricks
-IsDeedInRange deed.Agree = Unit {0}
-IsDeedInRange deed.Refuse = Unit {0}
+IsDeedInRange _ = Unit {0}
 
+-- what an act names
 abbrev pub IsActInRange : Act → Type 0
-IsActInRange (act.Player key board at done) = IsKey key × IsTurn board at × IsDeedInRange done
+IsActInRange (act.Player key board at deed) = IsKey key × IsTurn board at × IsDeedInRange deed
 IsActInRange (act.Deal key board hands) = IsKey key × IsBoard board × (length hands ≡ 4) × All IsCardSet hands
 IsActInRange (act.RoundEnd key round) = IsKey key × IsRoundNumber round
 IsActInRange (act.Ruling key play made) = IsKey key × IsPlay play × IsCorrectionInRange made

@@ -5,3 +5,4 @@ pub mod ActionRange
 pub mod ActionBytes
 pub mod PartsRead
 pub mod Head
+pub mod SessionKeeping

@@ -22,13 +22,15 @@ use Rattle.session_rules.specs.State.{SessionValue}
 use Rattle.session_store.specs.declared.disk_format.DiskFormat.{DiskFormat}
 use Rattle.session_store.specs.declared.disk_format.DiskFormat.TheVariants.{One, Two}
 
--- numbers of two, four and eight bytes
+-- a number of two bytes,
 abbrev pub two_bytes : ℕ → List ℕ
 two_bytes n = to_be_bytes w16 n
 
+-- of four,
 abbrev pub four_bytes : ℕ → List ℕ
 four_bytes n = to_be_bytes w32 n
 
+-- and of eight
 abbrev pub eight_bytes : ℕ → List ℕ
 eight_bytes n = to_be_bytes w64 n
 
@@ -36,6 +38,7 @@ eight_bytes n = to_be_bytes w64 n
 abbrev pub text_bytes : List ℕ → List ℕ
 text_bytes text = length text ∷ text
 
+-- the number of a scoring
 abbrev pub scoring_number : Scoring → ℕ
 scoring_number MatchPoints = 0
 scoring_number Imps = 1
@@ -55,6 +58,7 @@ configuration_part configuration round =
 abbrev pub row_bytes : Row → List ℕ
 row_bytes row = row.ns ∷ row.ew ∷ row.set ∷ []
 
+-- the movement: its rows
 abbrev pub movement_part : List Row → List ℕ
 movement_part rows = flat_map row_bytes rows
 
@@ -62,6 +66,7 @@ movement_part rows = flat_map row_bytes rows
 abbrev pub player_bytes : Pair → ℕ → List ℕ
 player_bytes pair row_index = text_bytes (slice_index_or pair.names row_index []) ++ four_bytes (slice_index pair.keys row_index)
 
+-- a pair: its two players
 abbrev pub pair_part : Pair → List ℕ
 pair_part pair = player_bytes pair 0 ++ player_bytes pair 1
 
@@ -94,10 +99,8 @@ claim_bytes agreed (Some claim) = (if agreed then 2 else 1) ∷ seat_number clai
 
 -- the format has the ruling: the first has no averages
 abbrev pub HasRuling : DiskFormat → Ruling → Type 0
-HasRuling One (ruling.Tricks tricks) = Unit {0}
-HasRuling One ruling.Void = Unit {0}
 HasRuling One (ruling.Adjusted ns ew) = ⊥
-HasRuling Two made = Unit {0}
+HasRuling _ _ = Unit {0}
 
 -- a ruling: 0 where there is none, 1 and the tricks, 2 where the play is void, or 3 and the averages of both sides in per cent; in
 -- the second format zeros fill it up to three bytes

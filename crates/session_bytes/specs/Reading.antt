@@ -23,7 +23,7 @@ use Rattle.session_bytes.specs.ActionBytes.{hands_in}
 use Rattle.session_bytes.specs.PartsRead.{agreed_in}
 use Rattle.session_rules.specs.Average.{average_of}
 use Rattle.session_rules.specs.Record.{PlainRecord, contract_in, play_of}
-use Rattle.session_rules.specs.State.{row_boards}
+use Rattle.session_rules.specs.State.{Deals, row_boards}
 use Rattle.bridge_table.specs.Kept.{plain_of, is_kept_open, IsTiedIn}
 use Rattle.session_store.specs.declared.disk_format.DiskFormat.{DiskFormat}
 use Rattle.session_store.specs.declared.disk_format.DiskFormat.TheVariants.{One, Two}
@@ -69,9 +69,8 @@ bytes_at count bytes = if nat_lt (length bytes) count then None else Some (take 
 
 -- the calls: how many in two bytes, and then their numbers
 abbrev pub calls_at : List ℕ → Option (List ℕ × List ℕ)
-calls_at [] = None
-calls_at (high ∷ []) = None
 calls_at (high ∷ low ∷ rest) = bytes_at (from_be_bytes w16 (high ∷ low ∷ [])) rest
+calls_at _ = None
 
 -- the cards: how many in one byte, and then their numbers
 abbrev pub cards_at : List ℕ → Option (List ℕ × List ℕ)
@@ -92,10 +91,8 @@ claimed_by seat tricks bits =
 
 -- the claim behind its mark
 abbrev pub marked_at : Bool → List ℕ → Option (Option Claim × Bool × List ℕ)
-marked_at agreed [] = None
-marked_at agreed (seat ∷ []) = None
-marked_at agreed (seat ∷ tricks ∷ []) = None
 marked_at agreed (seat ∷ tricks ∷ bits ∷ rest) = option_map (λ (claim : Claim). (Some claim, agreed, rest)) (claimed_by seat tricks bits)
+marked_at agreed _ = None
 
 -- the claim, if there is one, and whether it is marked as agreed
 abbrev pub claim_at : List ℕ → Option (Option Claim × Bool × List ℕ)
@@ -110,10 +107,9 @@ tricks_in tricks = if nat_le tricks 13 then Some (Some (ruling.Tricks tricks)) e
 
 -- the ruling that the first format has: a kind, and the tricks where it is one of tricks
 abbrev pub short_ruling_at : List ℕ → Option (Option Ruling)
-short_ruling_at [] = None
 short_ruling_at (kind ∷ []) = if kind == 0 then Some None else if kind == 2 then Some (Some ruling.Void) else None
 short_ruling_at (kind ∷ tricks ∷ []) = if kind == 1 then tricks_in tricks else None
-short_ruling_at (kind ∷ tricks ∷ more ∷ rest) = None
+short_ruling_at _ = None
 
 -- the ruling, or none, if the two numbers that it has no use for are zeros
 abbrev pub if_zeros : ℕ → ℕ → Option Ruling → Option (Option Ruling)
@@ -133,11 +129,8 @@ ruling_by kind first second =
 
 -- the ruling that the second format has: a kind and two numbers always
 abbrev pub long_ruling_at : List ℕ → Option (Option Ruling)
-long_ruling_at [] = None
-long_ruling_at (kind ∷ []) = None
-long_ruling_at (kind ∷ first ∷ []) = None
 long_ruling_at (kind ∷ first ∷ second ∷ []) = ruling_by kind first second
-long_ruling_at (kind ∷ first ∷ second ∷ more ∷ rest) = None
+long_ruling_at _ = None
 
 -- the ruling, if there is one, behind which no byte is left
 abbrev pub ruling_at : DiskFormat → List ℕ → Option (Option Ruling)
@@ -175,6 +168,7 @@ deal_at (kind ∷ byte ∷ rest) = if kind == 1 then dealt_at (byte ∷ rest) el
 
 -- Which records these are
 
+-- a call that is there
 abbrev pub some_call : Call → Option Call
 some_call call = Some call
 
@@ -210,6 +204,7 @@ pub record IsPlayed (hands : List ℕ) (plain : PlainRecord) : Type 0 where
   pub unplayed : contract_in plain ≡ None → IsUnplayed plain
   pub play : IfSome (play_of hands plain) IsPlay
 
+-- the scoring is by matchpoints
 abbrev pub is_by_matchpoints : Scoring → Bool
 is_by_matchpoints MatchPoints = true
 is_by_matchpoints Imps = false
@@ -229,7 +224,7 @@ is_in_place scoring now round kept =
 
 -- a record that was read: of the board, of those bytes, valid, within its ranges and those of the format, and tied to the deal of
 -- its board
-pub record IsReadFrom (format : DiskFormat) (scoring : Scoring) (deals : List (Option (List ℕ))) (now round board : ℕ) (part : List ℕ) (kept : Record) : Type 0 where
+pub record IsReadFrom (format : DiskFormat) (scoring : Scoring) (deals : Deals) (now round board : ℕ) (part : List ℕ) (kept : Record) : Type 0 where
   pub board_is : kept.board ≡ board
   pub bytes : record_part format (plain_of kept) ≡ part
   pub valid : IsValidRecord scoring deals now round (plain_of kept)
@@ -252,23 +247,23 @@ abbrev pub plains_of : Vec Record → List PlainRecord
 plains_of table = map plain_of table.items
 
 -- each is a deal of four hands, or none
-pub record AreDeals (deals : List (Option (List ℕ))) : Type 0 where
+pub record AreDeals (deals : Deals) : Type 0 where
   pub dealt : All IsDealOrNone deals
   pub hands : All AreHandsOrNone deals
 
 -- records of a round, of those boards, valid, and within their ranges and those of the format
-pub record AreRecords (format : DiskFormat) (scoring : Scoring) (deals : List (Option (List ℕ))) (now round : ℕ) (boards : List ℕ) (records : List PlainRecord) : Type 0 where
+pub record AreRecords (format : DiskFormat) (scoring : Scoring) (deals : Deals) (now round : ℕ) (boards : List ℕ) (records : List PlainRecord) : Type 0 where
   pub boards_are : map board_of records ≡ boards
   pub valid : All (IsValidRecord scoring deals now round) records
   pub in_range : All IsRecordInRange records
   pub of_format : All (HasRecord format) records
 
 -- the records of the boards of a row
-abbrev pub IsRowOf : DiskFormat → Scoring → List (Option (List ℕ)) → ℕ → ℕ → Row → List PlainRecord → Type 0
+abbrev pub IsRowOf : DiskFormat → Scoring → Deals → ℕ → ℕ → Row → List PlainRecord → Type 0
 IsRowOf format scoring deals now boards row records = AreRecords format scoring deals now row.round (row_boards boards row) records
 
 -- the records of all rows
-pub record AreRows (format : DiskFormat) (scoring : Scoring) (deals : List (Option (List ℕ))) (now boards : ℕ) (rows : List Row) (records : List (List PlainRecord)) : Type 0 where
+pub record AreRows (format : DiskFormat) (scoring : Scoring) (deals : Deals) (now boards : ℕ) (rows : List Row) (records : List (List PlainRecord)) : Type 0 where
   pub count : length records ≡ length rows
   pub each : (index : ℕ) (row : Row) (own : List PlainRecord) → slice_get rows index ≡ Some row → slice_get records index ≡ Some own →
       IsRowOf format scoring deals now boards row own

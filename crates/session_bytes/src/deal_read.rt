@@ -33,9 +33,6 @@ fn deal_at(part: &[u8]) -> Option<Option<Deal>>
 fn dealt_at(hands: &[u8]) -> Option<Option<Deal>>
     ensures { result ≡ dealt_at hands.now }
 {
-    let hands = read_hands(hands)?;
-    match Deal::from_hands(hands) {
-        Ok(deal) => Some(Some(deal)),
-        Err(_) => None,
-    }
+    let deal = Deal::from_hands(read_hands(hands)?).ok()?;
+    Some(Some(deal))
 }

@@ -160,17 +160,13 @@ fn read_pair(part: &[u8]) -> Option<PairFields>
     ensures none { IfNone result (¬ IsPairPart part.now) }
 {
     let (first, rest) = split_text(part);
-    let Some(first) = read_name(first) else {
-        return None;
-    };
+    let first = read_name(first)?;
     if rest.len() < 4 {
         return None;
     }
     let (key, rest) = rest.split_at(4);
     let (second, rest) = split_text(rest);
-    let Some(second) = read_name(second) else {
-        return None;
-    };
+    let second = read_name(second)?;
     if rest.len() != 4 {
         return None;
     }
@@ -200,10 +196,7 @@ fn movement_of(shape: Shape, part: &[u8]) -> Option<Movement>
     ensures none { IfNone result (¬ IsMovementPart shape part.now) }
 {
     let rows = read_rows(shape, part)?;
-    match Movement::from_rows(shape, rows.as_slice()) {
-        Ok(movement) => Some(movement),
-        Err(_) => None,
-    }
+    Movement::from_rows(shape, rows.as_slice()).ok()
 }
 
 /// The configuration and the round that the first part, the second, and those of the pairs state.
@@ -212,23 +205,17 @@ fn read_parts(first: &[u8], second: &[u8], rest: &[ArrayVec<u8, PAYLOAD_BYTES>])
     ensures round { IfSome result (λ head. head.round ≡ slice_index (numbers_in first.now) 11) }
     ensures none { IfNone result (¬ AreHeadParts first.now second.now (map items_of rest.now)) }
 {
-    let Some(heading) = read_heading(first) else {
-        return None;
-    };
+    let heading = read_heading(first)?;
     if !heading.shape.is_within_limits() {
         return None;
     }
-    let Some(movement) = movement_of(heading.shape, second) else {
-        return None;
-    };
+    let movement = movement_of(heading.shape, second)?;
     let count = usize::from(heading.shape.pairs);
     if rest.len() < count {
         return None;
     }
     let (pairs, _) = rest.split_at(count);
-    let Some(pairs) = read_pairs(pairs) else {
-        return None;
-    };
+    let pairs = read_pairs(pairs)?;
     let config = Config::from_fields(ConfigFields {
         event: heading.event,
         site: heading.site,
@@ -238,14 +225,11 @@ fn read_parts(first: &[u8], second: &[u8], rest: &[ArrayVec<u8, PAYLOAD_BYTES>])
         movement,
         director: heading.director,
         pairs,
-    });
-    match config {
-        Some(config) => Some(Head {
-            config,
-            round: heading.round,
-        }),
-        None => None,
-    }
+    })?;
+    Some(Head {
+        config,
+        round: heading.round,
+    })
 }
 
 /// Whether the first part and the second are those of the configuration and the round.
@@ -306,9 +290,7 @@ fn head_of(first: &[u8], second: &[u8], rest: &[ArrayVec<u8, PAYLOAD_BYTES>]) ->
     ensures written { IfSome result (λ head. IsHead head.config head.round first.now second.now (map items_of rest.now)) }
     ensures other { IfNone result (NoHead first.now second.now (map items_of rest.now)) }
 {
-    let Some(head) = read_parts(first, second, rest) else {
-        return None;
-    };
+    let head = read_parts(first, second, rest)?;
     if is_head(&head, first, second, rest) {
         Some(head)
     } else {
@@ -324,11 +306,7 @@ pub fn read_head(parts: &[ArrayVec<u8, PAYLOAD_BYTES>]) -> Option<Head>
     ensures other { IfNone result ((configuration : ConfigValue) (round : ℕ) (boards : List (List ℕ)) → IsConfiguration configuration →
         IsRound configuration round → head_parts configuration round ++ boards ≢ map items_of parts.now) }
 {
-    let Some((first, rest)) = parts.split_first() else {
-        return None;
-    };
-    let Some((second, rest)) = rest.split_first() else {
-        return None;
-    };
+    let (first, rest) = parts.split_first()?;
+    let (second, rest) = rest.split_first()?;
     head_of(first.as_slice(), second.as_slice(), rest)
 }

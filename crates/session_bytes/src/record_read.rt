@@ -38,10 +38,10 @@ pub fn read_record(
     ensures read { IfSome result (IsReadFrom format scoring deals.now now round board part.now) }
     ensures none { IfNone result ((plain : PlainRecord) → plain.board ≡ board → IsValidRecord scoring deals.now now round plain → IsRecordInRange plain → HasRecord format plain → record_part format plain ≢ part.now) }
 {
-    match read_fields(format, part) {
-        Some(fields) => record_of(scoring, &fields, board, deals, now, round),
-        None => None,
-    }
+    let Some(fields) = read_fields(format, part) else {
+        return None;
+    };
+    record_of(scoring, &fields, board, deals, now, round)
 }
 
 /// The calls of those numbers.
@@ -86,7 +86,8 @@ fn auction_of(numbers: &[u8], board: BoardNumber, is_dealt: bool) -> Option<Auct
     Auction::from_calls(dealer(board), calls.as_slice())
 }
 
-/// The play of the deal after the auction with the cards and the claims of the fields; none where there is no contract.
+/// The play of the deal after the auction with the cards and the claims of the fields; none where there is no contract. The
+/// board is what the clauses name the auction's dealer by.
 fn play_of(
     auction: &Auction,
     board: BoardNumber,
@@ -165,7 +166,7 @@ fn record_of(
     ensures tied { IfSome result (IsTiedIn deals.now) }
     ensures none { IfNone result ((plain : PlainRecord) → plain.board ≡ board → IsValidRecord scoring deals.now now round plain → IsRecordInRange plain → fields_of plain ≢ fields_in fields.now) }
 {
-    let deal = deal_on(deals, board);
+    let deal = deal_on(deals, board).copied();
     let auction = auction_of(fields.calls, board, deal.is_some())?;
     let play = play_of(&auction, board, deal, fields)?;
     let kept = Record {

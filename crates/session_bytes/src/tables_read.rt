@@ -1,41 +1,35 @@
 //! The boards and the tables of a session, read from their parts.
-ghost use Rattle.std.specs.Prelude.{◌≡◌, ◌≢◌, ◌==◌, ◌+◌, ◌*◌, ◌≤◌, ℕ, List, Option, length, map, flat_map, take, IfOk, IfSome, IfNone, All};
+ghost use Rattle.std.specs.Prelude.{◌≡◌, ◌≢◌, ◌==◌, ◌*◌, List, length, map, flat_map, OnSome, IfNone, All};
 ghost use Rattle.session_rules.specs.Record.{PlainRecord};
-ghost use Rattle.bridge_table.specs.Kept.{plain_of, IsTiedIn};
+ghost use Rattle.session_rules.specs.State.{Deals, row_boards};
+ghost use Rattle.bridge_table.specs.Kept.{plain_of, board_kept, IsTiedIn};
 ghost use Rattle.session_bytes.specs.Parts.{deal_part, row_parts};
 ghost use Rattle.session_rules.specs.StateRange.{AreHandsOrNone};
 ghost use Rattle.session_rules.specs.Valid.{IsDealOrNone};
 ghost use Rattle.session_bytes.specs.Reading.{items_of, part_kept, plains_of, AreDeals, AreRecords, IsRowOf, AreRows, empty_length, is_empty_part};
-ghost use Rattle.std.specs.List.{range_with_len, list_all};
+ghost use Rattle.std.specs.List.{list_all};
 ghost use Rattle.session_bytes.specs.Parts.{record_part};
 
 use crate::deal_read::read_deal;
 use crate::record_read::read_record;
 use arrayvec::ArrayVec;
-use bridge_cards::{BoardNumber, Deal};
+use bridge_cards::Deal;
 use bridge_movement::Row;
 use bridge_score::Scoring;
 use bridge_table::Record;
 use session_store::{DiskFormat, PAYLOAD_BYTES};
-use std::alloc::{AllocError, Global};
 
-/// The deals of the boards that the parts were written of; none where these are the parts of no boards.
-pub fn read_deals(
-    alloc: Global,
-    parts: &[ArrayVec<u8, PAYLOAD_BYTES>],
-) -> Result<Option<Vec<Option<Deal>>>, AllocError>
-    ensures written { IfOk result (λ found. IfSome found (λ deals. map deal_part deals.items ≡ map items_of parts.now)) }
-    ensures deals { IfOk result (λ found. IfSome found (λ deals. AreDeals deals.items)) }
-    ensures other { IfOk result (λ found. IfNone found ((deals : List (Option (List ℕ))) → AreDeals deals → map deal_part deals ≢ map items_of parts.now)) }
+/// Reads the deals of the boards that the parts were written of; `None` where these are the parts of no boards.
+pub fn read_deals(parts: &[ArrayVec<u8, PAYLOAD_BYTES>], deals: &mut [Option<Deal>]) -> Option<()>
+    requires { length deals.old ≡ length parts.now }
+    ensures written { OnSome result (map deal_part deals.new ≡ map items_of parts.now) }
+    ensures deals { OnSome result (AreDeals deals.new) }
+    ensures other { IfNone result ((others : Deals) → AreDeals others → map deal_part others ≢ map items_of parts.now) }
 {
-    let mut deals = Vec::with_capacity(alloc, parts.len())?;
-    for part in parts {
-        match read_deal(part.as_slice()) {
-            Some(deal) => deals.push(deal)?,
-            None => return Ok(None),
-        }
+    for (index, part) in parts.iter().enumerate() {
+        deals[index] = read_deal(part.as_slice())?;
     }
-    Ok(Some(deals))
+    Some(())
 }
 
 /// How many zeros are the part of a play in which nothing has happened.
@@ -70,43 +64,35 @@ fn are_empty_parts(format: DiskFormat, parts: &[ArrayVec<u8, PAYLOAD_BYTES>]) ->
         .all(|part| is_empty_part(format, part.as_slice()))
 }
 
-/// The records of a round, of boards from the first on, that the parts were written of in that format; none where they are those of no
-/// valid records.
+/// Reads the records of a round, of the boards of the table's, that the parts were written of in that format; `None` where
+/// they are those of no valid records.
 fn read_records(
-    alloc: Global,
     format: DiskFormat,
     scoring: Scoring,
     parts: &[ArrayVec<u8, PAYLOAD_BYTES>],
-    first: u8,
     deals: &[Option<Deal>],
     now: u8,
     round: u8,
-) -> Result<Option<Vec<Record>>, AllocError>
-    requires least { 1 ≤ first }
-    requires most { first + length parts.now ≤ 37 }
+    table: &mut [Record],
+) -> Option<()>
+    requires count { length table.old ≡ length parts.now }
     requires deals { All AreHandsOrNone deals.now }
-    ensures written { IfOk result (λ found. IfSome found (λ table. map (part_kept format) table.items ≡ map items_of parts.now)) }
-    ensures records { IfOk result (λ found. IfSome found (λ table. AreRecords format scoring deals.now now round (range_with_len first (length parts.now)) (map plain_of table.items))) }
-    ensures tied { IfOk result (λ found. IfSome found (λ table. All (IsTiedIn deals.now) table.items)) }
-    ensures other { IfOk result (λ found. IfNone found ((records : List PlainRecord) → AreRecords format scoring deals.now now round (range_with_len first (length parts.now)) records → map (record_part format) records ≢ map items_of parts.now)) }
+    ensures written { OnSome result (map (part_kept format) table.new ≡ map items_of parts.now) }
+    ensures records { OnSome result (AreRecords format scoring deals.now now round (map board_kept table.old) (map plain_of table.new)) }
+    ensures tied { OnSome result (All (IsTiedIn deals.now) table.new) }
+    ensures other { IfNone result ((records : List PlainRecord) → AreRecords format scoring deals.now now round (map board_kept table.old) records → map (record_part format) records ≢ map items_of parts.now) }
 {
-    let mut table = Vec::with_capacity(alloc, parts.len())?;
-    let mut number = first;
-    for part in parts {
-        let board = BoardNumber::new(number).unwrap();
-        match read_record(format, scoring, part.as_slice(), board, deals, now, round) {
-            Some(kept) => table.push(kept)?,
-            None => return Ok(None),
-        }
-        number += 1;
+    for (index, part) in parts.iter().enumerate() {
+        let board = table[index].board;
+        let kept = read_record(format, scoring, part.as_slice(), board, deals, now, round)?;
+        table[index] = kept;
     }
-    Ok(Some(table))
+    Some(())
 }
 
-/// The records of a row: those of the boards of its set where it is live, and otherwise none, of which the parts say that
-/// nothing has happened.
+/// Reads the records of a row: those of the boards of its set where it is live, and otherwise none, of which the parts say
+/// that nothing has happened.
 fn read_table(
-    alloc: Global,
     format: DiskFormat,
     scoring: Scoring,
     parts: &[ArrayVec<u8, PAYLOAD_BYTES>],
@@ -114,31 +100,28 @@ fn read_table(
     boards: u8,
     deals: &[Option<Deal>],
     now: u8,
-) -> Result<Option<Vec<Record>>, AllocError>
+    table: &mut [Record],
+) -> Option<()>
     requires count { length parts.now ≡ boards }
-    requires least { 1 ≤ row.now.set }
-    requires most { row.now.set ≤ 12 }
-    requires boards { boards ≤ 3 }
+    requires boards { map board_kept table.old ≡ row_boards boards row.now }
     requires deals { All AreHandsOrNone deals.now }
-    ensures written { IfOk result (λ found. IfSome found (λ table. row_parts format boards (map plain_of table.items) ≡ map items_of parts.now)) }
-    ensures row { IfOk result (λ found. IfSome found (λ table. IsRowOf format scoring deals.now now boards row.now (map plain_of table.items))) }
-    ensures tied { IfOk result (λ found. IfSome found (λ table. All (IsTiedIn deals.now) table.items)) }
-    ensures other { IfOk result (λ found. IfNone found ((records : List PlainRecord) → IsRowOf format scoring deals.now now boards row.now records → row_parts format boards records ≢ map items_of parts.now)) }
+    ensures written { OnSome result (row_parts format boards (map plain_of table.new) ≡ map items_of parts.now) }
+    ensures row { OnSome result (IsRowOf format scoring deals.now now boards row.now (map plain_of table.new)) }
+    ensures tied { OnSome result (All (IsTiedIn deals.now) table.new) }
+    ensures other { IfNone result ((records : List PlainRecord) → IsRowOf format scoring deals.now now boards row.now records → row_parts format boards records ≢ map items_of parts.now) }
 {
     if row.is_live() {
-        let first = (row.set - 1) * boards + 1;
-        read_records(alloc, format, scoring, parts, first, deals, now, row.round)
+        read_records(format, scoring, parts, deals, now, row.round, table)
     } else if are_empty_parts(format, parts) {
-        Ok(Some(Vec::new(alloc)))
+        Some(())
     } else {
-        Ok(None)
+        None
     }
 }
 
-/// The records of all rows that the parts were written of in that format, as many for each row as there are boards in a set; none where they
-/// are those of no valid records.
+/// Reads the records of all rows that the parts were written of in that format, as many parts for each row as there are boards in a set;
+/// `None` where they are those of no valid records. The tables have a record for each board that their row plays.
 pub fn read_tables(
-    alloc: Global,
     format: DiskFormat,
     scoring: Scoring,
     parts: &[ArrayVec<u8, PAYLOAD_BYTES>],
@@ -146,25 +129,22 @@ pub fn read_tables(
     boards: u8,
     deals: &[Option<Deal>],
     now: u8,
-) -> Result<Option<Vec<Vec<Record>>>, AllocError>
+    tables: &mut [Vec<Record>],
+) -> Option<()>
     requires count { length parts.now ≡ length rows.now * boards }
-    requires sets { All (λ row. (1 ≤ row.set) × (row.set ≤ 12)) rows.now }
-    requires boards { boards ≤ 3 }
+    requires boards { map (λ table. map board_kept table.items) tables.old ≡ map (row_boards boards) rows.now }
     requires deals { All AreHandsOrNone deals.now }
-    ensures written { IfOk result (λ found. IfSome found (λ tables. flat_map (row_parts format boards) (map plains_of tables.items) ≡ map items_of parts.now)) }
-    ensures rows { IfOk result (λ found. IfSome found (λ tables. AreRows format scoring deals.now now boards rows.now (map plains_of tables.items))) }
-    ensures tied { IfOk result (λ found. IfSome found (λ tables. All (λ table. All (IsTiedIn deals.now) table.items) tables.items)) }
-    ensures other { IfOk result (λ found. IfNone found ((records : List (List PlainRecord)) → AreRows format scoring deals.now now boards rows.now records → flat_map (row_parts format boards) records ≢ map items_of parts.now)) }
+    ensures written { OnSome result (flat_map (row_parts format boards) (map plains_of tables.new) ≡ map items_of parts.now) }
+    ensures rows { OnSome result (AreRows format scoring deals.now now boards rows.now (map plains_of tables.new)) }
+    ensures tied { OnSome result (All (λ table. All (IsTiedIn deals.now) table.items) tables.new) }
+    ensures other { IfNone result ((records : List (List PlainRecord)) → AreRows format scoring deals.now now boards rows.now records → flat_map (row_parts format boards) records ≢ map items_of parts.now) }
 {
-    let mut tables = Vec::with_capacity(alloc, rows.len())?;
     let mut rest = parts;
-    for row in rows {
+    for (index, row) in rows.iter().enumerate() {
         let (own, later) = rest.split_at(usize::from(boards));
-        match read_table(alloc, format, scoring, own, row, boards, deals, now)? {
-            Some(table) => tables.push(table)?,
-            None => return Ok(None),
-        }
+        let table = tables[index].as_mut_slice();
+        read_table(format, scoring, own, row, boards, deals, now, table)?;
         rest = later;
     }
-    Ok(Some(tables))
+    Some(())
 }

@@ -1,4 +1,5 @@
 pub mod Lists
+pub mod PlayerAnswer
 pub mod Acts
 pub mod SameAnswer
 pub mod Shown
@@ -13,3 +14,7 @@ pub mod PlainParts
 pub mod PlainStep
 pub mod PlainLaw
 pub mod PlainRecords
+pub mod Decided
+pub mod MovementDecided
+pub mod RecordDecided
+pub mod SessionDecided

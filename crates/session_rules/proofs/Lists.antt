@@ -1,6 +1,6 @@
 -- Lists whose elements are seen in another way.
 use Rattle.std.proofs.Common.{◌≡◌, ◌+◌, ℕ, zero, suc, Bool, true, false, not, cond, List, [], ◌∷◌, ◌++◌, length, Option, Some, None, Result, Ok, Err, refl, sym, ap, ◌∙◌, arith, add-zero, inl, inr, subst}
-use Rattle.std.specs.Prelude.{All, map, position, nat_lt, slice_get, slice_set, OnOk, OnErr, MatchResult, IfSome}
+use Rattle.std.specs.Prelude.{All, map, position, nat_lt, ok_or, slice_get, slice_set, OnOk, OnErr, MatchResult, IfSome}
 use Rattle.std.specs.List.{position_or_len, range_with_len}
 use Rattle.std.specs.Option.{option_map, option_map_or}
 use Rattle.std.proofs.lemmas.Bool.{ltb-false}
@@ -114,3 +114,12 @@ all_at P xs i all =
       | inl (x, within, is, found) ↦ subst (λ o. IfSome o P) (sym is) (subst P found (all i x within))
       | inr (past, none) ↦ subst (λ o. IfSome o P) (sym none) tt
     ]
+
+-- a value that is there, or an error in its place
+pub some_or : {A E : Type 0} (o : Option A) (e : E) (x : A) → ok_or o e ≡ Ok x → o ≡ Some x
+some_or None e x is = absurd cc
+some_or (Some y) e x is = let same : y ≡ x = cc in ap Some same
+
+pub none_or : {A E : Type 0} (o : Option A) (e y : E) → ok_or o e ≡ Err y → (o ≡ None) × (y ≡ e)
+none_or None e y is = (refl, cc)
+none_or (Some x) e y is = absurd cc

@@ -13,8 +13,9 @@ use Rattle.std.specs.Prelude.{Result, Err}
 use Rattle.std.specs.List.{cons_option}
 use Rattle.session_rules.specs.Act.{act_of}
 use Rattle.session_rules.specs.Record.{PlainRecord, empty_record}
-use Rattle.session_rules.specs.State.{SessionValue, opening, seating_of}
-use Rattle.session_rules.specs.Step.{acted_at, record_of, changed_by, changed}
+use Rattle.session_rules.specs.State.{SessionValue, opening, seating_of, record_of}
+use Rattle.session_rules.specs.PlayerStep.{acted_at}
+use Rattle.session_rules.specs.Step.{changed_by, changed}
 use Rattle.session_rules.specs.Valid.{IsPlayId, IsValid}
 use Rattle.session_rules.specs.Own.{Done, after, AreAccepted, done_in, round_after, own, plain_record}
 use Rattle.session_rules.proofs.StaysValid.{opening_valid}

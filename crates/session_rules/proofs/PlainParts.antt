@@ -15,7 +15,7 @@ use Rattle.session_rules.specs.declared.ruling.Ruling.{Ruling}
 use Rattle.session_rules.specs.Correction.{ruling_by}
 use Rattle.session_rules.specs.Deed.{with_deed}
 use Rattle.session_rules.specs.Record.{PlainRecord, empty_record}
-use Rattle.session_rules.specs.Step.{with_ruling}
+use Rattle.session_rules.specs.DirectorStep.{with_ruling}
 use Rattle.session_rules.specs.Own.{Done, ByPlayer, ByDirector, call_in, card_in, claim_in, is_refusal, agrees, correction_in, last_claim, claim_after, last_correction, plain_record}
 
 abbrev pub done_to : Done → PlainRecord → PlainRecord

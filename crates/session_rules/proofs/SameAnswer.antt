@@ -10,7 +10,8 @@ use Rattle.session_rules.specs.declared.seating.Seating.{Seating}
 use Rattle.session_rules.specs.Act.{act_of}
 use Rattle.session_rules.specs.Record.{PlainRecord}
 use Rattle.session_rules.specs.State.{SessionValue, deal_on, seating_of, is_of_set}
-use Rattle.session_rules.specs.Step.{Seen, seen_by, seen_deal, seen_records, player_answer, act_answer, step_answer}
+use Rattle.session_rules.specs.PlayerStep.{Seen, seen_by, seen_deal, seen_records, player_answer}
+use Rattle.session_rules.specs.Step.{act_answer, step_answer}
 use Rattle.session_rules.specs.Apart.{player_in_act, player_key, AgreeAtTable}
 
 -- a deal that is looked at only where it is the same

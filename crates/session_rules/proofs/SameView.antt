@@ -15,7 +15,8 @@ use Rattle.session_rules.specs.declared.seating.Seating.{Seating}
 use Rattle.session_rules.specs.declared.view.View.{View}
 use Rattle.session_rules.specs.Record.{PlainRecord, play_of}
 use Rattle.session_rules.specs.State.{SessionValue, deal_on, row_at, current_index, seating_of}
-use Rattle.session_rules.specs.See.{PlainTrick, Shown, ShownPlay, cards_left, shown_dummy, shown_play, shown_of, shown_dealt, shown_current, shown_among, shown_seated, shown_to}
+use Rattle.session_rules.specs.See.{PlainTrick, Shown, ShownPlay, cards_left, shown_dummy, shown_play, shown_of, shown_among, shown_to}
+use Rattle.session_rules.proofs.Shown.{shown_dealt, shown_current, shown_seated}
 use Rattle.session_rules.specs.Views.{IsViewTo}
 use Rattle.session_rules.specs.Sight.{cards_in, PlaysLookAlike, CardsLookAlike, RecordsLookAlike, DealtLookAlike, CurrentLookAlike, TablesLookAlike, LookAlikeTo}
 

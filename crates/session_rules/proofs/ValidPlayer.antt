@@ -17,10 +17,12 @@ use Rattle.session_rules.specs.declared.refused.Refused.{Refused}
 use Rattle.session_rules.specs.declared.refused.Refused.TheVariants.{NotCurrent, Closed, SitsOut}
 use Rattle.session_rules.specs.declared.seating.Player.{Player}
 use Rattle.session_rules.specs.declared.seating.Seating.{Seating}
+use Rattle.session_rules.specs.Answer.{Answer, ◌>>◌, require}
 use Rattle.session_rules.specs.Deed.{deed_answer, with_deed}
 use Rattle.session_rules.specs.Record.{PlainRecord, bidding_of, play_of, is_open}
 use Rattle.session_rules.specs.State.{SessionValue, deal_on, row_at, index_of_row, current_index, acting_player, is_closed, seating_at, seated, seating_of, is_of_set}
-use Rattle.session_rules.specs.Step.{seen_by, seen_deal, seen_records, answer_dealt, answer_current, answer_among, answer_seated, player_answer, acted_at, acted}
+use Rattle.session_rules.specs.PlayerStep.{seen_by, seen_deal, seen_records, answer_among, player_answer, acted_at, acted}
+use Rattle.session_rules.proofs.PlayerAnswer.{answer_dealt, answer_current, answer_seated}
 use Rattle.session_rules.specs.Valid.{IsDeed, IsValid}
 use Rattle.session_rules.proofs.StaysValid.{none_of, valid_change}
 use Rattle.session_rules.proofs.ValidRuling.{row_round}
@@ -52,7 +54,7 @@ dealt_on : (deal : Option (List ℕ)) (plain : PlainRecord) (seat : Seat) (at : 
 dealt_on None plain seat at done ok = absurd cc
 dealt_on (Some hands) plain seat at done ok = (hands, refl, ok)
 
-pub passed : (b : Bool) (e : Refused) (r : Result (Unit {0}) Refused) → cond b r (Err e) ≡ Ok tt → (b ≡ true) × (r ≡ Ok tt)
+pub passed : (b : Bool) (e : Refused) (r : Answer) → (require b e >> r) ≡ Ok tt → (b ≡ true) × (r ≡ Ok tt)
 passed true e r is = (refl, is)
 passed false e r is = absurd cc
 

@@ -15,7 +15,7 @@ use Rattle.bridge_play.specs.Play.{IsPlay}
 use Rattle.session_rules.specs.declared.refused.Refused.TheVariants.{Closed, Stale, RoundOpen, NoSuchPlay, AlreadyDealt, BadDeal}
 use Rattle.session_rules.specs.Record.{PlainRecord, playing_in, play_of, is_open}
 use Rattle.session_rules.specs.State.{SessionValue, deal_on, is_closed, hands_on}
-use Rattle.session_rules.specs.Step.{deal_answer, next_answer, records_of_round}
+use Rattle.session_rules.specs.DirectorStep.{deal_answer, next_answer, records_of_round}
 use Rattle.session_rules.specs.Valid.{IsValidRecord, IsDealOrNone, IsValid}
 use Rattle.session_rules.proofs.Lists.{not_refused, not_false}
 use Rattle.session_rules.proofs.PlainRecords.{no_contract, other_deal}

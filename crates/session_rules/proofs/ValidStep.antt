@@ -4,8 +4,9 @@ use Rattle.session_rules.specs.declared.act.Act.{Act}
 use Rattle.session_rules.specs.declared.act.Act.TheVariants as act
 use Rattle.session_rules.specs.declared.action.Action.{Action}
 use Rattle.session_rules.specs.Act.{act_of}
-use Rattle.session_rules.specs.State.{SessionValue, director_answer}
-use Rattle.session_rules.specs.Step.{deal_answer, next_answer, rule_answer, record_of, act_answer, step_answer, changed_by, changed}
+use Rattle.session_rules.specs.State.{SessionValue, director_answer, record_of}
+use Rattle.session_rules.specs.DirectorStep.{deal_answer, next_answer, rule_answer}
+use Rattle.session_rules.specs.Step.{act_answer, step_answer, changed_by, changed}
 use Rattle.session_rules.specs.Valid.{IsAct, IsAction, IsValid}
 use Rattle.session_rules.proofs.ValidRuling.{allowed_ok, rule_valid}
 use Rattle.session_rules.proofs.ValidRound.{deal_valid, next_valid}

@@ -11,6 +11,7 @@ use Rattle.session_rules.specs.declared.correction.Correction.TheVariants as cor
 use Rattle.session_rules.specs.declared.deed.Deed.{Deed}
 use Rattle.session_rules.specs.declared.deed.Deed.TheVariants as deed
 
+-- the act of an action
 abbrev pub act_of : Action → Act
 act_of (Deal key board hands) = act.Deal key board hands
 act_of (Call key board at call) = act.Player key board at (deed.Call call)

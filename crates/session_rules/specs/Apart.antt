@@ -9,11 +9,10 @@ use Rattle.session_rules.specs.State.{SessionValue, deal_on, row_at, seating_of,
 
 -- the key by which a player acts
 abbrev pub player_in_act : Act → Option ℕ
-player_in_act (act.Player key board at done) = Some key.0
-player_in_act (act.Deal key board hands) = None
-player_in_act (act.RoundEnd key round) = None
-player_in_act (act.Ruling key play made) = None
+player_in_act (act.Player key board at deed) = Some key.0
+player_in_act _ = None
 
+-- the key of the player whose action it is, if it is a player's
 abbrev pub player_key : Action → Option ℕ
 player_key action = player_in_act (act_of action)
 

@@ -1,15 +1,15 @@
 -- The director's rulings: the answer, and what is left of them.
-use Rattle.std.specs.Prelude.{Bool, not, ◌&&◌, if◌then◌else◌, List, Option, None, Some, Result, Ok, Err}
+use Rattle.std.specs.Prelude.{Bool, not, ◌&&◌, if◌then◌else◌, List, Option, None, Some, Ok, Err}
 use Rattle.bridge_auction.specs.declared.call.Call.{Call}
 use Rattle.bridge_score.specs.declared.Scoring.{Scoring}
 use Rattle.bridge_score.specs.declared.Scoring.TheVariants.{MatchPoints, Imps}
 use Rattle.bridge_play.specs.Play.{PlayValue, is_over}
 use Rattle.session_rules.specs.declared.correction.Correction.{Correction}
 use Rattle.session_rules.specs.declared.correction.Correction.TheVariants as correction
-use Rattle.session_rules.specs.declared.refused.Refused.{Refused}
 use Rattle.session_rules.specs.declared.refused.Refused.TheVariants.{NoContract, NotFinished, NotMatchPoints}
 use Rattle.session_rules.specs.declared.ruling.Ruling.{Ruling}
 use Rattle.session_rules.specs.declared.ruling.Ruling.TheVariants as ruling
+use Rattle.session_rules.specs.Answer.{Answer}
 use Rattle.session_rules.specs.Record.{is_done}
 
 -- the ruling that is left: the latest, or none
@@ -20,18 +20,18 @@ ruling_by (correction.Adjust ns ew) = Some (ruling.Adjusted ns ew)
 ruling_by correction.Restore = None
 
 -- declarer's tricks can be set once the play is over
-abbrev pub tricks_answer : Option PlayValue → Result (Unit {0}) Refused
+abbrev pub tricks_answer : Option PlayValue → Answer
 tricks_answer None = Err NoContract
 tricks_answer (Some play) = if is_over play then Ok tt else Err NotFinished
 
 -- averages are of matchpoints
-abbrev pub adjust_answer : Scoring → Result (Unit {0}) Refused
+abbrev pub adjust_answer : Scoring → Answer
 adjust_answer MatchPoints = Ok tt
 adjust_answer Imps = Err NotMatchPoints
 
 -- The answer to a ruling on a play with these calls and that play of the cards. A ruling cannot be taken back from an
 -- unfinished play of a round that is over.
-abbrev pub ruling_answer : Scoring → List Call → Option PlayValue → Correction → Bool → Result (Unit {0}) Refused
+abbrev pub ruling_answer : Scoring → List Call → Option PlayValue → Correction → Bool → Answer
 ruling_answer scoring calls play (correction.Tricks tricks) round_is_over = tricks_answer play
 ruling_answer scoring calls play correction.Void round_is_over = Ok tt
 ruling_answer scoring calls play (correction.Adjust ns ew) round_is_over = adjust_answer scoring

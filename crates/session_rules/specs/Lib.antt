@@ -2,11 +2,14 @@
 pub mod Numbers
 pub mod Act
 pub mod Average
+pub mod Answer
 pub mod Record
 pub mod Outcome
 pub mod Deed
 pub mod Correction
 pub mod State
+pub mod PlayerStep
+pub mod DirectorStep
 pub mod Step
 pub mod See
 pub mod Valid

@@ -30,8 +30,5 @@ outcome_of plain = outcome_by plain.calls (play_of [] plain) plain.ruling
 
 -- there are 13 tricks in a play
 abbrev pub HasFewTricks : Outcome → Type 0
-HasFewTricks Unfinished = Unit {0}
-HasFewTricks PassedOut = Unit {0}
 HasFewTricks (Played contract tricks) = tricks ≤ 13
-HasFewTricks Voided = Unit {0}
-HasFewTricks (Adjusted ns ew) = Unit {0}
+HasFewTricks _ = Unit {0}

@@ -40,34 +40,33 @@ AreAccepted s (action ∷ actions) = IsAction action × (step_answer s action �
 
 -- what is done in a play: by a player in a seat, or by the director
 pub data Done : Type 0 where
-  ByPlayer : (seat : Seat) (done : Deed) → Done
+  ByPlayer : (seat : Seat) (deed : Deed) → Done
   ByDirector : (made : Correction) → Done
 
 -- by a player who sits at the table of the play in its round, and names its board
 abbrev pub done_by : ConfigValue → PlayId → ℕ → ℕ → Deed → Result Seating Refused → Option Done
-done_by configuration play board named done (Err refused) = None
-done_by configuration play board named done (Ok seating) =
-    if (seating.row == index_of_row configuration.movement.shape play.round play.table) && (named == board) then Some (ByPlayer seating.seat done) else None
+done_by configuration play board named deed (Err refused) = None
+done_by configuration play board named deed (Ok seating) =
+    if (seating.row == index_of_row configuration.movement.shape play.round play.table) && (named == board) then Some (ByPlayer seating.seat deed) else None
 
+-- the two name one play
 abbrev pub same_play : PlayId → PlayId → Bool
 same_play a b = (a.round == b.round) && ((a.table == b.table) && (a.index == b.index))
 
+-- by the director, who names the play
 abbrev pub ruled_in : PlayId → PlayId → Correction → Option Done
 ruled_in play named made = if same_play named play then Some (ByDirector made) else None
 
 -- what an act in that round does in the play of the board, if it concerns it
 abbrev pub done_in : ConfigValue → PlayId → ℕ → ℕ → Act → Option Done
-done_in configuration play board round (act.Player key named at done) = done_by configuration play board named done (seating_of configuration round key.0)
-done_in configuration play board round (act.Deal key of_board hands) = None
-done_in configuration play board round (act.RoundEnd key of_round) = None
+done_in configuration play board round (act.Player key named at deed) = done_by configuration play board named deed (seating_of configuration round key.0)
 done_in configuration play board round (act.Ruling key named made) = ruled_in play named made
+done_in configuration play board round _ = None
 
 -- the round after an act: one more after the end of a round
 abbrev pub round_after : ℕ → Act → ℕ
-round_after round (act.Player key board at done) = round
-round_after round (act.Deal key board hands) = round
 round_after round (act.RoundEnd key of_round) = round + 1
-round_after round (act.Ruling key play made) = round
+round_after round _ = round
 
 -- what the play's own actions do in it, the first of them in that round
 abbrev pub own : ConfigValue → PlayId → ℕ → ℕ → List Action → List Done
@@ -77,51 +76,35 @@ own configuration play board round (action ∷ actions) =
 
 -- The plain record
 
+-- the call that was made, if it was one
 abbrev pub call_in : Done → Option CallType
 call_in (ByPlayer seat (deed.Call call)) = Some call
-call_in (ByPlayer seat (deed.Card card)) = None
-call_in (ByPlayer seat (deed.Claim tricks)) = None
-call_in (ByPlayer seat deed.Agree) = None
-call_in (ByPlayer seat deed.Refuse) = None
-call_in (ByDirector made) = None
+call_in _ = None
 
+-- the card that was played, if it was one
 abbrev pub card_in : Done → Option ℕ
-card_in (ByPlayer seat (deed.Call call)) = None
 card_in (ByPlayer seat (deed.Card card)) = Some card
-card_in (ByPlayer seat (deed.Claim tricks)) = None
-card_in (ByPlayer seat deed.Agree) = None
-card_in (ByPlayer seat deed.Refuse) = None
-card_in (ByDirector made) = None
+card_in _ = None
 
 -- a claim as it is made, to which nobody has agreed
 abbrev pub claim_in : Done → Option ClaimType
-claim_in (ByPlayer seat (deed.Call call)) = None
-claim_in (ByPlayer seat (deed.Card card)) = None
 claim_in (ByPlayer seat (deed.Claim tricks)) =
     Some (record { claimer = seat; tricks = tricks; agreed = false ∷ false ∷ false ∷ false ∷ [] })
-claim_in (ByPlayer seat deed.Agree) = None
-claim_in (ByPlayer seat deed.Refuse) = None
-claim_in (ByDirector made) = None
+claim_in _ = None
 
+-- a claim was refused
 abbrev pub is_refusal : Done → Bool
-is_refusal (ByPlayer seat (deed.Call call)) = false
-is_refusal (ByPlayer seat (deed.Card card)) = false
-is_refusal (ByPlayer seat (deed.Claim tricks)) = false
-is_refusal (ByPlayer seat deed.Agree) = false
 is_refusal (ByPlayer seat deed.Refuse) = true
-is_refusal (ByDirector made) = false
+is_refusal _ = false
 
 -- the seat agrees to the claim
 abbrev pub agrees : Seat → Done → Bool
-agrees one (ByPlayer seat (deed.Call call)) = false
-agrees one (ByPlayer seat (deed.Card card)) = false
-agrees one (ByPlayer seat (deed.Claim tricks)) = false
 agrees one (ByPlayer seat deed.Agree) = same_seat seat one
-agrees one (ByPlayer seat deed.Refuse) = false
-agrees one (ByDirector made) = false
+agrees one _ = false
 
+-- what the director did, if it was the director
 abbrev pub correction_in : Done → Option Correction
-correction_in (ByPlayer seat done) = None
+correction_in (ByPlayer seat deed) = None
 correction_in (ByDirector made) = Some made
 
 -- the last claim, with what was done after it

@@ -26,6 +26,7 @@ pub record PlainRecord : Type 0 where
 abbrev pub empty_record : ℕ → PlainRecord
 empty_record board = record { board = board; calls = []; cards = []; claims = 0; claim = None; ruling = None }
 
+-- the auction of the record
 abbrev pub bidding_of : PlainRecord → AuctionValue
 bidding_of plain = record { dealer = dealer_of plain.board; calls = plain.calls }
 
@@ -57,10 +58,9 @@ is_finished plain = is_done plain.calls (play_of [] plain)
 
 -- whether a play is void or adjusted, so that no more of it is played
 abbrev pub is_ruled_out : Option Ruling → Bool
-is_ruled_out None = false
-is_ruled_out (Some (ruling.Tricks tricks)) = false
 is_ruled_out (Some ruling.Void) = true
 is_ruled_out (Some (ruling.Adjusted ns ew)) = true
+is_ruled_out _ = false
 
 -- whether the play is neither finished, void nor adjusted
 abbrev pub is_open : PlainRecord → Bool

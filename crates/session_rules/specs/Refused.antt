@@ -3,6 +3,7 @@ use Rattle.std.specs.Prelude.{ℕ, List, codes}
 use Rattle.session_rules.specs.declared.refused.Refused.{Refused}
 use Rattle.session_rules.specs.declared.refused.Refused.TheVariants.{NoKey, NotAllowed, Closed, NoSuchPlay, NotYet, SitsOut, NotCurrent, NotDealt, WrongPhase, Stale, NoClaim, ClaimStands, NotAsked, NotYourTurn, MidTrick, TooManyTricks, InsufficientBid, InadmissibleDouble, InadmissibleRedouble, NotHeld, MustFollow, AlreadyDealt, BadDeal, RoundOpen, NoContract, NotFinished, NotAnEnding, ClaimsSpent, NotMatchPoints}
 
+-- the number of a refusal
 abbrev pub refusal_number : Refused → ℕ
 refusal_number NoKey = 1
 refusal_number NotAllowed = 2
@@ -34,6 +35,7 @@ refusal_number NotAnEnding = 27
 refusal_number ClaimsSpent = 28
 refusal_number NotMatchPoints = 29
 
+-- the name of a refusal, in one word
 abbrev pub refusal_name : Refused → List ℕ
 refusal_name NoKey = codes "NoKey"
 refusal_name NotAllowed = codes "NotAllowed"

@@ -1,5 +1,5 @@
 -- What a player is shown.
-use Rattle.std.specs.Prelude.{ℕ, ◌+◌, ◌-◌, ◌==◌, if◌then◌else◌, List, [], length, filter, slice_get, Option, None, Some, Result, Ok, Err}
+use Rattle.std.specs.Prelude.{ℕ, ◌+◌, ◌-◌, ◌==◌, if◌then◌else◌, ok_or, List, [], length, filter, slice_get, Option, None, Some, Result, Ok}
 use Rattle.std.specs.Option.{option_map, option_map_or}
 use Rattle.bridge_cards.specs.declared.seat.Seat.{Seat}
 use Rattle.bridge_cards.specs.declared.seat.Side.TheVariants.{NorthSouth, EastWest}
@@ -15,9 +15,9 @@ use Rattle.bridge_play.specs.Play.{PlayValue}
 use Rattle.bridge_play.specs.Trick.{leader_of, trick_at, whole_tricks, tricks_won}
 use Rattle.session_rules.specs.declared.refused.Refused.{Refused}
 use Rattle.session_rules.specs.declared.refused.Refused.TheVariants.{NotCurrent, NotDealt}
-use Rattle.session_rules.specs.declared.seating.Seating.{Seating}
+use Rattle.session_rules.specs.Answer.{◌>>=◌}
 use Rattle.session_rules.specs.Record.{PlainRecord, play_of}
-use Rattle.session_rules.specs.State.{SessionValue, deal_on, row_at, current_index, seating_of}
+use Rattle.session_rules.specs.State.{SessionValue, Deals, deal_on, row_at, current_index, seating_of}
 
 -- the seat that led to a trick, and its cards in order
 pub record PlainTrick : Type 0 where
@@ -50,6 +50,7 @@ pub record Shown : Type 0 where
 abbrev pub cards_left : List ℕ → List ℕ → Seat → List ℕ
 cards_left hands cards seat = filter (holds hands cards seat) deck
 
+-- a trick of the cards, the tricks counted from 0
 abbrev pub plain_trick : Contract → List ℕ → ℕ → PlainTrick
 plain_trick contract cards trick = record { leader = leader_of contract cards trick; cards = trick_at cards trick }
 
@@ -57,9 +58,11 @@ plain_trick contract cards trick = record { leader = leader_of contract cards tr
 abbrev pub last_trick : Contract → List ℕ → Option PlainTrick
 last_trick contract cards = if whole_tricks cards == 0 then None else Some (plain_trick contract cards (whole_tricks cards - 1))
 
+-- dummy's cards that are left, once a card was played
 abbrev pub shown_dummy : PlayValue → Option (List ℕ)
 shown_dummy play = if length play.cards == 0 then None else Some (cards_left play.hands play.cards (dummy_of play.contract))
 
+-- what may be shown of the play of the cards
 abbrev pub shown_play : PlayValue → ShownPlay
 shown_play play = record {
   trick = plain_trick play.contract play.cards (whole_tricks play.cards);
@@ -91,24 +94,15 @@ abbrev pub shown_turn : Shown → Option ShownPlay → Seat
 shown_turn shown None = clockwise_from (dealer_of shown.board) (length shown.calls)
 shown_turn shown (Some play) = clockwise_from play.trick.leader (length play.trick.cards)
 
--- what may be shown of the play at that index, if it is dealt
-abbrev pub shown_dealt : Seat → ℕ → PlainRecord → Option (List ℕ) → Result Shown Refused
-shown_dealt seat row_index plain None = Err NotDealt
-shown_dealt seat row_index plain (Some hands) = Ok (shown_of row_index seat hands plain)
-
--- and if there is one
-abbrev pub shown_current : List (Option (List ℕ)) → Seat → ℕ → Option PlainRecord → Result Shown Refused
-shown_current deals seat row_index None = Err NotCurrent
-shown_current deals seat row_index (Some plain) = shown_dealt seat row_index plain (deal_on deals plain.board)
-
--- what may be shown of the current play among the records of a table
-abbrev pub shown_among : List (Option (List ℕ)) → Seat → List PlainRecord → Result Shown Refused
-shown_among deals seat records = shown_current deals seat (current_index records) (slice_get records (current_index records))
-
-abbrev pub shown_seated : SessionValue → Result Seating Refused → Result Shown Refused
-shown_seated s (Err refused) = Err refused
-shown_seated s (Ok seating) = shown_among s.deals seating.seat (row_at s.records seating.row)
+-- what may be shown to that seat of the current play among the records of a table, where there is one and its board is dealt
+abbrev pub shown_among : Deals → Seat → List PlainRecord → Result Shown Refused
+shown_among deals seat records = do
+  plain ← ok_or (slice_get records (current_index records)) NotCurrent
+  hands ← ok_or (deal_on deals plain.board) NotDealt
+  Ok (shown_of (current_index records) seat hands plain)
 
 -- all that the player of the key may be shown of the session, or why not
 abbrev pub shown_to : SessionValue → ℕ → Result Shown Refused
-shown_to s key = shown_seated s (seating_of s.configuration s.round key)
+shown_to s key = do
+  seating ← seating_of s.configuration s.round key
+  shown_among s.deals seating.seat (row_at s.records seating.row)

@@ -8,7 +8,7 @@ use Rattle.bridge_play.specs.Play.{PlayValue}
 use Rattle.bridge_play.specs.Trick.{whole_tricks, tricks_won}
 use Rattle.session_rules.specs.declared.seating.Seating.{Seating}
 use Rattle.session_rules.specs.Record.{PlainRecord, play_of}
-use Rattle.session_rules.specs.State.{SessionValue, deal_on, row_at, current_index, seating_of}
+use Rattle.session_rules.specs.State.{SessionValue, Deals, deal_on, row_at, current_index, seating_of}
 use Rattle.session_rules.specs.See.{cards_left, plain_trick, last_trick}
 
 -- Two plays of cards look alike: as many cards and claims, the claim, the trick that is not whole, the last whole trick, the
@@ -29,6 +29,7 @@ CardsLookAlike None (Some q) = ⊥
 CardsLookAlike (Some p) None = ⊥
 CardsLookAlike (Some p) (Some q) = PlaysLookAlike p q
 
+-- the cards that were played, once there is a contract
 abbrev pub cards_in : Option PlayValue → List ℕ
 cards_in play = option_map_or (λ (p : PlayValue). p.cards) play []
 
@@ -48,14 +49,14 @@ DealtLookAlike seat a (Some hands) b None = ⊥
 DealtLookAlike seat a (Some hands) b (Some others) = RecordsLookAlike seat hands a others b
 
 -- both tables have a current play, or neither
-abbrev pub CurrentLookAlike : Seat → List (Option (List ℕ)) → Option PlainRecord → List (Option (List ℕ)) → Option PlainRecord → Type 0
+abbrev pub CurrentLookAlike : Seat → Deals → Option PlainRecord → Deals → Option PlainRecord → Type 0
 CurrentLookAlike seat deals None others None = Unit {0}
 CurrentLookAlike seat deals None others (Some b) = ⊥
 CurrentLookAlike seat deals (Some a) others None = ⊥
 CurrentLookAlike seat deals (Some a) others (Some b) = DealtLookAlike seat a (deal_on deals a.board) b (deal_on others b.board)
 
 -- the current plays of two tables look alike
-pub record TablesLookAlike (seat : Seat) (deals : List (Option (List ℕ))) (records : List PlainRecord) (others : List (Option (List ℕ))) (plays : List PlainRecord) : Type 0 where
+pub record TablesLookAlike (seat : Seat) (deals : Deals) (records : List PlainRecord) (others : Deals) (plays : List PlainRecord) : Type 0 where
   pub index : current_index records ≡ current_index plays
   pub current : CurrentLookAlike seat deals (slice_get records (current_index records)) others (slice_get plays (current_index plays))
 

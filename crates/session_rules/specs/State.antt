@@ -12,11 +12,17 @@ use Rattle.bridge_movement.specs.declared.shape.Shape.{Shape}
 use Rattle.bridge_movement.specs.Row.{is_live}
 use Rattle.bridge_movement.specs.Seating.{place_of}
 use Rattle.bridge_config.specs.ConfigValue.{ConfigValue, Pair}
+use Rattle.session_rules.specs.declared.action.PlayId.{PlayId}
 use Rattle.session_rules.specs.declared.refused.Refused.{Refused}
 use Rattle.session_rules.specs.declared.refused.Refused.TheVariants.{NoKey, NotAllowed, Closed, SitsOut}
 use Rattle.session_rules.specs.declared.seating.Player.{Player}
 use Rattle.session_rules.specs.declared.seating.Seating.{Seating}
+use Rattle.session_rules.specs.Answer.{Answer}
 use Rattle.session_rules.specs.Record.{PlainRecord, empty_record, is_open}
+
+-- the hands of each board that is dealt, by the boards' numbers
+abbrev pub Deals : Type 0
+Deals = List (Option (List ℕ))
 
 -- The configuration, the round, the deal of each board by the boards' numbers, and for each row of the movement the
 -- records of its plays in order: one for each board of its set where the row is live, and otherwise none. The round is
@@ -24,7 +30,7 @@ use Rattle.session_rules.specs.Record.{PlainRecord, empty_record, is_open}
 pub record SessionValue : Type 0 where
   pub configuration : ConfigValue
   pub round : ℕ
-  pub deals : List (Option (List ℕ))
+  pub deals : Deals
   pub records : List (List PlainRecord)
 
 -- the boards that a row plays: those of its set where the row is live
@@ -45,11 +51,11 @@ opening configuration = record {
 }
 
 -- the deal of a board, if the session has the board and it is dealt
-abbrev pub deal_on : List (Option (List ℕ)) → ℕ → Option (List ℕ)
+abbrev pub deal_on : Deals → ℕ → Option (List ℕ)
 deal_on deals board = unwrap_or (slice_get deals (board - 1)) None
 
 -- the hands of a board, once it is dealt
-abbrev pub hands_on : List (Option (List ℕ)) → ℕ → List ℕ
+abbrev pub hands_on : Deals → ℕ → List ℕ
 hands_on deals board = unwrap_or (deal_on deals board) []
 
 -- the records of a row
@@ -77,6 +83,7 @@ abbrev pub player_in : List Pair → ℕ → Option Player
 player_in pairs key =
     option_map (λ (index : ℕ). record { pair = index + 1; first = is_first_key pairs key index }) (position (has_key key) pairs)
 
+-- the player whose key it is
 abbrev pub player_of : ConfigValue → ℕ → Option Player
 player_of configuration key = player_in configuration.pairs key
 
@@ -86,7 +93,7 @@ acting_player configuration key =
     if key == configuration.director then Err NotAllowed else ok_or (player_of configuration key) NoKey
 
 -- whether the director may act by the key
-abbrev pub director_answer : ConfigValue → ℕ → Result (Unit {0}) Refused
+abbrev pub director_answer : ConfigValue → ℕ → Answer
 director_answer configuration key =
     if key == configuration.director then Ok tt else Err (if is_some (player_of configuration key) then NotAllowed else NoKey)
 
@@ -101,10 +108,22 @@ seat_on EastWest false = West
 abbrev pub index_of_row : Shape → ℕ → ℕ → ℕ
 index_of_row shape round table = (round - 1) * shape.tables + (table - 1)
 
+-- there is such a round and such a table
+abbrev pub is_row_within : Shape → ℕ → ℕ → Bool
+is_row_within shape round table = nat_le round shape.rounds && nat_le table shape.tables
+
+-- the record of a play, if there is such a play at a live row
+abbrev pub record_of : SessionValue → PlayId → Option PlainRecord
+record_of s play =
+    if is_row_within s.configuration.movement.shape play.round play.table
+    then slice_get (row_at s.records (index_of_row s.configuration.movement.shape play.round play.table)) (play.index - 1)
+    else None
+
 -- the session is closed after the last round
 abbrev pub is_closed : ConfigValue → ℕ → Bool
 is_closed configuration round = nat_lt configuration.movement.shape.rounds round
 
+-- where a player sits, by the place of the pair
 abbrev pub seating_at : ConfigValue → ℕ → Bool → Place → Seating
 seating_at configuration round first place = record {
   row = index_of_row configuration.movement.shape round place.table;
@@ -130,7 +149,7 @@ is_of_set configuration set board =
     nat_lt ((set - 1) * configuration.boards) board && nat_le board (set * configuration.boards)
 
 -- whether the key's holder may see rankings: the director may, and a player once the session is closed
-abbrev pub ranking_asker : ConfigValue → ℕ → ℕ → Result (Unit {0}) Refused
+abbrev pub ranking_asker : ConfigValue → ℕ → ℕ → Answer
 ranking_asker configuration round key =
     if key == configuration.director then Ok tt
     else if is_some (player_of configuration key) then (if is_closed configuration round then Ok tt else Err NotAllowed)

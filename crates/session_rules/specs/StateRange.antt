@@ -26,15 +26,12 @@ IsOfFourSeats claim = length claim.agreed ≡ 4
 -- the tricks of a ruling are at most 13
 abbrev pub IsRulingInRange : Ruling → Type 0
 IsRulingInRange (ruling.Tricks tricks) = IsTrickCount tricks
-IsRulingInRange ruling.Void = Unit {0}
-IsRulingInRange (ruling.Adjusted ns ew) = Unit {0}
+IsRulingInRange _ = Unit {0}
 
 -- a correction sets no more tricks than a board has
 abbrev pub IsCorrectionInRange : Correction → Type 0
 IsCorrectionInRange (correction.Tricks tricks) = IsTrickCount tricks
-IsCorrectionInRange correction.Void = Unit {0}
-IsCorrectionInRange (correction.Adjust ns ew) = Unit {0}
-IsCorrectionInRange correction.Restore = Unit {0}
+IsCorrectionInRange _ = Unit {0}
 
 -- the claim and the ruling are within their ranges
 pub record IsRecordInRange (plain : PlainRecord) : Type 0 where

@@ -19,13 +19,13 @@ use Rattle.session_rules.specs.declared.ruling.Ruling.TheVariants as ruling
 use Rattle.session_rules.specs.Act.{act_of}
 use Rattle.session_rules.specs.Correction.{tricks_answer}
 use Rattle.session_rules.specs.Record.{PlainRecord, empty_record, contract_in, play_of, is_open}
-use Rattle.session_rules.specs.State.{SessionValue, deal_on, row_at, row_boards, hands_on}
+use Rattle.session_rules.specs.State.{SessionValue, Deals, deal_on, row_at, row_boards, hands_on}
 
 -- a ruling may stand: one of tricks where the play is over, averages where the scoring is by matchpoints
 abbrev pub MayStand : Scoring → Option PlayValue → Ruling → Type 0
 MayStand scoring play (ruling.Tricks tricks) = tricks_answer play ≡ Ok tt
-MayStand scoring play ruling.Void = Unit {0}
 MayStand scoring play (ruling.Adjusted ns ew) = scoring ≡ MatchPoints
+MayStand scoring play ruling.Void = Unit {0}
 
 -- nothing was played or claimed
 pub record IsUnplayed (plain : PlainRecord) : Type 0 where
@@ -36,7 +36,7 @@ pub record IsUnplayed (plain : PlainRecord) : Type 0 where
 -- The record of a play of that round: the calls are a legal list, and there are some only where the board is dealt; without a
 -- contract nothing was played; the play is one by the rules, and the ruling may stand; in a later round than the current one
 -- nothing has happened, and in an earlier one the play is finished, void or adjusted.
-pub record IsValidRecord (scoring : Scoring) (deals : List (Option (List ℕ))) (now round : ℕ) (plain : PlainRecord) : Type 0 where
+pub record IsValidRecord (scoring : Scoring) (deals : Deals) (now round : ℕ) (plain : PlainRecord) : Type 0 where
   pub calls : IsLegal plain.calls
   pub dealt : deal_on deals plain.board ≡ None → plain.calls ≡ []
   pub unplayed : contract_in plain ≡ None → IsUnplayed plain
@@ -45,12 +45,15 @@ pub record IsValidRecord (scoring : Scoring) (deals : List (Option (List ℕ))) 
   pub later : now < round → plain ≡ empty_record plain.board
   pub earlier : round < now → is_open plain ≡ false
 
+-- the hands are a deal
 abbrev pub IsDealtOut : List ℕ → Type 0
 IsDealtOut hands = is_dealt_out hands ≡ true
 
+-- the board is not dealt, or its hands are a deal
 abbrev pub IsDealOrNone : Option (List ℕ) → Type 0
 IsDealOrNone deal = IfSome deal IsDealtOut
 
+-- the board of a record
 abbrev pub board_of : PlainRecord → ℕ
 board_of plain = plain.board
 
@@ -69,10 +72,7 @@ pub record IsValid (s : SessionValue) : Type 0 where
 -- a call that a player makes is one
 abbrev pub IsDeed : Deed → Type 0
 IsDeed (deed.Call made) = IsCall made
-IsDeed (deed.Card card) = Unit {0}
-IsDeed (deed.Claim tricks) = Unit {0}
-IsDeed deed.Agree = Unit {0}
-IsDeed deed.Refuse = Unit {0}
+IsDeed _ = Unit {0}
 
 -- rounds, tables and boards are counted from 1
 abbrev pub IsPlayId : PlayId → Type 0
@@ -80,7 +80,7 @@ IsPlayId play = (1 ≤ play.round) × (1 ≤ play.table) × (1 ≤ play.index)
 
 -- what the laws of valid sessions need of the numbers that an act names
 abbrev pub IsAct : Act → Type 0
-IsAct (act.Player key board at done) = IsDeed done
+IsAct (act.Player key board at deed) = IsDeed deed
 IsAct (act.Deal key board hands) = 1 ≤ board
 IsAct (act.RoundEnd key round) = 1 ≤ round
 IsAct (act.Ruling key play made) = IsPlayId play

@@ -1,5 +1,5 @@
 -- What contracts see of a view.
-use Rattle.std.specs.Prelude.{◌≡◌, ◌≤◌, ℕ, length, is_some, option_and_then, List, Option, Ok}
+use Rattle.std.specs.Prelude.{◌≡◌, ◌≤◌, ℕ, length, is_some, option_and_then, List, Ok}
 use Rattle.std.specs.Option.{option_map, option_map_or}
 use Rattle.bridge_cards.specs.declared.seat.Seat.{Seat}
 use Rattle.bridge_cards.specs.Board.{dealer_of, vulnerability_on}
@@ -9,9 +9,10 @@ use Rattle.session_rules.specs.declared.seating.Seating.{Seating}
 use Rattle.session_rules.specs.declared.view.Trick.{Trick}
 use Rattle.session_rules.specs.declared.view.View.{View}
 use Rattle.session_rules.specs.Record.{PlainRecord}
-use Rattle.session_rules.specs.State.{SessionValue, seating_of}
+use Rattle.session_rules.specs.State.{SessionValue, Deals, seating_of}
 use Rattle.session_rules.specs.See.{PlainTrick, Shown, ShownPlay, shown_turn, shown_among, shown_to}
 
+-- a trick as it is shown
 abbrev pub plain_seen : Trick → PlainTrick
 plain_seen trick = record { leader = trick.leader; cards = trick.cards.items }
 
@@ -41,7 +42,7 @@ pub record IsViewOf (round table : ℕ) (seat : Seat) (shown : Shown) (view : Vi
   pub claim : view.claim ≡ option_map (λ (claim : Claim). (claim.claimer, claim.tricks)) shown.claim
 
 -- the view shows what may be shown among the records of a table to that seat
-pub record IsViewAmong (deals : List (Option (List ℕ))) (records : List PlainRecord) (round table : ℕ) (seat : Seat) (view : View) : Type 0 where
+pub record IsViewAmong (deals : Deals) (records : List PlainRecord) (round table : ℕ) (seat : Seat) (view : View) : Type 0 where
   pub shown : Shown
   pub allowed : shown_among deals seat records ≡ Ok shown
   pub fields : IsViewOf round table seat shown view

@@ -42,9 +42,7 @@ fn ending_in(play: Option<&Play>, cards: u8) -> Result<Ending, Refused>
     ensures ending { IfOk result (λ ending. IsEnding ending.hands) }
 {
     let cards = usize::from(cards);
-    let Some(play) = play else {
-        return Err(Refused::NoContract);
-    };
+    let play = play.ok_or(Refused::NoContract)?;
     if !leave_an_ending(play, cards) {
         return Err(Refused::NotAnEnding);
     }
@@ -62,9 +60,7 @@ impl Session {
     {
         check_director(&self.config, key)?;
         let round = play.round.number();
-        let Some(record) = self.record_of(play) else {
-            return Err(Refused::NoSuchPlay);
-        };
+        let record = self.record_of(play).ok_or(Refused::NoSuchPlay)?;
         if self.round < round {
             return Err(Refused::NotYet);
         }

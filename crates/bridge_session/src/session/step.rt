@@ -3,8 +3,10 @@ ghost use Rattle.std.specs.Prelude.{◌≡◌, ◌+◌, ◌<◌, ◌≤◌, OnOk
 ghost use Rattle.std.specs.List.{list_any};
 ghost use Rattle.bridge_movement.specs.Shape.{row_count};
 ghost use Rattle.session_rules.specs.Record.{is_open};
-ghost use Rattle.session_rules.specs.State.{director_answer, index_of_row};
-ghost use Rattle.session_rules.specs.Step.{seen_by, player_answer, acted, if_allowed, deal_answer, next_answer, records_of_round, is_row_within, rule_answer, record_of, ruled, act_answer, step_answer, changed_by, changed};
+ghost use Rattle.session_rules.specs.State.{director_answer, index_of_row, is_row_within, record_of};
+ghost use Rattle.session_rules.specs.PlayerStep.{seen_by, player_answer, acted};
+ghost use Rattle.session_rules.specs.DirectorStep.{if_allowed, deal_answer, next_answer, records_of_round, rule_answer, ruled};
+ghost use Rattle.session_rules.specs.Step.{act_answer, step_answer, changed_by, changed};
 ghost use Rattle.bridge_table.specs.Kept.{is_kept_open};
 
 use super::Session;

@@ -1,5 +1,6 @@
 use Rattle.std.proofs.Common.{◌≡◌, ◌+◌, ◌-◌, false, take, drop, sym, ap, subst, arith}
 use Rattle.std.specs.List.{range_with_len}
+use Rattle.std.proofs.lemmas.Result.{err_from_is_err_and}
 use Rattle.line_text.specs.Streams.{between, Takes, TakesPrefix}
 use Rattle.bridge_pbn.specs.Lines.{lines_text}
 use Rattle.bridge_pbn.specs.Games.{games_on, games_of, all_games}
@@ -19,18 +20,20 @@ returns g c =
       subst (λ games. c.loop-number.begun ≡ has_begun false games) passed c.loop-number.invariant.begun,
     )
 
-pub returns-in-Err : goal.returns-in-Err
+pub returns-in_err-begun : goal.returns-in_err-begun
 unfolding all_games
-returns-in-Err g c =
+returns-in_err-begun g c =
+    let p = err_from_is_err_and c.from_residual.result c.from_residual.ensures.1 in
     let s = c.args.session.now in
     let n = c.loop-number.number in
     let board = rw c.unwrap-board.ensures at c.new.ensures.value in
     let all = range_with_len 1 36 in
-    subst (λ games. TakesPrefix (between (g.W.Write.contents c.args.writer.now) (g.W.Write.contents c.write_board.new.writer)) (lines_text (games_after false games)))
+    rw p.1
+    (subst (λ games. TakesPrefix (between (g.W.Write.contents c.args.writer.now) (g.W.Write.contents c.write_board.new.writer)) (lines_text (games_after false games)))
     (sym (numbers_whole (games_on s) 36 n c.loop-number.invariant.least (omega arith)))
     (written_prefix (g.W.Write.contents c.args.writer.now) (g.W.Write.contents c.loop-number.writer) (g.W.Write.contents c.write_board.new.writer)
     false c.loop-number.begun (games_of s (take (n - 1) all)) (games_on s n) (games_of s (drop (n - 1 + 1) all))
-    c.loop-number.invariant.taken c.loop-number.invariant.begun (rw board at c.in-Err.ensures))
+    c.loop-number.invariant.taken c.loop-number.invariant.begun (rw board at c.in_err-begun.ensures)))
 
 pub loop-number-preserved : goal.loop-number-preserved
 loop-number-preserved g c =
@@ -39,10 +42,10 @@ loop-number-preserved g c =
     let board = rw c.unwrap-board.ensures at c.new.ensures.value in
     let more = numbers_more (games_on s) 36 n c.loop-number.invariant.least (omega arith) in
     let both = written_more (g.W.Write.contents c.args.writer.now) (g.W.Write.contents c.loop-number.writer) (g.W.Write.contents c.write_board.new.writer)
-    false c.loop-number.begun c.in-Ok.now (games_of s (take (n - 1) (range_with_len 1 36))) (games_on s n)
-    c.loop-number.invariant.taken c.loop-number.invariant.begun (rw board at c.in-Ok.ensures) in
+    false c.loop-number.begun c.in_ok-begun.begun (games_of s (take (n - 1) (range_with_len 1 36))) (games_on s n)
+    c.loop-number.invariant.taken c.loop-number.invariant.begun (rw board at c.in_ok-begun.ensures) in
     record {
       taken = subst (λ games. Takes (between (g.W.Write.contents c.args.writer.now) (g.W.Write.contents c.write_board.new.writer)) (lines_text (games_after false games))) (sym more) both.0;
-      begun = subst (λ games. c.in-Ok.now ≡ has_begun false games) (sym more) both.1;
+      begun = subst (λ games. c.in_ok-begun.begun ≡ has_begun false games) (sym more) both.1;
       least = omega arith;
     }

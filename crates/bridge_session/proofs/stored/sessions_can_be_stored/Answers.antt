@@ -1,5 +1,5 @@
-use Rattle.bridge_session.specs.Laws.SessionLawful.{session_is_lawful}
-use Rattle.bridge_session.specs.Laws.SessionStays.{opening_session}
+use Rattle.session_bytes.proofs.SessionLawful.{session_is_lawful}
+use Rattle.session_bytes.proofs.SessionStays.{opening_session}
 use Rattle.bridge_session.proofs.stored.sessions_can_be_stored.Goals as goal
 
 pub returns-clause-opening : goal.returns-clause-opening

@@ -3,24 +3,33 @@ use Rattle.std.specs.Prelude.{map, unwrap_or, IfSome}
 use Rattle.bridge_play.specs.Play.{PlayValue}
 use Rattle.session_rules.specs.Record.{play_of}
 use Rattle.session_rules.specs.State.{deal_on, current_index}
-use Rattle.session_rules.specs.See.{shown_with, shown_of, shown_current, shown_dealt}
+use Rattle.session_rules.specs.See.{shown_with, shown_of}
+use Rattle.session_rules.proofs.Shown.{shown_current, shown_dealt}
 use Rattle.session_rules.specs.Views.{IsViewOf}
 use Rattle.bridge_table.specs.Kept.{plain_of}
+use Rattle.std.specs.Option.{option_copied}
+use Rattle.std.proofs.lemmas.Result.{err_from_is_err_and}
+use Rattle.session_rules.specs.declared.refused.Refused.TheVariants.{NotCurrent, NotDealt}
+use Rattle.session_rules.proofs.Lists.{some_or, none_or}
 use Rattle.bridge_table.proofs.Among.{none_current, is_current, current_is, tied_there}
 use Rattle.bridge_table.proofs.view.view_among.Goals as goal
 
-pub returns-in_default : goal.returns-in_default
-returns-in_default c =
+pub returns-in_err-index : goal.returns-in_err-index
+returns-in_err-index c =
+    let p = err_from_is_err_and c.from_residual.result c.from_residual.ensures.1 in
+    let none = none_or c.current.result NotCurrent _ (sym c.ok_or.ensures.value ∙ c.in_err-index.was) in
     let records = map plain_of c.args.table.now in
-    ap (shown_current c.args.deals.now c.args.seat (current_index records)) (none_current c.args.deals.now c.args.table.now c.requires.tied (sym c.in_default.ensures))
+    rw (p.1, p.2, none.1) (ap (shown_current c.args.deals.now c.args.seat (current_index records)) (none_current c.args.deals.now c.args.table.now c.requires.tied (sym c.current.ensures ∙ none.0)))
 
-pub returns-in_default-deal_on : goal.returns-in_default-deal_on
-returns-in_default-deal_on c =
+pub returns-in_err-deal : goal.returns-in_err-deal
+returns-in_err-deal c =
+    let p = err_from_is_err_and c.from_residual-in_err-deal.result c.from_residual-in_err-deal.ensures.1 in
+    let none = none_or c.deal_on.result NotDealt _ (sym c.ok_or-2.ensures.value ∙ c.in_err-deal.was) in
     let deals = c.args.deals.now in
     let kept = c.index-table-index.result in
     let index = current_index (map plain_of c.args.table.now) in
-    let found = current_is deals c.args.table.now c.in-Some.index kept c.requires.tied (sym c.in-Some.ensures) c.index-table-index.is in
-    ap (shown_current deals c.args.seat index) found ∙ ap (shown_dealt c.args.seat index (plain_of kept)) (sym c.in_default-deal_on.ensures)
+    let found = current_is deals c.args.table.now c.in_ok-index.index kept c.requires.tied (sym c.current.ensures ∙ some_or c.current.result NotCurrent c.in_ok-index.index (sym c.ok_or.ensures.value ∙ c.in_ok-index.was)) c.index-table-index.is in
+    rw (p.1, p.2, none.1) (ap (shown_current deals c.args.seat index) found ∙ ap (shown_dealt c.args.seat index (plain_of kept)) (sym c.deal_on.ensures ∙ ap option_copied none.0))
 
 pub returns : goal.returns
 returns c =
@@ -28,15 +37,16 @@ returns c =
     let table = c.args.table.now in
     let seat = c.args.seat in
     let kept = c.index-table-index.result in
-    let hands = c.in-Some-deal_on.deal in
+    let hands = c.in_ok-deal.deal.now in
     let index = current_index (map plain_of table) in
-    let found = current_is deals table c.in-Some.index kept c.requires.tied (sym c.in-Some.ensures) c.index-table-index.is in
-    let tied = tied_there deals table c.in-Some.index kept c.requires.tied (sym c.in-Some.ensures) c.index-table-index.is in
-    let dealt : deal_on deals kept.board ≡ Some hands = sym c.in-Some-deal_on.ensures in
+    let at = sym c.current.ensures ∙ some_or c.current.result NotCurrent c.in_ok-index.index (sym c.ok_or.ensures.value ∙ c.in_ok-index.was) in
+    let found = current_is deals table c.in_ok-index.index kept c.requires.tied at c.index-table-index.is in
+    let tied = tied_there deals table c.in_ok-index.index kept c.requires.tied at c.index-table-index.is in
+    let dealt : deal_on deals kept.board ≡ Some hands = sym c.deal_on.ensures ∙ ap option_copied (some_or c.deal_on.result NotDealt c.in_ok-deal.deal (sym c.ok_or-2.ensures.value ∙ c.in_ok-deal.was)) in
     let play : kept.play ≡ play_of hands (plain_of kept) = tied.tied.play ∙ ap (λ o. play_of (unwrap_or o []) (plain_of kept)) dealt in
-    let number : c.unwrap.result ≡ c.in-Some.index + 1 =
-    subst (λ o. IfSome o (λ n. n ≡ c.in-Some.index + 1)) c.unwrap.ensures c.new.ensures.value in
-    let same = number ∙ ap (λ n. n + 1) (is_current deals table c.in-Some.index c.requires.tied (sym c.in-Some.ensures)) in
+    let number : c.unwrap.result ≡ c.in_ok-index.index + 1 =
+    subst (λ o. IfSome o (λ n. n ≡ c.in_ok-index.index + 1)) c.unwrap.ensures c.new.ensures.value in
+    let same = number ∙ ap (λ n. n + 1) (is_current deals table c.in_ok-index.index c.requires.tied at) in
     let Q : ℕ → Option PlayValue → Type 0 = λ i p.
     IsViewOf c.args.round c.args.number seat (shown_with i seat hands kept.board kept.auction.calls p) c.view_of.result in
     let seen : Q c.unwrap.result kept.play = c.view_of.ensures in

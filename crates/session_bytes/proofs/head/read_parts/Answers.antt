@@ -10,29 +10,29 @@ use Rattle.session_bytes.proofs.HeadLaws.{config_named, no_pair}
 use Rattle.session_bytes.proofs.head.read_parts.Goals as goal
 
 -- the parts of the pairs are as many as the shape has
-pub returns-in_default-read_pairs-clause-none : goal.returns-in_default-read_pairs-clause-none
-returns-in_default-read_pairs-clause-none c = λ are.
-    let heading = c.in-Some.heading in
+pub returns-in_err-pairs-clause-none : goal.returns-in_err-pairs-clause-none
+returns-in_err-pairs-clause-none c = rw c.from_residual-in_err-pairs.ensures λ are.
+    let heading = c.in_ok-heading.heading in
     let front = c.split_at.ensures.front ∙ ap (λ n. take n c.args.rest.now) c.from-count.ensures in
     let parts = ap (map items_of) front ∙ sym (take-map items_of heading.shape.pairs c.args.rest.now) in
-    let pairs = subst (λ (shape : Shape). All IsPairPart (take shape.pairs (map items_of c.args.rest.now))) (sym c.in-Some.ensures.some.shape) are.pairs in
-    no_pair c.split_at.result.0.now c.in_default-read_pairs.ensures.none (subst (All IsPairPart) (sym parts) pairs)
+    let pairs = subst (λ (shape : Shape). All IsPairPart (take shape.pairs (map items_of c.args.rest.now))) (sym c.in_ok-heading.ensures.some.shape) are.pairs in
+    no_pair c.split_at.result.0.now c.in_err-pairs.ensures.none (subst (All IsPairPart) (sym parts) pairs)
 
-pub returns-in-Some-config-clause-config : goal.returns-in-Some-config-clause-config
-returns-in-Some-config-clause-config c =
-    let heading = c.in-Some.heading in
+pub returns-clause-config : goal.returns-clause-config
+returns-clause-config c =
+    let heading = c.in_ok-heading.heading in
     let front = c.split_at.ensures.front ∙ ap (λ n. take n c.args.rest.now) c.from-count.ensures in
     let parts = ap (map items_of) front ∙ sym (take-map items_of heading.shape.pairs c.args.rest.now) in
-    c.in-Some-config.ensures.fields
-    ∙ config_named c.args.first.now c.args.second.now (map items_of c.args.rest.now) heading c.in-Some-movement_of.movement (map pair_of c.in-Some-read_pairs.pairs.items)
-    c.in-Some.ensures.some c.in-Some-movement_of.ensures.some (c.in-Some-read_pairs.ensures.some ∙ ap (map pair_in) parts)
+    c.in_ok-config.ensures.fields
+    ∙ config_named c.args.first.now c.args.second.now (map items_of c.args.rest.now) heading c.in_ok-movement.movement (map pair_of c.in_ok-pairs.pairs.items)
+    c.in_ok-heading.ensures.some c.in_ok-movement.ensures.some (c.in_ok-pairs.ensures.some ∙ ap (map pair_in) parts)
 
-pub returns-in-None-clause-none : goal.returns-in-None-clause-none
-returns-in-None-clause-none c = λ are.
-    let heading = c.in-Some.heading in
+pub returns-in_err-config-clause-none : goal.returns-in_err-config-clause-none
+returns-in_err-config-clause-none c = rw c.from_residual-in_err-config.ensures λ are.
+    let heading = c.in_ok-heading.heading in
     let front = c.split_at.ensures.front ∙ ap (λ n. take n c.args.rest.now) c.from-count.ensures in
     let parts = ap (map items_of) front ∙ sym (take-map items_of heading.shape.pairs c.args.rest.now) in
-    let named = config_named c.args.first.now c.args.second.now (map items_of c.args.rest.now) heading c.in-Some-movement_of.movement (map pair_of c.in-Some-read_pairs.pairs.items)
-    c.in-Some.ensures.some c.in-Some-movement_of.ensures.some (c.in-Some-read_pairs.ensures.some ∙ ap (map pair_in) parts) in
-    let told = c.in-None.ensures.accepted.1 (subst IsConfiguration (sym named) are.configured) in
+    let named = config_named c.args.first.now c.args.second.now (map items_of c.args.rest.now) heading c.in_ok-movement.movement (map pair_of c.in_ok-pairs.pairs.items)
+    c.in_ok-heading.ensures.some c.in_ok-movement.ensures.some (c.in_ok-pairs.ensures.some ∙ ap (map pair_in) parts) in
+    let told = c.in_err-config.ensures.accepted.1 (subst IsConfiguration (sym named) are.configured) in
     absurd cc

@@ -5,8 +5,8 @@ use Rattle.session_store.specs.declared.fault.PartsFault.{PartsFault}
 use Rattle.session_bytes.specs.Parts.{HasRulings, parts_of}
 use Rattle.session_rules.specs.State.{SessionValue}
 use Rattle.session_rules.specs.StateRange.{IsSession}
-use Rattle.bridge_session.specs.SessionKeeping.{session_of}
-use Rattle.bridge_session.specs.Laws.SessionOf.{session_of_is, no_session}
+use Rattle.session_bytes.specs.SessionKeeping.{session_of}
+use Rattle.session_bytes.proofs.SessionOf.{session_of_is, no_session}
 use Rattle.bridge_session.proofs.kept.SessionKept.from_parts.Goals as goal
 
 -- a session that has the parts is theirs

@@ -4,7 +4,7 @@ use Rattle.std.specs.Vec.{with_items}
 use Rattle.bridge_table.specs.declared.record.Record.{Record}
 use Rattle.session_rules.specs.declared.refused.Refused.{Refused}
 use Rattle.session_rules.specs.State.{SessionValue, deal_on, seating_of}
-use Rattle.session_rules.specs.Step.{seen_by, player_answer, answer_among, acted}
+use Rattle.session_rules.specs.PlayerStep.{seen_by, player_answer, answer_among, acted}
 use Rattle.session_rules.specs.Valid.{IsDeed}
 use Rattle.session_rules.specs.StateRange.{IsSession}
 use Rattle.bridge_table.specs.Kept.{plain_of, IsTiedIn}
@@ -12,7 +12,7 @@ use Rattle.bridge_session.specs.KeptSession.{state_of, IsKept}
 use Rattle.session_rules.proofs.Lists.{at_result, map_ok, map_err, set_there}
 use Rattle.bridge_session.proofs.Acted.{kept_session, seated_answer, acted_state, kept_with}
 use Rattle.bridge_table.proofs.Tables.{boards_same, row_at_is, tied_row, lists_in, list_there, list_changed}
-use Rattle.bridge_session.specs.Laws.StateRanges.{acted_in_range}
+use Rattle.session_bytes.proofs.StateRanges.{acted_in_range}
 use Rattle.session_rules.proofs.ValidPlayer.{player_valid}
 use Rattle.bridge_session.proofs.session.Session.act.Goals as goal
 use Rattle.bridge_session.proofs.session.Session.act.Goals.{After-self-1}

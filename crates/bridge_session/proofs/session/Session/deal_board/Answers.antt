@@ -1,7 +1,7 @@
 use Rattle.std.proofs.Common.{◌≡◌, ◌-◌, ◌<◌, ◌≤◌, ◌*◌, length, Some, None, Ok, sym, ap, ◌∙◌, subst, arith}
 use Rattle.std.specs.Prelude.{slice_set}
 use Rattle.session_rules.specs.State.{SessionValue, deal_on, director_answer}
-use Rattle.session_rules.specs.Step.{if_allowed, deal_answer}
+use Rattle.session_rules.specs.DirectorStep.{if_allowed, deal_answer}
 use Rattle.session_rules.specs.StateRange.{AreHands, AreHandsOrNone, IsSession}
 use Rattle.bridge_session.specs.KeptSession.{state_of, IsKept}
 use Rattle.bridge_session.proofs.Acted.{kept_session}

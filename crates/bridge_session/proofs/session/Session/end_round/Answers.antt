@@ -2,7 +2,7 @@ use Rattle.std.proofs.Common.{◌≡◌, ◌+◌, false, sym, ap, ◌∙◌, sub
 use Rattle.std.specs.List.{list_any}
 use Rattle.session_rules.specs.Record.{is_open}
 use Rattle.session_rules.specs.State.{SessionValue, is_closed}
-use Rattle.session_rules.specs.Step.{records_of_round}
+use Rattle.session_rules.specs.DirectorStep.{records_of_round}
 use Rattle.session_rules.specs.StateRange.{IsSession}
 use Rattle.bridge_session.specs.KeptSession.{state_of, IsKept}
 use Rattle.bridge_session.proofs.Acted.{kept_session}

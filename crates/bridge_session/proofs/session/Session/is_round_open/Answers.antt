@@ -5,7 +5,7 @@ use Rattle.bridge_config.specs.ConfigValue.{ConfigValue}
 use Rattle.bridge_table.specs.declared.record.Record.{Record}
 use Rattle.session_rules.specs.Record.{is_open}
 use Rattle.session_rules.specs.State.{SessionValue}
-use Rattle.session_rules.specs.Step.{records_of_round}
+use Rattle.session_rules.specs.DirectorStep.{records_of_round}
 use Rattle.bridge_table.specs.Kept.{is_kept_open}
 use Rattle.bridge_session.proofs.Rounds.{open_of_round}
 use Rattle.bridge_session.proofs.session.Session.is_round_open.Goals as goal

@@ -12,7 +12,7 @@ use Rattle.bridge_table.specs.declared.record.Record.{Record}
 use Rattle.session_rules.specs.declared.refused.Refused.{Refused}
 use Rattle.session_rules.specs.declared.refused.Refused.TheVariants.{NoSuchPlay}
 use Rattle.session_rules.specs.State.{SessionValue}
-use Rattle.session_rules.specs.Step.{if_allowed}
+use Rattle.session_rules.specs.DirectorStep.{if_allowed}
 use Rattle.bridge_ranking.specs.Ranking.{is_on, line_of, lines_of, games_of, pairs_of_field, has_field, IsRankingTo}
 use Rattle.bridge_ranking.specs.KeptGames.{IsGame, kept_games}
 use Rattle.bridge_session.specs.KeptSession.{state_of}

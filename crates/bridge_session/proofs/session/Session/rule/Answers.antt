@@ -6,8 +6,8 @@ use Rattle.bridge_score.specs.declared.ranking.Scoring.{Scoring}
 use Rattle.bridge_table.specs.declared.record.Record.{Record}
 use Rattle.session_rules.specs.declared.refused.Refused.{Refused}
 use Rattle.session_rules.specs.Record.{PlainRecord}
-use Rattle.session_rules.specs.State.{SessionValue, director_answer, index_of_row, changed_at}
-use Rattle.session_rules.specs.Step.{if_allowed, is_row_within, rule_answer, record_of, ruled, with_ruling}
+use Rattle.session_rules.specs.State.{SessionValue, director_answer, index_of_row, changed_at, is_row_within, record_of}
+use Rattle.session_rules.specs.DirectorStep.{if_allowed, rule_answer, ruled, with_ruling}
 use Rattle.session_rules.specs.StateRange.{IsCorrectionInRange, IsSession}
 use Rattle.bridge_table.specs.Kept.{plain_of, board_kept, with_kept_ruling, kept_rule_answer, IsTiedIn}
 use Rattle.bridge_session.specs.KeptSession.{state_of, IsKept}
@@ -17,7 +17,7 @@ use Rattle.session_rules.proofs.Lists.{map-changed_at}
 use Rattle.bridge_table.proofs.Tables.{changed_row, tied_row, lists_in, list_there, list_changed}
 use Rattle.bridge_session.proofs.Acted.{record_found}
 use Rattle.bridge_session.proofs.Ruled.{rule_seen, changed_at-map, All-changed_at, ruling_tied, some_if}
-use Rattle.bridge_session.specs.Laws.StateRanges.{ruled_in_range}
+use Rattle.session_bytes.proofs.StateRanges.{ruled_in_range}
 use Rattle.session_rules.proofs.ValidRuling.{rule_valid}
 use Rattle.bridge_session.proofs.session.Session.rule.Goals as goal
 use Rattle.bridge_session.proofs.session.Session.rule.Goals.{After-self-1}

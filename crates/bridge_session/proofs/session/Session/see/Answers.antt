@@ -1,7 +1,8 @@
 use Rattle.std.proofs.Common.{◌≡◌, ◌<◌, length, Some, Err, sym, ap, ◌∙◌, subst, arith}
 use Rattle.std.specs.Prelude.{All, map, slice_get, IfSome, MatchResult}
 use Rattle.session_rules.specs.State.{SessionValue}
-use Rattle.session_rules.specs.See.{shown_among, shown_seated, shown_to}
+use Rattle.session_rules.specs.See.{shown_among, shown_to}
+use Rattle.session_rules.proofs.Shown.{shown_seated}
 use Rattle.session_rules.specs.Views.{IsViewOf, IsViewTo}
 use Rattle.bridge_table.specs.Kept.{plain_of, IsTiedIn}
 use Rattle.bridge_session.specs.KeptSession.{state_of}

@@ -25,7 +25,9 @@ use Rattle.session_rules.specs.Deed.{with_deed}
 use Rattle.session_rules.specs.Record.{PlainRecord, empty_record}
 use Rattle.session_rules.specs.State.{SessionValue, opening, opening_row, row_boards, index_of_row, seating_of, changed_at, current_index}
 use Rattle.session_rules.specs.StateRange.{IsCorrectionInRange, AreHandsOrNone, IsOfFourSeats, IsRecordInRange, IsStateInRange}
-use Rattle.session_rules.specs.Step.{acted_among, acted_at, with_ruling, ruled, changed_by, changed}
+use Rattle.session_rules.specs.PlayerStep.{acted_among, acted_at}
+use Rattle.session_rules.specs.DirectorStep.{with_ruling, ruled}
+use Rattle.session_rules.specs.Step.{changed_by, changed}
 
 -- one element is changed
 all_changed : {X : Type 0} (P : X → Type 0) (f : X → X) (xs : List X) (index : ℕ) → ((x : X) → P x → P (f x)) → All P xs → All P (changed_at f xs index)

@@ -12,9 +12,9 @@ use Rattle.session_rules.specs.Record.{PlainRecord}
 use Rattle.session_rules.specs.State.{SessionValue, row_at, row_boards}
 use Rattle.session_rules.specs.Valid.{IsDealtOut, IsDealOrNone, board_of, IsValidRecord, IsValid}
 use Rattle.session_rules.specs.StateRange.{AreHands, AreHandsOrNone, IsOfFourSeats, IsRulingInRange, IsRecordInRange, IsStateInRange, IsSession}
-use Rattle.bridge_session.specs.Decided.{Decided, decided_like, decided_both, decided_equal, decided_less, decided_most, decided_true, decided_lists, decided_found, decided_all, decided_indexes}
-use Rattle.bridge_session.specs.MovementDecided.{decided_shape, decided_movement}
-use Rattle.bridge_session.specs.RecordDecided.{decided_record}
+use Rattle.session_rules.proofs.Decided.{Decided, decided_like, decided_both, decided_equal, decided_less, decided_most, decided_true, decided_lists, decided_found, decided_all, decided_indexes}
+use Rattle.session_rules.proofs.MovementDecided.{decided_shape, decided_movement}
+use Rattle.session_rules.proofs.RecordDecided.{decided_record}
 
 -- whether a pair is two players
 decided_pair : (pair : Pair) → Decided (IsPair pair)

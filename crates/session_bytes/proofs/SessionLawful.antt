@@ -6,17 +6,17 @@ use Rattle.session_rules.specs.declared.action.Action.{Action}
 use Rattle.session_rules.specs.declared.refused.Refused.{Refused}
 use Rattle.session_bytes.specs.ActionRange.{IsInRange}
 use Rattle.session_bytes.specs.Parts.{parts_of}
-use Rattle.bridge_session.specs.SessionKeeping.{step_by, session_keeping}
+use Rattle.session_bytes.specs.SessionKeeping.{step_by, session_keeping}
 use Rattle.session_rules.specs.State.{SessionValue}
 use Rattle.session_rules.specs.StateRange.{IsSession}
 use Rattle.session_rules.specs.Step.{step_answer, changed}
 use Rattle.session_bytes.proofs.ActionInRange.{read_in_range, action_fits}
 use Rattle.session_bytes.proofs.ActionLaws.{read_back}
-use Rattle.bridge_session.specs.Laws.PartLengths.{parts_fit, few_parts}
+use Rattle.session_bytes.proofs.PartLengths.{parts_fit, few_parts}
 use Rattle.session_bytes.proofs.PartIndexes.{count_parts}
 use Rattle.session_bytes.proofs.SessionBack.{two_has_rulings}
-use Rattle.bridge_session.specs.Laws.SessionOf.{session_of_is, has_parts}
-use Rattle.bridge_session.specs.Laws.SessionStays.{step_session}
+use Rattle.session_bytes.proofs.SessionOf.{session_of_is, has_parts}
+use Rattle.session_bytes.proofs.SessionStays.{step_session}
 
 -- an accepted action leads to a session
 steps_by : (s : SessionValue) (a : Action) (t : SessionValue) (answer : Result (Unit {0}) Refused) → answer ≡ step_answer s a → IsSession s → IsInRange a

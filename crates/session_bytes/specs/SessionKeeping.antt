@@ -7,10 +7,10 @@ use Rattle.session_rules.specs.declared.action.Action.{Action}
 use Rattle.session_rules.specs.declared.refused.Refused.{Refused}
 use Rattle.session_bytes.specs.ActionBytes.{action_bytes, action_of}
 use Rattle.session_bytes.specs.ActionRange.{IsInRange}
-use Rattle.bridge_session.specs.Decided.{Decided, decided_both}
+use Rattle.session_rules.proofs.Decided.{Decided, decided_both}
 use Rattle.session_bytes.specs.Parts.{parts_of}
 use Rattle.session_bytes.specs.PartsRead.{state_read}
-use Rattle.bridge_session.specs.SessionDecided.{decided_session, decided_parts}
+use Rattle.session_rules.proofs.SessionDecided.{decided_session, decided_parts}
 use Rattle.session_rules.specs.State.{SessionValue}
 use Rattle.session_rules.specs.StateRange.{IsSession}
 use Rattle.session_rules.specs.Step.{step_answer, changed}

@@ -8,7 +8,7 @@ use Rattle.session_rules.specs.State.{SessionValue, opening}
 use Rattle.session_rules.specs.StateRange.{IsSession}
 use Rattle.session_rules.specs.Step.{step_answer, changed}
 use Rattle.session_bytes.proofs.ActionInRange.{range_is_action}
-use Rattle.bridge_session.specs.Laws.StateRanges.{opening_in_range, changed_in_range}
+use Rattle.session_bytes.proofs.StateRanges.{opening_in_range, changed_in_range}
 use Rattle.session_rules.proofs.StaysValid.{opening_valid}
 use Rattle.session_rules.proofs.ValidStep.{step_valid}
 

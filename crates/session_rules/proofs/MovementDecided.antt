@@ -6,7 +6,7 @@ use Rattle.bridge_movement.specs.declared.shape.Shape.{Shape}
 use Rattle.bridge_movement.specs.Fair.{IsDue, IsComplete, HasPairsWithin, HasTwoPairs, HasSetWithin, IsFair, IsMovement}
 use Rattle.bridge_movement.specs.Row.{IsLive, SitsIn, ShareAPair, SeatPairTwice, PlaySetAgain}
 use Rattle.bridge_movement.specs.Shape.{IsBetween, IsShape, row_count}
-use Rattle.bridge_session.specs.Decided.{Decided, decided_like, decided_both, decided_either, decided_implies, decided_not, decided_equal, decided_most, decided_less, decided_all, decided_pairs, decided_indexes}
+use Rattle.session_rules.proofs.Decided.{Decided, decided_like, decided_both, decided_either, decided_implies, decided_not, decided_equal, decided_most, decided_less, decided_all, decided_pairs, decided_indexes}
 
 -- whether a number is within limits
 decided_between : (low high n : ℕ) → Decided (IsBetween low high n)

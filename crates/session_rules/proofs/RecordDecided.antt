@@ -19,7 +19,7 @@ use Rattle.session_rules.specs.Correction.{tricks_answer}
 use Rattle.session_rules.specs.Record.{PlainRecord, empty_record, contract_in, play_of, is_open}
 use Rattle.session_rules.specs.State.{deal_on, hands_on}
 use Rattle.session_rules.specs.Valid.{MayStand, IsUnplayed, IsValidRecord}
-use Rattle.bridge_session.specs.Decided.{Decided, decided_like, decided_both, decided_implies, decided_equal, decided_less, decided_most, decided_true, decided_false, decided_none, decided_empty, decided_found, decided_indexes}
+use Rattle.session_rules.proofs.Decided.{Decided, decided_like, decided_both, decided_implies, decided_equal, decided_less, decided_most, decided_true, decided_false, decided_none, decided_empty, decided_found, decided_indexes}
 
 -- whether a call is one of the 38
 decided_call : (call : Call) → Decided (IsCall call)

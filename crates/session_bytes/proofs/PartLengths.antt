@@ -26,7 +26,7 @@ use Rattle.session_rules.specs.Record.{PlainRecord, empty_record, contract_in, p
 use Rattle.session_rules.specs.State.{SessionValue, deal_on, row_boards, hands_on}
 use Rattle.session_rules.specs.StateRange.{AreHands, AreHandsOrNone, IsSession}
 use Rattle.session_rules.specs.Valid.{IsDealtOut, IsDealOrNone, board_of, IsValidRecord}
-use Rattle.bridge_session.specs.Laws.DealtOut.{dealt_is_deal}
+use Rattle.session_bytes.proofs.DealtOut.{dealt_is_deal}
 use Rattle.session_bytes.proofs.PartLemmas.{length-flat_fixed}
 use Rattle.session_bytes.proofs.PartIndexes.{count_parts}
 use Rattle.session_bytes.proofs.SessionRecords.{each_record}

@@ -1,10 +1,10 @@
 -- The session of parts.
 use Rattle.std.proofs.Common.{◌≡◌, ◌≢◌, ℕ, List, None, Some, inl, inr, refl, sym, ap, subst, ◌∙◌}
-use Rattle.bridge_session.specs.Decided.{Decided}
+use Rattle.session_rules.proofs.Decided.{Decided}
 use Rattle.session_store.specs.declared.disk_format.DiskFormat.{DiskFormat}
 use Rattle.session_bytes.specs.Parts.{HasRulings, parts_of}
 use Rattle.session_bytes.specs.PartsRead.{state_read}
-use Rattle.bridge_session.specs.SessionKeeping.{HasParts, decided_has_parts, with_parts, session_of}
+use Rattle.session_bytes.specs.SessionKeeping.{HasParts, decided_has_parts, with_parts, session_of}
 use Rattle.session_rules.specs.State.{SessionValue}
 use Rattle.session_rules.specs.StateRange.{IsSession}
 use Rattle.session_bytes.proofs.SessionBack.{session_back, rulings_back}

@@ -1,0 +1,56 @@
+-- What the director does: the answer, and what changes.
+use Rattle.std.specs.Prelude.{ℕ, ◌-◌, ◌*◌, nat_lt, nat_le, not, ◌==◌, if◌then◌else◌, is_some, List, [], take, drop, Option, None, Some, Ok, Err}
+use Rattle.std.specs.List.{list_any}
+use Rattle.bridge_cards.specs.Deal.{is_dealt_out}
+use Rattle.bridge_score.specs.declared.Scoring.{Scoring}
+use Rattle.session_rules.specs.declared.action.PlayId.{PlayId}
+use Rattle.session_rules.specs.declared.correction.Correction.{Correction}
+use Rattle.session_rules.specs.declared.refused.Refused.TheVariants.{Closed, NoSuchPlay, NotYet, Stale, AlreadyDealt, BadDeal, RoundOpen}
+use Rattle.session_rules.specs.Answer.{Answer}
+use Rattle.session_rules.specs.Record.{PlainRecord, play_of, is_open}
+use Rattle.session_rules.specs.Correction.{ruling_by, ruling_answer}
+use Rattle.session_rules.specs.State.{SessionValue, deal_on, changed_at, index_of_row, is_closed}
+
+-- an answer, if the director may act
+abbrev pub if_allowed : Answer → Answer → Answer
+if_allowed (Err refused) answer = Err refused
+if_allowed (Ok allowed) answer = answer
+
+-- the answer to a deal of the board
+abbrev pub deal_answer : SessionValue → ℕ → List ℕ → Answer
+deal_answer s board hands =
+    if is_closed s.configuration s.round then Err Closed
+    else if not (nat_le board (s.configuration.movement.shape.sets * s.configuration.boards)) then Err NoSuchPlay
+    else if is_some (deal_on s.deals board) then Err AlreadyDealt
+    else if not (is_dealt_out hands) then Err BadDeal
+    else Ok tt
+
+-- the records of the tables in the current round
+abbrev pub records_of_round : SessionValue → List (List PlainRecord)
+records_of_round s =
+    take s.configuration.movement.shape.tables (drop ((s.round - 1) * s.configuration.movement.shape.tables) s.records)
+
+-- the answer to the end of a round
+abbrev pub next_answer : SessionValue → ℕ → Answer
+next_answer s round =
+    if is_closed s.configuration s.round then Err Closed
+    else if not (round == s.round) then Err Stale
+    else if list_any (list_any is_open) (records_of_round s) then Err RoundOpen
+    else Ok tt
+
+-- the answer to a ruling on the play of that record, if there is such a play; the hands do not matter to it
+abbrev pub rule_answer : Scoring → ℕ → ℕ → Correction → Option PlainRecord → Answer
+rule_answer scoring now round correction None = Err NoSuchPlay
+rule_answer scoring now round correction (Some plain) =
+    if nat_lt now round then Err NotYet else ruling_answer scoring plain.calls (play_of [] plain) correction (nat_lt round now)
+
+-- the record with what is left of a ruling
+abbrev pub with_ruling : Correction → PlainRecord → PlainRecord
+with_ruling correction plain = record plain { ruling = ruling_by correction }
+
+-- the session after a ruling on the play
+abbrev pub ruled : SessionValue → PlayId → Correction → SessionValue
+ruled s play correction = record s {
+  records = changed_at (λ records. changed_at (with_ruling correction) records (play.index - 1)) s.records
+      (index_of_row s.configuration.movement.shape play.round play.table);
+}
