@@ -176,9 +176,10 @@ fn values_are_read_from_texts(rt: HostRuntime) -> Result<(), Fail> {
 #[test]
 fn values_are_made_of_numbers(rt: HostRuntime) -> Result<(), Fail> {
     let seven = bid(7, Denomination::NoTrump)?;
+    let call = Call::Bid(bid(7, Denomination::NoTrump)?);
     expect_eq(&rt, Bid::try_from(34), Ok(seven), 34);
     expect_eq(&rt, Bid::try_from(35), Err(OutOfRange(35)), 35);
-    expect_eq(&rt, Call::try_from(37), Ok(Call::Bid(seven)), 37);
+    expect_eq(&rt, Call::try_from(37), Ok(call), 37);
     expect_eq(&rt, Call::try_from(38), Err(OutOfRange(38)), 38);
     Ok(())
 }
