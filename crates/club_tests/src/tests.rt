@@ -205,11 +205,7 @@ fn words_that_cannot_be_had_are_named(rt: HostRuntime) {
             2,
             "a word of the command line is not UTF-8\n",
         ),
-        (
-            Err(ErrorKind::Uncategorized),
-            3,
-            "cannot read input\n",
-        ),
+        (Err(ErrorKind::Uncategorized), 3, "cannot read input\n"),
     ] {
         let mut errors = Vec::new(rt.alloc());
         expect_eq(&rt, status_of(outcome, &mut errors), status, line);

@@ -4,11 +4,11 @@
 //! and the score is that of seven spades made, not vulnerable (Law 77).
 #![tactic(auto)]
 
+use anyhow::Context;
 use bridge_auction::{Auction, read_call};
 use bridge_cards::{BoardNumber, CardSet, dealer, read_deal, vulnerable};
 use bridge_play::Play;
 use bridge_score::score;
-use anyhow::Context;
 
 const DEAL: &[u8] = b"N:AKQJT98765432... .AKQJT98765432.. ..AKQJT98765432. ...AKQJT98765432";
 
