@@ -4,7 +4,6 @@ use Rattle.std.specs.List.{list_all, list_any}
 use Rattle.std.specs.Char.{is_ascii_alphanumeric, is_ascii_digit}
 use Rattle.bridge_movement.specs.Shape.{IsShape}
 use Rattle.bridge_movement.specs.Fair.{IsMovement}
-use Rattle.bridge_config.specs.declared.fields.TheConstants.{NAME_BYTES, DATE_BYTES}
 use Rattle.bridge_config.specs.ConfigValue.{ConfigValue, Pair, keys_of}
 
 -- ASCII letters, digits, dots, hyphens and underscores
@@ -13,12 +12,12 @@ is_name_byte byte = is_ascii_alphanumeric byte || byte == 46 || byte == 45 || by
 
 -- 1 to 24 of them
 abbrev pub is_name : List ℕ → Bool
-is_name text = list_all is_name_byte text && not (length text == 0) && nat_le (length text) NAME_BYTES
+is_name text = list_all is_name_byte text && not (length text == 0) && nat_le (length text) 24
 
 -- four digits, a dot, two digits, a dot and two digits
 abbrev pub is_date_form : List ℕ → Bool
 is_date_form text =
-    length text == DATE_BYTES && slice_index text 4 == 46 && slice_index text 7 == 46
+    length text == 10 && slice_index text 4 == 46 && slice_index text 7 == 46
     && list_all is_ascii_digit (take 4 text) && list_all is_ascii_digit (slice_range text 5 7)
     && list_all is_ascii_digit (drop 8 text)
 

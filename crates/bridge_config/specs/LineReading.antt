@@ -8,7 +8,6 @@ use Rattle.bridge_score.specs.declared.ranking.Scoring.{Scoring}
 use Rattle.bridge_score.specs.declared.ranking.Scoring.TheVariants.{MatchPoints, Imps}
 use Rattle.bridge_movement.specs.declared.row.Row.{Row}
 use Rattle.bridge_movement.specs.declared.shape.Shape.{Shape}
-use Rattle.bridge_movement.specs.declared.shape.TheConstants.{MOST_TABLES, MOST_ROUNDS, MOST_SETS, MOST_PAIRS}
 use Rattle.bridge_config.specs.declared.refused.ConfigFault.{ConfigFault}
 use Rattle.bridge_config.specs.declared.refused.ConfigRefused.TheVariants.{Form, Range, KeyTwice}
 use Rattle.bridge_config.specs.ConfigValue.{Pair}
@@ -91,10 +90,10 @@ are_numerals words =
 -- the five numbers as a shape
 unfoldable pub shape_within : ℕ → Five → Result Shape ConfigFault
 shape_within number words = do
-  tables ← within number 2 MOST_TABLES words.first
-  rounds ← within number 1 MOST_ROUNDS words.second
-  sets ← within number 1 MOST_SETS words.third
-  pairs ← within number 2 MOST_PAIRS words.fourth
+  tables ← within number 2 12 words.first
+  rounds ← within number 1 12 words.second
+  sets ← within number 1 12 words.third
+  pairs ← within number 2 24 words.fourth
   split ← within number 1 pairs words.fifth
   Ok (record { tables = tables; rounds = rounds; sets = sets; pairs = pairs; split = split })
 

@@ -9,7 +9,6 @@ use Rattle.bridge_movement.specs.MovementValue.{MovementValue}
 use Rattle.bridge_movement.specs.Shape.{row_count}
 use Rattle.bridge_movement.specs.Fair.{IsMovement}
 use Rattle.bridge_movement.specs.Refused.{IsRefusal, refused_row}
-use Rattle.bridge_config.specs.declared.reading.TheConstants.{TEXT_BYTES}
 use Rattle.bridge_config.specs.declared.refused.ConfigFault.{ConfigFault}
 use Rattle.bridge_config.specs.declared.refused.ConfigRefused.TheVariants.{TooLong, Movement}
 use Rattle.bridge_config.specs.ConfigValue.{ConfigValue, Pair, Heading, People}
@@ -131,5 +130,5 @@ ReadsAfterHeading (Ok heading) read =
 -- The configuration of a text, or its first fault: its length, and then line by line.
 abbrev pub ReadsConfiguration : List ℕ → Result ConfigValue ConfigFault → Type 0
 ReadsConfiguration text read =
-    MatchBool (nat_lt TEXT_BYTES (length text)) (read ≡ Err (record { line = 0; cause = TooLong }))
+    MatchBool (nat_lt 16384 (length text)) (read ≡ Err (record { line = 0; cause = TooLong }))
     (ReadsAfterHeading (heading_in (lines text)) read)

@@ -2,9 +2,7 @@
 use Rattle.std.specs.Prelude.{◌≡◌, ℕ, ◌+◌, ◌≤◌, ◌⊎◌, List, [], ◌∷◌, ◌++◌, length, map, codes, All}
 use Rattle.std.specs.Fmt.{decimal}
 use Rattle.std.specs.Str.Lines.{lines}
-use Rattle.line_text.specs.declared.lines.TheConstants.{LINE_BYTES}
 use Rattle.line_text.specs.Words.{spaced}
-use Rattle.bridge_config.specs.declared.reading.TheConstants.{TEXT_BYTES}
 use Rattle.bridge_score.specs.declared.ranking.Scoring.{Scoring}
 use Rattle.bridge_score.specs.declared.ranking.Scoring.TheVariants.{MatchPoints, Imps}
 use Rattle.bridge_movement.specs.declared.row.Row.{Row}
@@ -79,8 +77,8 @@ people_lines people = spaced (codes "DIRECTOR" ∷ decimal people.director ∷ [
 -- The lines of the text are those of the configuration, which is within the limits. No line has more than 128 bytes, and
 -- the text has at most 16,384.
 pub record Spells (text : List ℕ) (configuration : ConfigValue) : Type 0 where
-  pub length_within : length text ≤ TEXT_BYTES
-  pub lines_within : All (λ line. length line ≤ LINE_BYTES) (lines text)
+  pub length_within : length text ≤ 16384
+  pub lines_within : All (λ line. length line ≤ 128) (lines text)
   pub movement_texts : List (List ℕ)
   pub movement : SpellsMovement configuration.movement movement_texts
   pub whole : lines text ≡ heading_lines (heading_of configuration)

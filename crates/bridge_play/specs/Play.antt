@@ -5,8 +5,6 @@ use Rattle.bridge_cards.specs.declared.seat.Seat.{Seat}
 use Rattle.bridge_cards.specs.declared.seat.Side.{Side}
 use Rattle.bridge_cards.specs.Seat.{same_seat}
 use Rattle.bridge_auction.specs.declared.contract.Contract.{Contract}
-use Rattle.bridge_cards.specs.declared.card.TheConstants.{DECK}
-use Rattle.bridge_play.specs.declared.play.TheConstants.{TRICKS, MOST_CLAIMS}
 use Rattle.bridge_play.specs.declared.claim.Claim.{Claim}
 use Rattle.bridge_play.specs.declared.refused.CardRefused.{CardRefused}
 use Rattle.bridge_play.specs.declared.refused.CardRefused.TheVariants.{Over, ClaimStands, NotYourTurn, NotHeld, MustFollow}
@@ -53,7 +51,7 @@ is_agreed play = option_map_or (all_agreed play.contract) play.claim false
 
 -- the play is over: all 52 cards were played, or a claim is agreed
 abbrev pub is_over : PlayValue → Bool
-is_over play = length play.cards == DECK || is_agreed play
+is_over play = length play.cards == 52 || is_agreed play
 
 -- the answer to a card by a player, the refusals in order
 abbrev pub card_answer : PlayValue → Seat → ℕ → Result (Unit {0}) CardRefused
@@ -81,8 +79,8 @@ claim_answer play seat tricks =
     else if is_some play.claim then Err claim_refused.ClaimStands
     else if same_seat seat (dummy_of play.contract) then Err claim_refused.NotYourTurn
     else if not (length play.cards % 4 == 0) then Err claim_refused.MidTrick
-    else if nat_lt TRICKS (whole_tricks play.cards + tricks) then Err claim_refused.TooManyTricks
-    else if nat_le MOST_CLAIMS play.claims then Err claim_refused.ClaimsSpent
+    else if nat_lt 13 (whole_tricks play.cards + tricks) then Err claim_refused.TooManyTricks
+    else if nat_le 99 play.claims then Err claim_refused.ClaimsSpent
     else Ok tt
 
 -- The player may claim that many of the tricks left: the play is not over, no claim stands, dummy claims nothing, it is
@@ -92,8 +90,8 @@ pub record MayBeClaimed (play : PlayValue) (seat : Seat) (tricks : ℕ) : Type 0
   pub unclaimed : IsNone play.claim
   pub not_dummy : seat ≢ dummy_of play.contract
   pub between : length play.cards % 4 ≡ 0
-  pub within : whole_tricks play.cards + tricks ≤ TRICKS
-  pub few : play.claims < MOST_CLAIMS
+  pub within : whole_tricks play.cards + tricks ≤ 13
+  pub few : play.claims < 99
 
 -- the same play with one claim more, which stands, and to which nobody has agreed
 abbrev pub with_claim : PlayValue → Seat → ℕ → PlayValue
@@ -134,29 +132,29 @@ without_claim play = record play { claim = None }
 pub record IsClaimIn (play : PlayValue) (claim : Claim) : Type 0 where
   pub counted : 1 ≤ play.claims
   pub between : length play.cards % 4 ≡ 0
-  pub some_left : length play.cards < DECK
+  pub some_left : length play.cards < 52
   pub claimer : claim.claimer ≢ dummy_of play.contract
-  pub within : whole_tricks play.cards + claim.tricks ≤ TRICKS
+  pub within : whole_tricks play.cards + claim.tricks ≤ 13
   pub asked : (seat : Seat) → has_agreed claim seat ≡ true → is_asked play.contract claim.claimer seat ≡ true
 
 -- whether the claim is one that stands or was agreed
 abbrev pub is_claim_in : PlayValue → Claim → Bool
 is_claim_in play claim =
-    nat_le 1 play.claims && (length play.cards % 4 == 0 && (nat_lt (length play.cards) DECK
-    && (not (same_seat claim.claimer (dummy_of play.contract)) && (nat_le (whole_tricks play.cards + claim.tricks) TRICKS
+    nat_le 1 play.claims && (length play.cards % 4 == 0 && (nat_lt (length play.cards) 52
+    && (not (same_seat claim.claimer (dummy_of play.contract)) && (nat_le (whole_tricks play.cards + claim.tricks) 13
     && only_asked_agree play.contract claim))))
 
 -- what each play is: a legal list of cards, at most 99 claims, and a claim that was made by the rules, if there is one
 pub record IsPlay (play : PlayValue) : Type 0 where
   pub legal : IsLegal play.hands play.contract play.cards
-  pub few : play.claims ≤ MOST_CLAIMS
+  pub few : play.claims ≤ 99
   pub claimed : IfSome play.claim (IsClaimIn play)
 
 -- of the tricks left, those that a claim gives the side once it is agreed: what is not claimed goes to the other side
 abbrev pub claimed_tricks : Contract → List ℕ → Side → Option Claim → ℕ
 claimed_tricks contract cards side None = 0
 claimed_tricks contract cards side (Some claim) =
-    if all_agreed contract claim then (if plays_for side claim.claimer then claim.tricks else TRICKS - whole_tricks cards - claim.tricks) else 0
+    if all_agreed contract claim then (if plays_for side claim.claimer then claim.tricks else 13 - whole_tricks cards - claim.tricks) else 0
 
 -- the tricks of a side: the whole tricks that its seats won, and those of an agreed claim (Law 68)
 abbrev pub tricks_of : PlayValue → Side → ℕ
@@ -165,4 +163,4 @@ tricks_of play side =
 
 -- how many tricks have a winner: all 13 once the play is over, and before that the whole tricks
 abbrev pub settled_tricks : PlayValue → ℕ
-settled_tricks play = if is_over play then TRICKS else whole_tricks play.cards
+settled_tricks play = if is_over play then 13 else whole_tricks play.cards

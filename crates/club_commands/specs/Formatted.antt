@@ -1,15 +1,17 @@
 -- What the command `format` makes.
-use Rattle.std.specs.Prelude.{◌≡◌, ◌⊎◌, ◌≤◌, ℕ, List, Option, length, codes, Result, Ok, Err, IfErr}
+use Rattle.std.specs.Prelude.{◌≡◌, ◌⊎◌, ◌≤◌, ℕ, List, Option, length, codes, Result, Ok, Err}
 use Rattle.std.specs.declared.fs.File.{File}
-use Rattle.line_text.specs.Streams.{Stream, stream, Written, IsUntouched}
+use Rattle.line_text.specs.Streams.{Stream, stream, Takes, TakesPrefix, IsUntouched}
 use Rattle.sector_disk.specs.declared.file.FileDisk.{FileDisk}
 use Rattle.sector_disk.specs.declared.system_file.SystemFile.{SystemFile}
-use Rattle.sector_disk.specs.Disk.{Disk, Image}
+use Rattle.sector_disk.specs.Disk.{Disk, Image, Rose}
 use Rattle.sector_disk.specs.File.{file_disk}
+use Rattle.sector_disk.specs.Runs.{Remains}
 use Rattle.session_store.specs.declared.fault.StoreFault.TheVariants.{Disk as DiskFault}
-use Rattle.session_store.specs.Formatted.{IsFormatted, IsUnformatted}
+use Rattle.session_store.specs.Base.{HasEpoch}
 use Rattle.session_store.specs.Stands.{recovered}
 use Rattle.bridge_config.specs.ConfigValue.{ConfigValue}
+use Rattle.session_store.specs.Sound.{IsSoundDisk, StandsOnlyFor}
 use Rattle.bridge_session.specs.SessionKeeping.{session_keeping}
 use Rattle.session_rules.specs.State.{SessionValue, opening}
 use Rattle.table_server.specs.declared.fault.ServeFault.TheVariants.{Read, Write}
@@ -25,26 +27,36 @@ abbrev pub IsOpening : Image → Type 0
 IsOpening image = (configuration : ConfigValue) × (recovered session_keeping image ≡ Ok (opening configuration))
 
 module _ {D : Type 0} (disk : Disk D) where
-  -- of a disk one was made that holds the session, and `formatted` is written, or at a write fault a prefix of it
-  pub record FormatsDisk (made left : D) (session : SessionValue) (output : Stream) (result : Result (Unit {0}) RunFault) : Type 0 where
-    pub formatted : IsFormatted session_keeping disk session made left
-    pub wrote : Written output formatted_line result
-    pub fault : IfErr result (λ fault. fault ≡ StreamFault Write)
+  -- Of a disk one was made that holds the session, and no call of it failed: where it is honest, every image that a power
+  -- cut may leave stands for the session, is in order, and is of the first epoch.
+  pub record IsFormatted (made formatted : D) (session : SessionValue) : Type 0 where
+    pub remains : Remains disk made formatted
+    pub no_fault : disk.faults formatted ≡ disk.faults made
+    pub stands : disk.honest made → StandsOnlyFor session_keeping disk session formatted
+    pub sound : disk.honest made → IsSoundDisk session_keeping disk formatted
+    pub first_epoch : disk.honest made → (c : Image) → disk.may_leave formatted c → HasEpoch 1 c
 
-  -- a call of the disk failed, and nothing is written
-  pub record FailsToFormat (made left : D) (output : Stream) (result : Result (Unit {0}) RunFault) : Type 0 where
-    pub named : result ≡ Err (Store DiskFault)
-    pub unformatted : IsUnformatted disk made left
-    pub unwritten : IsUntouched output
+  -- a disk was made of it that holds the session, and `formatted` is written
+  abbrev pub Formats : D → SessionValue → Stream → Type 0
+  Formats made session output = (formatted : D) × IsFormatted made formatted session × Takes output formatted_line
 
-  abbrev pub Formats : D → D → SessionValue → Stream → Result (Unit {0}) RunFault → Type 0
-  Formats made left session output result =
-      FormatsDisk made left session output result ⊎ FailsToFormat made left output result
+  -- at a fault: a call of the disk failed, and nothing is written; or the disk holds the session, and a write failed
+  abbrev pub FailsToFormat : D → SessionValue → Stream → RunFault → Type 0
+  FailsToFormat made session output (StreamFault fault) = (fault ≡ Write)
+      × ((formatted : D) × IsFormatted made formatted session × TakesPrefix output formatted_line)
+  FailsToFormat made session output (Config fault) = ⊥
+  FailsToFormat made session output (Store fault) = (fault ≡ DiskFault)
+      × ((left : D) × Rose (disk.faults made) (disk.faults left)) × IsUntouched output
 
-  -- a disk was made in a file, and formatted, or not; or none was made, which is a fault of the disk, and nothing is written
-  abbrev pub FormatsMade : {E : Type 0} → Result D E → SessionValue → Stream → Result (Unit {0}) RunFault → Type 0
-  FormatsMade (Ok made) session output result = (left : D) × Formats made left session output result
-  FormatsMade (Err _) session output result = (result ≡ Err (Store DiskFault)) × IsUntouched output
+  -- a disk was made in a file, and of it one that holds the session, and `formatted` is written
+  abbrev pub FormatsMade : {E : Type 0} → Result D E → SessionValue → Stream → Type 0
+  FormatsMade (Ok made) session output = Formats made session output
+  FormatsMade (Err _) session output = ⊥
+
+  -- a disk was made, and that failed; or none was made, which is a fault of the disk, and nothing is written
+  abbrev pub FailsToFormatMade : {E : Type 0} → Result D E → SessionValue → Stream → RunFault → Type 0
+  FailsToFormatMade (Ok made) session output fault = FailsToFormat made session output fault
+  FailsToFormatMade (Err _) session output fault = (fault ≡ Store DiskFault) × IsUntouched output
 
 -- over a file: which bytes it still gives
 module _ {F : Type 0} (remaining : F → Option (List ℕ)) where
@@ -68,23 +80,25 @@ abbrev pub IsNoSessionOfFile : RunFault → Type 0
 IsNoSessionOfFile fault =
     (fault ≡ StreamFault Read) ⊎ ((text : List ℕ) × (length text ≤ most_read) × IsNoSession text fault)
 
--- a disk of 2,048 sectors was made in a file, and formatted for the session of a configuration's file, or not
-pub record FormatsFile (output : Stream) (result : Result (Unit {0}) RunFault) : Type 0 where
+-- `format` is done: a disk of 2,048 sectors was made in a file, and of it one that holds the session of a configuration's
+-- file, and `formatted` is written
+pub record HasFormatted (output : Stream) : Type 0 where
   pub session : SessionValue
   pub session_of : IsSessionOfFile session
   pub made : FileDisk (SystemFile File)
   pub count : file_disk.count made ≡ 2048
-  pub left : FileDisk (SystemFile File)
-  pub formats : Formats file_disk made left session output result
+  pub formats : Formats file_disk made session output
 
--- nothing is written: there is no session, or the fault is that of a disk that cannot be made, of which no contract can say
--- more
-pub record MakesNone (output : Stream) (result : Result (Unit {0}) RunFault) : Type 0 where
-  pub fault : RunFault
-  pub named : result ≡ Err fault
-  pub cause : IsNoSessionOfFile fault ⊎ (fault ≡ Store DiskFault)
-  pub unwritten : IsUntouched output
+-- a disk was made in a file, but formatting it for the session of a configuration's file, or writing `formatted`, failed
+pub record FailsOnFile (output : Stream) (fault : RunFault) : Type 0 where
+  pub session : SessionValue
+  pub session_of : IsSessionOfFile session
+  pub made : FileDisk (SystemFile File)
+  pub count : file_disk.count made ≡ 2048
+  pub fails : FailsToFormat file_disk made session output fault
 
--- what `format` does
-abbrev pub HasFormatted : Stream → Result (Unit {0}) RunFault → Type 0
-HasFormatted output result = FormatsFile output result ⊎ MakesNone output result
+-- `format` stopped: there is no session, or the fault is that of a disk that cannot be made, of which no contract can say
+-- more, and then nothing is written; or making it one that holds the session failed
+abbrev pub StopsFormatting : Stream → RunFault → Type 0
+StopsFormatting output fault = (IsNoSessionOfFile fault × IsUntouched output)
+    ⊎ (((fault ≡ Store DiskFault) × IsUntouched output) ⊎ FailsOnFile output fault)

@@ -6,6 +6,5 @@ pub mod Stored
 pub mod Results
 pub mod Scripted
 pub mod Connections
-pub mod OnDisk
 pub mod OnFile
 pub mod Run

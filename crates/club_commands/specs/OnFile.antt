@@ -1,46 +1,136 @@
 -- What the commands do over the session that a disk in a file holds.
-use Rattle.std.specs.Prelude.{◌≡◌, ◌⊎◌, ℕ, List, Option, None, Result, Err}
+use Rattle.std.specs.Prelude.{◌≡◌, ◌⊎◌, ℕ, List, Option, None, Result, Ok, Err}
 use Rattle.std.specs.declared.fs.File.{File}
 use Rattle.std.specs.declared.net.tcp.TcpStream.{TcpStream}
-use Rattle.line_text.specs.Streams.{Stream, IsUntouched}
+use Rattle.line_text.specs.Streams.{Stream, Takes, TakesPrefix, IsUntouched}
 use Rattle.sector_disk.specs.declared.file.FileDisk.{FileDisk}
 use Rattle.sector_disk.specs.declared.system_file.SystemFile.{SystemFile}
 use Rattle.sector_disk.specs.File.{file_disk}
-use Rattle.session_store.specs.declared.fault.StoreFault.TheVariants.{NoMemory}
+use Rattle.session_store.specs.declared.fault.StoreFault.{StoreFault}
+use Rattle.session_store.specs.declared.fault.StoreFault.TheVariants.{Disk as DiskFault, NoMemory}
+use Rattle.session_store.specs.Value.{StoreValue}
+use Rattle.session_rules.specs.declared.action.Action.{Action}
 use Rattle.session_rules.specs.State.{SessionValue}
+use Rattle.table_server.specs.declared.fault.ServeFault.TheVariants.{Write, Accept}
 use Rattle.club_commands.specs.declared.fault.RunFault.{RunFault}
-use Rattle.club_commands.specs.declared.fault.RunFault.TheVariants.{Store}
-use Rattle.club_commands.specs.OnDisk.{HasNoDisk, Tells, Scripts, Serves}
+use Rattle.club_commands.specs.declared.fault.RunFault.TheVariants.{Stream as StreamFault, Store}
+use Rattle.club_commands.specs.Connections.{ServesAllConnections, StopsConnections}
+use Rattle.club_commands.specs.Scripted.{ServesAll, StopsScript}
+use Rattle.club_commands.specs.Stored.{OpensSession, RefusesDisk}
 
--- this was done over a disk in a file, and left such a disk
-pub record OverFile (Does : FileDisk (SystemFile File) → FileDisk (SystemFile File) → Type 0) : Type 0 where
-  pub found : FileDisk (SystemFile File)
-  pub left : FileDisk (SystemFile File)
-  pub does : Does found left
+-- the store was opened on a disk in a file
+abbrev pub IsOnFile : StoreValue (FileDisk (SystemFile File)) SessionValue Action → Type 0
+IsOnFile store = (d : FileDisk (SystemFile File)) × OpensSession file_disk d store
 
--- there was no memory for a cache of endings
-abbrev pub HasNoCache : Result (Unit {0}) RunFault → Type 0
-HasNoCache result = result ≡ Err (Store NoMemory)
+-- the fault is that of a file that cannot be opened as a disk, of which no contract can say more; or the disk in it gives
+-- no session
+abbrev pub RefusesFile : StoreFault → Type 0
+RefusesFile fault = (fault ≡ DiskFault) ⊎ ((d : FileDisk (SystemFile File)) × RefusesDisk file_disk d fault)
 
--- the results of the session in a file are told; or no file could be opened, of which no contract can say more, and nothing is
--- written
-abbrev pub HasResults : (SessionValue → List ℕ → Type 0) → Stream → Result (Unit {0}) RunFault → Type 0
-HasResults IsText output result =
-    OverFile (λ found left. Tells file_disk IsText found left output result) ⊎ (HasNoDisk result × IsUntouched output)
+module _ (IsText : SessionValue → List ℕ → Type 0) where
+  -- a session was opened, and the text of its results is written
+  abbrev pub TellsOpened : {D : Type 0} → Result (StoreValue D SessionValue Action) StoreFault → Stream → Type 0
+  TellsOpened (Ok store) output = (text : List ℕ) × IsText store.state text × Takes output text
+  TellsOpened (Err _) output = ⊥
 
--- the lines of the input are served over the session in a file; or no file could be opened, or memory was refused, and nothing
--- is read or written
-abbrev pub HasScripted : Stream → Stream → Result (Unit {0}) RunFault → Type 0
-HasScripted input output result =
-    OverFile (λ found left. Scripts file_disk found left input output result)
-    ⊎ ((HasNoDisk result ⊎ HasNoCache result) × IsUntouched input × IsUntouched output)
+  -- it was opened, and a write failed; or it was not, and the fault is the cause
+  abbrev pub StopsTelling : {D : Type 0} → Result (StoreValue D SessionValue Action) StoreFault → Stream → RunFault → Type 0
+  StopsTelling (Ok store) output fault =
+      (fault ≡ StreamFault Write) × ((text : List ℕ) × IsText store.state text × TakesPrefix output text)
+  StopsTelling (Err cause) output fault = (fault ≡ Store cause) × IsUntouched output
+
+  -- this is the text of the results of a session that was opened on a disk in a file
+  pub record Tells (text : List ℕ) : Type 0 where
+    pub store : StoreValue (FileDisk (SystemFile File)) SessionValue Action
+    pub opened : IsOnFile store
+    pub says : IsText store.state text
+
+  -- the text of the results is written
+  abbrev pub HasResults : Stream → Type 0
+  HasResults output = (text : List ℕ) × Tells text × Takes output text
+
+  -- there is no session, and nothing is written; or a write failed
+  abbrev pub StopsResults : Stream → RunFault → Type 0
+  StopsResults output fault = ((cause : StoreFault) × (fault ≡ Store cause) × RefusesFile cause × IsUntouched output)
+      ⊎ ((fault ≡ StreamFault Write) × ((text : List ℕ) × Tells text × TakesPrefix output text))
+
+-- all lines of the input were served over a session that was opened on a disk in a file
+pub record HasScripted (input output : Stream) : Type 0 where
+  pub start : StoreValue (FileDisk (SystemFile File)) SessionValue Action
+  pub opened : IsOnFile start
+  pub store : StoreValue (FileDisk (SystemFile File)) SessionValue Action
+  pub serves : ServesAll file_disk start store input output
+
+-- no line was served: there is no session, or memory was refused
+pub record IsNotScripted (input output : Stream) (fault : RunFault) : Type 0 where
+  pub cause : StoreFault
+  pub named : fault ≡ Store cause
+  pub refused : RefusesFile cause ⊎ (cause ≡ NoMemory)
+  pub unread : IsUntouched input
+  pub unwritten : IsUntouched output
+
+-- the store failed, or a stream
+pub record StopsOnFile (input output : Stream) (fault : RunFault) : Type 0 where
+  pub start : StoreValue (FileDisk (SystemFile File)) SessionValue Action
+  pub opened : IsOnFile start
+  pub store : StoreValue (FileDisk (SystemFile File)) SessionValue Action
+  pub stops : StopsScript file_disk start store input output fault
+
+abbrev pub StopsScripting : Stream → Stream → RunFault → Type 0
+StopsScripting input output fault = IsNotScripted input output fault ⊎ StopsOnFile input output fault
 
 -- no contract can say which bytes a connection gives, or has taken
 abbrev pub unknown : TcpStream → Option (List ℕ)
 unknown connection = None
 
--- the lines of connections are served over the session in a file; or no file could be opened, or memory was refused
-abbrev pub HasServedConnections : ℕ → Result (Unit {0}) RunFault → Type 0
-HasServedConnections count result =
-    OverFile (λ found left. Serves file_disk unknown unknown count found left result)
-    ⊎ (HasNoDisk result ⊎ HasNoCache result)
+-- there is a listener at the port, and the lines of so many connections were served
+abbrev pub ServesHeard : {L E : Type 0} → Result L E → ℕ → StoreValue (FileDisk (SystemFile File)) SessionValue Action → StoreValue (FileDisk (SystemFile File)) SessionValue Action → Type 0
+ServesHeard (Ok _) count start store = ServesAllConnections file_disk unknown unknown count start store
+ServesHeard (Err _) count start store = ⊥
+
+-- there is one, and the serving stopped; or there is none, and the store is as it was
+abbrev pub StopsHearing : {L E : Type 0} → Result L E → ℕ → StoreValue (FileDisk (SystemFile File)) SessionValue Action → StoreValue (FileDisk (SystemFile File)) SessionValue Action → RunFault → Type 0
+StopsHearing (Ok _) count start store fault = StopsConnections file_disk unknown unknown count start store fault
+StopsHearing (Err _) count start store fault = (fault ≡ StreamFault Accept) × (store ≡ start)
+
+-- there is no listener at the port, and the store is as it was; or the serving of connections stopped
+abbrev pub StopsListening : ℕ → StoreValue (FileDisk (SystemFile File)) SessionValue Action → StoreValue (FileDisk (SystemFile File)) SessionValue Action → RunFault → Type 0
+StopsListening count start store fault =
+    ((fault ≡ StreamFault Accept) × (store ≡ start)) ⊎ StopsConnections file_disk unknown unknown count start store fault
+
+-- the lines of so many connections were served over a session that was opened on a disk in a file
+pub record HasServedConnections (count : ℕ) : Type 0 where
+  pub start : StoreValue (FileDisk (SystemFile File)) SessionValue Action
+  pub opened : IsOnFile start
+  pub store : StoreValue (FileDisk (SystemFile File)) SessionValue Action
+  pub serves : ServesAllConnections file_disk unknown unknown count start store
+
+-- there is no session, or memory was refused
+pub record IsNotServed (fault : RunFault) : Type 0 where
+  pub cause : StoreFault
+  pub named : fault ≡ Store cause
+  pub refused : RefusesFile cause ⊎ (cause ≡ NoMemory)
+
+-- the serving of connections stopped over a session that was opened
+pub record StopsOnConnections (count : ℕ) (fault : RunFault) : Type 0 where
+  pub start : StoreValue (FileDisk (SystemFile File)) SessionValue Action
+  pub opened : IsOnFile start
+  pub store : StoreValue (FileDisk (SystemFile File)) SessionValue Action
+  pub stops : StopsListening count start store fault
+
+abbrev pub StopsServingConnections : ℕ → RunFault → Type 0
+StopsServingConnections count fault = IsNotServed fault ⊎ StopsOnConnections count fault
+
+-- a session was opened, there was memory for a cache, and the lines of so many connections were served
+abbrev pub ServesConnectionsOpened : {C E : Type 0} → Result (StoreValue (FileDisk (SystemFile File)) SessionValue Action) StoreFault → Result C E → ℕ → Type 0
+ServesConnectionsOpened (Ok start) (Ok _) count =
+    (store : StoreValue (FileDisk (SystemFile File)) SessionValue Action) × ServesAllConnections file_disk unknown unknown count start store
+ServesConnectionsOpened (Ok start) (Err _) count = ⊥
+ServesConnectionsOpened (Err _) cache count = ⊥
+
+-- the serving stopped; or there was none, since memory was refused or for the cause for which no session was opened
+abbrev pub StopsConnectionsOpened : {C E : Type 0} → Result (StoreValue (FileDisk (SystemFile File)) SessionValue Action) StoreFault → Result C E → ℕ → RunFault → Type 0
+StopsConnectionsOpened (Ok start) (Ok _) count fault =
+    (store : StoreValue (FileDisk (SystemFile File)) SessionValue Action) × StopsListening count start store fault
+StopsConnectionsOpened (Ok start) (Err _) count fault = fault ≡ Store NoMemory
+StopsConnectionsOpened (Err cause) cache count fault = fault ≡ Store cause

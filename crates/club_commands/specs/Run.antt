@@ -1,5 +1,5 @@
 -- What stands on the program's streams once a command was done, and at a fault.
-use Rattle.std.specs.Prelude.{◌≡◌, ℕ, List, take, codes, IfSome, Result, Ok, Err, MatchResult}
+use Rattle.std.specs.Prelude.{◌≡◌, ℕ, List, take, codes, IfSome}
 use Rattle.bridge_cards.specs.Board.{dealer_of}
 use Rattle.line_text.specs.Streams.{Stream, Gives, Takes, TakesPrefix, IsUntouched}
 use Rattle.table_server.specs.declared.fault.ServeFault.TheVariants.{Read}
@@ -13,8 +13,8 @@ use Rattle.club_commands.specs.declared.fault.RunFault.{RunFault}
 use Rattle.club_commands.specs.declared.fault.RunFault.TheVariants.{Stream as StreamFault, Config, Store}
 use Rattle.session_store.specs.declared.fault.StoreFault.TheVariants.{NoMemory}
 use Rattle.club_commands.specs.Faults.{store_line, stream_line, fault_line, fault_status}
-use Rattle.club_commands.specs.Formatted.{HasFormatted}
-use Rattle.club_commands.specs.OnFile.{HasResults, HasScripted, HasServedConnections}
+use Rattle.club_commands.specs.Formatted.{HasFormatted, StopsFormatting}
+use Rattle.club_commands.specs.OnFile.{HasResults, StopsResults, HasScripted, StopsScripting, HasServedConnections, StopsServingConnections}
 use Rattle.club_commands.specs.Results.{IsRankingText, IsPbnText}
 
 -- the output of a board's auction is written for what was read of the input
@@ -28,26 +28,34 @@ StopsAuction board input output (StreamFault fault) = StopsAt (dealer_of board) 
 StopsAuction board input output (Config fault) = ⊥
 StopsAuction board input output (Store fault) = ⊥
 
--- what a command reads from standard input and writes to standard output, with this outcome
-abbrev pub Does : Command → Stream → Stream → Result (Unit {0}) RunFault → Type 0
-Does (Auction board) input output result =
-    MatchResult result (λ _. HasAuction board input output) (StopsAuction board input output)
-Does (Format disk config) input output result = HasFormatted output result × IsUntouched input
-Does (Script disk) input output result = HasScripted input output result
-Does (Serve disk port count) input output result =
-    HasServedConnections count result × IsUntouched output × IsUntouched input
-Does (Rank disk) input output result = HasResults IsRankingText output result × IsUntouched input
-Does (Pbn disk) input output result = HasResults IsPbnText output result × IsUntouched input
+-- what a command that was done read from standard input and wrote to standard output
+abbrev pub Does : Command → Stream → Stream → Type 0
+Does (Auction board) input output = HasAuction board input output
+Does (Format disk config) input output = HasFormatted output × IsUntouched input
+Does (Script disk) input output = HasScripted input output
+Does (Serve disk port count) input output = HasServedConnections count × IsUntouched output × IsUntouched input
+Does (Rank disk) input output = HasResults IsRankingText output × IsUntouched input
+Does (Pbn disk) input output = HasResults IsPbnText output × IsUntouched input
+
+-- what a command leaves of standard input and on standard output where it stops at that fault
+abbrev pub StopsBy : Command → Stream → Stream → RunFault → Type 0
+StopsBy (Auction board) input output fault = StopsAuction board input output fault
+StopsBy (Format disk config) input output fault = StopsFormatting output fault × IsUntouched input
+StopsBy (Script disk) input output fault = StopsScripting input output fault
+StopsBy (Serve disk port count) input output fault =
+    StopsServingConnections count fault × IsUntouched output × IsUntouched input
+StopsBy (Rank disk) input output fault = StopsResults IsRankingText output fault × IsUntouched input
+StopsBy (Pbn disk) input output fault = StopsResults IsPbnText output fault × IsUntouched input
 
 -- a command was done, and nothing stands on standard error
 abbrev pub IsDone : Command → Stream → Stream → Stream → Type 0
-IsDone command input output errors = Does command input output (Ok tt) × IsUntouched errors
+IsDone command input output errors = Does command input output × IsUntouched errors
 
 -- A command stopped at some fault that has this status, and standard error took a prefix of the line for that fault, no
 -- more.
 pub record IsStopped (command : Command) (input output errors : Stream) (status : ℕ) : Type 0 where
   pub fault : RunFault
-  pub stopped : Does command input output (Err fault)
+  pub stopped : StopsBy command input output fault
   pub named : TakesPrefix errors (fault_line fault)
   pub status_is : status ≡ fault_status fault
 

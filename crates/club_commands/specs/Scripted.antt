@@ -1,8 +1,9 @@
--- Lines served over a store, as the command `script` serves them.
-use Rattle.std.specs.Prelude.{◌≡◌, ◌⊎◌, Bool, true, false}
-use Rattle.line_text.specs.Streams.{Stream}
+-- What the command `script` does.
+use Rattle.std.specs.Prelude.{◌≡◌, ◌⊎◌, Bool, true, false, Result, Ok, Err}
+use Rattle.line_text.specs.Streams.{Stream, IsUntouched}
 use Rattle.sector_disk.specs.Disk.{Disk, Rose}
-use Rattle.session_store.specs.declared.fault.StoreFault.TheVariants.{Disk as DiskFault}
+use Rattle.session_store.specs.declared.fault.StoreFault.{StoreFault}
+use Rattle.session_store.specs.declared.fault.StoreFault.TheVariants.{Disk as DiskFault, NoMemory}
 use Rattle.session_store.specs.Value.{StoreValue}
 use Rattle.session_rules.specs.declared.action.Action.{Action}
 use Rattle.session_rules.specs.State.{SessionValue}
@@ -43,3 +44,15 @@ module _ {D : Type 0} (disk : Disk D) where
   abbrev pub StopsScript : StoreValue D SessionValue Action → StoreValue D SessionValue Action → Stream → Stream → RunFault → Type 0
   StopsScript start store input output fault =
       (FailsServing start store input output × (fault ≡ Store DiskFault)) ⊎ EndsEarly start store input output fault
+
+  -- a session was opened, there was memory for a cache, and all lines were served
+  abbrev pub ServesOpened : {C E : Type 0} → Result (StoreValue D SessionValue Action) StoreFault → Result C E → Stream → Stream → Type 0
+  ServesOpened (Ok start) (Ok _) input output = (store : StoreValue D SessionValue Action) × ServesAll start store input output
+  ServesOpened (Ok start) (Err _) input output = ⊥
+  ServesOpened (Err _) cache input output = ⊥
+
+  -- the serving stopped; or no line was served, since memory was refused or for the cause for which no session was opened
+  abbrev pub StopsOpened : {C E : Type 0} → Result (StoreValue D SessionValue Action) StoreFault → Result C E → Stream → Stream → RunFault → Type 0
+  StopsOpened (Ok start) (Ok _) input output fault = (store : StoreValue D SessionValue Action) × StopsScript start store input output fault
+  StopsOpened (Ok start) (Err _) input output fault = (fault ≡ Store NoMemory) × IsUntouched input × IsUntouched output
+  StopsOpened (Err cause) cache input output fault = (fault ≡ Store cause) × IsUntouched input × IsUntouched output

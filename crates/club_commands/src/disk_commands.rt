@@ -1,29 +1,73 @@
-//! The commands over the session that the disk in a file holds. Each locks the file for as long as it runs, which no clause
+//! The commands over the session that a disk in a file holds. Each locks the file for as long as it runs, which no clause
 //! can say and tests show.
+ghost use Rattle.std.specs.Prelude.{◌≡◌, [], false, OnOk, IfOk, IfErr};
 ghost use Rattle.line_text.specs.Streams.{stream};
-ghost use Rattle.club_commands.specs.OnFile.{HasResults, HasScripted, HasServedConnections};
+ghost use Rattle.sector_disk.specs.File.{file_disk};
+ghost use Rattle.club_commands.specs.Connections.{ServesAllConnections};
 ghost use Rattle.club_commands.specs.Results.{IsRankingText, IsPbnText};
+ghost use Rattle.club_commands.specs.Scripted.{ServesOpened, StopsOpened};
+ghost use Rattle.club_commands.specs.OnFile.{IsOnFile, RefusesFile, TellsOpened, StopsTelling, HasResults, StopsResults, HasScripted, StopsScripting, unknown, HasServedConnections, ServesHeard, StopsHearing, StopsListening, ServesConnectionsOpened, StopsConnectionsOpened, StopsServingConnections};
 
 use crate::disk_lock::lock;
 use crate::fault::RunFault;
-use crate::over_disk::{pbn_over, rank_over, script_over, serve_over};
+use crate::results::{write_games, write_ranking};
+use crate::script::serve_store;
+use crate::serving::serve_connections;
+use crate::stored_session::open_found;
 use bridge_endings::Cache;
-use sector_disk::FileDisk;
-use session_store::StoreFault;
-use std::alloc::Global;
+use bridge_session::Session;
+use sector_disk::{FileDisk, SectorDisk, SystemFile};
+use session_store::{Store, StoreFault};
+use std::alloc::{AllocError, Global};
 use std::fs::File;
-use std::io::{Read, Write};
-use std::net::{Net, TcpListener, TcpStream};
+use std::io::{self, Read, Write};
+use std::net::{Ipv4Addr, Net, SocketAddr, TcpListener, TcpStream};
 use std::rt::Files;
+use table_server::ServeFault;
 
 /// How many endings are kept for the answers to `SOLVE`.
 const CACHED_ENDINGS: usize = 4096;
 
-/// The fault of a file that cannot be opened as a disk.
-const NO_DISK: RunFault = RunFault::Store(StoreFault::Disk);
+/// The store that the disk in a file holds.
+fn open_store<S: Files<File = File>>(
+    rt: &S,
+    alloc: Global,
+    disk: &str,
+) -> Result<Store<FileDisk<SystemFile<File>>, Session>, StoreFault>
+    ensures opened { IfOk result IsOnFile }
+    ensures begins { IfOk result (λ store. (store.failed ≡ false) × (store.pending ≡ [])) }
+    ensures fault { IfErr result RefusesFile }
+{
+    open_found(alloc, FileDisk::open(rt, disk))
+}
 
-/// The fault where there is no memory for a cache of endings.
-const NO_CACHE: RunFault = RunFault::Store(StoreFault::NoMemory);
+/// Writes the ranking of each field of a session, where it was opened.
+fn rank_opened<D: SectorDisk + Drop, W: Write>(
+    opened: Result<Store<D, Session>, StoreFault>,
+    output: &mut W,
+) -> Result<(), RunFault>
+    ensures done { OnOk result (TellsOpened IsRankingText opened (stream W.contents output.old output.new)) }
+    ensures fault { IfErr result (StopsTelling IsRankingText opened (stream W.contents output.old output.new)) }
+{
+    match opened {
+        Ok(store) => write_ranking(store.state(), output),
+        Err(cause) => Err(RunFault::Store(cause)),
+    }
+}
+
+/// Writes the results of a session, where it was opened.
+fn pbn_opened<D: SectorDisk + Drop, W: Write>(
+    opened: Result<Store<D, Session>, StoreFault>,
+    output: &mut W,
+) -> Result<(), RunFault>
+    ensures done { OnOk result (TellsOpened IsPbnText opened (stream W.contents output.old output.new)) }
+    ensures fault { IfErr result (StopsTelling IsPbnText opened (stream W.contents output.old output.new)) }
+{
+    match opened {
+        Ok(store) => write_games(store.state(), output),
+        Err(cause) => Err(RunFault::Store(cause)),
+    }
+}
 
 /// Writes the ranking of each field of the session that the disk in a file holds.
 pub fn run_rank<S: Files<File = File>, W: Write>(
@@ -32,15 +76,11 @@ pub fn run_rank<S: Files<File = File>, W: Write>(
     disk: &str,
     output: &mut W,
 ) -> Result<(), RunFault>
-    ensures { HasResults IsRankingText (stream W.contents output.old output.new) result }
+    ensures done { OnOk result (HasResults IsRankingText (stream W.contents output.old output.new)) }
+    ensures fault { IfErr result (StopsResults IsRankingText (stream W.contents output.old output.new)) }
 {
-    let Ok(_lock) = lock(rt, disk) else {
-        return Err(NO_DISK);
-    };
-    match FileDisk::open(rt, disk) {
-        Ok(found) => rank_over(alloc, found, output).1,
-        Err(_) => Err(NO_DISK),
-    }
+    let _lock = lock(rt, disk)?;
+    rank_opened(open_store(rt, alloc, disk), output)
 }
 
 /// Writes the results of the session that the disk in a file holds, in Portable Bridge Notation.
@@ -50,14 +90,33 @@ pub fn run_pbn<S: Files<File = File>, W: Write>(
     disk: &str,
     output: &mut W,
 ) -> Result<(), RunFault>
-    ensures { HasResults IsPbnText (stream W.contents output.old output.new) result }
+    ensures done { OnOk result (HasResults IsPbnText (stream W.contents output.old output.new)) }
+    ensures fault { IfErr result (StopsResults IsPbnText (stream W.contents output.old output.new)) }
 {
-    let Ok(_lock) = lock(rt, disk) else {
-        return Err(NO_DISK);
-    };
-    match FileDisk::open(rt, disk) {
-        Ok(found) => pbn_over(alloc, found, output).1,
-        Err(_) => Err(NO_DISK),
+    let _lock = lock(rt, disk)?;
+    pbn_opened(open_store(rt, alloc, disk), output)
+}
+
+/// Serves the lines of the input over a session, where it was opened and there was memory for a cache.
+fn script_opened<D: SectorDisk + Drop, R: Read, W: Write>(
+    opened: Result<Store<D, Session>, StoreFault>,
+    cache: Result<Cache, AllocError>,
+    input: &mut R,
+    output: &mut W,
+) -> Result<(), RunFault>
+    requires works { IfOk opened (λ store. store.failed ≡ false) }
+    requires none_pending { IfOk opened (λ store. store.pending ≡ []) }
+    ensures done { OnOk result (ServesOpened D.disk opened cache
+        (stream R.remaining input.old input.new) (stream W.contents output.old output.new)) }
+    ensures fault { IfErr result (StopsOpened D.disk opened cache
+        (stream R.remaining input.old input.new) (stream W.contents output.old output.new)) }
+{
+    match opened {
+        Ok(mut store) => match cache {
+            Ok(mut cache) => serve_store(&mut store, &mut cache, input, output),
+            Err(_) => Err(RunFault::Store(StoreFault::NoMemory)),
+        },
+        Err(cause) => Err(RunFault::Store(cause)),
     }
 }
 
@@ -69,17 +128,71 @@ pub fn run_script<S: Files<File = File>, R: Read, W: Write>(
     input: &mut R,
     output: &mut W,
 ) -> Result<(), RunFault>
-    ensures { HasScripted (stream R.remaining input.old input.new) (stream W.contents output.old output.new) result }
+    ensures done { OnOk result (HasScripted
+        (stream R.remaining input.old input.new) (stream W.contents output.old output.new)) }
+    ensures fault { IfErr result (StopsScripting
+        (stream R.remaining input.old input.new) (stream W.contents output.old output.new)) }
 {
-    let Ok(_lock) = lock(rt, disk) else {
-        return Err(NO_DISK);
-    };
-    let Ok(mut cache) = Cache::new(alloc, CACHED_ENDINGS) else {
-        return Err(NO_CACHE);
-    };
-    match FileDisk::open(rt, disk) {
-        Ok(found) => script_over(alloc, found, &mut cache, input, output).1,
-        Err(_) => Err(NO_DISK),
+    let _lock = lock(rt, disk)?;
+    let opened = open_store(rt, alloc, disk);
+    script_opened(opened, Cache::new(alloc, CACHED_ENDINGS), input, output)
+}
+
+/// Serves the lines of so many connections over a store, where there is a listener.
+fn serve_heard<N: Net<Listener = TcpListener, Stream = TcpStream>>(
+    rt: &N,
+    found: io::Result<TcpListener>,
+    count: u16,
+    store: &mut Store<FileDisk<SystemFile<File>>, Session>,
+    cache: &mut Cache,
+) -> Result<(), RunFault>
+    requires works { store.old.failed ≡ false }
+    requires none_pending { store.old.pending ≡ [] }
+    ensures done { OnOk result (ServesHeard found count store.old store.new) }
+    ensures fault { IfErr result (StopsHearing found count store.old store.new) }
+{
+    match found {
+        Ok(listener) => serve_connections(rt, &listener, count, store, cache),
+        Err(_) => Err(RunFault::Stream(ServeFault::Accept)),
+    }
+}
+
+/// Listens at a port of 127.0.0.1, and serves so many connections over a store.
+fn listen<N: Net<Listener = TcpListener, Stream = TcpStream>>(
+    rt: &N,
+    port: u16,
+    count: u16,
+    store: &mut Store<FileDisk<SystemFile<File>>, Session>,
+    cache: &mut Cache,
+) -> Result<(), RunFault>
+    requires works { store.old.failed ≡ false }
+    requires none_pending { store.old.pending ≡ [] }
+    ensures done { OnOk result (ServesAllConnections file_disk unknown unknown count store.old store.new) }
+    ensures fault { IfErr result (StopsListening count store.old store.new) }
+{
+    let found = TcpListener::bind(rt, SocketAddr::from((Ipv4Addr::LOCALHOST, port)));
+    serve_heard(rt, found, count, store, cache)
+}
+
+/// Serves so many connections over a session, where it was opened and there was memory for a cache.
+fn serve_opened<N: Net<Listener = TcpListener, Stream = TcpStream>>(
+    rt: &N,
+    port: u16,
+    count: u16,
+    opened: Result<Store<FileDisk<SystemFile<File>>, Session>, StoreFault>,
+    cache: Result<Cache, AllocError>,
+) -> Result<(), RunFault>
+    requires works { IfOk opened (λ store. store.failed ≡ false) }
+    requires none_pending { IfOk opened (λ store. store.pending ≡ []) }
+    ensures done { OnOk result (ServesConnectionsOpened opened cache count) }
+    ensures fault { IfErr result (StopsConnectionsOpened opened cache count) }
+{
+    match opened {
+        Ok(mut store) => match cache {
+            Ok(mut cache) => listen(rt, port, count, &mut store, &mut cache),
+            Err(_) => Err(RunFault::Store(StoreFault::NoMemory)),
+        },
+        Err(cause) => Err(RunFault::Store(cause)),
     }
 }
 
@@ -91,16 +204,11 @@ pub fn run_serve<S: Files<File = File> + Net<Listener = TcpListener, Stream = Tc
     port: u16,
     count: u16,
 ) -> Result<(), RunFault>
-    ensures { HasServedConnections count result }
+    ensures done { OnOk result (HasServedConnections count) }
+    ensures fault { IfErr result (StopsServingConnections count) }
 {
-    let Ok(_lock) = lock(rt, disk) else {
-        return Err(NO_DISK);
-    };
-    let Ok(mut cache) = Cache::new(alloc, CACHED_ENDINGS) else {
-        return Err(NO_CACHE);
-    };
-    match FileDisk::open(rt, disk) {
-        Ok(found) => serve_over(rt, alloc, found, port, count, &mut cache).1,
-        Err(_) => Err(NO_DISK),
-    }
+    let _lock = lock(rt, disk)?;
+    let opened = open_store(rt, alloc, disk);
+    let cache = Cache::new(alloc, CACHED_ENDINGS);
+    serve_opened(rt, port, count, opened, cache)
 }

@@ -1,15 +1,15 @@
 //! The command `format`: a disk for the session that begins by a configuration.
-ghost use Rattle.std.specs.Prelude.{◌≡◌, ◌≤◌, IfOk, IfErr};
+ghost use Rattle.std.specs.Prelude.{◌≡◌, ◌≤◌, OnOk, IfOk, IfErr};
 ghost use Rattle.line_text.specs.Streams.{stream};
 ghost use Rattle.sector_disk.specs.File.{file_disk};
-ghost use Rattle.club_commands.specs.Formatted.{Formats, FormatsMade, IsSessionFound, IsNoSessionFound, IsSessionOfFile, IsNoSessionOfFile, HasFormatted};
+ghost use Rattle.club_commands.specs.Formatted.{Formats, FailsToFormat, FormatsMade, FailsToFormatMade, IsSessionFound, IsNoSessionFound, IsSessionOfFile, IsNoSessionOfFile, HasFormatted, StopsFormatting};
 
 use crate::config_file::read_session;
 use crate::fault::RunFault;
 use crate::moving_aside::lock_spare;
 use crate::output::write_output;
 use bridge_session::Session;
-use sector_disk::{DiskFault, FileDisk, SectorDisk, SystemFile};
+use sector_disk::{DiskFault, FileDisk, SystemFile};
 use session_store::{StoreFault, format};
 use std::alloc::Global;
 use std::fs::File;
@@ -17,22 +17,19 @@ use std::io::{self, Read, Write};
 use std::rt::Files;
 use table_server::ServeFault;
 
-/// Makes of the disk, of at least 2,048 sectors, one that holds the session, and writes `formatted`. It gives the disk back as
-/// the last of its calls left it.
-fn format_over<D: SectorDisk, W: Write>(
-    disk: D,
+/// Makes of the disk, of at least 2,048 sectors, one that holds the session, and writes `formatted`.
+fn format_disk<W: Write>(
+    disk: FileDisk<SystemFile<File>>,
     session: &Session,
     output: &mut W,
-) -> (D, Result<(), RunFault>)
-    requires { 2048 ≤ D.disk.count disk }
-    ensures { Formats D.disk disk result.0 session.now (stream W.contents output.old output.new) result.1 }
+) -> Result<(), RunFault>
+    requires { 2048 ≤ file_disk.count disk }
+    ensures done { OnOk result (Formats file_disk disk session.now (stream W.contents output.old output.new)) }
+    ensures fault { IfErr result (FailsToFormat file_disk disk session.now (stream W.contents output.old output.new)) }
 {
     match format(disk, session) {
-        Ok(disk) => {
-            let outcome = write_output(output, "formatted\n");
-            (disk, outcome)
-        }
-        Err((disk, fault)) => (disk, Err(RunFault::Store(fault))),
+        Ok(_) => write_output(output, "formatted\n"),
+        Err((_, fault)) => Err(RunFault::Store(fault)),
     }
 }
 
@@ -43,10 +40,11 @@ fn format_made<W: Write>(
     output: &mut W,
 ) -> Result<(), RunFault>
     requires { IfOk made (λ disk. 2048 ≤ file_disk.count disk) }
-    ensures { FormatsMade file_disk made session.now (stream W.contents output.old output.new) result }
+    ensures done { OnOk result (FormatsMade file_disk made session.now (stream W.contents output.old output.new)) }
+    ensures fault { IfErr result (FailsToFormatMade file_disk made session.now (stream W.contents output.old output.new)) }
 {
     match made {
-        Ok(disk) => format_over(disk, session, output).1,
+        Ok(disk) => format_disk(disk, session, output),
         Err(_) => Err(RunFault::Store(StoreFault::Disk)),
     }
 }
@@ -101,13 +99,10 @@ pub fn run_format<S: Files<File = File>, W: Write>(
     config: &str,
     output: &mut W,
 ) -> Result<(), RunFault>
-    ensures { HasFormatted (stream W.contents output.old output.new) result }
+    ensures done { OnOk result (HasFormatted (stream W.contents output.old output.new)) }
+    ensures fault { IfErr result (StopsFormatting (stream W.contents output.old output.new)) }
 {
-    match session_of_file(rt, alloc, config) {
-        Ok(session) => {
-            let lock = lock_spare(rt, alloc, disk);
-            format_made(create_locked(rt, disk, &lock), &session, output)
-        }
-        Err(fault) => Err(fault),
-    }
+    let session = session_of_file(rt, alloc, config)?;
+    let lock = lock_spare(rt, alloc, disk);
+    format_made(create_locked(rt, disk, &lock), &session, output)
 }

@@ -15,7 +15,6 @@ mod fault_line;
 mod formatting;
 mod moving_aside;
 mod output;
-mod over_disk;
 mod printable;
 mod results;
 mod run;

@@ -1,8 +1,5 @@
-//! A file in which a disk is to be made: what stood there is kept. No clause can speak of it, and tests show it.
-ghost use Rattle.std.specs.Prelude.{◌≡◌, true, IfErr, Ok};
-ghost use Rattle.session_rules.specs.State.{SessionValue, opening};
-ghost use Rattle.session_store.specs.Stands.{recovered};
-ghost use Rattle.bridge_session.specs.SessionKeeping.{session_keeping};
+//! A file in which a disk is to be made: what stood there is kept. What becomes of a file no clause can say, and tests show it.
+ghost use Rattle.std.specs.Prelude.{◌≡◌, true, IfErr};
 ghost use Rattle.club_commands.specs.Formatted.{IsOpening};
 
 use crate::disk_lock::lock_new;

@@ -4,7 +4,7 @@ ghost use Rattle.clap.specs.Words.{fault_of};
 ghost use Rattle.command_line.specs.Words.{club_app, Asks};
 ghost use Rattle.line_text.specs.Streams.{stream, TakesPrefix, IsUntouched};
 ghost use Rattle.club_commands.specs.Faults.{fault_line, fault_status};
-ghost use Rattle.club_commands.specs.Run.{HasAuction, StopsAuction, Does, IsDone, IsStopped, IsWithoutMemory, Refuses, memory_line, text_line, files_line};
+ghost use Rattle.club_commands.specs.Run.{HasAuction, StopsAuction, Does, StopsBy, IsDone, IsStopped, IsWithoutMemory, Refuses, memory_line, text_line, files_line};
 ghost use Rattle.command_line.specs.declared.command.Command.{Command};
 
 use crate::disk_commands::{run_pbn, run_rank, run_script, run_serve};
@@ -110,8 +110,10 @@ fn do_command<
     input: &mut R,
     output: &mut W,
 ) -> Result<(), RunFault>
-    ensures { Does command.now (stream R.remaining input.old input.new)
-        (stream W.contents output.old output.new) result }
+    ensures done { OnOk result (Does command.now (stream R.remaining input.old input.new)
+        (stream W.contents output.old output.new)) }
+    ensures fault { IfErr result (StopsBy command.now (stream R.remaining input.old input.new)
+        (stream W.contents output.old output.new)) }
 {
     match *command {
         Command::Auction(board) => hold_auction(board, input, output),

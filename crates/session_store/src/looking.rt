@@ -15,7 +15,7 @@ use std::alloc::Global;
 /// 2,048 sectors, and then no call of it is made; `Disk` where a read failed; `NotFormatted`, `EpochsSpent`, `Damaged` and
 /// `NoMemory` as `Store::open` has them.
 pub fn read_state<D: SectorDisk, K: Kept>(alloc: Global, disk: &mut D) -> Result<K, StoreFault>
-    ensures too_small { D.disk.count disk.old < 2048 → result ≡ Err StoreFault.TooSmall }
+    ensures too_small { D.disk.count disk.old < 2048 → (result ≡ Err StoreFault.TooSmall) × (disk.new ≡ disk.old) }
     ensures state { D.disk.honest disk.old → IfOk result (λ state.
         recovered K.kept (D.disk.reads disk.old) ≡ Ok state) }
     ensures unread { 2048 ≤ D.disk.count disk.old → IfErr result (IsUnread K.kept D.disk disk.old disk.new) }
