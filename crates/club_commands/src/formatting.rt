@@ -102,7 +102,11 @@ pub fn run_format<S: Files<File = File>, W: Write>(
     ensures done { OnOk result (HasFormatted (stream W.contents output.old output.new)) }
     ensures fault { IfErr result (StopsFormatting (stream W.contents output.old output.new)) }
 {
-    let session = session_of_file(rt, alloc, config)?;
-    let lock = lock_spare(rt, alloc, disk);
-    format_made(create_locked(rt, disk, &lock), &session, output)
+    match session_of_file(rt, alloc, config) {
+        Ok(session) => {
+            let lock = lock_spare(rt, alloc, disk);
+            format_made(create_locked(rt, disk, &lock), &session, output)
+        }
+        Err(fault) => Err(fault),
+    }
 }
