@@ -1,3 +1,4 @@
+//! Endings that are kept with what is known of their worth.
 ghost use Rattle.std.specs.Prelude.{◌≡◌, ℕ, ◌≤◌, [], IfOk, IfSome, IsSome};
 ghost use Rattle.bridge_endings.specs.Ending.{IsEnding};
 ghost use Rattle.bridge_endings.specs.Worth.{worth_of};

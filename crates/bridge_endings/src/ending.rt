@@ -1,3 +1,4 @@
+//! What is left of a play between two tricks.
 ghost use Rattle.std.specs.Prelude.{◌≡◌, ◌↔◌, ◌<◌, ◌≤◌, IfOk, MatchBool, All};
 ghost use Rattle.bridge_cards.specs.Deal.{NoneTwice, SomeTwice};
 ghost use Rattle.bridge_endings.specs.Ending.{tricks_in, AllEqual, SomeUnequal, IsEnding};

@@ -1,3 +1,4 @@
+//! The worth of an ending.
 ghost use Rattle.std.specs.Prelude.{◌≡◌, ◌≤◌, length};
 ghost use Rattle.bridge_endings.specs.Worth.{dealt, worth_of};
 ghost use Rattle.bridge_endings.specs.Left.{left_to};

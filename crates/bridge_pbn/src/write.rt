@@ -1,3 +1,4 @@
+//! Writing the results of a session.
 ghost use Rattle.std.specs.Prelude.{◌≡◌, false};
 ghost use Rattle.std.specs.Option.{option_to_list};
 ghost use Rattle.line_text.specs.Streams.{stream, Written};

@@ -1,3 +1,4 @@
+//! The fields of a session.
 /// A field of the session, whose pairs are ranked among themselves.
 #[derive(Clone, Copy, Debug, PartialEq, Eq)]
 pub enum Field {

@@ -1,3 +1,4 @@
+//! What is known of a play.
 use bridge_auction::Auction;
 use bridge_play::Play;
 use session_rules::Outcome;

@@ -1,3 +1,4 @@
+//! The session, and what may be asked of it.
 ghost use Rattle.std.specs.Prelude.{◌≡◌, IfOk, IfSome, MatchResult, Err};
 ghost use Rattle.std.specs.Option.{option_copied, option_map};
 ghost use Rattle.session_rules.specs.Record.{bidding_of, play_of};

@@ -1,3 +1,4 @@
+//! The words of the command line, and runs of the commands over files, streams and connections.
 mod accepting;
 mod connections;
 mod evening;

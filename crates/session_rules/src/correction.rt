@@ -1,3 +1,4 @@
+//! What the director rules on a play.
 ghost use Rattle.std.specs.Prelude.{◌≡◌};
 ghost use Rattle.session_rules.specs.Correction.{ruling_by};
 ghost use Rattle.session_rules.specs.StateRange.{IsCorrectionInRange};

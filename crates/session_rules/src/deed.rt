@@ -1,3 +1,4 @@
+//! What a player does in a play.
 use crate::numbers::TrickCount;
 use bridge_auction::Call;
 use bridge_cards::Card;

@@ -1,3 +1,4 @@
+//! How a play ended.
 use crate::average::Average;
 use bridge_auction::Contract;
 

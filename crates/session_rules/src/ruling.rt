@@ -1,3 +1,4 @@
+//! A ruling that stands on a play.
 use crate::average::Average;
 use crate::numbers::TrickCount;
 

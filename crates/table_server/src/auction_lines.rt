@@ -1,3 +1,4 @@
+//! An auction by itself, line by line.
 ghost use Rattle.std.specs.Prelude.{◌≡◌, ◌+◌, ◌*◌, ◌≤◌, ◌∷◌, Some, true, ◌++◌, [], List, ℕ, length};
 ghost use Rattle.arrayvec.specs.ArrayString.{array_string_len};
 ghost use Rattle.table_server.specs.Replies.{ending, contract_line, line_reply, line_call, calls_with};

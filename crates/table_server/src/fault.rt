@@ -1,3 +1,4 @@
+//! Why a run over a reader and a writer ended early.
 use thiserror::Error;
 
 /// Why a run over a reader and a writer, or over a connection, ended early.

@@ -1,3 +1,4 @@
+//! The reply to a question for the results.
 ghost use Rattle.std.specs.Prelude.{◌≡◌};
 ghost use Rattle.line_text.specs.Streams.{stream, Written};
 ghost use Rattle.table_server.specs.PbnReply.{text_and_stop, pbn_reply};

@@ -1,3 +1,4 @@
+//! What serving lines has done.
 /// What was served.
 #[derive(Clone, Copy, Debug, PartialEq, Eq)]
 pub struct Served {

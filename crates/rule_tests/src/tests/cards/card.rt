@@ -1,3 +1,4 @@
+//! The texts of cards.
 use crate::tests::expect_eq;
 use bridge_cards::{Card, read_card};
 use std::test::Fail;

@@ -1,3 +1,4 @@
+//! Texts of hands and deals.
 use crate::tests::expect_eq;
 use arrayvec::ArrayString;
 use bridge_cards::{BadDeal, Deal, Seat, print_deal, read_deal, read_hands};

@@ -1,3 +1,4 @@
+//! The shuffle, written out from its published form.
 use crate::tests::expect_eq;
 use bridge_cards::{BoardNumber, Seat, deal_board};
 use std::process::Abort;

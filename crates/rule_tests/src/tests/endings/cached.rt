@@ -1,3 +1,4 @@
+//! Endings solved with a cache.
 use super::ending_of;
 use crate::tests::expect_eq;
 use bridge_cards::{Seat, Suit};

@@ -1,3 +1,4 @@
+//! All endings of a few cards and random ones, beside a plain search.
 ghost use Rattle.std.specs.Prelude.{◌<◌};
 
 use super::twin::{Played, worth};

@@ -1,3 +1,4 @@
+//! Worked endings, and hands that are none.
 use super::{ending_of, hands_of};
 use crate::tests::expect_eq;
 use bridge_cards::{Seat, Suit};

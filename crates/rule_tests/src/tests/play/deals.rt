@@ -1,3 +1,4 @@
+//! Deals for tests of the play.
 use bridge_auction::{Bid, Contract, Denomination, Doubling, Level};
 use bridge_cards::{Deal, Seat, read_deal};
 use std::test::Fail;

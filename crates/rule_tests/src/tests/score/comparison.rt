@@ -1,3 +1,4 @@
+//! The scale of IMPs, a board of four scores, and percentages.
 use crate::tests::expect_eq;
 use bridge_score::{cross_imps, imps, matchpoints, percent_hundredths};
 

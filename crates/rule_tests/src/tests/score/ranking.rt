@@ -1,3 +1,4 @@
+//! Lines ranked under each scoring.
 ghost use Rattle.std.specs.Prelude.{◌≡◌};
 
 use crate::tests::expect_eq;

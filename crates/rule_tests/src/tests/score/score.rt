@@ -1,3 +1,4 @@
+//! Scores of the printed table, and all of them beside a plain twin.
 use super::twin;
 use crate::tests::expect_eq;
 use bridge_auction::{Bid, Contract, Denomination, Doubling, Level};
