@@ -31,7 +31,7 @@ club() {
     if [ -n "${PROGRAM:-}" ]; then
         "$PROGRAM" "$@"
     else
-        echo "compiling bridge_club for $1, which takes about half a minute" >&2
+        echo "compiling bridge_club for $1, which takes half a minute or more" >&2
         (cd "$here/../crates/bridge_club" && rt try bridge_club -- "$@" 2> "$work/errors") || {
             cat "$work/errors" >&2
             exit 1
