@@ -1,6 +1,7 @@
 -- What a contract sees of a play; the answers to a card, a claim and a player who is asked; and the tricks of each side.
 use Rattle.std.specs.Prelude.{◌≡◌, ◌≢◌, ℕ, ◌+◌, ◌-◌, ◌%◌, ◌<◌, ◌≤◌, nat_lt, nat_le, Bool, true, false, not, ◌&&◌, ◌||◌, ◌==◌, if◌then◌else◌, List, [], ◌∷◌, ◌++◌, length, Option, Some, None, IsNone, IfSome, is_some, Result, Ok, Err}
 use Rattle.std.specs.Option.{option_map, option_map_or}
+use Rattle.std.specs.Result.{is_ok}
 use Rattle.bridge_cards.specs.declared.seat.Seat.{Seat}
 use Rattle.bridge_cards.specs.declared.seat.Side.{Side}
 use Rattle.bridge_cards.specs.Seat.{same_seat}
@@ -109,6 +110,10 @@ consent_if contract (Some claim) seat = consent_to contract claim seat
 abbrev pub consent_answer : PlayValue → Seat → ℕ → Result (Unit {0}) ConsentRefused
 consent_answer play seat number =
     if not (number == play.claims) then Err consent_refused.Stale else consent_if play.contract play.claim seat
+
+-- whether the player's answer to the claim is due: it stands, and the player is asked and has not agreed to it (Law 68)
+abbrev pub is_awaited : Contract → Option Claim → Seat → Bool
+is_awaited contract claim seat = is_ok (consent_if contract claim seat)
 
 -- The player may answer the claim of that number: it is the last that was made, it was not refused, and the player is
 -- asked and has not agreed to it (Law 68).

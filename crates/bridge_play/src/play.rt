@@ -1,7 +1,7 @@
 //! The play of one board.
 ghost use Rattle.std.specs.Prelude.{◌≡◌, ◌≢◌, ℕ, ◌+◌, ◌*◌, ◌<◌, ◌≤◌, ◌++◌, ◌∷◌, [], ◌↔◌, length, take, IsOk, OnOk, OnErr, IfSome, None, All, IsSome};
 ghost use Rattle.std.specs.Bool.{OnFalse};
-ghost use Rattle.bridge_play.specs.Play.{with_card, is_over, is_agreed, card_answer, MayBePlayed, claim_answer, MayBeClaimed, with_claim, consent_answer, MayAnswer, with_agreement, without_claim, tricks_of, settled_tricks, IsClaimIn, IsPlay, playing, with_claims, is_claim_in};
+ghost use Rattle.bridge_play.specs.Play.{with_card, is_over, is_agreed, card_answer, MayBePlayed, claim_answer, MayBeClaimed, with_claim, consent_answer, MayAnswer, is_awaited, with_agreement, without_claim, tricks_of, settled_tricks, IsClaimIn, IsPlay, playing, with_claims, is_claim_in};
 ghost use Rattle.bridge_play.specs.Dummy.{actor_of, dummy_of};
 ghost use Rattle.bridge_play.specs.Trick.{turn_of, whole_tricks, leader_of, tricks_won};
 ghost use Rattle.bridge_play.specs.Legal.{IsLegal, holds};
@@ -161,6 +161,17 @@ impl Play {
     {
         let played = self.card_play.cards().len();
         played == DECK || self.is_agreed()
+    }
+
+    /// Whether the player's answer to a claim is due: a claim stands, and the player is asked and has not agreed to it
+    /// (Law 68).
+    pub fn awaits(&self, seat: Seat) -> bool
+        ensures { result ≡ is_awaited self.now.contract self.now.claim seat }
+    {
+        match &self.claim {
+            Some(claim) => consent_to(self.card_play.contract(), claim, seat).is_ok(),
+            None => false,
+        }
     }
 
     fn is_agreed(&self) -> bool

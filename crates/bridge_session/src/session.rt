@@ -5,6 +5,7 @@ ghost use Rattle.session_rules.specs.Record.{bidding_of, play_of};
 ghost use Rattle.session_rules.specs.Outcome.{outcome_of};
 ghost use Rattle.session_rules.specs.State.{opening, deal_on, hands_on, record_of};
 ghost use Rattle.session_rules.specs.See.{shown_to};
+ghost use Rattle.session_rules.specs.Stage.{stage_to};
 ghost use Rattle.session_rules.specs.Views.{IsViewTo};
 ghost use Rattle.bridge_ranking.specs.Ranking.{ranking_answer, IsRankingTo};
 ghost use Rattle.session_rules.specs.StateRange.{IsSession};
@@ -17,8 +18,10 @@ use bridge_cards::{BoardNumber, Deal};
 use bridge_config::{Config, Key};
 use bridge_ranking::{Field, games_of, has_field, lines_of};
 use bridge_score::{MOST_LINES, Ranked, rank};
-use bridge_table::{Record, check_asker, deal_on, record_at, row_of, seat_by, view_among};
-use session_rules::{PlayId, Refused, RoundNumber, TableNumber, View};
+use bridge_table::{
+    Record, check_asker, deal_on, record_at, row_of, seat_by, stage_among, view_among,
+};
+use session_rules::{PlayId, Refused, RoundNumber, Stage, TableNumber, View};
 use std::alloc::{AllocError, Global};
 use std::marker::Model;
 
@@ -145,6 +148,16 @@ impl Session {
             number,
             seating.seat,
         )
+    }
+
+    /// How far the current play of the table is for the player of the key: the contract, once there is one, and whether the
+    /// player's answer to a claim is due. Refused is what `see` refuses.
+    pub fn stage(&self, key: Key) -> Result<Stage, Refused>
+        ensures { result ≡ stage_to self.now key.0 }
+    {
+        let seating = seat_by(&self.config, self.round, key)?;
+        let table = &self.tables[seating.row];
+        stage_among(table.as_slice(), self.deals.as_slice(), seating.seat)
     }
 
     /// The pairs of a field with what they gained in the plays that count, those that are finished, not void and not

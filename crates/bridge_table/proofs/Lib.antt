@@ -2,3 +2,4 @@ pub mod Tied
 pub mod Among
 pub mod Tables
 pub mod Outcomes
+pub mod Stages

@@ -1,2 +1,3 @@
 -- What contracts see of the records.
 pub mod Kept
+pub mod Stage

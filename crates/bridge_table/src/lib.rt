@@ -4,10 +4,14 @@
 
 pub mod record;
 pub mod seating;
+pub mod stage;
 pub mod table;
 pub mod view;
 
 pub use record::Record;
-pub use seating::{check_asker, check_director, is_closed, is_of_set, row_of, seat_by};
+pub use seating::{
+    acting_player, check_asker, check_director, is_closed, is_of_set, row_of, seat_by,
+};
+pub use stage::stage_among;
 pub use table::{act_among, deal_on, has_open, record_at, rule_among};
 pub use view::view_among;

@@ -47,7 +47,7 @@ fn player_by(config: &Config, key: Key) -> Option<Player>
 }
 
 /// The player who may act by the key: `NoKey` where it is nobody's, `NotAllowed` where it is the director's.
-fn acting_player(config: &Config, key: Key) -> Result<Player, Refused>
+pub fn acting_player(config: &Config, key: Key) -> Result<Player, Refused>
     ensures { result ≡ acting_player config.now key.0 }
 {
     if key == config.fields().director {

@@ -12,7 +12,10 @@ use Rattle.bridge_play.specs.Dummy.{dummy_of}
 use Rattle.bridge_play.specs.Play.{PlayValue}
 use Rattle.session_rules.specs.declared.refused.Refused.{Refused}
 use Rattle.session_rules.specs.declared.seating.Seating.{Seating}
+use Rattle.session_rules.specs.declared.stage.Stage.{Stage}
 use Rattle.session_rules.specs.declared.view.View.{View}
+use Rattle.session_rules.specs.Answer.{◌>>=◌}
+use Rattle.session_rules.specs.Stage.{stage_of, stage_among, stage_to}
 use Rattle.session_rules.specs.Record.{PlainRecord, play_of}
 use Rattle.session_rules.specs.State.{SessionValue, deal_on, row_at, current_index, seating_of}
 use Rattle.session_rules.specs.See.{PlainTrick, Shown, ShownPlay, cards_left, shown_dummy, shown_play, shown_of, shown_among, shown_to}
@@ -117,6 +120,22 @@ sits_same key s t alike =
 pub shown_same : (key : ℕ) (s t : SessionValue) → LookAlikeTo key s t → shown_to s key ≡ shown_to t key
 shown_same key s t alike =
     seated_same key s t (seating_of s.configuration s.round key) alike refl ∙ ap (shown_seated t) (sits_same key s t alike)
+
+-- the stage, by where the player sits
+abbrev pub stage_seated : SessionValue → Result Seating Refused → Result Stage Refused
+stage_seated s sits = do
+  seating ← sits
+  stage_among s.deals seating.seat (row_at s.records seating.row)
+
+stage_at_table : (key : ℕ) (s t : SessionValue) (sits : Result Seating Refused) → LookAlikeTo key s t → seating_of s.configuration s.round key ≡ sits → stage_seated s sits ≡ stage_seated t sits
+stage_at_table key s t (Err refused) alike is = refl
+stage_at_table key s t (Ok seating) alike is =
+    ap (λ (shows : Result Shown Refused). shows >>= (λ shown. Ok (stage_of seating.seat shown)))
+    (among_same s.deals t.deals seating.seat (row_at s.records seating.row) (row_at t.records seating.row) (alike.table seating is))
+
+pub stage_same : (key : ℕ) (s t : SessionValue) → LookAlikeTo key s t → stage_to s key ≡ stage_to t key
+stage_same key s t alike =
+    stage_at_table key s t (seating_of s.configuration s.round key) alike refl ∙ ap (stage_seated t) (sits_same key s t alike)
 
 pub view_same : (key : ℕ) (s t : SessionValue) (view : View) → LookAlikeTo key s t → IsViewTo s key view → IsViewTo t key view
 view_same key s t view alike seen = record {

@@ -12,6 +12,7 @@ pub mod PlayerStep
 pub mod DirectorStep
 pub mod Step
 pub mod See
+pub mod Stage
 pub mod Valid
 pub mod Own
 pub mod Apart

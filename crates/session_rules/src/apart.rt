@@ -11,6 +11,7 @@ ghost use Rattle.session_rules.specs.Apart.{player_key, AgreeAtTable};
 ghost use Rattle.session_rules.specs.See.{shown_to};
 ghost use Rattle.session_rules.specs.Sight.{LookAlikeTo};
 ghost use Rattle.session_rules.specs.Views.{IsViewTo};
+ghost use Rattle.session_rules.specs.Stage.{stage_to};
 ghost use Rattle.session_rules.specs.Own.{after, AreAccepted, own, plain_record};
 ghost use Rattle.session_rules.specs.Valid.{IsPlayId};
 ghost use Rattle.session_rules.specs.Record.{empty_record};
@@ -25,10 +26,11 @@ pub fn tables_are_judged_apart()
 /// What a player is shown depends on the configuration, the round, and of the current play of the table on the calls, how
 /// many cards and claims were made, the claim, the current and the last trick, the tricks of both sides, the player's own
 /// cards, and dummy's once a card was played. Two sessions that look alike there show the same or refuse alike, so no card
-/// that is hidden can matter.
+/// that is hidden can matter; so is it with the contract and whether an answer to a claim is due.
 pub fn hidden_cards_are_not_shown()
     ensures shown { (key : ℕ) (s t : SessionValue) → LookAlikeTo key s t → shown_to s key ≡ shown_to t key }
     ensures views { (key : ℕ) (s t : SessionValue) (view : ViewType) → LookAlikeTo key s t → IsViewTo s key view → IsViewTo t key view }
+    ensures stages { (key : ℕ) (s t : SessionValue) → LookAlikeTo key s t → stage_to s key ≡ stage_to t key }
 {}
 
 /// The record of a play depends on its own actions alone, whatever other tables do in between: after any accepted actions it

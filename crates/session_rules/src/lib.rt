@@ -15,6 +15,7 @@ pub mod outcome;
 pub mod refused;
 pub mod ruling;
 pub mod seating;
+pub mod stage;
 pub mod valid;
 pub mod view;
 
@@ -29,5 +30,6 @@ pub use outcome::Outcome;
 pub use refused::Refused;
 pub use ruling::Ruling;
 pub use seating::{Player, Seating};
+pub use stage::Stage;
 pub use valid::sessions_are_valid;
 pub use view::{Trick, View};
