@@ -34,6 +34,7 @@ pub use asked::{Asked, Question, asked_by};
 pub use command::{BadLine, Command};
 pub use fault::ServeFault;
 pub use line_command::read_line_command;
+pub use line_words::read_key;
 pub use pbn_reply::write_pbn_reply;
 pub use ranking_reply::{push_pairs, push_ranking};
 pub use reply_text::{ReplyText, push_solved};

@@ -1,0 +1,2 @@
+-- A player's place as a text.
+pub mod Place

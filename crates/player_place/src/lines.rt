@@ -1,0 +1,162 @@
+//! The lines of a player's place.
+ghost use Rattle.std.specs.Prelude.{◌≡◌, ◌+◌, ◌≤◌, ◌∷◌, ◌++◌, [], Some, codes, length};
+ghost use Rattle.arrayvec.specs.ArrayString.{array_string_len};
+ghost use Rattle.bridge_config.specs.ConfigValue.{configuration_of};
+ghost use Rattle.table_server.specs.ReplyTexts.{line_of, each_spaced};
+ghost use Rattle.player_place.specs.Place.{round_line, player_line, table_words, names_words, contract_words, contract_seen, answer_words, answer_seen};
+
+use crate::names::{name_of, push_names};
+use bridge_auction::{Contract, doubling_text, print_bid};
+use bridge_cards::seat_text;
+use bridge_config::ConfigFields;
+use session_rules::{Player, Refused, Seating, Stage};
+use table_server::ReplyText;
+use table_server::reply_text::{TEXT_BYTES, push_number, push_word};
+
+/// Adds the round and how many there are.
+pub fn push_round_line(text: &mut ReplyText, fields: &ConfigFields, round: u8)
+    requires { array_string_len text.old + 28 ≤ TEXT_BYTES }
+    ensures line { text.new.bytes ≡ text.old.bytes ++ (round_line (configuration_of fields.now) round ++ 10 ∷ []) }
+    ensures room { array_string_len text.new ≤ array_string_len text.old + 28 }
+{
+    text.push_str("ROUND");
+    push_number(text, u32::from(round));
+    push_number(text, u32::from(fields.movement.shape().rounds));
+    text.push_str("\n");
+}
+
+/// Adds the pair's number and the player's name.
+pub fn push_player_line(text: &mut ReplyText, fields: &ConfigFields, player: Player)
+    requires { array_string_len text.old + 43 ≤ TEXT_BYTES }
+    ensures line { text.new.bytes ≡ text.old.bytes ++ (player_line (configuration_of fields.now) player ++ 10 ∷ []) }
+    ensures room { array_string_len text.new ≤ array_string_len text.old + 43 }
+{
+    text.push_str("PLAYER");
+    push_number(text, u32::from(player.pair));
+    push_word(text, name_of(fields, player.pair, player.first));
+    text.push_str("\n");
+}
+
+/// Adds the table, the seat, and the first and last board of the table's set, or `-`.
+fn push_seating(text: &mut ReplyText, boards: u8, seating: Result<Seating, Refused>)
+    requires { array_string_len text.old + 35 ≤ TEXT_BYTES }
+    ensures text { text.new.bytes ≡ text.old.bytes ++ each_spaced (table_words boards seating) }
+    ensures room { array_string_len text.new ≤ array_string_len text.old + 35 }
+{
+    match seating {
+        Ok(seating) => {
+            let boards = u32::from(boards);
+            push_number(text, u32::from(seating.table));
+            push_word(text, seat_text(seating.seat));
+            push_number(text, u32::from(seating.set).saturating_sub(1) * boards + 1);
+            push_number(text, u32::from(seating.set) * boards);
+        }
+        Err(_) => push_word(text, "-"),
+    }
+}
+
+/// Adds the line of a seat: a first word, the table, the seat, and the boards, or `-`.
+pub fn push_seat_line(
+    text: &mut ReplyText,
+    first: &str,
+    boards: u8,
+    seating: Result<Seating, Refused>,
+)
+    requires first { length first.now ≤ 5 }
+    requires room { array_string_len text.old + 41 ≤ TEXT_BYTES }
+    ensures line { text.new.bytes ≡ text.old.bytes ++ (line_of first.now (table_words boards seating) ++ 10 ∷ []) }
+    ensures room { array_string_len text.new ≤ array_string_len text.old + 41 }
+{
+    text.push_str(first);
+    push_seating(text, boards, seating);
+    text.push_str("\n");
+}
+
+/// Adds the names at the table where the player sits, or `-`.
+fn push_table_names(text: &mut ReplyText, fields: &ConfigFields, seating: Result<Seating, Refused>)
+    requires { array_string_len text.old + 100 ≤ TEXT_BYTES }
+    ensures text { text.new.bytes ≡ text.old.bytes ++ each_spaced (names_words (configuration_of fields.now) seating) }
+    ensures room { array_string_len text.new ≤ array_string_len text.old + 100 }
+{
+    match seating {
+        Ok(seating) => match fields.movement.rows().get(seating.row) {
+            Some(row) => push_names(text, fields, *row),
+            None => push_word(text, "-"),
+        },
+        Err(_) => push_word(text, "-"),
+    }
+}
+
+/// Adds the line of the names at the table where the player sits.
+pub fn push_names_line(
+    text: &mut ReplyText,
+    fields: &ConfigFields,
+    seating: Result<Seating, Refused>,
+)
+    requires { array_string_len text.old + 106 ≤ TEXT_BYTES }
+    ensures line { text.new.bytes ≡ text.old.bytes ++ (line_of (codes "NAMES") (names_words (configuration_of fields.now) seating) ++ 10 ∷ []) }
+    ensures room { array_string_len text.new ≤ array_string_len text.old + 106 }
+{
+    text.push_str("NAMES");
+    push_table_names(text, fields, seating);
+    text.push_str("\n");
+}
+
+/// Adds the bid with its doubling, and declarer.
+fn push_contract(text: &mut ReplyText, contract: Contract)
+    requires { array_string_len text.old + 8 ≤ TEXT_BYTES }
+    ensures text { text.new.bytes ≡ text.old.bytes ++ each_spaced (contract_words (Some contract)) }
+    ensures room { array_string_len text.new ≤ array_string_len text.old + 8 }
+{
+    text.push_str(" ");
+    print_bid(contract.bid, text);
+    text.push_str(doubling_text(contract.doubling));
+    push_word(text, seat_text(contract.declarer));
+}
+
+/// Adds the contract, or `-`.
+fn push_contract_if(text: &mut ReplyText, contract: Option<Contract>)
+    requires { array_string_len text.old + 8 ≤ TEXT_BYTES }
+    ensures text { text.new.bytes ≡ text.old.bytes ++ each_spaced (contract_words contract) }
+    ensures room { array_string_len text.new ≤ array_string_len text.old + 8 }
+{
+    match contract {
+        Some(contract) => push_contract(text, contract),
+        None => push_word(text, "-"),
+    }
+}
+
+/// Adds the line of the contract.
+pub fn push_contract_line(text: &mut ReplyText, stage: Result<Stage, Refused>)
+    requires { array_string_len text.old + 17 ≤ TEXT_BYTES }
+    ensures line { text.new.bytes ≡ text.old.bytes ++ (line_of (codes "CONTRACT") (contract_words (contract_seen stage)) ++ 10 ∷ []) }
+    ensures room { array_string_len text.new ≤ array_string_len text.old + 17 }
+{
+    text.push_str("CONTRACT");
+    match stage {
+        Ok(stage) => push_contract_if(text, stage.contract),
+        Err(_) => push_contract_if(text, None),
+    }
+    text.push_str("\n");
+}
+
+fn answer_text(stage: Result<Stage, Refused>) -> &'static str
+    ensures text { result.now ∷ [] ≡ answer_words (answer_seen stage) }
+    ensures short { length result.now ≤ 3 }
+{
+    match stage {
+        Ok(stage) if stage.answer_due => "DUE",
+        _ => "-",
+    }
+}
+
+/// Adds the line that says whether an answer to a claim is due.
+pub fn push_answer_line(text: &mut ReplyText, stage: Result<Stage, Refused>)
+    requires { array_string_len text.old + 11 ≤ TEXT_BYTES }
+    ensures line { text.new.bytes ≡ text.old.bytes ++ (line_of (codes "ANSWER") (answer_words (answer_seen stage)) ++ 10 ∷ []) }
+    ensures room { array_string_len text.new ≤ array_string_len text.old + 11 }
+{
+    text.push_str("ANSWER");
+    push_word(text, answer_text(stage));
+    text.push_str("\n");
+}
