@@ -17,7 +17,7 @@ use Rattle.bridge_auction.proofs.LastCall.{last_call, steps_of, last_call-pass, 
 
 -- What holds of a legal list of calls: `top` is one more than the highest bid's number, or 0 without a bid,
 -- and the last `passes` calls are passes.
-pub record Standing (calls : List Call) : Type 0 where
+pub record AuctionStanding (calls : List Call) : Type 0 where
   pub top : ℕ
   pub passes : ℕ
   pub highest : top ≤ 35
@@ -41,7 +41,7 @@ three_passes calls passes passed within three four =
     rw (le-leb 4 (length calls) four, last) refl
 
 -- how many passes stand at the end of an auction that is open
-few_passes : (calls : List Call) (s : Standing calls) → is_ended calls ≡ false → (s.top ≡ 0 → s.passes ≤ 3) × (0 < s.top → s.passes ≤ 2)
+few_passes : (calls : List Call) (s : AuctionStanding calls) → is_ended calls ≡ false → (s.top ≡ 0 → s.passes ≤ 3) × (0 < s.top → s.passes ≤ 2)
 few_passes calls s open_auction = (
   λ none. elim (cases_lt 3 s.passes) [
     | inl more ↦
@@ -79,7 +79,7 @@ all_front test calls call all =
     )
 
 -- nothing was called yet
-standing_none : Standing []
+standing_none : AuctionStanding []
 standing_none = record {
   top = 0;
   passes = 0;
@@ -90,7 +90,7 @@ standing_none = record {
   going = λ some. absurd (omega arith);
 }
 
-standing_pass : (calls : List Call) → Standing calls → is_ended calls ≡ false → Standing (calls ++ Pass ∷ [])
+standing_pass : (calls : List Call) → AuctionStanding calls → is_ended calls ≡ false → AuctionStanding (calls ++ Pass ∷ [])
 standing_pass calls s open_auction =
     let one : length (calls ++ Pass ∷ []) ≡ length calls + 1 = length-append calls (Pass ∷ []) in
     let few = few_passes calls s open_auction in
@@ -122,7 +122,7 @@ none_passed calls =
     let whole : length calls - 0 ≡ length calls = omega arith in
     rw (whole, drop_all (length calls) calls (omega arith)) refl
 
-standing_bid : (calls : List Call) (bid : BidType) → Standing calls → MayFollow calls (Bid bid) → Standing (calls ++ Bid bid ∷ [])
+standing_bid : (calls : List Call) (bid : BidType) → AuctionStanding calls → MayFollow calls (Bid bid) → AuctionStanding (calls ++ Bid bid ∷ [])
 standing_bid calls bid s may =
     let one : length (calls ++ Bid bid ∷ []) ≡ length calls + 1 = length-append calls (Bid bid ∷ []) in
     let few = few_passes calls s may.open_auction in
@@ -152,7 +152,7 @@ standing_bid calls bid s may =
     }
 
 -- a double or a redouble, which takes the auction one step on from its last bid
-standing_step : (calls : List Call) (call : Call) → Standing calls → is_ended calls ≡ false → is_pass call ≡ false → (last_call calls ≡ None → ⊥) → steps_of (Some call) ≡ steps_of (last_call calls) + 1 → Standing (calls ++ call ∷ [])
+standing_step : (calls : List Call) (call : Call) → AuctionStanding calls → is_ended calls ≡ false → is_pass call ≡ false → (last_call calls ≡ None → ⊥) → steps_of (Some call) ≡ steps_of (last_call calls) + 1 → AuctionStanding (calls ++ call ∷ [])
 standing_step calls call s open_auction other some_last step =
     let one : length (calls ++ call ∷ []) ≡ length calls + 1 = length-append calls (call ∷ []) in
     let few = few_passes calls s open_auction in
@@ -169,7 +169,7 @@ standing_step calls call s open_auction other some_last step =
           (omega (arith, one), omega arith, omega (arith, one, last, step, going.2, few.1 some));
     }
 
-standing_push : (calls : List Call) (call : Call) → Standing calls → MayFollow calls call → Standing (calls ++ call ∷ [])
+standing_push : (calls : List Call) (call : Call) → AuctionStanding calls → MayFollow calls call → AuctionStanding (calls ++ call ∷ [])
 standing_push calls Pass s may = standing_pass calls s may.open_auction
 standing_push calls (Bid bid) s may = standing_bid calls bid s may
 standing_push calls Double s may =
@@ -180,7 +180,7 @@ standing_push calls Redouble s may =
     standing_step calls Redouble s may.open_auction refl before.1 (omega (arith, before.0))
 
 -- what holds of the front holds of the whole
-standing_whole : (front rest : List Call) → Standing front → IsLegal (front ++ rest) → Standing (front ++ rest)
+standing_whole : (front rest : List Call) → AuctionStanding front → IsLegal (front ++ rest) → AuctionStanding (front ++ rest)
 standing_whole front [] s legal = rw (append-nil front) s
 standing_whole front (call ∷ rest) s legal =
     let may = may_follow_front MayFollow front call rest legal in

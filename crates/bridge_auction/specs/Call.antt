@@ -6,14 +6,17 @@ use Rattle.bridge_auction.specs.declared.call.Call.{Call}
 use Rattle.bridge_auction.specs.declared.call.Call.TheVariants.{Pass, Bid, Double, Redouble}
 use Rattle.bridge_auction.specs.Bid.{IsBid, bid_number, bid_at}
 
+-- whether the call is a pass
 abbrev pub is_pass : Call → Bool
 is_pass Pass = true
 is_pass _ = false
 
+-- whether it is a bid
 abbrev pub is_bid : Call → Bool
 is_bid (Bid _) = true
 is_bid _ = false
 
+-- whether it is a double; a redouble is none
 abbrev pub is_double : Call → Bool
 is_double Double = true
 is_double _ = false

@@ -12,6 +12,7 @@ use Rattle.bridge_auction.specs.declared.contract.Contract.{Contract}
 use Rattle.bridge_auction.specs.declared.contract.Doubling.{Doubling}
 use Rattle.bridge_auction.specs.declared.contract.Doubling.TheVariants.{Undoubled, Doubled, Redoubled}
 
+-- the letters of a denomination
 abbrev pub denomination_text : Denomination → List ℕ
 denomination_text Clubs = codes "C"
 denomination_text Diamonds = codes "D"
@@ -23,15 +24,18 @@ denomination_text NoTrump = codes "NT"
 abbrev pub level_text : ℕ → List ℕ
 level_text level = (48 + level) ∷ []
 
+-- the level and the denomination, as `1NT`
 abbrev pub bid_text : BidType → List ℕ
 bid_text bid = level_text bid.level ++ denomination_text bid.denomination
 
+-- a call, as `PASS`, `1NT`, `X` or `XX`
 abbrev pub call_text : Call → List ℕ
 call_text Pass = codes "PASS"
 call_text (Bid bid) = bid_text bid
 call_text Double = codes "X"
 call_text Redouble = codes "XX"
 
+-- what stands behind a bid: nothing, `X` or `XX`
 abbrev pub doubling_text : Doubling → List ℕ
 doubling_text Undoubled = []
 doubling_text Doubled = codes "X"

@@ -4,7 +4,8 @@ use Rattle.std.proofs.lemmas.List.{append-nil}
 use Rattle.bridge_movement.specs.declared.row.Row.{Row}
 use Rattle.bridge_config.specs.declared.refused.ConfigFault.{ConfigFault}
 use Rattle.bridge_config.specs.ConfigValue.{Pair}
-use Rattle.bridge_config.specs.LineReading.{◌>>=◌, row_line, pair_line}
+use Rattle.bridge_config.specs.Then.{◌>>=◌}
+use Rattle.bridge_config.specs.LineReading.{row_line, pair_line}
 use Rattle.bridge_config.specs.Reading.{due_line, rows_in, pairs_in}
 
 -- what was read before, and what is still read

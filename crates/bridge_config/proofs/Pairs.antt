@@ -6,7 +6,8 @@ use Rattle.std.proofs.lemmas.List.Elements.{All-nil, All-cons, All-head, All-tai
 use Rattle.bridge_config.specs.ConfigValue.{Pair, keys_in}
 use Rattle.bridge_config.specs.Limits.{are_distinct, IsPair}
 use Rattle.bridge_config.specs.Spelling.{pair_text, pair_lines}
-use Rattle.bridge_config.specs.LineReading.{◌>>=◌, pair_line}
+use Rattle.bridge_config.specs.Then.{◌>>=◌}
+use Rattle.bridge_config.specs.LineReading.{pair_line}
 use Rattle.bridge_config.specs.Reading.{pairs_in}
 use Rattle.bridge_config.proofs.DistinctKeys.{are_distinct-front}
 use Rattle.bridge_config.proofs.FiveWordLaws.{pair_takes, pair_again}

@@ -10,7 +10,8 @@ use Rattle.bridge_config.specs.ConfigValue.{Pair, keys_in, People}
 use Rattle.bridge_config.specs.Limits.{are_distinct, IsPair}
 use Rattle.line_text.specs.Words.{spaced}
 use Rattle.bridge_config.specs.Spelling.{pair_lines, people_lines}
-use Rattle.bridge_config.specs.LineReading.{◌>>=◌, form_at, number_line}
+use Rattle.bridge_config.specs.Then.{◌>>=◌}
+use Rattle.bridge_config.specs.LineReading.{form_at, number_line}
 use Rattle.bridge_config.specs.Reading.{pairs_in, people_in}
 use Rattle.bridge_config.proofs.PassedTests.{ok_if}
 use Rattle.bridge_config.proofs.LineLaws.{number_takes, number_again}

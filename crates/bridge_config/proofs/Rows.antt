@@ -4,7 +4,8 @@ use Rattle.std.specs.Prelude.{map, All}
 use Rattle.std.proofs.lemmas.List.Elements.{All-head, All-tail}
 use Rattle.bridge_movement.specs.declared.row.Row.{Row}
 use Rattle.bridge_config.specs.Spelling.{row_text}
-use Rattle.bridge_config.specs.LineReading.{◌>>=◌, row_line}
+use Rattle.bridge_config.specs.Then.{◌>>=◌}
+use Rattle.bridge_config.specs.LineReading.{row_line}
 use Rattle.bridge_config.specs.Reading.{rows_in}
 use Rattle.bridge_config.proofs.FiveWordLaws.{IsByteRow, row_takes, row_again}
 use Rattle.bridge_config.proofs.Steps.{bind_ok, ok_is, line_takes, IsShort, TakesLines, takes_none, takes_line, row_short}

@@ -9,7 +9,8 @@ use Rattle.bridge_movement.specs.declared.row.Row.{Row}
 use Rattle.bridge_movement.specs.declared.shape.Shape.{Shape}
 use Rattle.bridge_config.specs.declared.refused.ConfigFault.{ConfigFault}
 use Rattle.bridge_config.specs.ConfigValue.{Pair}
-use Rattle.bridge_config.specs.LineReading.{◌>>=◌, form_at, name_in, name_line, date_in, date_line, scoring_in, scoring_line, number_in, number_line, shape_in, shape_line, row_in, row_line, pair_in, pair_line}
+use Rattle.bridge_config.specs.Then.{◌>>=◌}
+use Rattle.bridge_config.specs.LineReading.{form_at, name_in, name_line, date_in, date_line, scoring_in, scoring_line, number_in, number_line, shape_in, shape_line, row_in, row_line, pair_in, pair_line}
 use Rattle.line_text.specs.Words.{words_of, word_after, five_after}
 use Rattle.bridge_config.specs.Reading.{due_line}
 

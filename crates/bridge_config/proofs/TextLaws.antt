@@ -10,7 +10,7 @@ use Rattle.bridge_config.specs.declared.refused.ConfigRefused.TheVariants.{TooLo
 use Rattle.bridge_config.specs.ConfigValue.{ConfigValue, heading_of, people_of, Heading, People}
 use Rattle.bridge_config.specs.Limits.{is_between, IsConfiguration}
 use Rattle.bridge_config.specs.Spelling.{heading_lines, people_lines, Spells}
-use Rattle.bridge_config.specs.LineReading.{◌>>=◌}
+use Rattle.bridge_config.specs.Then.{◌>>=◌}
 use Rattle.bridge_config.specs.Reading.{due_line, heading_in, people_in, Moved, ReadsMovement, stated_by, after_movement, ReadsAfterHeading, ReadsConfiguration}
 use Rattle.bridge_config.proofs.Steps.{bind_ok, ok_is, All-append_parts, IsShort, TakesLines}
 use Rattle.bridge_config.proofs.Headings.{IsHeading, heading_takes, heading_again}

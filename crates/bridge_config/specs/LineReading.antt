@@ -11,13 +11,8 @@ use Rattle.bridge_movement.specs.declared.shape.Shape.{Shape}
 use Rattle.bridge_config.specs.declared.refused.ConfigFault.{ConfigFault}
 use Rattle.bridge_config.specs.declared.refused.ConfigRefused.TheVariants.{Form, Range, KeyTwice}
 use Rattle.bridge_config.specs.ConfigValue.{Pair}
+use Rattle.bridge_config.specs.Then.{◌>>=◌}
 use Rattle.bridge_config.specs.Limits.{is_name, is_date_form, is_date_within, is_between, stands_in}
-
--- what follows where a step is Ok, and otherwise its fault
-infixl 10 ◌>>=◌
-abbrev pub ◌>>=◌ : {A B : Type 0} → Result A ConfigFault → (A → Result B ConfigFault) → Result B ConfigFault
-(Ok x) >>= f = f x
-(Err fault) >>= f = Err fault
 
 -- what a function returned, seen as the view of it, is what reading gives
 abbrev pub SeenAs : {X Y : Type 0} → (X → Y) → Result X ConfigFault → Result Y ConfigFault → Type 0

@@ -13,7 +13,8 @@ use Rattle.bridge_config.specs.declared.refused.ConfigFault.{ConfigFault}
 use Rattle.bridge_config.specs.declared.refused.ConfigRefused.TheVariants.{TooLong, Movement}
 use Rattle.bridge_config.specs.ConfigValue.{ConfigValue, Pair, Heading, People}
 use Rattle.bridge_config.specs.Spelling.{IsMitchell}
-use Rattle.bridge_config.specs.LineReading.{◌>>=◌, form_at, name_line, date_line, scoring_line, number_in, number_line, shape_line, row_line, pair_line}
+use Rattle.bridge_config.specs.Then.{◌>>=◌}
+use Rattle.bridge_config.specs.LineReading.{form_at, name_line, date_line, scoring_line, number_in, number_line, shape_line, row_line, pair_line}
 use Rattle.line_text.specs.Words.{words_of, word_after}
 
 -- the next line, which is missing where the text has ended, and those after it

@@ -18,7 +18,7 @@ use bridge_movement::{MOST_PAIRS, MOST_ROWS, MOST_TABLES, Movement, Row, Shape};
 use bridge_score::Scoring;
 
 /// The most bytes that a text may have.
-const TEXT_BYTES: usize = 16384;
+const CONFIG_BYTES: usize = 16384;
 
 /// What the first five lines state.
 #[derive(Clone, Copy)]
@@ -69,7 +69,7 @@ pub fn read_config(text: &[u8]) -> Result<Config, ConfigFault>
 fn read_text(text: &[u8]) -> Result<Config, ConfigFault>
     ensures { ReadsConfiguration text.now result }
 {
-    if text.len() > TEXT_BYTES {
+    if text.len() > CONFIG_BYTES {
         return Err(ConfigFault {
             line: 0,
             cause: ConfigRefused::TooLong,
@@ -79,7 +79,7 @@ fn read_text(text: &[u8]) -> Result<Config, ConfigFault>
 }
 
 fn read_lines(text: &[u8]) -> Result<Config, ConfigFault>
-    requires { length text.now ≤ TEXT_BYTES }
+    requires { length text.now ≤ CONFIG_BYTES }
     ensures { ReadsAfterHeading (heading_in (lines text.now)) result }
 {
     match read_heading(text) {

@@ -1,12 +1,14 @@
 -- Lines and games, one after another.
-use Rattle.std.proofs.Common.{◌≡◌, ℕ, Bool, true, false, List, [], ◌∷◌, ◌++◌, refl, sym, ap, ◌∙◌, append_assoc, append-nil}
-use Rattle.std.specs.Prelude.{flat_map, if◌then◌else◌, Option}
+use Rattle.std.proofs.Common.{◌≡◌, ℕ, Bool, true, false, List, [], ◌∷◌, ◌++◌, refl, sym, ap, ◌∙◌, append_assoc, append-nil, arith}
+use Rattle.std.specs.Prelude.{◌==◌, flat_map, length, if◌then◌else◌, Option}
+use Rattle.std.proofs.lemmas.Bool.{eq-eqb, ne_eqb}
 use Rattle.std.proofs.lemmas.List.Concat.{flat_map-append}
 use Rattle.line_text.specs.Streams.{between, TakesPrefix}
 use Rattle.line_text.proofs.Streams.{takes_prefix, prefix_longer}
 use Rattle.std.specs.Io.KnownBytes.{Appends}
 use Rattle.std.proofs.KnownBytes.{Appends-trans}
-use Rattle.bridge_pbn.specs.Lines.{lines_text, parted}
+use Rattle.line_text.specs.Lines.{lines_text, parted}
+use Rattle.line_text.specs.Words.{spaced}
 use Rattle.bridge_pbn.specs.Written.{games_after, has_begun}
 
 -- the text of two lists of lines
@@ -18,6 +20,25 @@ lines_append (x ∷ xs) ys =
 -- one line more
 pub lines_more : (xs : List (List ℕ)) (x : List ℕ) → lines_text (xs ++ x ∷ []) ≡ lines_text xs ++ (x ++ 10 ∷ [])
 lines_more xs x = lines_append xs (x ∷ [])
+
+-- what stands between words and one more
+abbrev pub gap : List (List ℕ) → List ℕ
+gap [] = []
+gap (word ∷ words) = 32 ∷ []
+
+pub gap_of : (words : List (List ℕ)) (n : ℕ) → length words ≡ n → gap words ≡ (if n == 0 then [] else 32 ∷ [])
+gap_of [] n is = rw (eq-eqb n 0 (sym is)) refl
+gap_of (word ∷ words) n is = rw (ne_eqb n 0 (λ none. omega (arith, is, none))) refl
+
+-- words with single spaces between, and one word more
+pub spaced_more : (words : List (List ℕ)) (word : List ℕ) → spaced (words ++ word ∷ []) ≡ (spaced words ++ gap words) ++ word
+spaced_more [] word = refl
+spaced_more (x ∷ []) word = sym (append_assoc x (32 ∷ []) word)
+spaced_more (x ∷ y ∷ words) word =
+    let before : List ℕ = spaced (y ∷ words) in
+    ap (λ rest. x ++ 32 ∷ rest) (spaced_more (y ∷ words) word)
+    ∙ sym (append_assoc x (32 ∷ (before ++ 32 ∷ [])) word)
+    ∙ ap (λ front. front ++ word) (sym (append_assoc x (32 ∷ before) (32 ∷ [])))
 
 -- parted lists, one after another: the later ones begin with the separator where others stand before them
 parted_append : {A : Type 0} (s : A) (x : List A) (xs ys : List (List A)) → parted s (x ∷ xs ++ ys) ≡ parted s (x ∷ xs) ++ flat_map (λ list. s ∷ list) ys

@@ -12,13 +12,13 @@ use Rattle.session_rules.specs.declared.outcome.Outcome.TheVariants.{Unfinished,
 use Rattle.session_rules.specs.Record.{PlainRecord, play_of}
 use Rattle.session_rules.specs.Outcome.{outcome_of}
 use Rattle.session_rules.specs.State.{SessionValue, deal_on, is_of_set, record_of}
-use Rattle.bridge_pbn.specs.Lines.{lines_text, parted}
+use Rattle.line_text.specs.Lines.{lines_text, parted}
 use Rattle.bridge_pbn.specs.Tags.{event_tags, player_tags, board_tags, outcome_tags, table_tags}
 use Rattle.bridge_pbn.specs.Sections.{auction_lines, play_lines}
 
 -- the lines of a game: a board with these hands, by the pairs of a row, what came of it, its calls and its cards
-abbrev pub game_by : ConfigValue → Row → ℕ → List ℕ → Outcome → List Call → Option PlayValue → List (List ℕ)
-game_by configuration row board hands outcome calls play =
+abbrev pub game_lines_by : ConfigValue → Row → ℕ → List ℕ → Outcome → List Call → Option PlayValue → List (List ℕ)
+game_lines_by configuration row board hands outcome calls play =
     event_tags configuration board
     ++ (player_tags configuration.pairs row
     ++ (board_tags board hands configuration.scoring
@@ -28,7 +28,7 @@ game_by configuration row board hands outcome calls play =
 -- the lines of the game of a record
 abbrev pub game_lines : ConfigValue → Row → ℕ → List ℕ → PlainRecord → List (List ℕ)
 game_lines configuration row board hands plain =
-    game_by configuration row board hands (outcome_of plain) plain.calls (play_of hands plain)
+    game_lines_by configuration row board hands (outcome_of plain) plain.calls (play_of hands plain)
 
 -- whether a play is listed: it is finished, not void and not adjusted
 abbrev pub is_listed : Outcome → Bool
@@ -46,14 +46,14 @@ play_at configuration board row =
     else None
 
 -- the lines of a record's play, if it is listed
-abbrev pub listed : ConfigValue → Row → ℕ → List ℕ → PlainRecord → Option (List (List ℕ))
-listed configuration row board hands plain =
+abbrev pub listed_lines : ConfigValue → Row → ℕ → List ℕ → PlainRecord → Option (List (List ℕ))
+listed_lines configuration row board hands plain =
     if is_listed (outcome_of plain) then Some (game_lines configuration row board hands plain) else None
 
 -- the lines of the game of a board by the pairs of a row, if there is one; a board of a finished play is dealt
 abbrev pub game_at : SessionValue → ℕ → Row → Option (List (List ℕ))
 game_at s board row =
-    option_and_then (λ hands. option_and_then (listed s.configuration row board hands)
+    option_and_then (λ hands. option_and_then (listed_lines s.configuration row board hands)
     (option_and_then (record_of s) (play_at s.configuration board row))) (deal_on s.deals board)
 
 -- the games of a board: the rows of the movement stand by round, then by table
@@ -61,12 +61,12 @@ abbrev pub games_on : SessionValue → ℕ → List (List (List ℕ))
 games_on s board = filter_map (game_at s board) s.configuration.movement.rows
 
 -- the games of those boards
-abbrev pub games_of : SessionValue → List ℕ → List (List (List ℕ))
-games_of s boards = flat_map (games_on s) boards
+abbrev pub games_on_boards : SessionValue → List ℕ → List (List (List ℕ))
+games_on_boards s boards = flat_map (games_on s) boards
 
 -- the games of the session, of boards 1 to 36
 unfoldable pub all_games : SessionValue → List (List (List ℕ))
-all_games s = games_of s (range_with_len 1 36)
+all_games s = games_on_boards s (range_with_len 1 36)
 
 -- The text: its first line, and the games by board, round and table, with an empty line between each two.
 abbrev pub session_text : SessionValue → List ℕ

@@ -1,4 +1,3 @@
-pub mod Lines
 pub mod Tags
 pub mod Sections
 pub mod Games

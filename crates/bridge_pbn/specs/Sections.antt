@@ -11,18 +11,19 @@ use Rattle.bridge_auction.specs.declared.contract.Contract.{Contract}
 use Rattle.bridge_auction.specs.Spelling.{bid_text}
 use Rattle.bridge_play.specs.Play.{PlayValue}
 use Rattle.bridge_play.specs.Trick.{whole_tricks, leader_of}
-use Rattle.bridge_pbn.specs.Lines.{tag, spaced}
+use Rattle.line_text.specs.Words.{spaced}
+use Rattle.bridge_pbn.specs.Tags.{tag}
 
 -- a call, as `Pass`, `X`, `XX` or `1NT`
-abbrev pub call_text : Call → List ℕ
-call_text Pass = codes "Pass"
-call_text (Bid bid) = bid_text bid
-call_text Double = codes "X"
-call_text Redouble = codes "XX"
+abbrev pub call_word : Call → List ℕ
+call_word Pass = codes "Pass"
+call_word (Bid bid) = bid_text bid
+call_word Double = codes "X"
+call_word Redouble = codes "XX"
 
 -- the calls of a line, the lines counted from 0: four, or what is left
 abbrev pub calls_line : List Call → ℕ → List ℕ
-calls_line calls line = spaced (map call_text (take 4 (drop (4 * line) calls)))
+calls_line calls line = spaced (map call_word (take 4 (drop (4 * line) calls)))
 
 -- The Auction section: the dealer, and the calls, four a line.
 abbrev pub auction_lines : Seat → List Call → List (List ℕ)

@@ -11,8 +11,11 @@ use Rattle.bridge_score.specs.declared.ranking.Scoring.{Scoring}
 use Rattle.bridge_score.specs.declared.ranking.Scoring.TheVariants.{MatchPoints, Imps}
 use Rattle.bridge_config.specs.ConfigValue.{ConfigValue, Pair}
 use Rattle.session_rules.specs.declared.outcome.Outcome.{Outcome}
-use Rattle.session_rules.specs.declared.outcome.Outcome.TheVariants.{Unfinished, PassedOut, Played, Voided, Adjusted}
-use Rattle.bridge_pbn.specs.Lines.{tag}
+use Rattle.session_rules.specs.declared.outcome.Outcome.TheVariants.{PassedOut, Played}
+
+-- a tag pair, as `[Board "1"]`
+abbrev pub tag : List ℕ → List ℕ → List ℕ
+tag name value = (((codes "[" ++ name) ++ codes " \"") ++ value) ++ codes "\"]"
 
 -- the name of a pair's first player, at index 0, or second, at index 1
 abbrev pub player_name : List Pair → ℕ → ℕ → List ℕ
@@ -56,10 +59,10 @@ declarer_text (Played contract tricks) = seat_letter contract.declarer ∷ []
 declarer_text _ = []
 
 -- the last bid and its doubling, or that nobody bid
-abbrev pub contract_text : Outcome → List ℕ
-contract_text (Played contract tricks) = bid_text contract.bid ++ doubling_text contract.doubling
-contract_text PassedOut = codes "Pass"
-contract_text _ = []
+abbrev pub outcome_contract_text : Outcome → List ℕ
+outcome_contract_text (Played contract tricks) = bid_text contract.bid ++ doubling_text contract.doubling
+outcome_contract_text PassedOut = codes "Pass"
+outcome_contract_text _ = []
 
 -- declarer's tricks, those of a ruling where there is one
 abbrev pub result_text : Outcome → List ℕ
@@ -70,7 +73,7 @@ result_text _ = []
 abbrev pub outcome_tags : Outcome → List (List ℕ)
 outcome_tags outcome =
     tag (codes "Declarer") (declarer_text outcome)
-    ∷ tag (codes "Contract") (contract_text outcome)
+    ∷ tag (codes "Contract") (outcome_contract_text outcome)
     ∷ tag (codes "Result") (result_text outcome)
     ∷ []
 

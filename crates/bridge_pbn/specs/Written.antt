@@ -1,7 +1,7 @@
 -- Games as they are written one after another.
 use Rattle.std.specs.Prelude.{◌≡◌, ℕ, Bool, true, false, ◌||◌, if◌then◌else◌, List, [], ◌∷◌, flat_map, Result, Ok, Err}
 use Rattle.line_text.specs.Streams.{Stream, Takes, TakesPrefix}
-use Rattle.bridge_pbn.specs.Lines.{lines_text, parted}
+use Rattle.line_text.specs.Lines.{lines_text, parted}
 
 -- the lines of games, each after an empty line where a game stands before it
 abbrev pub games_after : Bool → List (List (List ℕ)) → List (List ℕ)

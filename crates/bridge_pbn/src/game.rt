@@ -1,9 +1,9 @@
 //! The games of a session: the plays that are finished, not void and not adjusted.
-ghost use Rattle.std.specs.Prelude.{◌≡◌, ◌+◌, ◌≤◌, ◌∷◌, ◌++◌, [], Some, None, is_some, if◌then◌else◌, length};
+ghost use Rattle.std.specs.Prelude.{◌≡◌, ◌+◌, ◌≤◌, ◌∷◌, ◌++◌, [], Some, None, if◌then◌else◌};
 ghost use Rattle.session_rules.specs.Numbers.{IsRoundNumber, IsTableNumber};
-ghost use Rattle.bridge_pbn.specs.Lines.{lines_text};
+ghost use Rattle.line_text.specs.Lines.{lines_text};
 ghost use Rattle.bridge_pbn.specs.Sections.{play_lines};
-ghost use Rattle.bridge_pbn.specs.Games.{is_listed, play_at, game_at, game_by};
+ghost use Rattle.bridge_pbn.specs.Games.{is_listed, play_at, game_at, game_lines_by};
 ghost use Rattle.bridge_pbn.specs.Written.{games_after};
 ghost use Rattle.std.specs.Option.{option_copied, option_map};
 ghost use Rattle.arrayvec.specs.ArrayString.{array_string_len};
@@ -73,7 +73,7 @@ fn push_game(
     found: &Entry<'_>,
 )
     requires { array_string_len text.old + ALL_BYTES ≤ GAME_BYTES }
-    ensures { text.new.bytes ≡ text.old.bytes ++ lines_text (game_by config.now row board deal.now found.now.outcome found.now.auction.now.calls (option_copied found.now.play)) }
+    ensures { text.new.bytes ≡ text.old.bytes ++ lines_text (game_lines_by config.now row board deal.now found.now.outcome found.now.auction.now.calls (option_copied found.now.play)) }
 {
     let fields = config.fields();
     push_event_tags(text, config, board);
@@ -105,7 +105,7 @@ fn new_game(
     found: &Entry<'_>,
     begun: bool,
 ) -> GameText
-    ensures { result.bytes ≡ lines_text (games_after begun (game_by config.now row board deal.now found.now.outcome found.now.auction.now.calls (option_copied found.now.play) ∷ [])) }
+    ensures { result.bytes ≡ lines_text (games_after begun (game_lines_by config.now row board deal.now found.now.outcome found.now.auction.now.calls (option_copied found.now.play) ∷ [])) }
 {
     let mut text = GameText::new();
     push_gap(&mut text, begun);

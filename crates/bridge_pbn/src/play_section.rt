@@ -4,7 +4,7 @@ ghost use Rattle.std.specs.List.{range_with_len};
 ghost use Rattle.arrayvec.specs.ArrayString.{array_string_len};
 ghost use Rattle.bridge_cards.specs.Card.{card_text};
 ghost use Rattle.bridge_play.specs.Trick.{whole_tricks};
-ghost use Rattle.bridge_pbn.specs.Lines.{lines_text};
+ghost use Rattle.line_text.specs.Lines.{lines_text};
 ghost use Rattle.bridge_pbn.specs.Sections.{places_from, card_by, column_text, trick_line, star_lines, trick_lines};
 
 use crate::text::{GAME_BYTES, GameText, TAG_BYTES, push_tag};

@@ -5,8 +5,8 @@ ghost use Rattle.std.specs.Fmt.{decimal};
 ghost use Rattle.bridge_auction.specs.Spelling.{bid_text, doubling_text};
 ghost use Rattle.session_rules.specs.declared.outcome.Outcome.TheVariants.{Played};
 ghost use Rattle.bridge_config.specs.ConfigValue.{pair_of};
-ghost use Rattle.bridge_pbn.specs.Lines.{lines_text, tag};
-ghost use Rattle.bridge_pbn.specs.Tags.{event_tags, player_tags, board_tags, outcome_tags, table_tags};
+ghost use Rattle.line_text.specs.Lines.{lines_text};
+ghost use Rattle.bridge_pbn.specs.Tags.{tag, event_tags, player_tags, board_tags, outcome_tags, table_tags};
 
 use crate::names::{player_name, scoring_text};
 use crate::text::{GAME_BYTES, GameText, TAG_BYTES, push_tag};

@@ -1,7 +1,7 @@
 //! The text of one game, made inline before it is written.
 ghost use Rattle.std.specs.Prelude.{◌≡◌, ◌+◌, ◌≤◌, ◌∷◌, ◌++◌, [], length};
 ghost use Rattle.arrayvec.specs.ArrayString.{array_string_len};
-ghost use Rattle.bridge_pbn.specs.Lines.{tag};
+ghost use Rattle.bridge_pbn.specs.Tags.{tag};
 
 use arrayvec::ArrayString;
 

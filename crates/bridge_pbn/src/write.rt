@@ -1,5 +1,5 @@
 //! Writing the results of a session.
-ghost use Rattle.std.specs.Prelude.{◌≡◌, false};
+ghost use Rattle.std.specs.Prelude.{false};
 ghost use Rattle.std.specs.Option.{option_to_list};
 ghost use Rattle.line_text.specs.Streams.{stream, Written};
 ghost use Rattle.session_rules.specs.Numbers.{IsRoundNumber, IsTableNumber};

@@ -49,7 +49,7 @@ with_next played card = record played { cards = played.cards ++ card ∷ [] }
 
 -- What is kept beside the cards is what they make of it: the cards left in each hand, the leader of the trick that is
 -- not whole, and how many of the whole tricks North and South won.
-pub record IsKept (hands : List ℕ) (contract : Contract) (cards : List ℕ) (left : List ℕ) (leader : Seat) (won : ℕ) : Type 0 where
+pub record IsKeptWithCards (hands : List ℕ) (contract : Contract) (cards : List ℕ) (left : List ℕ) (leader : Seat) (won : ℕ) : Type 0 where
   pub left_of : (seat : Seat) (card : ℕ) → has_card (hand_at left seat) card ≡ holds hands cards seat card
   pub leads : leader ≡ leader_of contract cards (whole_tricks cards)
   pub won_by : won ≡ tricks_won contract cards NorthSouth (whole_tricks cards)

@@ -46,13 +46,21 @@ playing hands contract cards claims claim = with_claims (played hands contract c
 abbrev pub with_card : PlayValue → ℕ → PlayValue
 with_card play card = record play { cards = play.cards ++ card ∷ [] }
 
--- all who were asked have agreed to the claim
-abbrev pub is_agreed : PlayValue → Bool
-is_agreed play = option_map_or (all_agreed play.contract) play.claim false
+-- there is a claim, and all who were asked have agreed to it
+abbrev pub is_agreed_by : Contract → Option Claim → Bool
+is_agreed_by contract claim = option_map_or (all_agreed contract) claim false
 
--- the play is over: all 52 cards were played, or a claim is agreed
+-- the claim of the play is agreed
+abbrev pub is_agreed : PlayValue → Bool
+is_agreed play = is_agreed_by play.contract play.claim
+
+-- a play of these cards to the contract is over: all 52 cards were played, or the claim is agreed
+abbrev pub is_over_by : Contract → List ℕ → Option Claim → Bool
+is_over_by contract cards claim = length cards == 52 || is_agreed_by contract claim
+
+-- the play is over
 abbrev pub is_over : PlayValue → Bool
-is_over play = length play.cards == 52 || is_agreed play
+is_over play = is_over_by play.contract play.cards play.claim
 
 -- the answer to a card by a player, the refusals in order
 abbrev pub card_answer : PlayValue → Seat → ℕ → Result (Unit {0}) CardRefused
@@ -161,10 +169,14 @@ claimed_tricks contract cards side None = 0
 claimed_tricks contract cards side (Some claim) =
     if all_agreed contract claim then (if plays_for side claim.claimer then claim.tricks else 13 - whole_tricks cards - claim.tricks) else 0
 
--- the tricks of a side: the whole tricks that its seats won, and those of an agreed claim (Law 68)
+-- the tricks of a side by these cards and this claim: the whole tricks that its seats won, and those of an agreed claim (Law 68)
+abbrev pub tricks_by : Contract → List ℕ → Option Claim → Side → ℕ
+tricks_by contract cards claim side =
+    tricks_won contract cards side (whole_tricks cards) + claimed_tricks contract cards side claim
+
+-- the tricks of a side
 abbrev pub tricks_of : PlayValue → Side → ℕ
-tricks_of play side =
-    tricks_won play.contract play.cards side (whole_tricks play.cards) + claimed_tricks play.contract play.cards side play.claim
+tricks_of play side = tricks_by play.contract play.cards play.claim side
 
 -- how many tricks have a winner: all 13 once the play is over, and before that the whole tricks
 abbrev pub settled_tricks : PlayValue → ℕ

@@ -30,13 +30,13 @@ pub struct CardPlay {
 }
 
 impl Model for CardPlay {
-    ghost use Rattle.bridge_play.specs.CardPlay.{CardPlayValue, IsKept};
+    ghost use Rattle.bridge_play.specs.CardPlay.{CardPlayValue, IsKeptWithCards};
 
     ghost Value = { CardPlayValue };
 
     ghost view = { λ p. record { hands = p.deal; contract = p.contract; cards = p.cards.items } };
 
-    ghost invariant = { λ p. IsKept p.deal p.contract p.cards.items p.left p.leader p.won };
+    ghost invariant = { λ p. IsKeptWithCards p.deal p.contract p.cards.items p.left p.leader p.won };
 }
 
 /// Two plays are equal where their deals, contracts and cards are: what is kept beside these follows from them.

@@ -16,7 +16,7 @@ use Rattle.bridge_table.specs.declared.record.Record.{Record}
 use Rattle.session_rules.specs.Outcome.{outcome_by}
 use Rattle.session_rules.specs.State.{row_boards}
 use Rattle.bridge_ranking.specs.Ranking.{is_on, result_of, game_by, game_in, games_in}
-use Rattle.bridge_table.specs.Kept.{plain_of, board_kept, IsTiedIn}
+use Rattle.bridge_table.specs.Kept.{plain_of, board_kept, course_kept, IsTiedIn}
 use Rattle.bridge_ranking.specs.KeptGames.{kept_game, kept_games_in, kept_games}
 use Rattle.bridge_table.proofs.Outcomes.{outcome_seen}
 
@@ -86,7 +86,7 @@ game_counts row board b (Some result) games boards less =
 table_counts : (row : Row) (table : List Record) (b : ℕ) → length (filter (is_on b) (filter_map (kept_game row) table)) ≤ times b (map board_kept table)
 table_counts row [] b = omega arith
 table_counts row (kept ∷ table) b =
-    game_counts row kept.board b (result_of kept.board (outcome_by kept.auction.calls kept.play kept.ruling)) (filter_map (kept_game row) table) (map board_kept table) (table_counts row table b)
+    game_counts row kept.board b (result_of kept.board (outcome_by kept.auction.calls (course_kept kept) kept.ruling)) (filter_map (kept_game row) table) (map board_kept table) (table_counts row table b)
 
 -- on a board there is a game for each row at most
 pub few_on_board : (boards : ℕ) (rows : List Row) (tables : List (List Record)) (b : ℕ) → map (map board_kept) tables ≡ map (row_boards boards) rows → length (filter (is_on b) (kept_games rows tables)) ≤ length rows

@@ -1,3 +1,4 @@
 pub mod Games
 pub mod Gains
 pub mod EqualGains
+pub mod OneRanking

@@ -8,12 +8,13 @@ use Rattle.bridge_ranking.specs.declared.game.Game.{Game}
 use Rattle.bridge_ranking.specs.declared.game.PlayResult.{PlayResult}
 use Rattle.bridge_ranking.specs.declared.game.PlayResult.TheVariants.{Score, Averages}
 use Rattle.session_rules.specs.Outcome.{outcome_by}
+use Rattle.bridge_table.specs.Kept.{course_kept}
 use Rattle.bridge_ranking.specs.Ranking.{game_by}
 use Rattle.bridge_score.specs.ScoringTable.{IsScore}
 
 -- the play of a record by the pairs of a row, if it is compared
 abbrev pub kept_game : Row → Record → Option Game
-kept_game row kept = game_by row kept.board (outcome_by kept.auction.calls kept.play kept.ruling)
+kept_game row kept = game_by row kept.board (outcome_by kept.auction.calls (course_kept kept) kept.ruling)
 
 -- the games of a row with its table's records
 abbrev pub kept_games_in : Row × List Record → List Game

@@ -6,9 +6,11 @@ pub mod even;
 pub mod field;
 pub mod gain;
 pub mod game;
+pub mod one_ranking;
 mod scored;
 
 pub use even::equal_scores_gain_the_same;
 pub use field::Field;
 pub use gain::{has_field, lines_of};
 pub use game::{Game, PlayResult, games_of};
+pub use one_ranking::a_field_has_one_ranking;

@@ -65,6 +65,7 @@ overtrick_value contract Undoubled vulnerable = trick_value contract.bid.denomin
 overtrick_value contract Doubled vulnerable = if vulnerable then 200 else 100
 overtrick_value contract Redoubled vulnerable = if vulnerable then 400 else 200
 
+-- for so many overtricks
 abbrev pub overtrick_points : Contract → Bool → ℕ → ℕ
 overtrick_points contract vulnerable overtricks =
     overtricks * overtrick_value contract contract.doubling vulnerable

@@ -1,5 +1,5 @@
 -- A session after a change in one table.
-use Rattle.std.proofs.Common.{◌≡◌, ◌≤◌, ℕ, Bool, true, cond, List, length, Option, Some, None, Result, Ok, Err, sym, ap, ◌∙◌, length-set, arith, ◌-◌}
+use Rattle.std.proofs.Common.{◌≡◌, ◌≤◌, ℕ, Bool, true, cond, List, length, Option, Some, None, Result, Ok, sym, ap, ◌∙◌, length-set, arith, ◌-◌}
 use Rattle.std.specs.Prelude.{All, map, slice_get, slice_set}
 use Rattle.std.specs.Option.{option_map}
 use Rattle.std.proofs.lemmas.List.{map-set, length-map}
@@ -18,37 +18,37 @@ use Rattle.session_rules.specs.PlayerStep.{seen_by, seen_deal, seen_records, ans
 use Rattle.session_rules.proofs.PlayerAnswer.{answer_seated}
 use Rattle.session_rules.specs.StateRange.{IsSession}
 use Rattle.bridge_table.specs.Kept.{plain_of, board_kept, IsTiedIn}
-use Rattle.bridge_session.specs.KeptSession.{state_of, StateASession, IsKept}
+use Rattle.bridge_session.specs.KeptSession.{state_of, StateASession, IsKeptSession}
 use Rattle.session_rules.proofs.Lists.{set_there}
 use Rattle.session_rules.specs.declared.action.PlayId.{PlayId}
 use Rattle.bridge_table.proofs.Tables.{row_at_is, changed_row, few_row}
 
 -- the answer to a player who sits there
 answer_by : SessionValue → ℕ → ℕ → Deed → Result Seating Refused → Result (Unit {0}) Refused
-answer_by s board at done seating =
-    answer_seated (record { configuration = s.configuration; round = s.round; deal = seen_deal s board seating; records = seen_records s seating }) board at done seating
+answer_by s board at deed seating =
+    answer_seated (record { configuration = s.configuration; round = s.round; deal = seen_deal s board seating; records = seen_records s seating }) board at deed seating
 
-pub seated_answer : (s : SessionValue) (key board at : ℕ) (done : Deed) (seating : Seating) → seating_of s.configuration s.round key ≡ Ok seating → is_of_set s.configuration seating.set board ≡ true → player_answer (seen_by s key board) key board at done ≡ answer_among (row_at s.records seating.row) (deal_on s.deals board) board seating.seat at done
+pub seated_answer : (s : SessionValue) (key board at : ℕ) (deed : Deed) (seating : Seating) → seating_of s.configuration s.round key ≡ Ok seating → is_of_set s.configuration seating.set board ≡ true → player_answer (seen_by s key board) key board at deed ≡ answer_among (row_at s.records seating.row) (deal_on s.deals board) board seating.seat at deed
 unfolding answer_by
-seated_answer s key board at done seating sits of_set =
+seated_answer s key board at deed seating sits of_set =
     let among : Bool → Answer = λ b.
-    require b NotCurrent >> answer_among (row_at s.records seating.row) (cond b (deal_on s.deals board) None) board seating.seat at done in
-    ap (answer_by s board at done) sits ∙ ap among of_set
+    require b NotCurrent >> answer_among (row_at s.records seating.row) (cond b (deal_on s.deals board) None) board seating.seat at deed in
+    ap (answer_by s board at deed) sits ∙ ap among of_set
 
 -- the session after what a player did
-pub acted_state : (configuration : ConfigValue) (round : ℕ) (deals : List (Option (List ℕ))) (tables : List (List Record)) (key : ℕ) (done : Deed) (seating : Seating) (table after : List Record) → seating_of configuration round key ≡ Ok seating → slice_get tables seating.row ≡ Some table → map plain_of after ≡ acted_among seating.seat done (map plain_of table) → state_of configuration round deals (slice_set tables seating.row after) ≡ acted (state_of configuration round deals tables) key done
-acted_state configuration round deals tables key done seating table after sits is left =
+pub acted_state : (configuration : ConfigValue) (round : ℕ) (deals : List (Option (List ℕ))) (tables : List (List Record)) (key : ℕ) (deed : Deed) (seating : Seating) (table after : List Record) → seating_of configuration round key ≡ Ok seating → slice_get tables seating.row ≡ Some table → map plain_of after ≡ acted_among seating.seat deed (map plain_of table) → state_of configuration round deals (slice_set tables seating.row after) ≡ acted (state_of configuration round deals tables) key deed
+acted_state configuration round deals tables key deed seating table after sits is left =
     let made : List (List PlainRecord) → SessionValue = λ records. record { configuration = configuration; round = round; deals = deals; records = records } in
-    ap made (changed_row tables seating.row table after (acted_among seating.seat done) is left)
-    ∙ ap (acted_at (state_of configuration round deals tables) done) (sym sits)
+    ap made (changed_row tables seating.row table after (acted_among seating.seat deed) is left)
+    ∙ ap (acted_at (state_of configuration round deals tables) deed) (sym sits)
 
 -- what they state is a session
-pub kept_session : (configuration : ConfigValue) (round : ℕ) (deals : List (Option (List ℕ))) (tables : List (List Record)) → IsKept configuration round deals tables → IsSession (state_of configuration round deals tables)
+pub kept_session : (configuration : ConfigValue) (round : ℕ) (deals : List (Option (List ℕ))) (tables : List (List Record)) → IsKeptSession configuration round deals tables → IsSession (state_of configuration round deals tables)
 unfolding StateASession
 kept_session configuration round deals tables kept = kept.session
 
 -- the parts are kept
-pub kept_with : (configuration : ConfigValue) (round : ℕ) (deals : List (Option (List ℕ))) (tables : List (List Record)) (index : ℕ) (table after : List Record) → IsKept configuration round deals tables → slice_get tables index ≡ Some table → map board_kept after ≡ map board_kept table → All (IsTiedIn deals) after → IsSession (state_of configuration round deals (slice_set tables index after)) → IsKept configuration round deals (slice_set tables index after)
+pub kept_with : (configuration : ConfigValue) (round : ℕ) (deals : List (Option (List ℕ))) (tables : List (List Record)) (index : ℕ) (table after : List Record) → IsKeptSession configuration round deals tables → slice_get tables index ≡ Some table → map board_kept after ≡ map board_kept table → All (IsTiedIn deals) after → IsSession (state_of configuration round deals (slice_set tables index after)) → IsKeptSession configuration round deals (slice_set tables index after)
 unfolding StateASession
 kept_with configuration round deals tables index table after kept is same tied session = record {
   session = session;

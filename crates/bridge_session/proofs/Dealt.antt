@@ -17,7 +17,7 @@ use Rattle.session_rules.specs.State.{SessionValue, deal_on, hands_on, is_closed
 use Rattle.session_rules.specs.DirectorStep.{deal_answer}
 use Rattle.session_rules.specs.StateRange.{IsSession}
 use Rattle.bridge_table.specs.Kept.{plain_of, IsTied, IsTiedIn}
-use Rattle.bridge_session.specs.KeptSession.{state_of, StateASession, IsKept}
+use Rattle.bridge_session.specs.KeptSession.{state_of, StateASession, IsKeptSession}
 use Rattle.session_rules.proofs.PlainRecords.{no_contract, other_deal}
 
 -- a record without calls has no play, and is tied to any hands
@@ -45,7 +45,7 @@ tied_dealt deals board hands kept none tied =
           }
     ]
 
-pub kept_dealt : (configuration : ConfigValue) (round : ℕ) (deals : List (Option (List ℕ))) (tables : List (List Record)) (board : ℕ) (hands : List ℕ) → deal_on deals board ≡ None → IsSession (state_of configuration round (slice_set deals (board - 1) (Some hands)) tables) → IsKept configuration round deals tables → IsKept configuration round (slice_set deals (board - 1) (Some hands)) tables
+pub kept_dealt : (configuration : ConfigValue) (round : ℕ) (deals : List (Option (List ℕ))) (tables : List (List Record)) (board : ℕ) (hands : List ℕ) → deal_on deals board ≡ None → IsSession (state_of configuration round (slice_set deals (board - 1) (Some hands)) tables) → IsKeptSession configuration round deals tables → IsKeptSession configuration round (slice_set deals (board - 1) (Some hands)) tables
 unfolding StateASession
 kept_dealt configuration round deals tables board hands none session kept = record {
   session = session;

@@ -15,7 +15,7 @@ use Rattle.session_rules.specs.Record.{PlainRecord, empty_record}
 use Rattle.session_rules.specs.State.{SessionValue, opening, opening_row, row_boards}
 use Rattle.session_rules.specs.StateRange.{IsSession}
 use Rattle.bridge_table.specs.Kept.{plain_of, board_kept, new_record, IsTiedIn}
-use Rattle.bridge_session.specs.KeptSession.{state_of, StateASession, new_table, IsKept}
+use Rattle.bridge_session.specs.KeptSession.{state_of, StateASession, new_table, IsKeptSession}
 use Rattle.session_bytes.proofs.SessionStays.{opening_session}
 
 -- a new record is tied to whatever is dealt
@@ -71,7 +71,7 @@ new_is_opening configuration deals tables parts =
     ∙ ap (made (replicate (configuration.movement.shape.sets * configuration.boards) None))
     (ap (map (map plain_of)) parts.tables ∙ rows_seen configuration.boards configuration.movement.rows)
 
-pub new_is_kept : (configuration : ConfigValue) (deals : List (Option (List ℕ))) (tables : List (List Record)) → IsConfiguration configuration → IsNew configuration deals tables → IsKept configuration 1 deals tables
+pub new_is_kept : (configuration : ConfigValue) (deals : List (Option (List ℕ))) (tables : List (List Record)) → IsConfiguration configuration → IsNew configuration deals tables → IsKeptSession configuration 1 deals tables
 unfolding StateASession
 new_is_kept configuration deals tables limits parts = record {
   session = subst IsSession (sym (new_is_opening configuration deals tables parts)) (opening_session configuration limits);

@@ -8,7 +8,7 @@ use Rattle.std.proofs.lemmas.List.{length-map}
 use Rattle.bridge_config.specs.ConfigValue.{ConfigValue}
 use Rattle.bridge_config.specs.Limits.{IsConfiguration}
 use Rattle.bridge_table.specs.declared.record.Record.{Record}
-use Rattle.bridge_session.specs.KeptSession.{state_of, IsKept}
+use Rattle.bridge_session.specs.KeptSession.{state_of, IsKeptSession}
 use Rattle.bridge_table.specs.Kept.{plain_of}
 use Rattle.session_bytes.specs.Parts.{parts_of}
 use Rattle.session_bytes.proofs.PartIndexes.{count_parts}
@@ -20,7 +20,7 @@ pub record AreFew (configuration : ConfigValue) (deals : List (Option (List ℕ)
   pub tables_few : length tables ≤ 144
   pub plays : length tables * configuration.boards ≤ 432
 
-pub few_of_each : (configuration : ConfigValue) (round : ℕ) (deals : List (Option (List ℕ))) (tables : List (List Record)) → IsConfiguration configuration → IsKept configuration round deals tables → AreFew configuration deals tables
+pub few_of_each : (configuration : ConfigValue) (round : ℕ) (deals : List (Option (List ℕ))) (tables : List (List Record)) → IsConfiguration configuration → IsKeptSession configuration round deals tables → AreFew configuration deals tables
 few_of_each configuration round deals tables limits kept =
     let shape = configuration.movement.shape in
     let boards = leb-true configuration.boards 3 (and_parts (nat_le 1 configuration.boards) (nat_le configuration.boards 3) limits.boards).1 in

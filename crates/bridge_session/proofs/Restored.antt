@@ -19,7 +19,7 @@ use Rattle.bridge_table.specs.declared.record.Record.{Record}
 use Rattle.session_rules.specs.Record.{PlainRecord}
 use Rattle.session_rules.specs.State.{SessionValue, row_boards}
 use Rattle.bridge_table.specs.Kept.{plain_of, board_kept, IsTiedIn}
-use Rattle.bridge_session.specs.KeptSession.{state_of, StateASession, IsKept}
+use Rattle.bridge_session.specs.KeptSession.{state_of, StateASession, IsKeptSession}
 use Rattle.session_bytes.specs.Head.{head_parts, IsRound}
 use Rattle.session_bytes.specs.Parts.{HasRecord, HasRulings, deal_part, row_parts, play_parts, board_parts}
 use Rattle.session_bytes.specs.PartsRead.{numbers_in, configuration_in, deal_of}
@@ -201,7 +201,7 @@ module _ (format : DiskFormat) (configuration : ConfigValue) (round : ℕ) (deal
       let same : length (row_boards configuration.boards row.0) ≡ length (map board_kept table) = ap length row.2 in
       omega (arith, few, same, length-map table board_kept, boards_few)
 
-  pub made_kept : IsKept configuration round deals (lists_in tables)
+  pub made_kept : IsKeptSession configuration round deals (lists_in tables)
   unfolding StateASession
   made_kept = record {
     session = subst IsSession (sym made_is) made_session;

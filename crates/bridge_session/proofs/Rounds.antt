@@ -13,7 +13,7 @@ use Rattle.session_rules.specs.State.{SessionValue, is_closed, hands_on}
 use Rattle.session_rules.specs.DirectorStep.{records_of_round, next_answer}
 use Rattle.session_rules.specs.StateRange.{IsSession}
 use Rattle.bridge_table.specs.Kept.{plain_of, is_kept_open, IsTiedIn}
-use Rattle.bridge_session.specs.KeptSession.{state_of, StateASession, IsKept}
+use Rattle.bridge_session.specs.KeptSession.{state_of, StateASession, IsKeptSession}
 use Rattle.bridge_table.proofs.Tied.{open_same}
 use Rattle.bridge_table.proofs.Tables.{lists_in}
 
@@ -60,7 +60,7 @@ next_accepted s begun none =
     ap first begun ∙ ap second (eq-eqb s.round s.round refl) ∙ ap third none
 
 -- the parts in the next round
-pub kept_next : (configuration : ConfigValue) (round : ℕ) (deals : List (Option (List ℕ))) (tables : List (List Record)) → IsKept configuration round deals tables → IsSession (state_of configuration (round + 1) deals tables) → IsKept configuration (round + 1) deals tables
+pub kept_next : (configuration : ConfigValue) (round : ℕ) (deals : List (Option (List ℕ))) (tables : List (List Record)) → IsKeptSession configuration round deals tables → IsSession (state_of configuration (round + 1) deals tables) → IsKeptSession configuration (round + 1) deals tables
 unfolding StateASession
 kept_next configuration round deals tables kept session = record {
   session = session;

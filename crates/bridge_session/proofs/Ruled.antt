@@ -1,41 +1,26 @@
 -- A session after a ruling.
-use Rattle.std.proofs.Common.{◌≡◌, ℕ, Bool, true, false, cond, List, [], Option, Some, None, Err, refl, sym, ap, ◌∙◌, subst, inl, inr}
+use Rattle.std.proofs.Common.{◌≡◌, ℕ, Bool, true, false, cond, List, Option, Some, None, Err, refl, sym, ap, ◌∙◌, subst, inl, inr}
 use Rattle.std.specs.Prelude.{All, map, nat_lt, slice_get, slice_set}
 use Rattle.std.specs.Option.{option_map}
 use Rattle.std.proofs.lemmas.List.{map-set}
 use Rattle.std.proofs.lemmas.List.Elements.{All-set}
 use Rattle.std.proofs.lemmas.Option.{slice_get-map, slice_get_cases}
-use Rattle.bridge_auction.specs.declared.call.Call.{Call}
-use Rattle.bridge_auction.specs.declared.contract.Contract.{Contract}
 use Rattle.session_rules.specs.declared.correction.Correction.{Correction}
-use Rattle.session_rules.specs.declared.correction.Correction.TheVariants as correction
 use Rattle.bridge_score.specs.declared.ranking.Scoring.{Scoring}
 use Rattle.bridge_table.specs.declared.record.Record.{Record}
 use Rattle.session_rules.specs.declared.refused.Refused.TheVariants.{NotYet}
-use Rattle.session_rules.specs.Record.{PlainRecord, play_of, playing_in, contract_in}
 use Rattle.session_rules.specs.Correction.{ruling_answer}
 use Rattle.session_rules.specs.State.{changed_at, hands_on}
 use Rattle.session_rules.specs.DirectorStep.{rule_answer}
 use Rattle.bridge_table.specs.Kept.{plain_of, with_kept_ruling, kept_rule_answer, IsTiedIn}
+use Rattle.bridge_table.proofs.Tied.{course_same}
 use Rattle.session_rules.proofs.Lists.{changed_at-Some, changed_at-None}
-
--- the answer to a ruling does not depend on the hands
-by_hands : (scoring : Scoring) (calls : List Call) (hands : List ℕ) (plain : PlainRecord) (made : Correction) (over : Bool) (contract : Option Contract) → ruling_answer scoring calls (option_map (playing_in hands plain) contract) made over ≡ ruling_answer scoring calls (option_map (playing_in [] plain) contract) made over
-by_hands scoring calls hands plain (correction.Tricks tricks) over None = refl
-by_hands scoring calls hands plain (correction.Tricks tricks) over (Some contract) = refl
-by_hands scoring calls hands plain correction.Void over contract = refl
-by_hands scoring calls hands plain (correction.Adjust ns ew) over contract = refl
-by_hands scoring calls hands plain correction.Restore over None = refl
-by_hands scoring calls hands plain correction.Restore over (Some contract) = refl
 
 -- the answer by what is kept of a play, and by what is seen of it
 answer_seen : (scoring : Scoring) (deals : List (Option (List ℕ))) (kept : Record) (now round : ℕ) (made : Correction) → IsTiedIn deals kept → kept_rule_answer scoring now round made (Some kept) ≡ rule_answer scoring now round made (Some (plain_of kept))
 answer_seen scoring deals kept now round made tied =
-    let calls = kept.auction.calls in
-    let over = nat_lt round now in
-    let same : ruling_answer scoring calls kept.play made over ≡ ruling_answer scoring calls (play_of [] (plain_of kept)) made over =
-    ap (λ play. ruling_answer scoring calls play made over) tied.tied.play ∙ by_hands scoring calls (hands_on deals kept.board) (plain_of kept) made over (contract_in (plain_of kept)) in
-    ap (λ answer. cond (nat_lt now round) (Err NotYet) answer) same
+    ap (λ course. cond (nat_lt now round) (Err NotYet) (ruling_answer scoring kept.auction.calls course made (nat_lt round now)))
+    (course_same (hands_on deals kept.board) kept tied.tied)
 
 pub rule_seen : (scoring : Scoring) (deals : List (Option (List ℕ))) (table : List Record) (index now round : ℕ) (made : Correction) → All (IsTiedIn deals) table → kept_rule_answer scoring now round made (slice_get table index) ≡ rule_answer scoring now round made (slice_get (map plain_of table) index)
 rule_seen scoring deals table index now round made tied =

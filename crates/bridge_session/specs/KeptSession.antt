@@ -1,5 +1,5 @@
 -- What contracts see of the fields of a session.
-use Rattle.std.specs.Prelude.{◌≡◌, ℕ, ◌*◌, ◌≤◌, map, List, length, Option, All}
+use Rattle.std.specs.Prelude.{◌≡◌, ℕ, ◌*◌, ◌≤◌, map, List, length, All}
 use Rattle.bridge_table.specs.declared.record.Record.{Record}
 use Rattle.bridge_movement.specs.declared.row.Row.{Row}
 use Rattle.bridge_movement.specs.Shape.{row_count}
@@ -23,7 +23,7 @@ StateASession configuration round deals tables = IsSession (state_of configurati
 
 -- The fields of a session: they state one, there are as many as the configuration says, and the records are tied to
 -- the deals and of the boards of their rows.
-pub record IsKept (configuration : ConfigValue) (round : ℕ) (deals : Deals) (tables : List (List Record)) : Type 0 where
+pub record IsKeptSession (configuration : ConfigValue) (round : ℕ) (deals : Deals) (tables : List (List Record)) : Type 0 where
   pub session : StateASession configuration round deals tables
   pub begun : 1 ≤ round
   pub boards : length deals ≡ configuration.movement.shape.sets * configuration.boards

@@ -48,13 +48,13 @@ pub struct Session {
 impl Model for Session {
     ghost use Rattle.std.specs.Prelude.{map};
     ghost use Rattle.session_rules.specs.State.{SessionValue};
-    ghost use Rattle.bridge_session.specs.KeptSession.{state_of, IsKept};
+    ghost use Rattle.bridge_session.specs.KeptSession.{state_of, IsKeptSession};
 
     ghost Value = { SessionValue };
 
     ghost view = { λ s. state_of s.config s.round s.deals.items (map (λ table. table.items) s.tables.items) };
 
-    ghost invariant = { λ s. IsKept s.config s.round s.deals.items (map (λ table. table.items) s.tables.items) };
+    ghost invariant = { λ s. IsKeptSession s.config s.round s.deals.items (map (λ table. table.items) s.tables.items) };
 }
 
 impl Session {

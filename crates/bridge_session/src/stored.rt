@@ -1,5 +1,4 @@
 //! What a store may rely on, as laws over the definitions of parts, actions and steps.
-ghost use Rattle.std.specs.Prelude.{All};
 ghost use Rattle.session_store.specs.Keeping.{IsLawful};
 ghost use Rattle.bridge_config.specs.ConfigValue.{ConfigValue};
 ghost use Rattle.bridge_config.specs.Limits.{IsConfiguration};

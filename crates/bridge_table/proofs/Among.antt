@@ -49,33 +49,33 @@ tied_there deals table index kept tied found is =
     subst (IsTiedIn deals) (sym is) (tied index kept within)
 
 -- the answer where another board is played
-pub other_board : (deal : Option (List ℕ)) (kept : Record) (board : ℕ) (seat : Seat) (at : ℕ) (done : Deed) → (kept.board == board) ≡ false → answer_current deal board seat at done (Some (plain_of kept)) ≡ Err NotCurrent
-other_board deal kept board seat at done other = ap (λ b. require b NotCurrent >> answer_dealt (plain_of kept) seat at done deal) other
+pub other_board : (deal : Option (List ℕ)) (kept : Record) (board : ℕ) (seat : Seat) (at : ℕ) (deed : Deed) → (kept.board == board) ≡ false → answer_current deal board seat at deed (Some (plain_of kept)) ≡ Err NotCurrent
+other_board deal kept board seat at deed other = ap (λ b. require b NotCurrent >> answer_dealt (plain_of kept) seat at deed deal) other
 
 -- the answer where the board is not dealt
-pub not_dealt : (deal : Option (List ℕ)) (kept : Record) (board : ℕ) (seat : Seat) (at : ℕ) (done : Deed) → (kept.board == board) ≡ true → deal ≡ None → answer_current deal board seat at done (Some (plain_of kept)) ≡ Err NotDealt
-not_dealt deal kept board seat at done same none =
-    ap (λ b. require b NotCurrent >> answer_dealt (plain_of kept) seat at done deal) same ∙ ap (answer_dealt (plain_of kept) seat at done) none
+pub not_dealt : (deal : Option (List ℕ)) (kept : Record) (board : ℕ) (seat : Seat) (at : ℕ) (deed : Deed) → (kept.board == board) ≡ true → deal ≡ None → answer_current deal board seat at deed (Some (plain_of kept)) ≡ Err NotDealt
+not_dealt deal kept board seat at deed same none =
+    ap (λ b. require b NotCurrent >> answer_dealt (plain_of kept) seat at deed deal) same ∙ ap (answer_dealt (plain_of kept) seat at deed) none
 
 -- the answer in the play that is found
-pub answer_there : (deals : Deals) (kept : Record) (hands : List ℕ) (board : ℕ) (seat : Seat) (at : ℕ) (done : Deed) → IsTiedIn deals kept → (kept.board == board) ≡ true → kept.board ≡ board → deal_on deals board ≡ Some hands → answer_current (deal_on deals board) board seat at done (Some (plain_of kept)) ≡ deed_answer kept.auction kept.play seat at done
-answer_there deals kept hands board seat at done tied test same dealt =
+pub answer_there : (deals : Deals) (kept : Record) (hands : List ℕ) (board : ℕ) (seat : Seat) (at : ℕ) (deed : Deed) → IsTiedIn deals kept → (kept.board == board) ≡ true → kept.board ≡ board → deal_on deals board ≡ Some hands → answer_current (deal_on deals board) board seat at deed (Some (plain_of kept)) ≡ deed_answer kept.auction kept.play seat at deed
+answer_there deals kept hands board seat at deed tied test same dealt =
     let there : hands_on deals kept.board ≡ hands = ap (λ b. unwrap_or (deal_on deals b) []) same ∙ ap (λ o. unwrap_or o []) dealt in
-    ap (λ b. require b NotCurrent >> answer_dealt (plain_of kept) seat at done (deal_on deals board)) test
-    ∙ ap (answer_dealt (plain_of kept) seat at done) dealt
-    ∙ ap (λ dealer. deed_answer (record { dealer = dealer; calls = kept.auction.calls }) (play_of hands (plain_of kept)) seat at done) (sym tied.tied.dealer)
-    ∙ ap (λ h. deed_answer kept.auction (play_of h (plain_of kept)) seat at done) (sym there)
-    ∙ ap (λ play. deed_answer kept.auction play seat at done) (sym tied.tied.play)
+    ap (λ b. require b NotCurrent >> answer_dealt (plain_of kept) seat at deed (deal_on deals board)) test
+    ∙ ap (answer_dealt (plain_of kept) seat at deed) dealt
+    ∙ ap (λ dealer. deed_answer (record { dealer = dealer; calls = kept.auction.calls }) (play_of hands (plain_of kept)) seat at deed) (sym tied.tied.dealer)
+    ∙ ap (λ h. deed_answer kept.auction (play_of h (plain_of kept)) seat at deed) (sym there)
+    ∙ ap (λ play. deed_answer kept.auction play seat at deed) (sym tied.tied.play)
 
 -- what is left there
-pub after_there : (deals : Deals) (kept : Record) (hands : List ℕ) (board : ℕ) (seat : Seat) (at : ℕ) (done : Deed) → IsTiedIn deals kept → kept.board ≡ board → deal_on deals board ≡ Some hands → deed_answer kept.auction kept.play seat at done ≡ Ok tt → IsAfter hands seat done kept
-after_there deals kept hands board seat at done tied same dealt ok =
+pub after_there : (deals : Deals) (kept : Record) (hands : List ℕ) (board : ℕ) (seat : Seat) (at : ℕ) (deed : Deed) → IsTiedIn deals kept → kept.board ≡ board → deal_on deals board ≡ Some hands → deed_answer kept.auction kept.play seat at deed ≡ Ok tt → IsAfter hands seat deed kept
+after_there deals kept hands board seat at deed tied same dealt ok =
     let there : hands_on deals kept.board ≡ hands = ap (λ b. unwrap_or (deal_on deals b) []) same ∙ ap (λ o. unwrap_or o []) dealt in
-    after_is kept.board kept.auction kept.play kept.ruling hands seat at done (subst (λ h. IsTied h kept) there tied.tied) ok
+    after_is kept.board kept.auction kept.play kept.ruling hands seat at deed (subst (λ h. IsTied h kept) there tied.tied) ok
 
-pub tied_after : (deals : Deals) (kept : Record) (hands : List ℕ) (board : ℕ) (seat : Seat) (done : Deed) → kept.board ≡ board → deal_on deals board ≡ Some hands → IsAfter hands seat done kept → IsTiedIn deals (after_deed hands seat done kept)
-tied_after deals kept hands board seat done same dealt after =
-    let now = after_deed hands seat done kept in
+pub tied_after : (deals : Deals) (kept : Record) (hands : List ℕ) (board : ℕ) (seat : Seat) (deed : Deed) → kept.board ≡ board → deal_on deals board ≡ Some hands → IsAfter hands seat deed kept → IsTiedIn deals (after_deed hands seat deed kept)
+tied_after deals kept hands board seat deed same dealt after =
+    let now = after_deed hands seat deed kept in
     let there : hands_on deals now.board ≡ hands =
     ap (λ b. unwrap_or (deal_on deals b) []) (after.board ∙ same) ∙ ap (λ o. unwrap_or o []) dealt in
     let is_dealt : deal_on deals now.board ≡ Some hands = ap (deal_on deals) (after.board ∙ same) ∙ dealt in
@@ -91,10 +91,10 @@ one_board a b same =
     ap (λ (plain : PlainRecord). plain.board) seen
 
 -- the records of a table, of which the current one was changed
-pub acted_is : (deals : Deals) (table : List Record) (index : ℕ) (kept after : Record) (seat : Seat) (done : Deed) → All (IsTiedIn deals) table → position is_kept_open table ≡ Some index → kept ≡ slice_index_or table index kept → plain_of after ≡ with_deed seat done (plain_of kept) → map plain_of (slice_set table index after) ≡ acted_among seat done (map plain_of table)
-acted_is deals table index kept after seat done tied found is left =
+pub acted_is : (deals : Deals) (table : List Record) (index : ℕ) (kept after : Record) (seat : Seat) (deed : Deed) → All (IsTiedIn deals) table → position is_kept_open table ≡ Some index → kept ≡ slice_index_or table index kept → plain_of after ≡ with_deed seat deed (plain_of kept) → map plain_of (slice_set table index after) ≡ acted_among seat deed (map plain_of table)
+acted_is deals table index kept after seat deed tied found is left =
     let records = map plain_of table in
     map-set plain_of table index after
     ∙ ap (slice_set records index) left
-    ∙ ap (λ at. slice_set records at (with_deed seat done (plain_of kept))) (is_current deals table index tied found)
-    ∙ sym (changed_at-Some (with_deed seat done) records (current_index records) (plain_of kept) (current_is deals table index kept tied found is))
+    ∙ ap (λ at. slice_set records at (with_deed seat deed (plain_of kept))) (is_current deals table index tied found)
+    ∙ sym (changed_at-Some (with_deed seat deed) records (current_index records) (plain_of kept) (current_is deals table index kept tied found is))

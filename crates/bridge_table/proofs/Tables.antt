@@ -62,12 +62,12 @@ boards_seen : (table : List Record) → map board_kept table ≡ map (λ (plain 
 boards_seen [] = refl
 boards_seen (kept ∷ table) = ap (λ rest. kept.board ∷ rest) (boards_seen table)
 
-pub boards_same : (seat : Seat) (done : Deed) (r : Result (Unit {0}) Refused) (before after : List Record) → OnOk r (map plain_of after ≡ acted_among seat done (map plain_of before)) → OnErr r (after ≡ before) → map board_kept after ≡ map board_kept before
-boards_same seat done r before after taken refused =
+pub boards_same : (seat : Seat) (deed : Deed) (r : Result (Unit {0}) Refused) (before after : List Record) → OnOk r (map plain_of after ≡ acted_among seat deed (map plain_of before)) → OnErr r (after ≡ before) → map board_kept after ≡ map board_kept before
+boards_same seat deed r before after taken refused =
     at_result _ _ (map board_kept after ≡ map board_kept before) r taken refused
     (λ ok left.
     boards_seen after
     ∙ ap (map (λ (plain : PlainRecord). plain.board)) left
-    ∙ map-changed_at (λ (plain : PlainRecord). plain.board) (with_deed seat done) (map plain_of before) (current_index (map plain_of before)) (deed_board seat done)
+    ∙ map-changed_at (λ (plain : PlainRecord). plain.board) (with_deed seat deed) (map plain_of before) (current_index (map plain_of before)) (deed_board seat deed)
     ∙ sym (boards_seen before))
     (λ same. ap (map board_kept) same)

@@ -14,23 +14,23 @@ use Rattle.session_rules.specs.declared.deed.Deed.TheVariants as deed
 use Rattle.bridge_table.specs.declared.record.Record.{Record}
 use Rattle.session_rules.specs.declared.refused.Refused.TheVariants.{WrongPhase}
 use Rattle.session_rules.specs.declared.ruling.Ruling.{Ruling}
-use Rattle.session_rules.specs.Record.{PlainRecord, play_of, playing_in, contract_in, is_done, is_ruled_out, is_open}
+use Rattle.session_rules.specs.Record.{PlainRecord, course_of, course_by, course_in, play_of, playing_in, contract_in, is_done, is_ruled_out, is_open}
 use Rattle.session_rules.specs.Deed.{deed_answer, with_deed}
-use Rattle.bridge_table.specs.Kept.{plain_of, begun_with, after_deed, is_kept_open, IsTied}
+use Rattle.bridge_table.specs.Kept.{plain_of, begun_with, after_deed, course_kept, is_kept_open, IsTied}
 use Rattle.session_rules.proofs.Lists.{option_map-twice, not_refused}
 use Rattle.session_rules.proofs.PlainRecords.{no_contract}
 
--- whether a play is finished does not depend on its hands
-done_by : (hands : List ℕ) (plain : PlainRecord) (calls : List Call) (contract : Option Contract) → is_done calls (option_map (playing_in hands plain) contract) ≡ is_done calls (option_map (playing_in [] plain) contract)
-done_by hands plain calls None = refl
-done_by hands plain calls (Some contract) = refl
+-- the course of a play does not depend on its hands
+course_of_hands : (hands : List ℕ) (plain : PlainRecord) (contract : Option Contract) → option_map course_of (option_map (playing_in hands plain) contract) ≡ option_map (course_by plain) contract
+course_of_hands hands plain None = refl
+course_of_hands hands plain (Some contract) = refl
+
+pub course_same : (hands : List ℕ) (kept : Record) → IsTied hands kept → course_kept kept ≡ course_in (plain_of kept)
+course_same hands kept tied = ap (option_map course_of) tied.play ∙ course_of_hands hands (plain_of kept) (contract_in (plain_of kept))
 
 pub open_same : (hands : List ℕ) (kept : Record) → IsTied hands kept → is_open (plain_of kept) ≡ is_kept_open kept
 open_same hands kept tied =
-    let calls = kept.auction.calls in
-    let done : is_done calls kept.play ≡ is_done calls (play_of [] (plain_of kept)) =
-    ap (is_done calls) tied.play ∙ done_by hands (plain_of kept) calls (contract_in (plain_of kept)) in
-    ap (λ d. not (is_ruled_out kept.ruling) && not d) (sym done)
+    ap (λ course. not (is_ruled_out kept.ruling) && not (is_done kept.auction.calls course)) (sym (course_same hands kept tied))
 
 -- a record of these parts
 abbrev kept_of : ℕ → AuctionValue → Option PlayValue → Option Ruling → Record
@@ -42,10 +42,10 @@ plain_begun board auction ruling hands None = refl
 plain_begun board auction ruling hands (Some contract) = refl
 
 -- what a player did, and left
-pub record IsAfter (hands : List ℕ) (seat : Seat) (done : Deed) (kept : Record) : Type 0 where
-  pub board : (after_deed hands seat done kept).board ≡ kept.board
-  pub plain : plain_of (after_deed hands seat done kept) ≡ with_deed seat done (plain_of kept)
-  pub tied : IsTied hands (after_deed hands seat done kept)
+pub record IsAfter (hands : List ℕ) (seat : Seat) (deed : Deed) (kept : Record) : Type 0 where
+  pub board : (after_deed hands seat deed kept).board ≡ kept.board
+  pub plain : plain_of (after_deed hands seat deed kept) ≡ with_deed seat deed (plain_of kept)
+  pub tied : IsTied hands (after_deed hands seat deed kept)
 
 after_call : (board : ℕ) (auction : AuctionValue) (play : Option PlayValue) (ruling : Option Ruling) (hands : List ℕ) (seat : Seat) (call : Call) → IsTied hands (kept_of board auction play ruling) → is_ended auction.calls ≡ false → IsAfter hands seat (deed.Call call) (kept_of board auction play ruling)
 after_call board auction None ruling hands seat call tied open_auction =
@@ -80,7 +80,7 @@ after_play board auction play ruling hands f tied same =
           ∙ ap (λ (g : Contract → PlayValue). option_map g contract) (λ i k. same k i);
     }
 
-pub after_is : (board : ℕ) (auction : AuctionValue) (play : Option PlayValue) (ruling : Option Ruling) (hands : List ℕ) (seat : Seat) (at : ℕ) (done : Deed) → IsTied hands (kept_of board auction play ruling) → deed_answer auction play seat at done ≡ Ok tt → IsAfter hands seat done (kept_of board auction play ruling)
+pub after_is : (board : ℕ) (auction : AuctionValue) (play : Option PlayValue) (ruling : Option Ruling) (hands : List ℕ) (seat : Seat) (at : ℕ) (deed : Deed) → IsTied hands (kept_of board auction play ruling) → deed_answer auction play seat at deed ≡ Ok tt → IsAfter hands seat deed (kept_of board auction play ruling)
 after_is board auction play ruling hands seat at (deed.Call call) tied ok =
     after_call board auction play ruling hands seat call tied (not_refused (is_ended auction.calls) WrongPhase _ ok)
 after_is board auction None ruling hands seat at (deed.Card card) tied ok = absurd cc

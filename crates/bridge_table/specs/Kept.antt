@@ -16,7 +16,7 @@ use Rattle.session_rules.specs.declared.refused.Refused.TheVariants.{NoSuchPlay,
 use Rattle.session_rules.specs.Answer.{Answer}
 use Rattle.session_rules.specs.Correction.{ruling_by, ruling_answer}
 use Rattle.session_rules.specs.State.{Deals, deal_on, hands_on}
-use Rattle.session_rules.specs.Record.{PlainRecord, play_of, is_done, is_ruled_out}
+use Rattle.session_rules.specs.Record.{PlainRecord, Course, course_of, play_of, is_done, is_ruled_out}
 
 -- the play that is begun with those hands in that contract
 abbrev pub begun_with : List ℕ → Contract → PlayValue
@@ -38,9 +38,13 @@ pub record IsTied (hands : List ℕ) (kept : Record) : Type 0 where
   pub dealer : kept.auction.dealer ≡ dealer_of kept.board
   pub play : kept.play ≡ play_of hands (plain_of kept)
 
+-- the course of the play that is kept, once there is one
+abbrev pub course_kept : Record → Option Course
+course_kept kept = option_map course_of kept.play
+
 -- whether the play is neither finished, void nor adjusted
 abbrev pub is_kept_open : Record → Bool
-is_kept_open kept = not (is_ruled_out kept.ruling) && not (is_done kept.auction.calls kept.play)
+is_kept_open kept = not (is_ruled_out kept.ruling) && not (is_done kept.auction.calls (course_kept kept))
 
 -- the record after what a player did in the play of the cards
 abbrev pub after_play : Seat → Deed → Record → Record
@@ -60,7 +64,7 @@ after_deed hands seat deed kept = after_play seat deed kept
 
 -- the answer to a ruling on the play
 abbrev pub kept_ruling_answer : Scoring → Record → Correction → Bool → Answer
-kept_ruling_answer scoring kept correction round_is_over = ruling_answer scoring kept.auction.calls kept.play correction round_is_over
+kept_ruling_answer scoring kept correction round_is_over = ruling_answer scoring kept.auction.calls (course_kept kept) correction round_is_over
 
 -- the record is tied to the deal of its board, and has calls only where the board is dealt
 pub record IsTiedIn (deals : Deals) (kept : Record) : Type 0 where

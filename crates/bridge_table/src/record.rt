@@ -4,11 +4,11 @@ ghost use Rattle.bridge_auction.specs.Call.{IsCall};
 ghost use Rattle.session_rules.specs.Record.{is_done, is_ruled_out};
 ghost use Rattle.session_rules.specs.Deed.{from_call, from_card, from_claim, from_consent, renamed, call_answer, deed_answer, answer_if_play};
 ghost use Rattle.session_rules.specs.Correction.{ruling_by};
-ghost use Rattle.session_rules.specs.Outcome.{outcome_of_play, outcome_by, HasFewTricks};
+ghost use Rattle.session_rules.specs.Outcome.{outcome_of_course, outcome_by, HasFewTricks};
 ghost use Rattle.session_rules.specs.declared.ruling.Ruling.TheVariants as ruling;
 ghost use Rattle.session_rules.specs.Valid.{IsDeed};
 ghost use Rattle.session_rules.specs.StateRange.{IsCorrectionInRange};
-ghost use Rattle.bridge_table.specs.Kept.{new_record, is_kept_open, after_deed, after_play, kept_ruling_answer};
+ghost use Rattle.bridge_table.specs.Kept.{new_record, course_kept, is_kept_open, after_deed, after_play, kept_ruling_answer};
 ghost use Rattle.session_rules.specs.declared.deed.Deed.TheVariants as deed;
 
 use bridge_auction::{Auction, Call, CallRefused};
@@ -91,7 +91,7 @@ impl Record {
 
     /// Whether the play is finished: over, or passed out.
     pub fn is_finished(&self) -> bool
-        ensures { result ≡ is_done self.now.auction.calls self.now.play }
+        ensures { result ≡ is_done self.now.auction.calls (course_kept self.now) }
     {
         match &self.play {
             Some(play) => play.is_over(),
@@ -114,7 +114,7 @@ impl Record {
 
     /// What came of the play but for a ruling.
     fn outcome_of_play(&self) -> Outcome
-        ensures outcome { result ≡ outcome_of_play self.now.auction.calls self.now.play }
+        ensures outcome { result ≡ outcome_of_course self.now.auction.calls (course_kept self.now) }
         ensures few { HasFewTricks result }
     {
         match &self.play {
@@ -133,7 +133,7 @@ impl Record {
 
     /// What came of the play of which declarer has that many tricks by a ruling.
     fn outcome_ruled(&self, tricks: TrickCount) -> Outcome
-        ensures outcome { result ≡ outcome_by self.now.auction.calls self.now.play (Some (ruling.Tricks tricks)) }
+        ensures outcome { result ≡ outcome_by self.now.auction.calls (course_kept self.now) (Some (ruling.Tricks tricks)) }
         ensures few { HasFewTricks result }
     {
         match &self.play {
@@ -147,7 +147,7 @@ impl Record {
 
     /// What came of the play.
     pub fn outcome(&self) -> Outcome
-        ensures outcome { result ≡ outcome_by self.now.auction.calls self.now.play self.now.ruling }
+        ensures outcome { result ≡ outcome_by self.now.auction.calls (course_kept self.now) self.now.ruling }
         ensures few { HasFewTricks result }
     {
         match self.ruling {

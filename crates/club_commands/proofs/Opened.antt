@@ -16,7 +16,7 @@ use Rattle.bridge_session.specs.SessionKeeping.{session_keeping}
 use Rattle.session_rules.specs.State.{SessionValue}
 use Rattle.club_commands.specs.declared.fault.RunFault.{RunFault}
 use Rattle.club_commands.specs.Formatted.{FormatsMade, FailsToFormatMade, IsNoSessionFound, IsSessionOfFile, IsNoSessionOfFile, HasFormatted, StopsFormatting}
-use Rattle.club_commands.specs.Opening.{StopsReading}
+use Rattle.club_commands.specs.Opening.{StopsReadingFile}
 use Rattle.club_commands.specs.OnFile.{IsOnFile, RefusesFile, StopsScripting, StopsConnectionsOpened, StopsServingConnections}
 use Rattle.club_commands.specs.Stored.{RefusesDisk}
 use Rattle.club_commands.specs.Scripted.{ServesAll, StopsScript, ServesOpened, StopsOpened}
@@ -45,7 +45,7 @@ pub no_session : {F E : Type 0} (remaining : F → Option (List ℕ)) (found : R
 no_session remaining found (Ok _) stops = tt
 no_session remaining (Ok file) (Err fault) stops = of stops.1
   where
-    of : StopsReading (stream remaining file stops.0) fault → IsNoSessionOfFile fault
+    of : StopsReadingFile (stream remaining file stops.0) fault → IsNoSessionOfFile fault
     of (inl read) = inl read
     of (inr text) = inr (text.0, text.1.few, text.2)
 no_session remaining (Err _) (Err fault) stops = inl stops

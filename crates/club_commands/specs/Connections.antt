@@ -48,6 +48,7 @@ module _ {D : Type 0} (disk : Disk D) {S : Type 0} (remaining contents : S → O
     pub works : store.failed ≡ false
     pub no_fault : disk.faults store.disk ≡ disk.faults start.disk
 
+  -- the store failed, or no further connection could be had
   abbrev pub StopsConnections : ℕ → StoreValue D SessionValue Action → StoreValue D SessionValue Action → RunFault → Type 0
   StopsConnections count start store fault =
       (FailsConnections count start store × (fault ≡ Store DiskFault))

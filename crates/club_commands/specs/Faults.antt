@@ -10,6 +10,7 @@ use Rattle.table_server.specs.declared.fault.ServeFault.TheVariants.{Read, Write
 use Rattle.club_commands.specs.declared.fault.RunFault.{RunFault}
 use Rattle.club_commands.specs.declared.fault.RunFault.TheVariants.{Stream, Config, Store}
 
+-- the line of a stream that failed; a connection that could not be accepted counts as one that could not be read
 abbrev pub stream_line : ServeFault → List ℕ
 stream_line Read = codes "cannot read input\n"
 stream_line Write = codes "cannot write output\n"
@@ -19,6 +20,7 @@ stream_line Accept = codes "cannot read input\n"
 abbrev pub config_line : ConfigFault → List ℕ
 config_line fault = (((codes "config line " ++ decimal fault.line) ++ codes ": ") ++ refusal_name fault.cause) ++ codes "\n"
 
+-- the line of a disk or a store
 abbrev pub store_line : StoreFault → List ℕ
 store_line TooSmall = codes "disk too small\n"
 store_line Disk = codes "disk fault\n"

@@ -1,5 +1,5 @@
 -- What the command `format` makes.
-use Rattle.std.specs.Prelude.{◌≡◌, ◌⊎◌, ◌≤◌, ℕ, List, Option, length, codes, Result, Ok, Err}
+use Rattle.std.specs.Prelude.{◌≡◌, ◌⊎◌, ◌≤◌, ℕ, List, Option, length, codes, Result, Ok, MatchResult}
 use Rattle.std.specs.declared.fs.File.{File}
 use Rattle.line_text.specs.Streams.{Stream, stream, Takes, TakesPrefix, IsUntouched}
 use Rattle.sector_disk.specs.declared.file.FileDisk.{FileDisk}
@@ -7,6 +7,7 @@ use Rattle.sector_disk.specs.declared.system_file.SystemFile.{SystemFile}
 use Rattle.sector_disk.specs.Disk.{Disk, Image, Rose}
 use Rattle.sector_disk.specs.File.{file_disk}
 use Rattle.sector_disk.specs.Runs.{Remains}
+use Rattle.session_store.specs.Layout.{sector_count}
 use Rattle.session_store.specs.declared.fault.StoreFault.TheVariants.{Disk as DiskFault}
 use Rattle.session_store.specs.Base.{HasEpoch}
 use Rattle.session_store.specs.Stands.{recovered}
@@ -17,8 +18,9 @@ use Rattle.session_rules.specs.State.{SessionValue, opening}
 use Rattle.table_server.specs.declared.fault.ServeFault.TheVariants.{Read, Write}
 use Rattle.club_commands.specs.declared.fault.RunFault.{RunFault}
 use Rattle.club_commands.specs.declared.fault.RunFault.TheVariants.{Stream as StreamFault, Config, Store}
-use Rattle.club_commands.specs.Opening.{Begins, IsNoSession, IsSessionRead, StopsReading, most_read}
+use Rattle.club_commands.specs.Opening.{BeginsSession, IsNoSession, IsSessionRead, StopsReadingFile, most_read}
 
+-- what `format` writes when it is done
 abbrev pub formatted_line : List ℕ
 formatted_line = codes "formatted\n"
 
@@ -29,7 +31,7 @@ IsOpening image = (configuration : ConfigValue) × (recovered session_keeping im
 module _ {D : Type 0} (disk : Disk D) where
   -- Of a disk one was made that holds the session, and no call of it failed: where it is honest, every image that a power
   -- cut may leave stands for the session, is in order, and is of the first epoch.
-  pub record IsFormatted (made formatted : D) (session : SessionValue) : Type 0 where
+  pub record IsFormattedAs (made formatted : D) (session : SessionValue) : Type 0 where
     pub remains : Remains disk made formatted
     pub no_fault : disk.faults formatted ≡ disk.faults made
     pub stands : disk.honest made → StandsOnlyFor session_keeping disk session formatted
@@ -38,41 +40,39 @@ module _ {D : Type 0} (disk : Disk D) where
 
   -- a disk was made of it that holds the session, and `formatted` is written
   abbrev pub Formats : D → SessionValue → Stream → Type 0
-  Formats made session output = (formatted : D) × IsFormatted made formatted session × Takes output formatted_line
+  Formats made session output = (formatted : D) × IsFormattedAs made formatted session × Takes output formatted_line
 
   -- at a fault: a call of the disk failed, and nothing is written; or the disk holds the session, and a write failed
   abbrev pub FailsToFormat : D → SessionValue → Stream → RunFault → Type 0
   FailsToFormat made session output (StreamFault fault) = (fault ≡ Write)
-      × ((formatted : D) × IsFormatted made formatted session × TakesPrefix output formatted_line)
+      × ((formatted : D) × IsFormattedAs made formatted session × TakesPrefix output formatted_line)
   FailsToFormat made session output (Config fault) = ⊥
   FailsToFormat made session output (Store fault) = (fault ≡ DiskFault)
       × ((left : D) × Rose (disk.faults made) (disk.faults left)) × IsUntouched output
 
   -- a disk was made in a file, and of it one that holds the session, and `formatted` is written
   abbrev pub FormatsMade : {E : Type 0} → Result D E → SessionValue → Stream → Type 0
-  FormatsMade (Ok made) session output = Formats made session output
-  FormatsMade (Err _) session output = ⊥
+  FormatsMade found session output = MatchResult found (λ made. Formats made session output) (λ _. ⊥)
 
   -- a disk was made, and that failed; or none was made, which is a fault of the disk, and nothing is written
   abbrev pub FailsToFormatMade : {E : Type 0} → Result D E → SessionValue → Stream → RunFault → Type 0
-  FailsToFormatMade (Ok made) session output fault = FailsToFormat made session output fault
-  FailsToFormatMade (Err _) session output fault = (fault ≡ Store DiskFault) × IsUntouched output
+  FailsToFormatMade found session output fault =
+      MatchResult found (λ made. FailsToFormat made session output fault) (λ _. (fault ≡ Store DiskFault) × IsUntouched output)
 
 -- over a file: which bytes it still gives
 module _ {F : Type 0} (remaining : F → Option (List ℕ)) where
   -- a file was found, and gave the whole text of a configuration, and the session is its opening
   abbrev pub IsSessionFound : {E : Type 0} → Result F E → SessionValue → Type 0
-  IsSessionFound (Ok file) session = (after : F) × IsSessionRead (stream remaining file after) session
-  IsSessionFound (Err _) session = ⊥
+  IsSessionFound found session = MatchResult found (λ file. (after : F) × IsSessionRead (stream remaining file after) session) (λ _. ⊥)
 
   -- a file was found, and a read failed, or what was read begins no session; or none was found, which is a read fault
   abbrev pub IsNoSessionFound : {E : Type 0} → Result F E → RunFault → Type 0
-  IsNoSessionFound (Ok file) fault = (after : F) × StopsReading (stream remaining file after) fault
-  IsNoSessionFound (Err _) fault = fault ≡ StreamFault Read
+  IsNoSessionFound found fault =
+      MatchResult found (λ file. (after : F) × StopsReadingFile (stream remaining file after) fault) (λ _. fault ≡ StreamFault Read)
 
 -- Some text spells a configuration, and the session is its opening. That it is the text of a file no contract can say.
 abbrev pub IsSessionOfFile : SessionValue → Type 0
-IsSessionOfFile session = (text : List ℕ) × Begins text session
+IsSessionOfFile session = (text : List ℕ) × BeginsSession text session
 
 -- the fault is that of a file that cannot be read, of which no contract can say more; or some text, of at most the bytes
 -- that are read, begins no session
@@ -86,7 +86,7 @@ pub record HasFormatted (output : Stream) : Type 0 where
   pub session : SessionValue
   pub session_of : IsSessionOfFile session
   pub made : FileDisk (SystemFile File)
-  pub count : file_disk.count made ≡ 2048
+  pub count : file_disk.count made ≡ sector_count
   pub formats : Formats file_disk made session output
 
 -- a disk was made in a file, but formatting it for the session of a configuration's file, or writing `formatted`, failed
@@ -94,7 +94,7 @@ pub record FailsOnFile (output : Stream) (fault : RunFault) : Type 0 where
   pub session : SessionValue
   pub session_of : IsSessionOfFile session
   pub made : FileDisk (SystemFile File)
-  pub count : file_disk.count made ≡ 2048
+  pub count : file_disk.count made ≡ sector_count
   pub fails : FailsToFormat file_disk made session output fault
 
 -- `format` stopped: there is no session, or the fault is that of a disk that cannot be made, of which no contract can say

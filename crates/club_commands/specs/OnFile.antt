@@ -1,5 +1,5 @@
 -- What the commands do over the session that a disk in a file holds.
-use Rattle.std.specs.Prelude.{◌≡◌, ◌⊎◌, ℕ, List, Option, None, Result, Ok, Err}
+use Rattle.std.specs.Prelude.{◌≡◌, ◌⊎◌, ℕ, List, Option, None, Result, Ok, Err, MatchResult}
 use Rattle.std.specs.declared.fs.File.{File}
 use Rattle.std.specs.declared.net.tcp.TcpStream.{TcpStream}
 use Rattle.line_text.specs.Streams.{Stream, Takes, TakesPrefix, IsUntouched}
@@ -30,29 +30,29 @@ RefusesFile fault = (fault ≡ DiskFault) ⊎ ((d : FileDisk (SystemFile File)) 
 module _ (IsText : SessionValue → List ℕ → Type 0) where
   -- a session was opened, and the text of its results is written
   abbrev pub TellsOpened : {D : Type 0} → Result (StoreValue D SessionValue Action) StoreFault → Stream → Type 0
-  TellsOpened (Ok store) output = (text : List ℕ) × IsText store.state text × Takes output text
-  TellsOpened (Err _) output = ⊥
+  TellsOpened opened output =
+      MatchResult opened (λ store. (text : List ℕ) × IsText store.state text × Takes output text) (λ _. ⊥)
 
   -- it was opened, and a write failed; or it was not, and the fault is the cause
   abbrev pub StopsTelling : {D : Type 0} → Result (StoreValue D SessionValue Action) StoreFault → Stream → RunFault → Type 0
-  StopsTelling (Ok store) output fault =
-      (fault ≡ StreamFault Write) × ((text : List ℕ) × IsText store.state text × TakesPrefix output text)
-  StopsTelling (Err cause) output fault = (fault ≡ Store cause) × IsUntouched output
+  StopsTelling opened output fault = MatchResult opened
+      (λ store. (fault ≡ StreamFault Write) × ((text : List ℕ) × IsText store.state text × TakesPrefix output text))
+      (λ cause. (fault ≡ Store cause) × IsUntouched output)
 
   -- this is the text of the results of a session that was opened on a disk in a file
-  pub record Tells (text : List ℕ) : Type 0 where
+  pub record TellsOnFile (text : List ℕ) : Type 0 where
     pub store : StoreValue (FileDisk (SystemFile File)) SessionValue Action
     pub opened : IsOnFile store
     pub says : IsText store.state text
 
   -- the text of the results is written
   abbrev pub HasResults : Stream → Type 0
-  HasResults output = (text : List ℕ) × Tells text × Takes output text
+  HasResults output = (text : List ℕ) × TellsOnFile text × Takes output text
 
   -- there is no session, and nothing is written; or a write failed
   abbrev pub StopsResults : Stream → RunFault → Type 0
   StopsResults output fault = ((cause : StoreFault) × (fault ≡ Store cause) × RefusesFile cause × IsUntouched output)
-      ⊎ ((fault ≡ StreamFault Write) × ((text : List ℕ) × Tells text × TakesPrefix output text))
+      ⊎ ((fault ≡ StreamFault Write) × ((text : List ℕ) × TellsOnFile text × TakesPrefix output text))
 
 -- all lines of the input were served over a session that was opened on a disk in a file
 pub record HasScripted (input output : Stream) : Type 0 where
@@ -76,6 +76,7 @@ pub record StopsOnFile (input output : Stream) (fault : RunFault) : Type 0 where
   pub store : StoreValue (FileDisk (SystemFile File)) SessionValue Action
   pub stops : StopsScript file_disk start store input output fault
 
+-- how `script` stops: before it reads a line, or over a session that was opened
 abbrev pub StopsScripting : Stream → Stream → RunFault → Type 0
 StopsScripting input output fault = IsNotScripted input output fault ⊎ StopsOnFile input output fault
 
@@ -85,13 +86,14 @@ unknown connection = None
 
 -- there is a listener at the port, and the lines of so many connections were served
 abbrev pub ServesHeard : {L E : Type 0} → Result L E → ℕ → StoreValue (FileDisk (SystemFile File)) SessionValue Action → StoreValue (FileDisk (SystemFile File)) SessionValue Action → Type 0
-ServesHeard (Ok _) count start store = ServesAllConnections file_disk unknown unknown count start store
-ServesHeard (Err _) count start store = ⊥
+ServesHeard heard count start store =
+    MatchResult heard (λ _. ServesAllConnections file_disk unknown unknown count start store) (λ _. ⊥)
 
 -- there is one, and the serving stopped; or there is none, and the store is as it was
 abbrev pub StopsHearing : {L E : Type 0} → Result L E → ℕ → StoreValue (FileDisk (SystemFile File)) SessionValue Action → StoreValue (FileDisk (SystemFile File)) SessionValue Action → RunFault → Type 0
-StopsHearing (Ok _) count start store fault = StopsConnections file_disk unknown unknown count start store fault
-StopsHearing (Err _) count start store fault = (fault ≡ StreamFault Accept) × (store ≡ start)
+StopsHearing heard count start store fault = MatchResult heard
+    (λ _. StopsConnections file_disk unknown unknown count start store fault)
+    (λ _. (fault ≡ StreamFault Accept) × (store ≡ start))
 
 -- there is no listener at the port, and the store is as it was; or the serving of connections stopped
 abbrev pub StopsListening : ℕ → StoreValue (FileDisk (SystemFile File)) SessionValue Action → StoreValue (FileDisk (SystemFile File)) SessionValue Action → RunFault → Type 0
@@ -118,6 +120,7 @@ pub record StopsOnConnections (count : ℕ) (fault : RunFault) : Type 0 where
   pub store : StoreValue (FileDisk (SystemFile File)) SessionValue Action
   pub stops : StopsListening count start store fault
 
+-- how `serve` stops: before it listens, or over a session that was opened
 abbrev pub StopsServingConnections : ℕ → RunFault → Type 0
 StopsServingConnections count fault = IsNotServed fault ⊎ StopsOnConnections count fault
 

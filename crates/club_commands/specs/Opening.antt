@@ -30,7 +30,7 @@ pub record IsTextRead (reader : Stream) (text : List ℕ) : Type 0 where
   pub whole : length text < most_read → IsAtEnd reader.new
 
 -- the text spells a configuration, and the session is its opening
-pub record Begins (text : List ℕ) (session : SessionValue) : Type 0 where
+pub record BeginsSession (text : List ℕ) (session : SessionValue) : Type 0 where
   pub configuration : ConfigValue
   pub spelled : Spells text configuration
   pub begun : session ≡ opening configuration
@@ -46,9 +46,9 @@ pub record IsSessionRead (reader : Stream) (session : SessionValue) : Type 0 whe
   pub text : List ℕ
   pub given : Gives reader text
   pub whole : IsAtEnd reader.new
-  pub begins : Begins text session
+  pub begins : BeginsSession text session
 
 -- why no session was read: a read failed, or the text that was read begins none
-abbrev pub StopsReading : Stream → RunFault → Type 0
-StopsReading reader fault =
+abbrev pub StopsReadingFile : Stream → RunFault → Type 0
+StopsReadingFile reader fault =
     (fault ≡ StreamFault Read) ⊎ ((text : List ℕ) × IsTextRead reader text × IsNoSession text fault)

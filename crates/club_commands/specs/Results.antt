@@ -6,9 +6,10 @@ use Rattle.bridge_ranking.specs.declared.field.Field.TheVariants.{First, Second}
 use Rattle.bridge_ranking.specs.Ranking.{IsRankingTo, has_field}
 use Rattle.session_rules.specs.State.{SessionValue}
 use Rattle.bridge_pbn.specs.Games.{session_text}
-use Rattle.bridge_pbn.specs.Lines.{lines_text}
-use Rattle.table_server.specs.ReplyTexts.{rank_line}
+use Rattle.line_text.specs.Lines.{lines_text}
+use Rattle.table_server.specs.ReplyTexts.{ranked_line}
 
+-- the line above the ranking of a field
 abbrev pub field_heading : Field → List ℕ
 field_heading First = codes "FIELD 1\n"
 field_heading Second = codes "FIELD 2\n"
@@ -17,7 +18,7 @@ field_heading Second = codes "FIELD 2\n"
 abbrev pub ListsField : SessionValue → Field → List ℕ → Type 0
 ListsField s field text =
     (ranking : List Ranked) × IsRankingTo s s.configuration.director field ranking
-    × (text ≡ field_heading field ++ lines_text (map (rank_line s.configuration.scoring) ranking))
+    × (text ≡ field_heading field ++ lines_text (map (ranked_line s.configuration.scoring) ranking))
 
 -- the text of a field, which is empty where there is no such field
 abbrev pub IsFieldText : SessionValue → Field → List ℕ → Type 0

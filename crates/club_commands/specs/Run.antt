@@ -29,13 +29,13 @@ StopsAuction board input output (Config fault) = ⊥
 StopsAuction board input output (Store fault) = ⊥
 
 -- what a command that was done read from standard input and wrote to standard output
-abbrev pub Does : Command → Stream → Stream → Type 0
-Does (Auction board) input output = HasAuction board input output
-Does (Format disk config) input output = HasFormatted output × IsUntouched input
-Does (Script disk) input output = HasScripted input output
-Does (Serve disk port count) input output = HasServedConnections count × IsUntouched output × IsUntouched input
-Does (Rank disk) input output = HasResults IsRankingText output × IsUntouched input
-Does (Pbn disk) input output = HasResults IsPbnText output × IsUntouched input
+abbrev pub DoesCommand : Command → Stream → Stream → Type 0
+DoesCommand (Auction board) input output = HasAuction board input output
+DoesCommand (Format disk config) input output = HasFormatted output × IsUntouched input
+DoesCommand (Script disk) input output = HasScripted input output
+DoesCommand (Serve disk port count) input output = HasServedConnections count × IsUntouched output × IsUntouched input
+DoesCommand (Rank disk) input output = HasResults IsRankingText output × IsUntouched input
+DoesCommand (Pbn disk) input output = HasResults IsPbnText output × IsUntouched input
 
 -- what a command leaves of standard input and on standard output where it stops at that fault
 abbrev pub StopsBy : Command → Stream → Stream → RunFault → Type 0
@@ -49,11 +49,11 @@ StopsBy (Pbn disk) input output fault = StopsResults IsPbnText output fault × I
 
 -- a command was done, and nothing stands on standard error
 abbrev pub IsDone : Command → Stream → Stream → Stream → Type 0
-IsDone command input output errors = Does command input output × IsUntouched errors
+IsDone command input output errors = DoesCommand command input output × IsUntouched errors
 
 -- A command stopped at some fault that has this status, and standard error took a prefix of the line for that fault, no
 -- more.
-pub record IsStopped (command : Command) (input output errors : Stream) (status : ℕ) : Type 0 where
+pub record IsCommandStopped (command : Command) (input output errors : Stream) (status : ℕ) : Type 0 where
   pub fault : RunFault
   pub stopped : StopsBy command input output fault
   pub named : TakesPrefix errors (fault_line fault)
@@ -79,6 +79,6 @@ pub record IsWithoutMemory (input output errors : Stream) : Type 0 where
   pub named : TakesPrefix errors memory_line
 
 -- the exit status where the words are no command, and what standard error took where memory was refused
-abbrev pub Refuses : WordsFault → ℕ → Stream → Type 0
-Refuses (Usage error) status errors = status ≡ 2
-Refuses Memory status errors = (status ≡ 3) × TakesPrefix errors memory_line
+abbrev pub RefusesWords : WordsFault → ℕ → Stream → Type 0
+RefusesWords (Usage error) status errors = status ≡ 2
+RefusesWords Memory status errors = (status ≡ 3) × TakesPrefix errors memory_line

@@ -41,6 +41,7 @@ module _ {D : Type 0} (disk : Disk D) where
     pub named : fault ≡ fault_over store.failed cause
     pub faults : FailsWithDisk disk start store
 
+  -- the store failed, or a stream
   abbrev pub StopsScript : StoreValue D SessionValue Action → StoreValue D SessionValue Action → Stream → Stream → RunFault → Type 0
   StopsScript start store input output fault =
       (FailsServing start store input output × (fault ≡ Store DiskFault)) ⊎ EndsEarly start store input output fault

@@ -1,8 +1,9 @@
 -- The session that a disk holds.
-use Rattle.std.specs.Prelude.{◌≡◌, ◌⊎◌, ◌<◌, ◌≤◌, ◌+◌, ℕ, false, Result, Ok, Err}
+use Rattle.std.specs.Prelude.{◌≡◌, ◌⊎◌, ◌<◌, ◌≤◌, ◌+◌, ℕ, false, Result, MatchResult}
 use Rattle.sector_disk.specs.Disk.{Disk}
 use Rattle.session_store.specs.declared.fault.StoreFault.{StoreFault}
 use Rattle.session_store.specs.declared.fault.StoreFault.TheVariants.{TooSmall, NoMemory, Disk as DiskFault}
+use Rattle.session_store.specs.Layout.{sector_count}
 use Rattle.session_store.specs.Base.{HasEpoch}
 use Rattle.session_store.specs.Opening.{IsCause, IsOpened, HasNext, reading}
 use Rattle.session_store.specs.Value.{StoreValue}
@@ -23,17 +24,15 @@ module _ {D : Type 0} (disk : Disk D) where
   -- Opening a disk gives no session: it has fewer than 2,048 sectors; or a call of it failed, memory was refused, or what
   -- it reads is refused. Memory is asked for only where a header was found whose epoch is not the last.
   abbrev pub RefusesDisk : D → StoreFault → Type 0
-  RefusesDisk d fault = ((disk.count d < 2048) × (fault ≡ TooSmall))
-      ⊎ ((2048 ≤ disk.count d) × ((left : D)
+  RefusesDisk d fault = ((disk.count d < sector_count) × (fault ≡ TooSmall))
+      ⊎ ((sector_count ≤ disk.count d) × ((left : D)
       × IsCause (disk.honest d) (disk.faults d) (disk.faults left) (reading session_keeping (disk.reads d)) fault)
       × (fault ≡ NoMemory → disk.honest d → HasNext (disk.reads d)))
 
   -- a disk was found, and opening it gave this store
   abbrev pub OpensFound : {E : Type 0} → Result D E → StoreValue D SessionValue Action → Type 0
-  OpensFound (Ok d) store = OpensSession d store
-  OpensFound (Err _) store = ⊥
+  OpensFound found store = MatchResult found (λ d. OpensSession d store) (λ _. ⊥)
 
   -- a disk was found, and opening it gives no session; or none was found, which is a fault of the disk
   abbrev pub RefusesFound : {E : Type 0} → Result D E → StoreFault → Type 0
-  RefusesFound (Ok d) fault = RefusesDisk d fault
-  RefusesFound (Err _) fault = fault ≡ DiskFault
+  RefusesFound found fault = MatchResult found (λ d. RefusesDisk d fault) (λ _. fault ≡ DiskFault)

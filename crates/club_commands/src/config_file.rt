@@ -2,7 +2,7 @@
 ghost use Rattle.std.specs.Prelude.{◌≡◌, ◌<◌, ◌≤◌, [], length, IfOk, IfErr, OnOk};
 ghost use Rattle.line_text.specs.Streams.{stream};
 ghost use Rattle.table_server.specs.declared.fault.ServeFault.TheVariants.{Read as ReadFault};
-ghost use Rattle.club_commands.specs.Opening.{ReadsOn, IsTextRead, Begins, IsNoSession, IsSessionRead, StopsReading};
+ghost use Rattle.club_commands.specs.Opening.{ReadsOn, IsTextRead, BeginsSession, IsNoSession, IsSessionRead, StopsReadingFile};
 
 use crate::fault::RunFault;
 use arrayvec::ArrayVec;
@@ -14,19 +14,19 @@ use std::io::Read;
 use table_server::ServeFault;
 
 /// The most bytes of a configuration's file that are read: one more than a configuration may have.
-pub const TEXT_BYTES: usize = 16385;
+pub const FILE_BYTES: usize = 16385;
 
 /// The most bytes that are read at a time.
 const PIECE_BYTES: usize = 512;
 
 /// The first bytes of a file.
-pub type Text = ArrayVec<u8, TEXT_BYTES>;
+pub type Text = ArrayVec<u8, FILE_BYTES>;
 
 /// Reads once, and adds what is read to the text. The answer is whether that was anything: none comes only at the end.
 fn read_on<R: Read>(reader: &mut R, text: &mut Text) -> Result<bool, ServeFault>
-    requires { length text.old.items < TEXT_BYTES }
+    requires { length text.old.items < FILE_BYTES }
     ensures read { IfOk result (ReadsOn (stream R.remaining reader.old reader.new) text.old.items text.new.items) }
-    ensures few { length text.new.items ≤ TEXT_BYTES }
+    ensures few { length text.new.items ≤ FILE_BYTES }
     ensures fault { IfErr result (λ fault. fault ≡ ReadFault) }
 {
     let mut piece = [0; PIECE_BYTES];
@@ -46,7 +46,7 @@ fn read_text<R: Read>(reader: &mut R, text: &mut Text) -> Result<(), ServeFault>
     ensures read { OnOk result (IsTextRead (stream R.remaining reader.old reader.new) text.new.items) }
     ensures fault { IfErr result (λ fault. fault ≡ ReadFault) }
 {
-    while text.len() < TEXT_BYTES {
+    while text.len() < FILE_BYTES {
         match read_on(reader, text) {
             Ok(true) => {}
             Ok(false) => return Ok(()),
@@ -58,7 +58,7 @@ fn read_text<R: Read>(reader: &mut R, text: &mut Text) -> Result<(), ServeFault>
 
 /// The session that begins by a configuration.
 fn new_session(alloc: Global, text: &[u8]) -> Result<Session, RunFault>
-    ensures session { IfOk result (Begins text.now) }
+    ensures session { IfOk result (BeginsSession text.now) }
     ensures fault { IfErr result (IsNoSession text.now) }
 {
     match read_config(text) {
@@ -73,7 +73,7 @@ fn new_session(alloc: Global, text: &[u8]) -> Result<Session, RunFault>
 /// The session that begins by the configuration that the reader gives.
 pub fn read_session<R: Read>(alloc: Global, reader: &mut R) -> Result<Session, RunFault>
     ensures session { IfOk result (IsSessionRead (stream R.remaining reader.old reader.new)) }
-    ensures fault { IfErr result (StopsReading (stream R.remaining reader.old reader.new)) }
+    ensures fault { IfErr result (StopsReadingFile (stream R.remaining reader.old reader.new)) }
 {
     let mut text = Text::new();
     match read_text(reader, &mut text) {

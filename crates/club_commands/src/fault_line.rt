@@ -16,10 +16,10 @@ pub const FAULT: u8 = 3;
 pub const NO_SESSION: u8 = 4;
 
 /// The most bytes of a line.
-const LINE_BYTES: usize = 40;
+const FAULT_LINE_BYTES: usize = 40;
 
 /// The line of a fault.
-pub type FaultLine = ArrayString<LINE_BYTES>;
+pub type FaultLine = ArrayString<FAULT_LINE_BYTES>;
 
 /// The exit status at a fault: 4 where the disk is too small, not formatted or damaged, and 3 otherwise.
 pub fn fault_status(fault: RunFault) -> u8
@@ -55,7 +55,7 @@ pub fn fault_line(fault: RunFault) -> FaultLine
 
 /// The text as a line.
 fn line_of(text: &str) -> FaultLine
-    requires { length text.now ≤ LINE_BYTES }
+    requires { length text.now ≤ FAULT_LINE_BYTES }
     ensures { result.bytes ≡ text.now }
 {
     let mut line = FaultLine::new();

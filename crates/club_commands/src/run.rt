@@ -1,10 +1,10 @@
 //! Runs the command that the words ask for.
 ghost use Rattle.std.specs.Prelude.{◌≡◌, ◌≢◌, ◌⊎◌, [], map, IfOk, IfErr, OnOk};
 ghost use Rattle.clap.specs.Words.{fault_of};
-ghost use Rattle.command_line.specs.Words.{club_app, Asks};
+ghost use Rattle.command_line.specs.Words.{club_app, AsksCommand};
 ghost use Rattle.line_text.specs.Streams.{stream, TakesPrefix, IsUntouched};
 ghost use Rattle.club_commands.specs.Faults.{fault_line, fault_status};
-ghost use Rattle.club_commands.specs.Run.{HasAuction, StopsAuction, Does, StopsBy, IsDone, IsStopped, IsWithoutMemory, Refuses, memory_line, text_line, files_line};
+ghost use Rattle.club_commands.specs.Run.{HasAuction, StopsAuction, DoesCommand, StopsBy, IsDone, IsCommandStopped, IsWithoutMemory, RefusesWords, memory_line, text_line, files_line};
 ghost use Rattle.command_line.specs.declared.command.Command.{Command};
 
 use crate::disk_commands::{run_pbn, run_rank, run_script, run_serve};
@@ -44,7 +44,7 @@ pub fn run_words<
     W: Write,
     E: Write,
 >(rt: &S, alloc: Global, words: &[&str], input: &mut R, output: &mut W, errors: &mut E) -> u8
-    ensures done { result ≡ 0 → (command : Command) × Asks (map (λ word. word.now) words.entry.now) command
+    ensures done { result ≡ 0 → (command : Command) × AsksCommand (map (λ word. word.now) words.entry.now) command
         × IsDone command (stream R.remaining input.old input.new)
         (stream W.contents output.old output.new) (stream E.contents errors.old errors.new) }
     ensures usage { result ≡ 2 → (fault_of club_app (map (λ word. word.now) words.entry.now) ≢ [])
@@ -52,11 +52,11 @@ pub fn run_words<
         × IsUntouched (stream W.contents output.old output.new) }
     ensures fault { result ≡ 3 → IsWithoutMemory (stream R.remaining input.old input.new)
         (stream W.contents output.old output.new) (stream E.contents errors.old errors.new)
-        ⊎ ((command : Command) × Asks (map (λ word. word.now) words.entry.now) command
-        × IsStopped command (stream R.remaining input.old input.new)
+        ⊎ ((command : Command) × AsksCommand (map (λ word. word.now) words.entry.now) command
+        × IsCommandStopped command (stream R.remaining input.old input.new)
         (stream W.contents output.old output.new) (stream E.contents errors.old errors.new) 3) }
-    ensures no_session { result ≡ 4 → (command : Command) × Asks (map (λ word. word.now) words.entry.now) command
-        × IsStopped command (stream R.remaining input.old input.new)
+    ensures no_session { result ≡ 4 → (command : Command) × AsksCommand (map (λ word. word.now) words.entry.now) command
+        × IsCommandStopped command (stream R.remaining input.old input.new)
         (stream W.contents output.old output.new) (stream E.contents errors.old errors.new) 4 }
     ensures status { (result ≡ 0) ⊎ ((result ≡ 2) ⊎ ((result ≡ 3) ⊎ (result ≡ 4))) }
 {
@@ -68,7 +68,7 @@ pub fn run_words<
 
 /// Says on `errors` why the words are no command, and answers the exit status.
 pub fn refuse<E: Write>(fault: WordsFault, errors: &mut E) -> u8
-    ensures { Refuses fault result (stream E.contents errors.old errors.new) }
+    ensures { RefusesWords fault result (stream E.contents errors.old errors.new) }
 {
     match fault {
         WordsFault::Usage(error) => {
@@ -88,7 +88,7 @@ fn run_command<
 >(rt: &S, alloc: Global, command: &Command<'_>, input: &mut R, output: &mut W, errors: &mut E) -> u8
     ensures done { result ≡ 0 → IsDone command.now (stream R.remaining input.old input.new)
         (stream W.contents output.old output.new) (stream E.contents errors.old errors.new) }
-    ensures stopped { result ≢ 0 → IsStopped command.now (stream R.remaining input.old input.new)
+    ensures stopped { result ≢ 0 → IsCommandStopped command.now (stream R.remaining input.old input.new)
         (stream W.contents output.old output.new) (stream E.contents errors.old errors.new) result }
     ensures status { (result ≡ 0) ⊎ ((result ≡ 3) ⊎ (result ≡ 4)) }
 {
@@ -110,7 +110,7 @@ fn do_command<
     input: &mut R,
     output: &mut W,
 ) -> Result<(), RunFault>
-    ensures done { OnOk result (Does command.now (stream R.remaining input.old input.new)
+    ensures done { OnOk result (DoesCommand command.now (stream R.remaining input.old input.new)
         (stream W.contents output.old output.new)) }
     ensures fault { IfErr result (StopsBy command.now (stream R.remaining input.old input.new)
         (stream W.contents output.old output.new)) }

@@ -69,15 +69,19 @@ bare_app = record named_app { top = record named_app.top { no_binary_name = true
 abbrev pub app_with_auction : App
 app_with_auction = with_subcommand bare_app auction_app.top
 
+-- and with `format`
 abbrev pub app_with_format : App
 app_with_format = with_subcommand app_with_auction format_app.top
 
+-- and with `script`
 abbrev pub app_with_script : App
 app_with_script = with_subcommand app_with_format script_app.top
 
+-- and with `serve`
 abbrev pub app_with_serve : App
 app_with_serve = with_subcommand app_with_script serve_app.top
 
+-- and with `rank`
 abbrev pub app_with_rank : App
 app_with_rank = with_subcommand app_with_serve rank_app.top
 
@@ -123,8 +127,8 @@ IsCommand None command = ⊥
 IsCommand (Some named) command = IsNamed named.0 named.1 command
 
 -- clap finds no fault in the texts, and they are the words of the command
-abbrev pub Asks : List Text → Command → Type 0
-Asks texts words = (fault_of club_app texts ≡ []) × IsCommand (subcommand_of club_app texts) words
+abbrev pub AsksCommand : List Text → Command → Type 0
+AsksCommand texts words = (fault_of club_app texts ≡ []) × IsCommand (subcommand_of club_app texts) words
 
 -- clap finds a fault in the texts, or memory was refused
 abbrev pub IsRefusedBy : List Text → WordsFault → Type 0

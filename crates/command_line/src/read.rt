@@ -2,7 +2,7 @@
 ghost use Rattle.std.specs.Prelude.{◌≡◌, IfOk, IfErr, IfSome, codes, false, map};
 ghost use Rattle.clap.specs.Words.{app_of, shape_of, rule_of, rows_of, found_of, subcommand_rows_of};
 ghost use Rattle.clap.specs.declared.builder.command.Command.TheViews.{out-Command as fields_of};
-ghost use Rattle.command_line.specs.Words.{board_rule, disk_rule, config_rule, port_rule, count_rule, auction_app, format_app, script_app, serve_app, rank_app, pbn_app, bare_app, app_with_auction, app_with_format, app_with_script, app_with_serve, app_with_rank, club_app, HasNumber, IsCommand, IsNamed, Asks, IsRefusedBy};
+ghost use Rattle.command_line.specs.Words.{board_rule, disk_rule, config_rule, port_rule, count_rule, auction_app, format_app, script_app, serve_app, rank_app, pbn_app, bare_app, app_with_auction, app_with_format, app_with_script, app_with_serve, app_with_rank, club_app, HasNumber, IsCommand, IsNamed, AsksCommand, IsRefusedBy};
 
 use crate::command::{Command, WordsFault};
 use bridge_cards::BoardNumber;
@@ -15,7 +15,7 @@ use std::alloc::{AllocError, Global};
 /// `Usage` where they are no command or call for help, and `Memory` where memory is refused; no clause says that `Memory`
 /// comes only there.
 pub fn read_words<'a>(alloc: Global, words: &'a [&'a str]) -> Result<Command<'a>, WordsFault>
-    ensures ok { IfOk result (Asks (map (λ word. word.now) words.entry.now)) }
+    ensures ok { IfOk result (AsksCommand (map (λ word. word.now) words.entry.now)) }
     ensures fault { IfErr result (IsRefusedBy (map (λ word. word.now) words.entry.now)) }
 {
     let command = match club_command(alloc) {

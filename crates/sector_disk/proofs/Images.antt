@@ -8,7 +8,7 @@ use Rattle.std.proofs.lemmas.List.Elements.{Contains-push_cases, Contains-get_or
 use Rattle.std.proofs.lemmas.List.{length_push, length-replicate, get_or-replicate, get_or_past}
 use Rattle.sector_disk.specs.Disk.{Image, IsSame, with_sector}
 use Rattle.sector_disk.proofs.ImageLaws.{with_sector-same, with_sector-other}
-use Rattle.sector_disk.specs.Calls.{IsUntouched, IsWritten, IsSynced, WithOrWithout}
+use Rattle.sector_disk.specs.Calls.{IsDiskUntouched, IsWritten, IsSynced, WithOrWithout}
 use Rattle.sector_disk.specs.Held.{SectorValue, newest, picked, restarted, written, settled, cut_to, blank, possible, sector_at, after, IsImage}
 use Rattle.sector_disk.specs.Memory.{held, memory_disk}
 use Rattle.sector_disk.specs.declared.memory.MemoryDisk.{MemoryDisk}
@@ -121,7 +121,7 @@ module _ (m n : MemoryDisk) where
   }
 
   -- a call that leaves the sectors as they were
-  pub is_untouched : n.sectors.items ≡ m.sectors.items → IsUntouched memory_disk m n
+  pub is_untouched : n.sectors.items ≡ m.sectors.items → IsDiskUntouched memory_disk m n
   is_untouched same = record {
     reads = λ k. ap (λ (s : List SectorValue). newest (sector_at s k)) same;
     images = λ c image. subst (λ (s : List SectorValue). IsImage (sector_at s) c) same image;

@@ -19,7 +19,7 @@ pub record Called {D T E : Type 0} (disk : Disk D) (old new : D) (result : Resul
   pub time : disk.honest old → Elapses disk old new
 
 -- reads give the same, and a power cut leaves nothing that it might not have left before
-pub record IsUntouched {D : Type 0} (disk : Disk D) (old new : D) : Type 0 where
+pub record IsDiskUntouched {D : Type 0} (disk : Disk D) (old new : D) : Type 0 where
   pub reads : IsSame (disk.reads new) (disk.reads old)
   pub images : (c : Image) → disk.may_leave new c → disk.may_leave old c
 
@@ -43,19 +43,19 @@ pub record IsSynced {D : Type 0} (disk : Disk D) (old new : D) : Type 0 where
 -- that it might not have left before.
 pub record Reads {D T E : Type 0} (disk : Disk D) (old new : D) (i : ℕ) (bytes : List ℕ) (result : Result T E) : Type 0 where
   pub given : OnOk result (bytes ≡ disk.reads old i)
-  pub untouched : IsUntouched disk old new
+  pub untouched : IsDiskUntouched disk old new
 
 -- a write of sector i; one that fails was done all the same, or reads give what they gave and a power cut leaves
 -- nothing that it might not have left before
 pub record Writes {D T E : Type 0} (disk : Disk D) (old new : D) (i : ℕ) (bytes : List ℕ) (result : Result T E) : Type 0 where
   pub ok : OnOk result (IsWritten disk old new i bytes)
-  pub err : OnErr result (IsWritten disk old new i bytes ⊎ IsUntouched disk old new)
+  pub err : OnErr result (IsWritten disk old new i bytes ⊎ IsDiskUntouched disk old new)
 
 -- a sync; one that fails was done all the same, or reads give what they gave and a power cut leaves nothing that it
 -- might not have left before
 pub record Syncs {D T E : Type 0} (disk : Disk D) (old new : D) (result : Result T E) : Type 0 where
   pub ok : OnOk result (IsSynced disk old new)
-  pub err : OnErr result (IsSynced disk old new ⊎ IsUntouched disk old new)
+  pub err : OnErr result (IsSynced disk old new ⊎ IsDiskUntouched disk old new)
 
 -- all that is said of a read
 pub record ReadCall {D T E : Type 0} (disk : Disk D) (old new : D) (i : ℕ) (bytes : List ℕ) (result : Result T E) : Type 0 where

@@ -17,7 +17,8 @@ use Rattle.session_bytes.specs.ActionRange.{IsKey, IsDeedInRange, IsActInRange, 
 use Rattle.session_bytes.specs.ActionBytes.{hand_bytes, deed_bytes, correction_bytes, act_bytes, action_bytes, in_range, player_action, turn_in, hand_in, hands_in, deal_in, action_in, action_of}
 use Rattle.session_store.specs.declared.disk_format.DiskFormat.{DiskFormat}
 use Rattle.session_rules.specs.Valid.{IsDeed, IsAct, IsAction}
-use Rattle.session_bytes.proofs.ActionLaws.{map_is, then_is, if_is, in_range_is, last_is, player_is, ruling_is, four_all}
+use Rattle.session_bytes.proofs.ReadSteps.{map_is, then_is, if_is, in_range_is, last_is}
+use Rattle.session_bytes.proofs.ActionLaws.{player_is, ruling_is, four_all}
 use Rattle.session_bytes.proofs.PartLemmas.{length-flat_fixed}
 
 turn_in_range : (kind : ℕ) (key : Key) (bytes : List ℕ) (a : Action) → IsKey key → turn_in kind key bytes ≡ Some a → IsInRange a
@@ -91,7 +92,7 @@ read_in_range format (kind ∷ k ∷ l ∷ m ∷ n ∷ rest) a is =
     kind_in_range format kind (record { 0 = key.0 }) rest a (omega (arith, key_is.2)) key.2
 
 -- the ranges are those of the steps
-range_is_deed : (done : Deed) → IsDeedInRange done → IsDeed done
+range_is_deed : (deed : Deed) → IsDeedInRange deed → IsDeed deed
 range_is_deed (deed.Call call) is = is
 range_is_deed (deed.Card card) is = tt
 range_is_deed (deed.Claim tricks) is = tt
@@ -99,7 +100,7 @@ range_is_deed deed.Agree is = tt
 range_is_deed deed.Refuse is = tt
 
 range_is_act : (a : Act) → IsActInRange a → IsAct a
-range_is_act (act.Player key board at done) is = range_is_deed done is.2
+range_is_act (act.Player key board at deed) is = range_is_deed deed is.2
 range_is_act (act.Deal key board hands) is = is.1.0
 range_is_act (act.RoundEnd key round) is = is.1.0
 range_is_act (act.Ruling key play made) is = (is.1.0.0, is.1.1.0, is.1.2.0)
@@ -108,7 +109,7 @@ pub range_is_action : (a : Action) → IsInRange a → IsAction a
 range_is_action a = range_is_act (act_of a)
 
 -- the bytes of an action are few
-few_of_deed : (done : Deed) → length (deed_bytes done) ≤ 1
+few_of_deed : (deed : Deed) → length (deed_bytes deed) ≤ 1
 few_of_deed (deed.Call call) = omega arith
 few_of_deed (deed.Card card) = omega arith
 few_of_deed (deed.Claim tricks) = omega arith
@@ -122,7 +123,7 @@ few_of_correction correction.Restore = omega arith
 few_of_correction (correction.Adjust ns ew) = omega arith
 
 act_fits : (a : Act) → IsActInRange a → length (act_bytes a) ≤ 480
-act_fits (act.Player key board at done) is = omega (arith, few_of_deed done)
+act_fits (act.Player key board at deed) is = omega (arith, few_of_deed deed)
 act_fits (act.Deal key board hands) is =
     let long : length (flat_map hand_bytes hands) ≡ length hands * 8 = length-flat_fixed hand_bytes 8 (λ hand. refl) hands in
     omega (arith, long, is.2)

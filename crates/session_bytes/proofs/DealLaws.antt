@@ -7,7 +7,9 @@ use Rattle.session_bytes.specs.Parts.{deal_part}
 use Rattle.session_bytes.specs.Reading.{dealt_at, deal_at}
 use Rattle.session_rules.specs.StateRange.{AreHandsOrNone}
 use Rattle.session_rules.specs.Valid.{IsDealOrNone}
-use Rattle.session_bytes.proofs.ActionLaws.{AreBytes, then_is, if_is, hands_is, hands_back}
+use Rattle.session_bytes.proofs.ReadSteps.{AreBytes, then_is, if_is}
+use Rattle.session_bytes.proofs.ActionLaws.{hands_is}
+use Rattle.session_bytes.proofs.ActionBack.{hands_back}
 use Rattle.session_bytes.proofs.Options.{some_is, not_some}
 
 -- what was read is a deal, or none, of these bytes

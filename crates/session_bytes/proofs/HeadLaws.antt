@@ -15,7 +15,7 @@ use Rattle.bridge_movement.specs.declared.shape.Shape.{Shape}
 use Rattle.bridge_movement.specs.Shape.{row_count}
 use Rattle.bridge_movement.specs.MovementValue.{MovementValue}
 use Rattle.session_bytes.specs.Parts.{text_bytes, four_bytes, scoring_number, configuration_part, movement_part, pair_part}
-use Rattle.session_bytes.specs.PartsRead.{text_in, after_text, second_player, numbers_in, shape_in, rows_in, pair_in, configuration_in}
+use Rattle.session_bytes.specs.PartsRead.{text_in, after_text, second_player, numbers_in, shape_of_numbers, rows_of_part, pair_of_part, configuration_in}
 use Rattle.session_bytes.specs.declared.head.Heading.{Heading}
 use Rattle.session_bytes.specs.Reading.{items_of}
 use Rattle.session_bytes.specs.Head.{head_parts, IsHeadingOf, IsHeadingPart, IsPairPart, AreHeadParts, IsHead, NoHead}
@@ -45,7 +45,7 @@ heading_stated c round is =
 
 -- the fields that were read are those that the parts name
 pub config_named : (first second : List ℕ) (rest : List (List ℕ)) (heading : Heading) (movement : MovementValue) (pairs : List Pair) → IsHeadingOf first heading →
-    movement ≡ record { shape = heading.shape; rows = rows_in heading.shape second } → pairs ≡ map pair_in (take heading.shape.pairs rest) →
+    movement ≡ record { shape = heading.shape; rows = rows_of_part heading.shape second } → pairs ≡ map pair_of_part (take heading.shape.pairs rest) →
     record {
       event = heading.event.bytes;
       site = heading.site.bytes;
@@ -57,9 +57,9 @@ pub config_named : (first second : List ℕ) (rest : List (List ℕ)) (heading :
       pairs = pairs;
     } ≡ configuration_in first second rest
 config_named first second rest heading movement pairs of movement_is pairs_are =
-    let of_shape : Shape → MovementValue = λ shape. record { shape = shape; rows = rows_in shape second } in
-    let moved : movement ≡ of_shape (shape_in (numbers_in first)) = movement_is ∙ ap of_shape of.shape in
-    let paired : pairs ≡ map pair_in (take (shape_in (numbers_in first)).pairs rest) = pairs_are ∙ ap (λ (shape : Shape). map pair_in (take shape.pairs rest)) of.shape in
+    let of_shape : Shape → MovementValue = λ shape. record { shape = shape; rows = rows_of_part shape second } in
+    let moved : movement ≡ of_shape (shape_of_numbers (numbers_in first)) = movement_is ∙ ap of_shape of.shape in
+    let paired : pairs ≡ map pair_of_part (take (shape_of_numbers (numbers_in first)).pairs rest) = pairs_are ∙ ap (λ (shape : Shape). map pair_of_part (take shape.pairs rest)) of.shape in
     λ i. record {
       event = of.event i;
       site = of.site i;
@@ -118,7 +118,7 @@ pub head_stated : (c : ConfigValue) (round : ℕ) (boards : List (List ℕ)) →
     AreHeadParts (configuration_part c round) (movement_part c.movement.rows) (map pair_part c.pairs ++ boards)
 head_stated c round boards is =
     let numbers = numbers_back c round is boards in
-    let shape : shape_in (numbers_in (configuration_part c round)) ≡ c.movement.shape = ap shape_in numbers in
+    let shape : shape_of_numbers (numbers_in (configuration_part c round)) ≡ c.movement.shape = ap shape_of_numbers numbers in
     let count : length (map pair_part c.pairs) ≡ c.movement.shape.pairs = length-map c.pairs pair_part ∙ is.count in
     let rows : length (movement_part c.movement.rows) ≡ row_count c.movement.shape * 3 = movement_length c.movement.rows ∙ ap (λ n. n * 3) is.movement.complete.count in
     let each : All IsPairPart (map pair_part c.pairs) = All-map IsPairPart pair_part c.pairs (λ index d within. pair_stated (get_or c.pairs index d) (is.pairs index d within)) in

@@ -10,7 +10,7 @@ use Rattle.bridge_movement.specs.declared.shape.Shape.{Shape}
 use Rattle.bridge_movement.specs.Fair.{IsComplete}
 use Rattle.bridge_movement.specs.Shape.{row_count}
 use Rattle.session_bytes.specs.Parts.{text_bytes, four_bytes, eight_bytes, row_bytes, movement_part, pair_part, deal_part}
-use Rattle.session_bytes.specs.PartsRead.{text_in, after_text, key_in, second_player, pair_in, row_in, rows_in, deal_of}
+use Rattle.session_bytes.specs.PartsRead.{text_in, after_text, key_in, second_player, pair_of_part, row_of_part, rows_of_part, deal_of}
 use Rattle.session_rules.specs.StateRange.{AreHands, AreHandsOrNone}
 use Rattle.session_bytes.proofs.BytesBack.{text_back, after_back, key_back, hand_back}
 use Rattle.session_bytes.proofs.PartLemmas.{flat_fixed_index}
@@ -18,7 +18,7 @@ use Rattle.session_bytes.proofs.PartLemmas.{flat_fixed_index}
 -- a pair
 
 two_back : (a b : List ℕ) (k l : ℕ) → IsKeyNumber k → IsKeyNumber l
-    → pair_in (pair_part (record { names = a ∷ b ∷ []; keys = k ∷ l ∷ [] })) ≡ record { names = a ∷ b ∷ []; keys = k ∷ l ∷ [] }
+    → pair_of_part (pair_part (record { names = a ∷ b ∷ []; keys = k ∷ l ∷ [] })) ≡ record { names = a ∷ b ∷ []; keys = k ∷ l ∷ [] }
 two_back a b k l k_small l_small =
     let second : List ℕ = text_bytes b ++ four_bytes l in
     let part : List ℕ = (text_bytes a ++ four_bytes k) ++ second in
@@ -32,11 +32,11 @@ two_back a b k l k_small l_small =
     = ap (λ bytes. key_in (after_text bytes)) second_is ∙ ap key_in (after_back b (four_bytes l)) ∙ key_back l [] (omega (arith, l_small)) in
     λ i. record { names = first_name i ∷ second_name i ∷ []; keys = first_key i ∷ second_key i ∷ [] }
 
-pub pair_back : (pair : Pair) → IsPair pair → All IsKeyNumber pair.keys → pair_in (pair_part pair) ≡ pair
+pub pair_back : (pair : Pair) → IsPair pair → All IsKeyNumber pair.keys → pair_of_part (pair_part pair) ≡ pair
 pair_back pair is small = of pair.names pair.keys is.two_names is.two_keys small
   where
     of : (names : List (List ℕ)) (keys : List ℕ) → length names ≡ 2 → length keys ≡ 2 → All IsKeyNumber keys
-        → pair_in (pair_part (record { names = names; keys = keys })) ≡ record { names = names; keys = keys }
+        → pair_of_part (pair_part (record { names = names; keys = keys })) ≡ record { names = names; keys = keys }
     of [] keys names_two keys_two small = absurd cc
     of (a ∷ []) keys names_two keys_two small = absurd cc
     of (a ∷ b ∷ c ∷ names) keys names_two keys_two small = absurd cc
@@ -57,7 +57,7 @@ byte_of_row rows index k row within small =
     ∙ ap (λ r. get_or (row_bytes (get_or rows index row)) r 0) remainder
 
 row_back : (shape : Shape) (rows : List Row) (index : ℕ) (d : Row) → IsComplete shape rows → index < length rows
-    → row_in shape.tables (movement_part rows) index ≡ get_or rows index d
+    → row_of_part shape.tables (movement_part rows) index ≡ get_or rows index d
 row_back shape rows index d complete within =
     let row : Row = get_or rows index d in
     let due = (complete.order index within).1 d in
@@ -68,9 +68,9 @@ row_back shape rows index d complete within =
     let set : get_or (movement_part rows) (index * 3 + 2) 0 ≡ row.set = bytes 2 d within (omega arith) in
     λ i. record { round = sym due.1 i; table = sym due.2 i; ns = ns i; ew = ew i; set = set i }
 
-pub rows_back : (shape : Shape) (rows : List Row) → IsComplete shape rows → rows_in shape (movement_part rows) ≡ rows
+pub rows_back : (shape : Shape) (rows : List Row) → IsComplete shape rows → rows_of_part shape (movement_part rows) ≡ rows
 rows_back shape rows complete =
-    let read : ℕ → Row = row_in shape.tables (movement_part rows) in
+    let read : ℕ → Row = row_of_part shape.tables (movement_part rows) in
     let n : ℕ = row_count shape in
     let long : length (map read (range_with_len 0 n)) ≡ length rows = length-map-range_with_len read 0 n ∙ sym complete.count in
     let nobody : Row = record { round = 0; table = 0; ns = 0; ew = 0; set = 0 } in

@@ -31,7 +31,7 @@ use Rattle.session_rules.specs.declared.refused.Refused.TheVariants.{NotFinished
 use Rattle.session_rules.specs.declared.ruling.Ruling.{Ruling}
 use Rattle.session_rules.specs.declared.ruling.Ruling.TheVariants as ruling
 use Rattle.session_rules.specs.Correction.{tricks_answer}
-use Rattle.session_rules.specs.Record.{PlainRecord, empty_record, contract_in, playing_in, play_of, is_open}
+use Rattle.session_rules.specs.Record.{PlainRecord, course_by, course_in, empty_record, contract_in, playing_in, play_of, is_open}
 use Rattle.bridge_table.specs.Kept.{plain_of, is_kept_open, IsTied}
 use Rattle.session_rules.specs.State.{deal_on}
 use Rattle.session_bytes.specs.Parts.{HasRecord, is_agreed_in, record_part}
@@ -178,21 +178,21 @@ kept_tied hands board auction fields play dealer is played = record {
 -- Where the record may stand
 
 over_stands : (hands : List ℕ) (plain : PlainRecord) (contract : Option Contract) → option_map_or is_over (option_map (playing_in hands plain) contract) false ≡ true
-    → tricks_answer (option_map (playing_in [] plain) contract) ≡ Ok tt
+    → tricks_answer (option_map (course_by plain) contract) ≡ Ok tt
 over_stands hands plain None over = absurd cc
 over_stands hands plain (Some contract) over = ap (λ b. cond b (Ok tt) (Err NotFinished)) over
 
-stands_over : (hands : List ℕ) (plain : PlainRecord) (contract : Option Contract) → tricks_answer (option_map (playing_in [] plain) contract) ≡ Ok tt
+stands_over : (hands : List ℕ) (plain : PlainRecord) (contract : Option Contract) → tricks_answer (option_map (course_by plain) contract) ≡ Ok tt
     → option_map_or is_over (option_map (playing_in hands plain) contract) false ≡ true
 stands_over hands plain None ok = absurd cc
-stands_over hands plain (Some contract) ok = over_done [] (Some (playing_in [] plain contract)) ok
+stands_over hands plain (Some contract) ok = over_done [] (Some (course_by plain contract)) ok
 
 is_matchpoints : (scoring : Scoring) → is_by_matchpoints scoring ≡ true → scoring ≡ MatchPoints
 is_matchpoints MatchPoints is = refl
 is_matchpoints Imps is = absurd cc
 
 ruling_stands : (scoring : Scoring) (hands : List ℕ) (plain : PlainRecord) (play : Option PlayValue) (made : Option Ruling) → play ≡ play_of hands plain
-    → may_stand scoring play made ≡ true → IfSome made (MayStand scoring (play_of [] plain))
+    → may_stand scoring play made ≡ true → IfSome made (MayStand scoring (course_in plain))
 ruling_stands scoring hands plain play None is stands = tt
 ruling_stands scoring hands plain play (Some (ruling.Tricks tricks)) is stands =
     over_stands hands plain (contract_in plain) (ap (λ p. option_map_or is_over p false) (sym is) ∙ stands)
@@ -200,7 +200,7 @@ ruling_stands scoring hands plain play (Some ruling.Void) is stands = tt
 ruling_stands scoring hands plain play (Some (ruling.Adjusted ns ew)) is stands = is_matchpoints scoring stands
 
 stands_ruling : (scoring : Scoring) (hands : List ℕ) (plain : PlainRecord) (play : Option PlayValue) (made : Option Ruling) → play ≡ play_of hands plain
-    → IfSome made (MayStand scoring (play_of [] plain)) → may_stand scoring play made ≡ true
+    → IfSome made (MayStand scoring (course_in plain)) → may_stand scoring play made ≡ true
 stands_ruling scoring hands plain play None is ruled = refl
 stands_ruling scoring hands plain play (Some (ruling.Tricks tricks)) is ruled =
     ap (λ p. option_map_or is_over p false) is ∙ stands_over hands plain (contract_in plain) ruled
@@ -232,7 +232,7 @@ empty_is plain calls unplayed ruled =
 
 -- what the test of a record's index says
 pub record IsInPlace (scoring : Scoring) (now round : ℕ) (plain : PlainRecord) : Type 0 where
-  pub ruled : IfSome plain.ruling (MayStand scoring (play_of [] plain))
+  pub ruled : IfSome plain.ruling (MayStand scoring (course_in plain))
   pub later : now < round → plain ≡ empty_record plain.board
   pub earlier : round < now → is_open plain ≡ false
 

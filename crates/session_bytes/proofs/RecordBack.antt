@@ -1,11 +1,9 @@
 -- The record of a play is read back from its part.
-use Rattle.std.proofs.Common.{◌≡◌, ◌+◌, ◌<◌, ◌^◌, ℕ, Bool, true, false, List, [], ◌∷◌, ◌++◌, length, get_or, map, take, drop, Option, None, Some, All, refl, ap, ◌∙◌, append_assoc}
-use Rattle.std.specs.Prelude.{IfSome, unwrap_or}
+use Rattle.std.proofs.Common.{◌≡◌, ◌+◌, ◌<◌, ◌^◌, ℕ, Bool, List, [], ◌∷◌, ◌++◌, length, get_or, map, take, drop, Option, None, Some, All, refl, ap, ◌∙◌, append_assoc}
+use Rattle.std.specs.Prelude.{IfSome, unwrap_or, option_and_then}
+use Rattle.std.specs.Option.{option_map_or}
 use Rattle.std.proofs.lemmas.List.{length-map}
 use Rattle.std.proofs.lemmas.Nat.{from_be_bytes-to_be_bytes_2}
-use Rattle.bridge_cards.specs.declared.seat.Seat.{Seat}
-use Rattle.bridge_cards.specs.declared.seat.Seat.TheVariants.{North, East, South, West}
-use Rattle.bridge_cards.specs.Seat.{seat_number, seat_at}
 use Rattle.bridge_auction.specs.declared.call.Call.{Call}
 use Rattle.bridge_auction.specs.declared.call.Call.TheVariants.{Pass}
 use Rattle.bridge_auction.specs.Call.{call_number, IsCall}
@@ -14,15 +12,17 @@ use Rattle.bridge_play.specs.declared.claim.Claim.{Claim}
 use Rattle.session_rules.specs.declared.average.Average.{Average}
 use Rattle.session_rules.specs.declared.ruling.Ruling.{Ruling}
 use Rattle.session_rules.specs.declared.ruling.Ruling.TheVariants as ruling
-use Rattle.session_bytes.specs.Parts.{two_bytes, text_bytes, value_if, agreed_byte, is_agreed_in, claim_bytes, HasRuling, HasRecord, ruling_bytes, record_part}
-use Rattle.session_bytes.specs.PartsRead.{text_in, after_text, call_or_pass, call_count, after_calls, after_cards, agreed_in, claim_in, after_claim, average_or_even, ruling_at_front, record_in}
+use Rattle.session_bytes.specs.ClaimRead.{claim_at}
+use Rattle.session_bytes.specs.Parts.{two_bytes, text_bytes, is_agreed_in, claim_bytes, HasRuling, HasRecord, ruling_bytes, record_part}
+use Rattle.session_bytes.specs.PartsRead.{text_in, after_text, call_or_pass, call_count, after_calls, after_cards, claim_in, after_claim, average_or_even, ruling_at_front, record_in}
 use Rattle.session_rules.specs.Average.{percent_of}
-use Rattle.session_rules.specs.Record.{PlainRecord}
+use Rattle.session_rules.specs.Record.{PlainRecord, contract_in}
 use Rattle.session_rules.specs.StateRange.{IsOfFourSeats}
 use Rattle.session_store.specs.declared.disk_format.DiskFormat.{DiskFormat}
 use Rattle.session_store.specs.declared.disk_format.DiskFormat.TheVariants.{One, Two}
 use Rattle.session_bytes.proofs.Options.{not_some}
-use Rattle.session_bytes.proofs.ActionLaws.{average_back}
+use Rattle.session_bytes.proofs.ActionBack.{average_back}
+use Rattle.session_bytes.proofs.ClaimLaws.{claim_again, unmarked}
 use Rattle.session_bytes.proofs.BytesBack.{take_front, drop_front, all_back, text_back, after_back}
 
 -- calls
@@ -30,52 +30,6 @@ calls_back : (calls : List Call) → All IsCall calls → map call_or_pass (map 
 calls_back calls known =
     all_back call_number call_or_pass calls
     (λ index call within. ap (λ found. unwrap_or found Pass) (call_at-call_number (get_or calls index call) (known index call within)))
-
--- a claim
-pub agreed_back : (north east south west : Bool) → agreed_in (value_if north 1 + value_if east 2 + value_if south 4 + value_if west 8) ≡ north ∷ east ∷ south ∷ west ∷ []
-agreed_back true true true true = refl
-agreed_back true true true false = refl
-agreed_back true true false true = refl
-agreed_back true true false false = refl
-agreed_back true false true true = refl
-agreed_back true false true false = refl
-agreed_back true false false true = refl
-agreed_back true false false false = refl
-agreed_back false true true true = refl
-agreed_back false true true false = refl
-agreed_back false true false true = refl
-agreed_back false true false false = refl
-agreed_back false false true true = refl
-agreed_back false false true false = refl
-agreed_back false false false true = refl
-agreed_back false false false false = refl
-
-four_back : (claimer : Seat) (tricks : ℕ) (agreed : List Bool) → length agreed ≡ 4
-    → agreed_in (agreed_byte (record { claimer = claimer; tricks = tricks; agreed = agreed })) ≡ agreed
-four_back claimer tricks [] four = absurd cc
-four_back claimer tricks (a ∷ []) four = absurd cc
-four_back claimer tricks (a ∷ b ∷ []) four = absurd cc
-four_back claimer tricks (a ∷ b ∷ c ∷ []) four = absurd cc
-four_back claimer tricks (a ∷ b ∷ c ∷ d ∷ []) four = agreed_back a b c d
-four_back claimer tricks (a ∷ b ∷ c ∷ d ∷ more ∷ rest) four = absurd cc
-
-seat_back : (seat : Seat) → seat_at (seat_number seat) ≡ seat
-seat_back North = refl
-seat_back East = refl
-seat_back South = refl
-seat_back West = refl
-
-claim_back : (agreed : Bool) (claim : Option Claim) (rest : List ℕ) → IfSome claim IsOfFourSeats → claim_in (claim_bytes agreed claim ++ rest) ≡ claim
-claim_back agreed None rest four = refl
-claim_back true (Some claim) rest four =
-    λ i. Some (record { claimer = seat_back claim.claimer i; tricks = claim.tricks; agreed = four_back claim.claimer claim.tricks claim.agreed four i })
-claim_back false (Some claim) rest four =
-    λ i. Some (record { claimer = seat_back claim.claimer i; tricks = claim.tricks; agreed = four_back claim.claimer claim.tricks claim.agreed four i })
-
-claim_past : (agreed : Bool) (claim : Option Claim) (rest : List ℕ) → after_claim (claim_bytes agreed claim ++ rest) ≡ rest
-claim_past agreed None rest = refl
-claim_past true (Some claim) rest = refl
-claim_past false (Some claim) rest = refl
 
 -- the ruling that the format keeps: the first has no averages
 abbrev pub kept_ruling : DiskFormat → Option Ruling → Option Ruling
@@ -153,10 +107,13 @@ record_back format plain is =
     let cards_are : text_in (after_calls part) ≡ plain.cards = ap text_in past_calls ∙ text_back plain.cards (plain.claims ∷ last) in
     let past_cards : after_cards part ≡ plain.claims ∷ last = ap after_text past_calls ∙ after_back plain.cards (plain.claims ∷ last) in
     let claims_are : get_or (after_cards part) 0 0 ≡ plain.claims = ap (λ bytes. get_or bytes 0 0) past_cards in
+    let claim : claim_at (claim_bytes agreed plain.claim ++ made) ≡ Some (plain.claim, agreed, made)
+    = claim_again agreed plain.claim made is.claim (unmarked plain (contract_in plain) refl) in
     let claim_is : claim_in (drop 1 (after_cards part)) ≡ plain.claim
-    = ap (λ bytes. claim_in (drop 1 bytes)) past_cards ∙ claim_back agreed plain.claim made is.claim in
+    = ap (λ bytes. claim_in (drop 1 bytes)) past_cards ∙ ap (option_and_then (λ (read : Option Claim × Bool × List ℕ). read.0)) claim in
     let ruling_is : ruling_at_front (after_claim (drop 1 (after_cards part))) ≡ kept_ruling format plain.ruling
-    = ap (λ bytes. ruling_at_front (after_claim (drop 1 bytes))) past_cards ∙ ap ruling_at_front (claim_past agreed plain.claim made)
+    = ap (λ bytes. ruling_at_front (after_claim (drop 1 bytes))) past_cards
+    ∙ ap (λ read. ruling_at_front (option_map_or (λ (read : Option Claim × Bool × List ℕ). read.2) read [])) claim
     ∙ ruling_back format plain.ruling in
     ap (record_in plain.board) (six_joined (two_bytes n) calls (text_bytes plain.cards) (plain.claims ∷ []) (claim_bytes agreed plain.claim) made)
     ∙ λ i. record {

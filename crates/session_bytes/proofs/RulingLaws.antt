@@ -10,15 +10,17 @@ use Rattle.session_rules.specs.StateRange.{IsRulingInRange}
 use Rattle.session_store.specs.declared.disk_format.DiskFormat.{DiskFormat}
 use Rattle.session_store.specs.declared.disk_format.DiskFormat.TheVariants.{One, Two}
 use Rattle.session_bytes.specs.Parts.{HasRuling, ruling_bytes}
-use Rattle.session_bytes.specs.Reading.{tricks_in, adjusted_by, short_ruling_at, if_zeros, ruling_by, long_ruling_at, ruling_at}
-use Rattle.session_bytes.proofs.ActionLaws.{map_is, then_is, if_is, average_back, average_is}
+use Rattle.session_bytes.specs.Reading.{tricks_ruling, adjusted_by, short_ruling_at, if_zeros, long_ruling_by, long_ruling_at, ruling_at}
+use Rattle.session_bytes.proofs.ReadSteps.{map_is, then_is, if_is}
+use Rattle.session_bytes.proofs.ActionBack.{average_back}
+use Rattle.session_bytes.proofs.ActionLaws.{average_is}
 use Rattle.session_bytes.proofs.Options.{some_is, not_some}
 
 -- the ruling has these bytes, is of 0 to 13 tricks where it is one of tricks, and is one that the format has
 abbrev pub IsOfBytes : DiskFormat → List ℕ → Option Ruling → Type 0
 IsOfBytes format bytes made = (ruling_bytes format made ≡ bytes) × IfSome made IsRulingInRange × IfSome made (HasRuling format)
 
-tricks_take : (tricks : ℕ) (r : Option Ruling) → tricks_in tricks ≡ Some r → IsOfBytes One (1 ∷ tricks ∷ []) r × IsOfBytes Two (1 ∷ tricks ∷ 0 ∷ []) r
+tricks_take : (tricks : ℕ) (r : Option Ruling) → tricks_ruling tricks ≡ Some r → IsOfBytes One (1 ∷ tricks ∷ []) r × IsOfBytes Two (1 ∷ tricks ∷ 0 ∷ []) r
 tricks_take tricks r is =
     elim (if_is (nat_le tricks 13) _ _ (Some r) is) [
       | inl here ↦
@@ -77,7 +79,7 @@ adjusted_take ns ew r is =
       tt,
     )
 
-by_take : (kind first second : ℕ) (r : Option Ruling) → ruling_by kind first second ≡ Some r → IsOfBytes Two (kind ∷ first ∷ second ∷ []) r
+by_take : (kind first second : ℕ) (r : Option Ruling) → long_ruling_by kind first second ≡ Some r → IsOfBytes Two (kind ∷ first ∷ second ∷ []) r
 by_take kind first second r is =
     elim (if_is (kind == 0) _ _ (Some r) is) [
       | inl here ↦ zeros_take kind first second None r (ap (λ n. n ∷ 0 ∷ 0 ∷ []) (sym (eqb-true kind 0 here.0))) tt tt here.1

@@ -10,7 +10,7 @@ use Rattle.bridge_movement.specs.declared.shape.Shape.{Shape}
 use Rattle.bridge_score.specs.declared.ranking.Scoring.{Scoring}
 use Rattle.bridge_score.specs.declared.ranking.Scoring.TheVariants.{MatchPoints, Imps}
 use Rattle.session_bytes.specs.Parts.{text_bytes, four_bytes, scoring_number, size_bytes, configuration_part, movement_part, pair_part, deal_part, HasRuling, HasRecord, HasRulings, play_parts, board_parts, pair_parts, parts_of}
-use Rattle.session_bytes.specs.PartsRead.{text_in, after_text, scoring_at, numbers_in, shape_in, rows_in, key_in, pair_in, configuration_in, deal_of, tables_in, state_with, state_read}
+use Rattle.session_bytes.specs.PartsRead.{text_in, after_text, scoring_at, numbers_in, shape_of_numbers, rows_of_part, key_in, pair_of_part, configuration_in, deal_of, tables_in, state_with, state_read}
 use Rattle.session_rules.specs.declared.ruling.Ruling.{Ruling}
 use Rattle.session_rules.specs.Record.{PlainRecord}
 use Rattle.session_rules.specs.State.{SessionValue}
@@ -85,18 +85,18 @@ module _ (c : ConfigValue) (round : ℕ) (is : IsConfiguration c) (boards : List
       let scoring : scoring_at (slice_index (numbers_in heading) 0) ≡ c.scoring
       = ap (λ ns. scoring_at (slice_index ns 0)) numbers_back ∙ scoring_back c.scoring in
       let of_set : slice_index (numbers_in heading) 1 ≡ c.boards = ap (λ ns. slice_index ns 1) numbers_back in
-      let shape : shape_in (numbers_in heading) ≡ c.movement.shape = ap shape_in numbers_back in
-      let rows : rows_in (shape_in (numbers_in heading)) movement ≡ c.movement.rows
-      = ap (λ (sh : Shape). rows_in sh movement) shape ∙ rows_back c.movement.shape c.movement.rows is.movement.complete in
+      let shape : shape_of_numbers (numbers_in heading) ≡ c.movement.shape = ap shape_of_numbers numbers_back in
+      let rows : rows_of_part (shape_of_numbers (numbers_in heading)) movement ≡ c.movement.rows
+      = ap (λ (sh : Shape). rows_of_part sh movement) shape ∙ rows_back c.movement.shape c.movement.rows is.movement.complete in
       let key : key_in (drop 7 (numbers_in heading)) ≡ c.director
       = ap (λ ns. key_in (drop 7 ns)) numbers_back ∙ key_back c.director (round ∷ []) (omega (arith, director)) in
       let count : slice_index (numbers_in heading) 5 ≡ c.movement.shape.pairs = ap (λ ns. slice_index ns 5) numbers_back in
       let long : length (map pair_part c.pairs) ≡ c.movement.shape.pairs = length-map c.pairs pair_part ∙ is.count in
-      let each : All (λ (pair : Pair). pair_in (pair_part pair) ≡ pair) c.pairs
+      let each : All (λ (pair : Pair). pair_of_part (pair_part pair) ≡ pair) c.pairs
       = λ k d within. pair_back (get_or c.pairs k d) (is.pairs k d within) (keys_of_each c.pairs keys k d within) in
-      let pairs : map pair_in (take (slice_index (numbers_in heading) 5) rest) ≡ c.pairs
-      = ap (λ n. map pair_in (take n rest)) count ∙ ap (map pair_in) (take_front c.movement.shape.pairs (map pair_part c.pairs) boards long)
-      ∙ all_back pair_part pair_in c.pairs each in
+      let pairs : map pair_of_part (take (slice_index (numbers_in heading) 5) rest) ≡ c.pairs
+      = ap (λ n. map pair_of_part (take n rest)) count ∙ ap (map pair_of_part) (take_front c.movement.shape.pairs (map pair_part c.pairs) boards long)
+      ∙ all_back pair_part pair_of_part c.pairs each in
       λ i. record {
         event = event i;
         site = site i;

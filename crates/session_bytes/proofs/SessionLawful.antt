@@ -11,7 +11,7 @@ use Rattle.session_rules.specs.State.{SessionValue}
 use Rattle.session_rules.specs.StateRange.{IsSession}
 use Rattle.session_rules.specs.Step.{step_answer, changed}
 use Rattle.session_bytes.proofs.ActionInRange.{read_in_range, action_fits}
-use Rattle.session_bytes.proofs.ActionLaws.{read_back}
+use Rattle.session_bytes.proofs.ActionBack.{read_back}
 use Rattle.session_bytes.proofs.PartLengths.{parts_fit, few_parts}
 use Rattle.session_bytes.proofs.PartIndexes.{count_parts}
 use Rattle.session_bytes.proofs.SessionBack.{two_has_rulings}

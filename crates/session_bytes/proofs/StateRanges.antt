@@ -44,19 +44,19 @@ agreed_in_range : (seat : Seat) (claim : Option Claim) → IfSome claim IsOfFour
 agreed_in_range seat None four = tt
 agreed_in_range seat (Some claim) four = length-set claim.agreed (seat_number seat) true ∙ four
 
-deed_in_range : (seat : Seat) (done : Deed) (plain : PlainRecord) → IsRecordInRange plain → IsRecordInRange (with_deed seat done plain)
+deed_in_range : (seat : Seat) (deed : Deed) (plain : PlainRecord) → IsRecordInRange plain → IsRecordInRange (with_deed seat deed plain)
 deed_in_range seat (deed.Call call) plain is = record { claim = is.claim; ruling = is.ruling }
 deed_in_range seat (deed.Card card) plain is = record { claim = is.claim; ruling = is.ruling }
 deed_in_range seat (deed.Claim tricks) plain is = record { claim = refl; ruling = is.ruling }
 deed_in_range seat deed.Agree plain is = record { claim = agreed_in_range seat plain.claim is.claim; ruling = is.ruling }
 deed_in_range seat deed.Refuse plain is = record { claim = tt; ruling = is.ruling }
 
-pub acted_in_range : (s : SessionValue) (done : Deed) (at : Result Seating Refused) → IsStateInRange s → IsStateInRange (acted_at s done at)
-acted_in_range s done (Err refused) is = is
-acted_in_range s done (Ok seating) is = record {
+pub acted_in_range : (s : SessionValue) (deed : Deed) (at : Result Seating Refused) → IsStateInRange s → IsStateInRange (acted_at s deed at)
+acted_in_range s deed (Err refused) is = is
+acted_in_range s deed (Ok seating) is = record {
   deals = is.deals;
-  records = all_changed (All IsRecordInRange) (acted_among seating.seat done) s.records seating.row
-      (λ records all. all_changed IsRecordInRange (with_deed seating.seat done) records (current_index records) (deed_in_range seating.seat done) all)
+  records = all_changed (All IsRecordInRange) (acted_among seating.seat deed) s.records seating.row
+      (λ records all. all_changed IsRecordInRange (with_deed seating.seat deed) records (current_index records) (deed_in_range seating.seat deed) all)
       is.records;
 }
 
@@ -78,7 +78,7 @@ ruled_in_range s play made few is = record {
 
 -- each act
 act_in_range : (a : Act) (s : SessionValue) → IsActInRange a → IsStateInRange s → IsStateInRange (changed_by s a)
-act_in_range (act.Player key board at done) s ranges is = acted_in_range s done (seating_of s.configuration s.round key.0) is
+act_in_range (act.Player key board at deed) s ranges is = acted_in_range s deed (seating_of s.configuration s.round key.0) is
 act_in_range (act.Deal key board hands) s ranges is = record {
   deals = All-set AreHandsOrNone s.deals (board - 1) (Some hands) (ranges.2, ranges.3) is.deals;
   records = is.records;

@@ -24,8 +24,8 @@ abbrev pub IsTurn : ℕ → ℕ → Type 0
 IsTurn board at = IsBoard board × IsMadeCount at
 
 -- the round, the table and the index of a play
-abbrev pub IsPlay : PlayId → Type 0
-IsPlay play = IsRoundNumber play.round × IsTableNumber play.table × IsBoardIndex play.index
+abbrev pub IsPlayIdInRange : PlayId → Type 0
+IsPlayIdInRange play = IsRoundNumber play.round × IsTableNumber play.table × IsBoardIndex play.index
 
 -- the call, the card or the tricks
 abbrev pub IsDeedInRange : Deed → Type 0
@@ -39,7 +39,7 @@ abbrev pub IsActInRange : Act → Type 0
 IsActInRange (act.Player key board at deed) = IsKey key × IsTurn board at × IsDeedInRange deed
 IsActInRange (act.Deal key board hands) = IsKey key × IsBoard board × (length hands ≡ 4) × All IsCardSet hands
 IsActInRange (act.RoundEnd key round) = IsKey key × IsRoundNumber round
-IsActInRange (act.Ruling key play made) = IsKey key × IsPlay play × IsCorrectionInRange made
+IsActInRange (act.Ruling key play made) = IsKey key × IsPlayIdInRange play × IsCorrectionInRange made
 
 -- The numbers that an action names are within their ranges. So are those of each action by the types of its fields.
 abbrev pub IsInRange : Action → Type 0

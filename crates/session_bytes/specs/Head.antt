@@ -7,7 +7,7 @@ use Rattle.bridge_config.specs.ConfigValue.{ConfigValue}
 use Rattle.bridge_config.specs.Limits.{is_name, is_date_form, IsConfiguration}
 use Rattle.session_bytes.specs.declared.head.Heading.{Heading}
 use Rattle.session_bytes.specs.Parts.{configuration_part, movement_part, pair_part}
-use Rattle.session_bytes.specs.PartsRead.{text_in, after_text, scoring_at, numbers_in, shape_in, rows_in, key_in, second_player, configuration_in}
+use Rattle.session_bytes.specs.PartsRead.{text_in, after_text, scoring_at, numbers_in, shape_of_numbers, rows_of_part, key_in, second_player, configuration_in}
 
 -- the parts before those of the boards: of the configuration and the round, the movement, and the pairs
 abbrev pub head_parts : ConfigValue → ℕ → List (List ℕ)
@@ -39,7 +39,7 @@ pub record IsHeadingOf (part : List ℕ) (heading : Heading) : Type 0 where
   pub date : heading.date.bytes ≡ take 10 (after_text (after_text part))
   pub scoring : heading.scoring ≡ scoring_at (slice_index (numbers_in part) 0)
   pub boards : heading.boards ≡ slice_index (numbers_in part) 1
-  pub shape : heading.shape ≡ shape_in (numbers_in part)
+  pub shape : heading.shape ≡ shape_of_numbers (numbers_in part)
   pub director : heading.director.0 ≡ key_in (drop 7 (numbers_in part))
   pub round : heading.round ≡ slice_index (numbers_in part) 11
 
@@ -54,7 +54,7 @@ pub record IsHeadingPart (part : List ℕ) : Type 0 where
 -- the part of a movement of that shape states one
 pub record IsMovementPart (shape : Shape) (part : List ℕ) : Type 0 where
   pub long : length part ≡ row_count shape * 3
-  pub movement : IsMovement shape (rows_in shape part)
+  pub movement : IsMovement shape (rows_of_part shape part)
 
 -- the part of a pair is in form
 pub record IsPairPart (part : List ℕ) : Type 0 where
@@ -66,9 +66,9 @@ pub record IsPairPart (part : List ℕ) : Type 0 where
 -- the first part, the second, and those of the pairs are in form, and what they name is a configuration
 pub record AreHeadParts (first second : List ℕ) (rest : List (List ℕ)) : Type 0 where
   pub heading : IsHeadingPart first
-  pub long : length second ≡ row_count (shape_in (numbers_in first)) * 3
-  pub enough : (shape_in (numbers_in first)).pairs ≤ length rest
-  pub pairs : All IsPairPart (take (shape_in (numbers_in first)).pairs rest)
+  pub long : length second ≡ row_count (shape_of_numbers (numbers_in first)) * 3
+  pub enough : (shape_of_numbers (numbers_in first)).pairs ≤ length rest
+  pub pairs : All IsPairPart (take (shape_of_numbers (numbers_in first)).pairs rest)
   pub configured : IsConfiguration (configuration_in first second rest)
 
 -- the first part and the second are those of the configuration and the round

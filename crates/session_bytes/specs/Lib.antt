@@ -1,5 +1,6 @@
 -- The definitions of the bytes.
 pub mod Parts
+pub mod ClaimRead
 pub mod Reading
 pub mod ActionRange
 pub mod ActionBytes

@@ -1,8 +1,9 @@
--- The session that parts name, read without any test: what they lack is read as 0, and what is too much is passed over.
-use Rattle.std.specs.Prelude.{ℕ, ◌+◌, ◌*◌, ◌/◌, ◌%◌, ◌==◌, Bool, if◌then◌else◌, List, [], ◌∷◌, map, take, drop, slice_index, slice_index_or, Option, Some, None, unwrap_or}
+-- The session that parts name. But for a claim it is read without any test: what the parts lack is read as 0, and what is too
+-- much is passed over.
+use Rattle.std.specs.Prelude.{ℕ, ◌+◌, ◌*◌, ◌/◌, ◌%◌, ◌==◌, Bool, if◌then◌else◌, List, [], ◌∷◌, map, take, drop, slice_index, slice_index_or, Option, Some, None, unwrap_or, option_and_then}
 use Rattle.std.specs.Int.{w16, w32, w64, from_be_bytes}
 use Rattle.std.specs.List.{range_with_len}
-use Rattle.bridge_cards.specs.Seat.{seat_at}
+use Rattle.std.specs.Option.{option_map_or}
 use Rattle.bridge_auction.specs.declared.call.Call.{Call}
 use Rattle.bridge_auction.specs.declared.call.Call.TheVariants.{Pass}
 use Rattle.bridge_auction.specs.Call.{call_at}
@@ -20,6 +21,7 @@ use Rattle.session_rules.specs.declared.ruling.Ruling.TheVariants as ruling
 use Rattle.session_rules.specs.Average.{average_of}
 use Rattle.session_rules.specs.Record.{PlainRecord}
 use Rattle.session_rules.specs.State.{SessionValue, row_boards}
+use Rattle.session_bytes.specs.ClaimRead.{claim_at}
 
 -- the text that bytes begin with, after its length
 abbrev pub text_in : List ℕ → List ℕ
@@ -42,8 +44,8 @@ abbrev pub numbers_in : List ℕ → List ℕ
 numbers_in heading = drop 10 (after_text (after_text heading))
 
 -- the shape: the numbers of tables, rounds, sets and pairs, and the last pair of the first field
-abbrev pub shape_in : List ℕ → Shape
-shape_in numbers = record {
+abbrev pub shape_of_numbers : List ℕ → Shape
+shape_of_numbers numbers = record {
   tables = slice_index numbers 2;
   rounds = slice_index numbers 3;
   sets = slice_index numbers 4;
@@ -52,8 +54,8 @@ shape_in numbers = record {
 }
 
 -- the row at an index, of the round and the table that are due there, by its three numbers
-abbrev pub row_in : ℕ → List ℕ → ℕ → Row
-row_in tables movement index = record {
+abbrev pub row_of_part : ℕ → List ℕ → ℕ → Row
+row_of_part tables movement index = record {
   round = index / tables + 1;
   table = index % tables + 1;
   ns = slice_index movement (index * 3);
@@ -62,8 +64,8 @@ row_in tables movement index = record {
 }
 
 -- as many rows as the shape has
-abbrev pub rows_in : Shape → List ℕ → List Row
-rows_in shape movement = map (row_in shape.tables movement) (range_with_len 0 (row_count shape))
+abbrev pub rows_of_part : Shape → List ℕ → List Row
+rows_of_part shape movement = map (row_of_part shape.tables movement) (range_with_len 0 (row_count shape))
 
 -- the key of four bytes
 abbrev pub key_in : List ℕ → ℕ
@@ -74,8 +76,8 @@ abbrev pub second_player : List ℕ → List ℕ
 second_player part = drop 4 (after_text part)
 
 -- a pair: the name and the key of each player
-abbrev pub pair_in : List ℕ → Pair
-pair_in part = record {
+abbrev pub pair_of_part : List ℕ → Pair
+pair_of_part part = record {
   names = text_in part ∷ text_in (second_player part) ∷ [];
   keys = key_in (after_text part) ∷ key_in (after_text (second_player part)) ∷ [];
 }
@@ -88,9 +90,9 @@ configuration_in heading movement rest = record {
   date = take 10 (after_text (after_text heading));
   scoring = scoring_at (slice_index (numbers_in heading) 0);
   boards = slice_index (numbers_in heading) 1;
-  movement = record { shape = shape_in (numbers_in heading); rows = rows_in (shape_in (numbers_in heading)) movement };
+  movement = record { shape = shape_of_numbers (numbers_in heading); rows = rows_of_part (shape_of_numbers (numbers_in heading)) movement };
   director = key_in (drop 7 (numbers_in heading));
-  pairs = map pair_in (take (slice_index (numbers_in heading) 5) rest);
+  pairs = map pair_of_part (take (slice_index (numbers_in heading) 5) rest);
 }
 
 -- Boards
@@ -126,19 +128,13 @@ after_calls part = drop (call_count part) (drop 2 part)
 abbrev pub after_cards : List ℕ → List ℕ
 after_cards part = after_text (after_calls part)
 
--- who has agreed: a bit for each seat
-abbrev pub agreed_in : ℕ → List Bool
-agreed_in byte = (byte % 2 == 1) ∷ (byte / 2 % 2 == 1) ∷ (byte / 4 % 2 == 1) ∷ (byte / 8 % 2 == 1) ∷ []
-
--- a claim: none where it begins with 0, and otherwise who claims, the tricks, and who has agreed
+-- the claim, if it is in form and there is one
 abbrev pub claim_in : List ℕ → Option Claim
-claim_in bytes =
-    if slice_index bytes 0 == 0 then None
-    else Some (record { claimer = seat_at (slice_index bytes 1); tricks = slice_index bytes 2; agreed = agreed_in (slice_index bytes 3) })
+claim_in bytes = option_and_then (λ (read : Option Claim × Bool × List ℕ). read.0) (claim_at bytes)
 
--- what comes after the claim
+-- what comes after a claim that is in form
 abbrev pub after_claim : List ℕ → List ℕ
-after_claim bytes = if slice_index bytes 0 == 0 then drop 1 bytes else drop 4 bytes
+after_claim bytes = option_map_or (λ (read : Option Claim × Bool × List ℕ). read.2) (claim_at bytes) []
 
 -- the average of so many per cent, or else that of 50
 abbrev pub average_or_even : ℕ → Average

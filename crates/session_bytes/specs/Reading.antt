@@ -5,8 +5,6 @@ use Rattle.std.specs.Global.{Vec}
 use Rattle.arrayvec.specs.ArrayVec.{ArrayVec}
 use Rattle.std.specs.Int.{w16, from_be_bytes}
 use Rattle.std.specs.Option.{option_map, option_map_or}
-use Rattle.bridge_cards.specs.declared.seat.Seat.{Seat}
-use Rattle.bridge_cards.specs.declared.seat.Seat.TheVariants.{North, East, South, West}
 use Rattle.bridge_cards.specs.Deal.{is_dealt_out}
 use Rattle.bridge_auction.specs.declared.call.Call.{Call}
 use Rattle.bridge_auction.specs.Call.{call_number}
@@ -20,7 +18,7 @@ use Rattle.session_bytes.specs.declared.record_fields.RecordFields.{RecordFields
 use Rattle.session_rules.specs.declared.ruling.Ruling.{Ruling}
 use Rattle.session_rules.specs.declared.ruling.Ruling.TheVariants as ruling
 use Rattle.session_bytes.specs.ActionBytes.{hands_in}
-use Rattle.session_bytes.specs.PartsRead.{agreed_in}
+use Rattle.session_bytes.specs.ClaimRead.{claim_at}
 use Rattle.session_rules.specs.Average.{average_of}
 use Rattle.session_rules.specs.Record.{PlainRecord, contract_in, play_of}
 use Rattle.session_rules.specs.State.{Deals, row_boards}
@@ -77,38 +75,14 @@ abbrev pub cards_at : List ℕ → Option (List ℕ × List ℕ)
 cards_at [] = None
 cards_at (count ∷ rest) = bytes_at count rest
 
--- the seat of that number
-abbrev pub seat_numbered : ℕ → Option Seat
-seat_numbered number =
-    if number == 0 then Some North else if number == 1 then Some East else if number == 2 then Some South
-    else if number == 3 then Some West else None
-
--- the claim of these numbers: who claims, how many tricks, and who has agreed
-abbrev pub claimed_by : ℕ → ℕ → ℕ → Option Claim
-claimed_by seat tricks bits =
-    if nat_lt 15 bits then None
-    else option_map (λ (claimer : Seat). record { claimer = claimer; tricks = tricks; agreed = agreed_in bits }) (seat_numbered seat)
-
--- the claim behind its mark
-abbrev pub marked_at : Bool → List ℕ → Option (Option Claim × Bool × List ℕ)
-marked_at agreed (seat ∷ tricks ∷ bits ∷ rest) = option_map (λ (claim : Claim). (Some claim, agreed, rest)) (claimed_by seat tricks bits)
-marked_at agreed _ = None
-
--- the claim, if there is one, and whether it is marked as agreed
-abbrev pub claim_at : List ℕ → Option (Option Claim × Bool × List ℕ)
-claim_at [] = None
-claim_at (mark ∷ rest) =
-    if mark == 0 then Some (None, false, rest) else if mark == 1 then marked_at false rest
-    else if mark == 2 then marked_at true rest else None
-
 -- the ruling of so many tricks, or none where these are too many
-abbrev pub tricks_in : ℕ → Option (Option Ruling)
-tricks_in tricks = if nat_le tricks 13 then Some (Some (ruling.Tricks tricks)) else None
+abbrev pub tricks_ruling : ℕ → Option (Option Ruling)
+tricks_ruling tricks = if nat_le tricks 13 then Some (Some (ruling.Tricks tricks)) else None
 
 -- the ruling that the first format has: a kind, and the tricks where it is one of tricks
 abbrev pub short_ruling_at : List ℕ → Option (Option Ruling)
 short_ruling_at (kind ∷ []) = if kind == 0 then Some None else if kind == 2 then Some (Some ruling.Void) else None
-short_ruling_at (kind ∷ tricks ∷ []) = if kind == 1 then tricks_in tricks else None
+short_ruling_at (kind ∷ tricks ∷ []) = if kind == 1 then tricks_ruling tricks else None
 short_ruling_at _ = None
 
 -- the ruling, or none, if the two numbers that it has no use for are zeros
@@ -120,16 +94,16 @@ abbrev pub adjusted_by : ℕ → ℕ → Option (Option Ruling)
 adjusted_by ns ew = option_and_then (λ n. option_map (λ e. Some (ruling.Adjusted n e)) (average_of ew)) (average_of ns)
 
 -- the ruling of a kind and two numbers
-abbrev pub ruling_by : ℕ → ℕ → ℕ → Option (Option Ruling)
-ruling_by kind first second =
+abbrev pub long_ruling_by : ℕ → ℕ → ℕ → Option (Option Ruling)
+long_ruling_by kind first second =
     if kind == 0 then if_zeros first second None
-    else if kind == 1 then (if second == 0 then tricks_in first else None)
+    else if kind == 1 then (if second == 0 then tricks_ruling first else None)
     else if kind == 2 then if_zeros first second (Some ruling.Void)
     else if kind == 3 then adjusted_by first second else None
 
 -- the ruling that the second format has: a kind and two numbers always
 abbrev pub long_ruling_at : List ℕ → Option (Option Ruling)
-long_ruling_at (kind ∷ first ∷ second ∷ []) = ruling_by kind first second
+long_ruling_at (kind ∷ first ∷ second ∷ []) = long_ruling_by kind first second
 long_ruling_at _ = None
 
 -- the ruling, if there is one, behind which no byte is left

@@ -16,15 +16,15 @@ use Rattle.session_rules.specs.StateRange.{IsSession}
 use Rattle.session_rules.specs.Step.{step_answer, changed}
 
 -- the state is that of a session, and these are its parts in that format
-abbrev pub HasParts : DiskFormat → SessionValue → List (List ℕ) → Type 0
-HasParts format s parts = IsSession s × (parts_of format s ≡ parts)
+abbrev pub HasPartsOfFormat : DiskFormat → SessionValue → List (List ℕ) → Type 0
+HasPartsOfFormat format s parts = IsSession s × (parts_of format s ≡ parts)
 
 -- whether that is so
-pub decided_has_parts : (format : DiskFormat) (s : SessionValue) (parts : List (List ℕ)) → Decided (HasParts format s parts)
+pub decided_has_parts : (format : DiskFormat) (s : SessionValue) (parts : List (List ℕ)) → Decided (HasPartsOfFormat format s parts)
 decided_has_parts format s parts = decided_both (decided_session s) (decided_parts (parts_of format s) parts)
 
 -- the state, if it has the parts
-abbrev pub with_parts : (format : DiskFormat) (s : SessionValue) (parts : List (List ℕ)) → Decided (HasParts format s parts) → Option SessionValue
+abbrev pub with_parts : (format : DiskFormat) (s : SessionValue) (parts : List (List ℕ)) → Decided (HasPartsOfFormat format s parts) → Option SessionValue
 with_parts format s parts (inl has) = Some s
 with_parts format s parts (inr has_not) = None
 

@@ -3,7 +3,7 @@ ghost use Rattle.std.specs.Prelude.{◌≡◌, ◌<◌, ◌≤◌, ◌+◌, ◌+
 ghost use Rattle.std.specs.Int.{w16, w32, w64, to_be_bytes};
 ghost use Rattle.bridge_cards.specs.CardSet.{IsCardSet};
 ghost use Rattle.session_rules.specs.StateRange.{IsCorrectionInRange};
-ghost use Rattle.session_bytes.specs.ActionRange.{IsDeedInRange, IsActInRange, IsInRange, IsKey, IsTurn, IsPlay};
+ghost use Rattle.session_bytes.specs.ActionRange.{IsDeedInRange, IsActInRange, IsInRange, IsKey, IsTurn, IsPlayIdInRange};
 ghost use Rattle.session_bytes.specs.ActionBytes.{headed, turn_bytes, play_bytes, hand_bytes, deed_kind, deed_bytes, correction_kind, correction_bytes, act_bytes, action_bytes};
 
 use arrayvec::ArrayVec;
@@ -148,7 +148,7 @@ fn push_play(kind: u8, key: Key, play: PlayId, bytes: &mut ArrayVec<u8, PAYLOAD_
     requires { bytes.old.items ≡ [] }
     ensures bytes { bytes.new.items ≡ headed kind key.0 (play_bytes play []) }
     ensures few { length bytes.new.items ≡ 8 }
-    ensures range { IsKey key × IsPlay play }
+    ensures range { IsKey key × IsPlayIdInRange play }
 {
     push_head(kind, key, bytes);
     bytes.push(play.round.number());

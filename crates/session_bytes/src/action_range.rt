@@ -4,7 +4,7 @@ ghost use Rattle.bridge_auction.specs.Call.{IsCall};
 ghost use Rattle.bridge_cards.specs.Board.{IsBoard};
 ghost use Rattle.bridge_cards.specs.Card.{IsCard};
 ghost use Rattle.bridge_cards.specs.CardSet.{IsCardSet};
-ghost use Rattle.session_bytes.specs.ActionRange.{IsDeedInRange, IsActInRange, IsInRange, IsKey, IsTurn, IsPlay};
+ghost use Rattle.session_bytes.specs.ActionRange.{IsDeedInRange, IsActInRange, IsInRange, IsKey, IsTurn, IsPlayIdInRange};
 ghost use Rattle.session_rules.specs.Numbers.{IsRoundNumber, IsTrickCount};
 ghost use Rattle.session_rules.specs.StateRange.{IsCorrectionInRange};
 
@@ -103,7 +103,7 @@ fn ranges_of_round(key: Key, round: RoundNumber)
 
 /// The play that a ruling names.
 fn ranges_of_play(key: Key, play: PlayId)
-    ensures { IsKey key × IsPlay play }
+    ensures { IsKey key × IsPlayIdInRange play }
 {}
 
 /// What a ruling says.

@@ -31,7 +31,7 @@ fn read_behind_key(format: DiskFormat, kind: u8, key: Key, bytes: &[u8]) -> Opti
     ensures { result ≡ action_in format kind key bytes.now }
 {
     match kind {
-        1 => read_deal(key, bytes),
+        1 => read_deal_action(key, bytes),
         7 => {
             let round = RoundNumber::new(only_byte(bytes)?)?;
             Some(Action::NextRound { key, round })
@@ -42,7 +42,7 @@ fn read_behind_key(format: DiskFormat, kind: u8, key: Key, bytes: &[u8]) -> Opti
 }
 
 /// The deal of a board, by the bytes behind the key.
-fn read_deal(key: Key, bytes: &[u8]) -> Option<Action>
+fn read_deal_action(key: Key, bytes: &[u8]) -> Option<Action>
     ensures { result ≡ deal_in key bytes.now }
 {
     let (board, rest) = bytes.split_first()?;

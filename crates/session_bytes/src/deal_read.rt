@@ -9,7 +9,7 @@ use crate::action_read::read_hands;
 use bridge_cards::Deal;
 
 /// The deal that the part was written of, if the board is dealt; `None` where it is the part of no board.
-pub fn read_deal(part: &[u8]) -> Option<Option<Deal>>
+pub fn read_deal_part(part: &[u8]) -> Option<Option<Deal>>
     ensures written { IfSome result (λ deal. deal_part deal ≡ part.now) }
     ensures deal { IfSome result IsDealOrNone }
     ensures hands { IfSome result AreHandsOrNone }

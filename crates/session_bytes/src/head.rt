@@ -5,7 +5,7 @@ ghost use Rattle.bridge_movement.specs.Shape.{IsShape, row_count};
 ghost use Rattle.bridge_config.specs.ConfigValue.{ConfigValue, Pair, pair_of};
 ghost use Rattle.bridge_config.specs.Limits.{IsConfiguration, IsPair};
 ghost use Rattle.session_bytes.specs.Parts.{configuration_part, movement_part, pair_part};
-ghost use Rattle.session_bytes.specs.PartsRead.{text_in, after_text, scoring_at, numbers_in, shape_in, key_in, row_in, rows_in, pair_in, configuration_in};
+ghost use Rattle.session_bytes.specs.PartsRead.{text_in, after_text, scoring_at, numbers_in, shape_of_numbers, key_in, row_of_part, rows_of_part, pair_of_part, configuration_in};
 ghost use Rattle.session_bytes.specs.Reading.{items_of};
 ghost use Rattle.session_bytes.specs.Head.{head_parts, IsHeadingOf, IsHeadingPart, IsPairPart, IsMovementPart, AreHeadParts, HasHeading, IsHead, NoHead, IsRound};
 
@@ -64,7 +64,7 @@ fn scoring_of(number: u8) -> Option<Scoring>
 /// The shape in the twelve bytes behind the date.
 fn shape_of(numbers: &[u8]) -> Shape
     requires { length numbers.now ≡ 12 }
-    ensures { result ≡ shape_in numbers.now }
+    ensures { result ≡ shape_of_numbers numbers.now }
 {
     Shape {
         tables: numbers[2],
@@ -125,7 +125,7 @@ fn row_at(shape: Shape, part: &[u8], index: usize) -> Row
     requires shape { IsShape shape }
     requires within { index < row_count shape }
     requires bytes { length part.now ≡ row_count shape * 3 }
-    ensures { result ≡ row_in shape.tables part.now index }
+    ensures { result ≡ row_of_part shape.tables part.now index }
 {
     let tables = usize::from(shape.tables);
     Row {
@@ -140,7 +140,7 @@ fn row_at(shape: Shape, part: &[u8], index: usize) -> Row
 /// The rows of a movement of that shape, if there are as many bytes as it takes.
 fn read_rows(shape: Shape, part: &[u8]) -> Option<ArrayVec<Row, MOST_ROWS>>
     requires { IsShape shape }
-    ensures some { IfSome result (λ rows. rows.items ≡ rows_in shape part.now) }
+    ensures some { IfSome result (λ rows. rows.items ≡ rows_of_part shape part.now) }
     ensures none { IfNone result (length part.now ≢ row_count shape * 3) }
 {
     let count = shape.row_count();
@@ -156,7 +156,7 @@ fn read_rows(shape: Shape, part: &[u8]) -> Option<ArrayVec<Row, MOST_ROWS>>
 
 /// The pair that a part states, if it is in form.
 fn read_pair(part: &[u8]) -> Option<PairFields>
-    ensures some { IfSome result (λ pair. pair_of pair ≡ pair_in part.now) }
+    ensures some { IfSome result (λ pair. pair_of pair ≡ pair_of_part part.now) }
     ensures none { IfNone result (¬ IsPairPart part.now) }
 {
     let (first, rest) = split_text(part);
@@ -179,7 +179,7 @@ fn read_pair(part: &[u8]) -> Option<PairFields>
 /// The pairs that parts state, if each is in form.
 fn read_pairs(parts: &[ArrayVec<u8, PAYLOAD_BYTES>]) -> Option<ArrayVec<PairFields, MOST_PAIRS>>
     requires { length parts.now ≤ 24 }
-    ensures some { IfSome result (λ pairs. map pair_of pairs.items ≡ map pair_in (map items_of parts.now)) }
+    ensures some { IfSome result (λ pairs. map pair_of pairs.items ≡ map pair_of_part (map items_of parts.now)) }
     ensures none { IfNone result (Any (λ part. ¬ IsPairPart part.items) parts.now) }
 {
     let mut pairs = ArrayVec::new();
@@ -192,7 +192,7 @@ fn read_pairs(parts: &[ArrayVec<u8, PAYLOAD_BYTES>]) -> Option<ArrayVec<PairFiel
 /// The movement of that shape that a part states, if it is one.
 fn movement_of(shape: Shape, part: &[u8]) -> Option<Movement>
     requires { IsShape shape }
-    ensures some { IfSome result (λ movement. movement ≡ record { shape = shape; rows = rows_in shape part.now }) }
+    ensures some { IfSome result (λ movement. movement ≡ record { shape = shape; rows = rows_of_part shape part.now }) }
     ensures none { IfNone result (¬ IsMovementPart shape part.now) }
 {
     let rows = read_rows(shape, part)?;

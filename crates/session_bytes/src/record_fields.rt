@@ -4,7 +4,8 @@ ghost use Rattle.std.specs.Option.{option_map};
 ghost use Rattle.session_rules.specs.Record.{PlainRecord};
 ghost use Rattle.session_bytes.specs.Parts.{HasRecord, record_part};
 ghost use Rattle.session_rules.specs.StateRange.{IsRecordInRange};
-ghost use Rattle.session_bytes.specs.Reading.{AreFieldsOf, fields_in, bytes_at, calls_at, cards_at, seat_numbered, claimed_by, marked_at, claim_at, tricks_in, adjusted_by, short_ruling_at, long_ruling_at, ruling_at, claims_at, fields_at};
+ghost use Rattle.session_bytes.specs.ClaimRead.{seat_numbered, claimed_by, marked_at, claim_at};
+ghost use Rattle.session_bytes.specs.Reading.{AreFieldsOf, fields_in, bytes_at, calls_at, cards_at, tricks_ruling, adjusted_by, short_ruling_at, long_ruling_at, ruling_at, claims_at, fields_at};
 
 use bridge_cards::Seat;
 use bridge_play::Claim;
@@ -174,7 +175,7 @@ fn read_short_ruling(bytes: &[u8]) -> Option<Option<Ruling>>
     match bytes {
         [0] => Some(None),
         [2] => Some(Some(Ruling::Void)),
-        [1, tricks] => tricks_in(*tricks),
+        [1, tricks] => tricks_ruling(*tricks),
         _ => None,
     }
 }
@@ -185,7 +186,7 @@ fn read_long_ruling(bytes: &[u8]) -> Option<Option<Ruling>>
 {
     match bytes {
         [0, 0, 0] => Some(None),
-        [1, tricks, 0] => tricks_in(*tricks),
+        [1, tricks, 0] => tricks_ruling(*tricks),
         [2, 0, 0] => Some(Some(Ruling::Void)),
         [3, ns, ew] => adjusted_by(*ns, *ew),
         _ => None,
@@ -193,8 +194,8 @@ fn read_long_ruling(bytes: &[u8]) -> Option<Option<Ruling>>
 }
 
 /// The ruling of so many tricks, or none where these are too many.
-fn tricks_in(tricks: u8) -> Option<Option<Ruling>>
-    ensures { result ≡ tricks_in tricks }
+fn tricks_ruling(tricks: u8) -> Option<Option<Ruling>>
+    ensures { result ≡ tricks_ruling tricks }
 {
     let tricks = TrickCount::new(tricks)?;
     Some(Some(Ruling::Tricks(tricks)))

@@ -10,7 +10,7 @@ ghost use Rattle.session_bytes.specs.Reading.{items_of, part_kept, plains_of, Ar
 ghost use Rattle.std.specs.List.{list_all};
 ghost use Rattle.session_bytes.specs.Parts.{record_part};
 
-use crate::deal_read::read_deal;
+use crate::deal_read::read_deal_part;
 use crate::record_read::read_record;
 use arrayvec::ArrayVec;
 use bridge_cards::Deal;
@@ -27,7 +27,7 @@ pub fn read_deals(parts: &[ArrayVec<u8, PAYLOAD_BYTES>], deals: &mut [Option<Dea
     ensures other { IfNone result ((others : Deals) → AreDeals others → map deal_part others ≢ map items_of parts.now) }
 {
     for (index, part) in parts.iter().enumerate() {
-        deals[index] = read_deal(part.as_slice())?;
+        deals[index] = read_deal_part(part.as_slice())?;
     }
     Some(())
 }

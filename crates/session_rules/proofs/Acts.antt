@@ -13,7 +13,7 @@ use Rattle.session_rules.specs.declared.deed.Deed.TheVariants as deed
 use Rattle.session_rules.specs.Act.{act_of, of_player, of_ruling}
 
 abbrev pub action_by : Act → Action
-action_by (act.Player key board at done) = of_player key board at done
+action_by (act.Player key board at deed) = of_player key board at deed
 action_by (act.Deal key board hands) = Deal key board hands
 action_by (act.RoundEnd key round) = NextRound key round
 action_by (act.Ruling key play made) = of_ruling key play made
@@ -31,7 +31,7 @@ by_its_act (Void key play) = refl
 by_its_act (Adjust key play ns ew) = refl
 by_its_act (Restore key play) = refl
 
-pub act_of_player : (key : Key) (board at : ℕ) (done : Deed) → act_of (of_player key board at done) ≡ act.Player key board at done
+pub act_of_player : (key : Key) (board at : ℕ) (deed : Deed) → act_of (of_player key board at deed) ≡ act.Player key board at deed
 act_of_player key board at (deed.Call call) = refl
 act_of_player key board at (deed.Card card) = refl
 act_of_player key board at (deed.Claim tricks) = refl

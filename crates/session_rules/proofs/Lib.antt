@@ -4,6 +4,7 @@ pub mod Acts
 pub mod SameAnswer
 pub mod Shown
 pub mod SameView
+pub mod OneView
 pub mod StaysValid
 pub mod ValidRuling
 pub mod ValidRound

@@ -26,7 +26,7 @@ other_deal deals board other deal apart =
     ∙ sym (unwrap_or-slice_get deals (other - 1) None)
 
 -- what a player does is on the same board
-pub deed_board : (seat : Seat) (done : Deed) (plain : PlainRecord) → (with_deed seat done plain).board ≡ plain.board
+pub deed_board : (seat : Seat) (deed : Deed) (plain : PlainRecord) → (with_deed seat deed plain).board ≡ plain.board
 deed_board seat (deed.Call call) plain = refl
 deed_board seat (deed.Card card) plain = refl
 deed_board seat (deed.Claim tricks) plain = refl

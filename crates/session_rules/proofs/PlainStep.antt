@@ -26,7 +26,7 @@ use Rattle.session_rules.specs.PlayerStep.{seen_by, answer_among, player_answer,
 use Rattle.session_rules.specs.DirectorStep.{rule_answer, with_ruling, ruled}
 use Rattle.session_rules.specs.Step.{act_answer, changed_by}
 use Rattle.session_rules.specs.Valid.{board_of, IsPlayId, IsAct, IsValid}
-use Rattle.session_rules.specs.Own.{Done, ByPlayer, ByDirector, done_by, same_play, ruled_in, done_in}
+use Rattle.session_rules.specs.Own.{OwnDeed, ByPlayer, ByDirector, own_deed_by, same_play, ruled_in, own_deed_in}
 use Rattle.session_rules.proofs.Lists.{changed_at-Some, changed_at-None}
 use Rattle.session_rules.proofs.StaysValid.{set_read, set_other, row_found, mapped_from}
 use Rattle.session_rules.proofs.ValidRuling.{allowed_ok, ruled_on, found_within}
@@ -34,9 +34,9 @@ use Rattle.session_rules.proofs.ValidPlayer.{answer_at, passed, acted_on}
 use Rattle.session_rules.proofs.PlainParts.{done_to}
 
 -- what is done, if anything is
-abbrev pub perhaps_done : Option Done → PlainRecord → PlainRecord
+abbrev pub perhaps_done : Option OwnDeed → PlainRecord → PlainRecord
 perhaps_done None x = x
-perhaps_done (Some done) x = done_to done x
+perhaps_done (Some deed) x = done_to deed x
 
 -- The records after a change
 
@@ -177,50 +177,50 @@ one_index s row_index i j x y valid at_i at_j same =
     let at_y = board_number (is_live b.0) first n j y.board b.2 in
     omega (arith, at_x, at_y, same)
 
-acted_by : (s : SessionValue) (play : PlayId) (seat : Seat) (row_index : ℕ) (done : Deed) (board named : ℕ) (x current : PlainRecord) (a b : Bool) → IsValid s → (row_index == index_of_row s.configuration.movement.shape play.round play.table) ≡ a → (named == board) ≡ b → x.board ≡ board → slice_get (row_at s.records row_index) (current_index (row_at s.records row_index)) ≡ Some current → current.board ≡ named → slice_get (row_at s.records (index_of_row s.configuration.movement.shape play.round play.table)) (play.index - 1) ≡ Some x → slice_get (row_at (changed_at (changes (with_deed seat done) current_index) s.records row_index) (index_of_row s.configuration.movement.shape play.round play.table)) (play.index - 1) ≡ Some (perhaps_done (cond (a && b) (Some (ByPlayer seat done)) None) x)
-acted_by s play seat row_index done board named x current true true valid at_index of_board own now on is =
+acted_by : (s : SessionValue) (play : PlayId) (seat : Seat) (row_index : ℕ) (deed : Deed) (board named : ℕ) (x current : PlainRecord) (a b : Bool) → IsValid s → (row_index == index_of_row s.configuration.movement.shape play.round play.table) ≡ a → (named == board) ≡ b → x.board ≡ board → slice_get (row_at s.records row_index) (current_index (row_at s.records row_index)) ≡ Some current → current.board ≡ named → slice_get (row_at s.records (index_of_row s.configuration.movement.shape play.round play.table)) (play.index - 1) ≡ Some x → slice_get (row_at (changed_at (changes (with_deed seat deed) current_index) s.records row_index) (index_of_row s.configuration.movement.shape play.round play.table)) (play.index - 1) ≡ Some (perhaps_done (cond (a && b) (Some (ByPlayer seat deed)) None) x)
+acted_by s play seat row_index deed board named x current true true valid at_index of_board own now on is =
     let mine = index_of_row s.configuration.movement.shape play.round play.table in
     let same : row_index ≡ mine = eqb-true row_index mine at_index in
     let name : named ≡ board = eqb-true named board of_board in
     let there : slice_get (row_at s.records row_index) (play.index - 1) ≡ Some x = ap (λ p. slice_get (row_at s.records p) (play.index - 1)) same ∙ is in
     let index = one_index s row_index (current_index (row_at s.records row_index)) (play.index - 1) current x valid now there (on ∙ name ∙ sym own) in
-    ap (λ p. slice_get (row_at (changed_at (changes (with_deed seat done) current_index) s.records row_index) p) (play.index - 1)) (sym same)
-    ∙ here_changed (with_deed seat done) current_index s.records row_index (play.index - 1) x there index
-acted_by s play seat row_index done board named x current true false valid at_index of_board own now on is =
+    ap (λ p. slice_get (row_at (changed_at (changes (with_deed seat deed) current_index) s.records row_index) p) (play.index - 1)) (sym same)
+    ∙ here_changed (with_deed seat deed) current_index s.records row_index (play.index - 1) x there index
+acted_by s play seat row_index deed board named x current true false valid at_index of_board own now on is =
     let mine = index_of_row s.configuration.movement.shape play.round play.table in
     let same : row_index ≡ mine = eqb-true row_index mine at_index in
     let there : slice_get (row_at s.records row_index) (play.index - 1) ≡ Some x = ap (λ p. slice_get (row_at s.records p) (play.index - 1)) same ∙ is in
-    ap (λ p. slice_get (row_at (changed_at (changes (with_deed seat done) current_index) s.records row_index) p) (play.index - 1)) (sym same)
-    ∙ index_apart (with_deed seat done) current_index s.records row_index (play.index - 1) x there
+    ap (λ p. slice_get (row_at (changed_at (changes (with_deed seat deed) current_index) s.records row_index) p) (play.index - 1)) (sym same)
+    ∙ index_apart (with_deed seat deed) current_index s.records row_index (play.index - 1) x there
     (λ index.
     let found : slice_get (row_at s.records row_index) (current_index (row_at s.records row_index)) ≡ Some x = ap (slice_get (row_at s.records row_index)) (sym index) ∙ there in
     let one : current ≡ x = let both : Some current ≡ Some x = sym now ∙ found in cc in
     let name : named ≡ board = sym on ∙ ap board_of one ∙ own in
     eqb-false named board of_board name)
-acted_by s play seat row_index done board named x current false b valid at_index of_board own now on is =
+acted_by s play seat row_index deed board named x current false b valid at_index of_board own now on is =
     let mine = index_of_row s.configuration.movement.shape play.round play.table in
-    ap (λ rs. slice_get rs (play.index - 1)) (row_apart (changes (with_deed seat done) current_index) s.records row_index mine (λ same. eqb-false row_index mine at_index (sym same))) ∙ is
+    ap (λ rs. slice_get rs (play.index - 1)) (row_apart (changes (with_deed seat deed) current_index) s.records row_index mine (λ same. eqb-false row_index mine at_index (sym same))) ∙ is
 
-player_by : (s : SessionValue) (play : PlayId) (board named at : ℕ) (done : Deed) (x : PlainRecord) (sits : Result Seating Refused) → IsValid s → answer_at s named at done sits ≡ Ok tt → record_of s play ≡ Some x → x.board ≡ board → record_of (acted_at s done sits) play ≡ Some (perhaps_done (done_by s.configuration play board named done sits) x)
-player_by s play board named at done x (Err refused) valid ok is own = absurd cc
-player_by s play board named at done x (Ok seating) valid ok is own =
+player_by : (s : SessionValue) (play : PlayId) (board named at : ℕ) (deed : Deed) (x : PlainRecord) (sits : Result Seating Refused) → IsValid s → answer_at s named at deed sits ≡ Ok tt → record_of s play ≡ Some x → x.board ≡ board → record_of (acted_at s deed sits) play ≡ Some (perhaps_done (own_deed_by s.configuration play board named deed sits) x)
+player_by s play board named at deed x (Err refused) valid ok is own = absurd cc
+player_by s play board named at deed x (Ok seating) valid ok is own =
     let shape = s.configuration.movement.shape in
     let mine = is_of_set s.configuration seating.set named in
     let records = row_at s.records seating.row in
-    let of_set = passed mine NotCurrent (answer_among records (cond mine (deal_on s.deals named) None) named seating.seat at done) ok in
-    let on = acted_on (cond mine (deal_on s.deals named) None) named seating.seat at done (slice_get records (current_index records)) of_set.1 in
+    let of_set = passed mine NotCurrent (answer_among records (cond mine (deal_on s.deals named) None) named seating.seat at deed) ok in
+    let on = acted_on (cond mine (deal_on s.deals named) None) named seating.seat at deed (slice_get records (current_index records)) of_set.1 in
     let found = found_within (is_row_within shape play.round play.table) (slice_get (row_at s.records (index_of_row shape play.round play.table)) (play.index - 1)) x is in
     let a : Bool = seating.row == index_of_row shape play.round play.table in
     let b : Bool = named == board in
-    record_at s (changed_at (changes (with_deed seating.seat done) current_index) s.records seating.row) play (perhaps_done (cond (a && b) (Some (ByPlayer seating.seat done)) None) x) found.0
-    (acted_by s play seating.seat seating.row done board named x on.plain a b valid refl refl own on.is on.same found.1)
+    record_at s (changed_at (changes (with_deed seating.seat deed) current_index) s.records seating.row) play (perhaps_done (cond (a && b) (Some (ByPlayer seating.seat deed)) None) x) found.0
+    (acted_by s play seating.seat seating.row deed board named x on.plain a b valid refl refl own on.is on.same found.1)
 
-pub player_step : (s : SessionValue) (play : PlayId) (key board named at : ℕ) (done : Deed) (x : PlainRecord) → IsValid s → player_answer (seen_by s key named) key named at done ≡ Ok tt → record_of s play ≡ Some x → x.board ≡ board → record_of (acted s key done) play ≡ Some (perhaps_done (done_by s.configuration play board named done (seating_of s.configuration s.round key)) x)
-player_step s play key board named at done x valid ok is own = player_by s play board named at done x (seating_of s.configuration s.round key) valid ok is own
+pub player_step : (s : SessionValue) (play : PlayId) (key board named at : ℕ) (deed : Deed) (x : PlainRecord) → IsValid s → player_answer (seen_by s key named) key named at deed ≡ Ok tt → record_of s play ≡ Some x → x.board ≡ board → record_of (acted s key deed) play ≡ Some (perhaps_done (own_deed_by s.configuration play board named deed (seating_of s.configuration s.round key)) x)
+player_step s play key board named at deed x valid ok is own = player_by s play board named at deed x (seating_of s.configuration s.round key) valid ok is own
 
 -- Each act
-pub record_step : (a : Act) (s : SessionValue) (play : PlayId) (board : ℕ) (x : PlainRecord) → IsAct a → IsPlayId play → IsValid s → act_answer s a ≡ Ok tt → record_of s play ≡ Some x → x.board ≡ board → record_of (changed_by s a) play ≡ Some (perhaps_done (done_in s.configuration play board s.round a) x)
-record_step (act.Player key named at done) s play board x ranges id valid ok is own = player_step s play key.0 board named at done x valid ok is own
+pub record_step : (a : Act) (s : SessionValue) (play : PlayId) (board : ℕ) (x : PlainRecord) → IsAct a → IsPlayId play → IsValid s → act_answer s a ≡ Ok tt → record_of s play ≡ Some x → x.board ≡ board → record_of (changed_by s a) play ≡ Some (perhaps_done (own_deed_in s.configuration play board s.round a) x)
+record_step (act.Player key named at deed) s play board x ranges id valid ok is own = player_step s play key.0 board named at deed x valid ok is own
 record_step (act.Deal key of_board hands) s play board x ranges id valid ok is own = is
 record_step (act.RoundEnd key round) s play board x ranges id valid ok is own = is
 record_step (act.Ruling key named made) s play board x ranges id valid ok is own =

@@ -16,7 +16,7 @@ use Rattle.session_rules.specs.declared.refused.Refused.{Refused}
 use Rattle.session_rules.specs.declared.ruling.Ruling.{Ruling}
 use Rattle.session_rules.specs.declared.ruling.Ruling.TheVariants as ruling
 use Rattle.session_rules.specs.Correction.{tricks_answer}
-use Rattle.session_rules.specs.Record.{PlainRecord, empty_record, contract_in, play_of, is_open}
+use Rattle.session_rules.specs.Record.{PlainRecord, empty_record, Course, contract_in, course_in, play_of, is_open}
 use Rattle.session_rules.specs.State.{deal_on, hands_on}
 use Rattle.session_rules.specs.Valid.{MayStand, IsUnplayed, IsValidRecord}
 use Rattle.session_rules.proofs.Decided.{Decided, decided_like, decided_both, decided_implies, decided_equal, decided_less, decided_most, decided_true, decided_false, decided_none, decided_empty, decided_found, decided_indexes}
@@ -72,10 +72,10 @@ decided_scoring MatchPoints = inl refl
 decided_scoring Imps = inr (λ same. cc)
 
 -- whether a ruling may stand
-decided_ruling : (scoring : Scoring) (play : Option PlayValue) (made : Ruling) → Decided (MayStand scoring play made)
-decided_ruling scoring play (ruling.Tricks tricks) = decided_accepted (tricks_answer play)
-decided_ruling scoring play ruling.Void = inl tt
-decided_ruling scoring play (ruling.Adjusted ns ew) = decided_scoring scoring
+decided_ruling : (scoring : Scoring) (course : Option Course) (made : Ruling) → Decided (MayStand scoring course made)
+decided_ruling scoring course (ruling.Tricks tricks) = decided_accepted (tricks_answer course)
+decided_ruling scoring course ruling.Void = inl tt
+decided_ruling scoring course (ruling.Adjusted ns ew) = decided_scoring scoring
 
 -- whether nothing was played or claimed
 decided_unplayed : (plain : PlainRecord) → Decided (IsUnplayed plain)
@@ -116,7 +116,7 @@ decided_record scoring deals now round plain =
     (decided_both (decided_implies (decided_none (deal_on deals plain.board)) (decided_empty plain.calls))
     (decided_both (decided_implies (decided_none (contract_in plain)) (decided_unplayed plain))
     (decided_both (decided_found IsPlay decided_play (play_of (hands_on deals plain.board) plain))
-    (decided_both (decided_found (MayStand scoring (play_of [] plain)) (decided_ruling scoring (play_of [] plain)) plain.ruling)
+    (decided_both (decided_found (MayStand scoring (course_in plain)) (decided_ruling scoring (course_in plain)) plain.ruling)
     (decided_both (decided_implies (decided_less now round) (decided_untouched plain))
     (decided_implies (decided_less round now) (decided_false (is_open plain)))))))))
     (λ all. record {

@@ -44,14 +44,14 @@ seen_same key s t board agree =
     ∙ ap (λ d. made t.configuration t.round d (seen_records s sits_s)) deals
     ∙ ap (made t.configuration t.round (seen_deal t board sits_t)) records
 
-player_same : (own key : ℕ) (s t : SessionValue) (board at : ℕ) (done : Deed) → Some own ≡ Some key → AgreeAtTable key s t → player_answer (seen_by s own board) own board at done ≡ player_answer (seen_by t own board) own board at done
-player_same own key s t board at done is agree =
+player_same : (own key : ℕ) (s t : SessionValue) (board at : ℕ) (deed : Deed) → Some own ≡ Some key → AgreeAtTable key s t → player_answer (seen_by s own board) own board at deed ≡ player_answer (seen_by t own board) own board at deed
+player_same own key s t board at deed is agree =
     let same : own ≡ key = cc in
     let there = subst (λ k. AgreeAtTable k s t) (sym same) agree in
-    ap (λ (seen : Seen). player_answer seen own board at done) (seen_same own s t board there)
+    ap (λ (seen : Seen). player_answer seen own board at deed) (seen_same own s t board there)
 
 act_same : (a : Act) (key : ℕ) (s t : SessionValue) → player_in_act a ≡ Some key → AgreeAtTable key s t → act_answer s a ≡ act_answer t a
-act_same (act.Player own board at done) key s t is agree = player_same own.0 key s t board at done is agree
+act_same (act.Player own board at deed) key s t is agree = player_same own.0 key s t board at deed is agree
 act_same (act.Deal own board hands) key s t is agree = absurd cc
 act_same (act.RoundEnd own round) key s t is agree = absurd cc
 act_same (act.Ruling own play made) key s t is agree = absurd cc

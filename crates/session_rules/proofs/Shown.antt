@@ -8,7 +8,7 @@ use Rattle.bridge_play.specs.Legal.{holds}
 use Rattle.session_rules.specs.declared.refused.Refused.{Refused}
 use Rattle.session_rules.specs.declared.refused.Refused.TheVariants.{NotCurrent, NotDealt}
 use Rattle.session_rules.specs.declared.seating.Seating.{Seating}
-use Rattle.session_rules.specs.Answer.{◌>>=◌}
+use Rattle.bridge_config.specs.Then.{◌>>=◌}
 use Rattle.session_rules.specs.Record.{PlainRecord}
 use Rattle.session_rules.specs.See.{Shown, cards_left, shown_of, shown_among}
 use Rattle.session_rules.specs.State.{SessionValue, Deals, deal_on, row_at}

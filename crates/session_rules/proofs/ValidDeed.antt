@@ -34,7 +34,7 @@ use Rattle.session_rules.specs.declared.refused.Refused.TheVariants.{WrongPhase,
 use Rattle.session_rules.specs.declared.ruling.Ruling.{Ruling}
 use Rattle.session_rules.specs.declared.ruling.Ruling.TheVariants as ruling
 use Rattle.session_rules.specs.Deed.{renamed, from_call, from_card, from_claim, from_consent, counted, deed_answer, answer_if_play, answer_in_play, with_deed}
-use Rattle.session_rules.specs.Record.{PlainRecord, bidding_of, contract_in, playing_in, play_of, is_finished, is_ruled_out, is_open}
+use Rattle.session_rules.specs.Record.{PlainRecord, bidding_of, contract_in, playing_in, play_of, course_in, is_finished, is_ruled_out, is_open}
 use Rattle.session_rules.specs.State.{deal_on, hands_on}
 use Rattle.session_rules.specs.Valid.{MayStand, IsUnplayed, IsValidRecord, IsDeed}
 use Rattle.session_rules.proofs.Lists.{not_refused, not_false}
@@ -45,24 +45,24 @@ use Rattle.session_rules.proofs.ValidRuling.{over_done}
 
 -- an answer under another name is Ok where the answer is
 renamed_ok : {E : Type 0} (name : E → Refused) (r : Result (Unit {0}) E) → renamed name r ≡ Ok tt → r ≡ Ok tt
-renamed_ok name (Ok done) is = refl
+renamed_ok name (Ok deed) is = refl
 renamed_ok name (Err e) is = absurd cc
 
 -- An open play has no ruling
 
-open_parts : (void done : Bool) → (not void && not done) ≡ true → (void ≡ false) × (done ≡ false)
-open_parts true done is = absurd cc
+open_parts : (void deed : Bool) → (not void && not deed) ≡ true → (void ≡ false) × (deed ≡ false)
+open_parts true deed is = absurd cc
 open_parts false true is = absurd cc
 open_parts false false is = (refl, refl)
 
-unruled_by : (scoring : Scoring) (x : PlainRecord) (made : Option Ruling) → is_ruled_out made ≡ false → is_finished x ≡ false → IfSome made (MayStand scoring (play_of [] x)) → made ≡ None
+unruled_by : (scoring : Scoring) (x : PlainRecord) (made : Option Ruling) → is_ruled_out made ≡ false → is_finished x ≡ false → IfSome made (MayStand scoring (course_in x)) → made ≡ None
 unruled_by scoring x None void unfinished ruled = refl
 unruled_by scoring x (Some (ruling.Tricks tricks)) void unfinished ruled =
-    let over = over_done x.calls (play_of [] x) ruled in absurd cc
+    let over = over_done x.calls (course_in x) ruled in absurd cc
 unruled_by scoring x (Some ruling.Void) void unfinished ruled = absurd cc
 unruled_by scoring x (Some (ruling.Adjusted ns ew)) void unfinished ruled = absurd cc
 
-unruled : (scoring : Scoring) (x : PlainRecord) → is_open x ≡ true → IfSome x.ruling (MayStand scoring (play_of [] x)) → x.ruling ≡ None
+unruled : (scoring : Scoring) (x : PlainRecord) → is_open x ≡ true → IfSome x.ruling (MayStand scoring (course_in x)) → x.ruling ≡ None
 unruled scoring x open_play ruled =
     let parts = open_parts (is_ruled_out x.ruling) (is_finished x) open_play in
     unruled_by scoring x x.ruling parts.0 parts.1 ruled
@@ -107,7 +107,7 @@ call_valid scoring deals now round hands seat at made x current dealt open_play 
       dealt = λ none. absurd (cc (dealt, none));
       unplayed = λ none. unplayed;
       play = if_some_map IsPlay (playing_in (hands_on deals x.board) after) (contract_in after) (λ contract. new_play (hands_on deals x.board) contract after unplayed);
-      ruled = subst (λ o. IfSome o (MayStand scoring (play_of [] after))) (sym (unruled scoring x open_play valid.ruled)) tt;
+      ruled = subst (λ o. IfSome o (MayStand scoring (course_in after))) (sym (unruled scoring x open_play valid.ruled)) tt;
       later = λ less. absurd (omega arith);
       earlier = λ less. absurd (omega arith);
     }
@@ -246,25 +246,25 @@ played_valid scoring deals now round hands x after play is becomes some board ca
           (becomes_some hands x after play becomes
           (subst (λ h. IfSome (option_map (playing_in h x) play) IsPlay) before
           (subst (λ o. IfSome (option_map (playing_in (hands_on deals x.board) x) o) IsPlay) is valid.play))));
-      ruled = subst (λ o. IfSome o (MayStand scoring (play_of [] after))) (sym (made ∙ unruled scoring x open_play valid.ruled)) tt;
+      ruled = subst (λ o. IfSome o (MayStand scoring (course_in after))) (sym (made ∙ unruled scoring x open_play valid.ruled)) tt;
       later = λ less. absurd (omega arith);
       earlier = λ less. absurd (omega arith);
     }
 
 -- an answer in a play is Ok only where there is one
-counted_ok : (done at : ℕ) (r : Result (Unit {0}) Refused) → counted done at r ≡ Ok tt → r ≡ Ok tt
-counted_ok done at r is = rest_ok (not (at == done)) Stale r is
+counted_ok : (made at : ℕ) (r : Result (Unit {0}) Refused) → counted made at r ≡ Ok tt → r ≡ Ok tt
+counted_ok made at r is = rest_ok (not (at == made)) Stale r is
 
-in_play : (hands : List ℕ) (x : PlainRecord) (play : Option Contract) (seat : Seat) (at : ℕ) (done : Deed) → answer_if_play (option_map (playing_in hands x) play) seat at done ≡ Ok tt → play ≡ None → ⊥
-in_play hands x None seat at done ok none = absurd cc
-in_play hands x (Some contract) seat at done ok none = absurd cc
+in_play : (hands : List ℕ) (x : PlainRecord) (play : Option Contract) (seat : Seat) (at : ℕ) (deed : Deed) → answer_if_play (option_map (playing_in hands x) play) seat at deed ≡ Ok tt → play ≡ None → ⊥
+in_play hands x None seat at deed ok none = absurd cc
+in_play hands x (Some contract) seat at deed ok none = absurd cc
 
-by_contract : (hands : List ℕ) (x : PlainRecord) (play : Option Contract) (contract : Contract) (seat : Seat) (at : ℕ) (done : Deed) → answer_if_play (option_map (playing_in hands x) play) seat at done ≡ Ok tt → play ≡ Some contract → answer_in_play (playing_in hands x contract) seat at done ≡ Ok tt
-by_contract hands x None contract seat at done ok is = absurd cc
-by_contract hands x (Some other) contract seat at done ok is =
-    let same : other ≡ contract = cc in subst (λ k. answer_in_play (playing_in hands x k) seat at done ≡ Ok tt) same ok
+by_contract : (hands : List ℕ) (x : PlainRecord) (play : Option Contract) (contract : Contract) (seat : Seat) (at : ℕ) (deed : Deed) → answer_if_play (option_map (playing_in hands x) play) seat at deed ≡ Ok tt → play ≡ Some contract → answer_in_play (playing_in hands x contract) seat at deed ≡ Ok tt
+by_contract hands x None contract seat at deed ok is = absurd cc
+by_contract hands x (Some other) contract seat at deed ok is =
+    let same : other ≡ contract = cc in subst (λ k. answer_in_play (playing_in hands x k) seat at deed ≡ Ok tt) same ok
 
-pub deed_valid : (scoring : Scoring) (deals : List (Option (List ℕ))) (now round : ℕ) (hands : List ℕ) (seat : Seat) (at : ℕ) (done : Deed) (x : PlainRecord) → round ≡ now → deal_on deals x.board ≡ Some hands → is_open x ≡ true → IsDeed done → deed_answer (bidding_of x) (play_of hands x) seat at done ≡ Ok tt → IsValidRecord scoring deals now round x → IsValidRecord scoring deals now round (with_deed seat done x)
+pub deed_valid : (scoring : Scoring) (deals : List (Option (List ℕ))) (now round : ℕ) (hands : List ℕ) (seat : Seat) (at : ℕ) (deed : Deed) (x : PlainRecord) → round ≡ now → deal_on deals x.board ≡ Some hands → is_open x ≡ true → IsDeed deed → deed_answer (bidding_of x) (play_of hands x) seat at deed ≡ Ok tt → IsValidRecord scoring deals now round x → IsValidRecord scoring deals now round (with_deed seat deed x)
 deed_valid scoring deals now round hands seat at (deed.Call made) x current dealt open_play known ok valid =
     call_valid scoring deals now round hands seat at made x current dealt open_play known ok valid
 deed_valid scoring deals now round hands seat at (deed.Card card) x current dealt open_play known ok valid =

@@ -42,27 +42,27 @@ first_passes p [] x is = absurd (none_of (position_or_len p []) x is)
 first_passes p (y ∷ ys) x is = open_here p y x ys (p y) (position_or_len p ys) refl (first_passes p ys x) is
 
 -- What an accepted answer says of the current play
-pub record IsActedOn (deal : Option (List ℕ)) (board : ℕ) (seat : Seat) (at : ℕ) (done : Deed) (found : Option PlainRecord) : Type 0 where
+pub record IsActedOn (deal : Option (List ℕ)) (board : ℕ) (seat : Seat) (at : ℕ) (deed : Deed) (found : Option PlainRecord) : Type 0 where
   pub plain : PlainRecord
   pub is : found ≡ Some plain
   pub same : plain.board ≡ board
   pub hands : List ℕ
   pub dealt : deal ≡ Some hands
-  pub ok : deed_answer (bidding_of plain) (play_of hands plain) seat at done ≡ Ok tt
+  pub ok : deed_answer (bidding_of plain) (play_of hands plain) seat at deed ≡ Ok tt
 
-dealt_on : (deal : Option (List ℕ)) (plain : PlainRecord) (seat : Seat) (at : ℕ) (done : Deed) → answer_dealt plain seat at done deal ≡ Ok tt → (hands : List ℕ) × (deal ≡ Some hands) × (deed_answer (bidding_of plain) (play_of hands plain) seat at done ≡ Ok tt)
-dealt_on None plain seat at done ok = absurd cc
-dealt_on (Some hands) plain seat at done ok = (hands, refl, ok)
+dealt_on : (deal : Option (List ℕ)) (plain : PlainRecord) (seat : Seat) (at : ℕ) (deed : Deed) → answer_dealt plain seat at deed deal ≡ Ok tt → (hands : List ℕ) × (deal ≡ Some hands) × (deed_answer (bidding_of plain) (play_of hands plain) seat at deed ≡ Ok tt)
+dealt_on None plain seat at deed ok = absurd cc
+dealt_on (Some hands) plain seat at deed ok = (hands, refl, ok)
 
 pub passed : (b : Bool) (e : Refused) (r : Answer) → (require b e >> r) ≡ Ok tt → (b ≡ true) × (r ≡ Ok tt)
 passed true e r is = (refl, is)
 passed false e r is = absurd cc
 
-pub acted_on : (deal : Option (List ℕ)) (board : ℕ) (seat : Seat) (at : ℕ) (done : Deed) (found : Option PlainRecord) → answer_current deal board seat at done found ≡ Ok tt → IsActedOn deal board seat at done found
-acted_on deal board seat at done None ok = absurd cc
-acted_on deal board seat at done (Some plain) ok =
-    let here = passed (plain.board == board) NotCurrent (answer_dealt plain seat at done deal) ok in
-    let there = dealt_on deal plain seat at done here.1 in
+pub acted_on : (deal : Option (List ℕ)) (board : ℕ) (seat : Seat) (at : ℕ) (deed : Deed) (found : Option PlainRecord) → answer_current deal board seat at deed found ≡ Ok tt → IsActedOn deal board seat at deed found
+acted_on deal board seat at deed None ok = absurd cc
+acted_on deal board seat at deed (Some plain) ok =
+    let here = passed (plain.board == board) NotCurrent (answer_dealt plain seat at deed deal) ok in
+    let there = dealt_on deal plain seat at deed here.1 in
     record { plain = plain; is = refl; same = eqb-true plain.board board here.0; hands = there.0; dealt = there.1; ok = there.2 }
 
 -- Where a player sits
@@ -127,26 +127,26 @@ seated_at configuration round (Ok player) seating limits sits =
 
 -- The session after the act
 abbrev pub answer_at : SessionValue → ℕ → ℕ → Deed → Result Seating Refused → Result (Unit {0}) Refused
-answer_at s board at done sits =
-    answer_seated (record { configuration = s.configuration; round = s.round; deal = seen_deal s board sits; records = seen_records s sits }) board at done sits
+answer_at s board at deed sits =
+    answer_seated (record { configuration = s.configuration; round = s.round; deal = seen_deal s board sits; records = seen_records s sits }) board at deed sits
 
-acted_valid : (s : SessionValue) (key board at : ℕ) (done : Deed) (sits : Result Seating Refused) → IsValid s → IsDeed done → seating_of s.configuration s.round key ≡ sits → answer_at s board at done sits ≡ Ok tt → IsValid (acted_at s done sits)
-acted_valid s key board at done (Err refused) valid known is ok = absurd cc
-acted_valid s key board at done (Ok seating) valid known is ok =
+acted_valid : (s : SessionValue) (key board at : ℕ) (deed : Deed) (sits : Result Seating Refused) → IsValid s → IsDeed deed → seating_of s.configuration s.round key ≡ sits → answer_at s board at deed sits ≡ Ok tt → IsValid (acted_at s deed sits)
+acted_valid s key board at deed (Err refused) valid known is ok = absurd cc
+acted_valid s key board at deed (Ok seating) valid known is ok =
     let mine = is_of_set s.configuration seating.set board in
     let records = row_at s.records seating.row in
-    let of_set = passed mine NotCurrent (answer_among records (cond mine (deal_on s.deals board) None) board seating.seat at done) ok in
-    let on = acted_on (cond mine (deal_on s.deals board) None) board seating.seat at done (slice_get records (current_index records)) of_set.1 in
+    let of_set = passed mine NotCurrent (answer_among records (cond mine (deal_on s.deals board) None) board seating.seat at deed) ok in
+    let on = acted_on (cond mine (deal_on s.deals board) None) board seating.seat at deed (slice_get records (current_index records)) of_set.1 in
     let sits = seated_at s.configuration s.round (acting_player s.configuration key) seating valid.configured is in
-    valid_change s seating.row (with_deed seating.seat done) current_index valid (deed_board seating.seat done)
+    valid_change s seating.row (with_deed seating.seat deed) current_index valid (deed_board seating.seat deed)
     (λ row x there was good.
     let same : on.plain ≡ x = let both : Some on.plain ≡ Some x = sym on.is ∙ was in cc in
     let round : row.round ≡ s.round = row_round s.configuration s.round sits.table row valid.configured valid.begun sits.first sits.within (ap (slice_get s.configuration.movement.rows) (sym sits.row) ∙ there) in
     let board_is : x.board ≡ board = ap (λ (p : PlainRecord). p.board) (sym same) ∙ on.same in
     let dealt : deal_on s.deals x.board ≡ Some on.hands = ap (deal_on s.deals) board_is ∙ ap (λ b. cond b (deal_on s.deals board) None) (sym of_set.0) ∙ on.dealt in
-    let answered : deed_answer (bidding_of x) (play_of on.hands x) seating.seat at done ≡ Ok tt =
-    subst (λ (p : PlainRecord). deed_answer (bidding_of p) (play_of on.hands p) seating.seat at done ≡ Ok tt) same on.ok in
-    deed_valid s.configuration.scoring s.deals s.round row.round on.hands seating.seat at done x round dealt (first_passes is_open records x was) known answered good)
+    let answered : deed_answer (bidding_of x) (play_of on.hands x) seating.seat at deed ≡ Ok tt =
+    subst (λ (p : PlainRecord). deed_answer (bidding_of p) (play_of on.hands p) seating.seat at deed ≡ Ok tt) same on.ok in
+    deed_valid s.configuration.scoring s.deals s.round row.round on.hands seating.seat at deed x round dealt (first_passes is_open records x was) known answered good)
 
-pub player_valid : (s : SessionValue) (key board at : ℕ) (done : Deed) → IsValid s → IsDeed done → player_answer (seen_by s key board) key board at done ≡ Ok tt → IsValid (acted s key done)
-player_valid s key board at done valid known ok = acted_valid s key board at done (seating_of s.configuration s.round key) valid known refl ok
+pub player_valid : (s : SessionValue) (key board at : ℕ) (deed : Deed) → IsValid s → IsDeed deed → player_answer (seen_by s key board) key board at deed ≡ Ok tt → IsValid (acted s key deed)
+player_valid s key board at deed valid known ok = acted_valid s key board at deed (seating_of s.configuration s.round key) valid known refl ok

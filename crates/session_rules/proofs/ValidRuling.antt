@@ -9,14 +9,13 @@ use Rattle.bridge_score.specs.declared.Scoring.TheVariants.{MatchPoints, Imps}
 use Rattle.bridge_config.specs.ConfigValue.{ConfigValue}
 use Rattle.bridge_config.specs.Limits.{IsConfiguration}
 use Rattle.bridge_movement.specs.declared.row.Row.{Row}
-use Rattle.bridge_play.specs.Play.{PlayValue, is_over}
 use Rattle.session_rules.specs.declared.action.PlayId.{PlayId}
 use Rattle.session_rules.specs.declared.correction.Correction.{Correction}
 use Rattle.session_rules.specs.declared.correction.Correction.TheVariants as correction
 use Rattle.session_rules.specs.declared.refused.Refused.{Refused}
 use Rattle.session_rules.specs.declared.refused.Refused.TheVariants.{NotFinished, NotYet}
 use Rattle.session_rules.specs.Correction.{tricks_answer, adjust_answer, ruling_answer}
-use Rattle.session_rules.specs.Record.{PlainRecord, play_of, is_done, is_open}
+use Rattle.session_rules.specs.Record.{PlainRecord, Course, course_in, is_run, is_done, is_open}
 use Rattle.session_rules.specs.State.{SessionValue, row_at, index_of_row, is_row_within, record_of}
 use Rattle.session_rules.specs.DirectorStep.{if_allowed, rule_answer, with_ruling, ruled}
 use Rattle.session_rules.specs.Valid.{IsPlayId, IsValidRecord, IsValid}
@@ -32,9 +31,9 @@ accepted_is : (b : Bool) (e : Refused) → ◌≡◌ {A = Result (Unit {0}) Refu
 accepted_is true e is = refl
 accepted_is false e is = absurd cc
 
-pub over_done : (calls : List Call) (play : Option PlayValue) → tricks_answer play ≡ Ok tt → is_done calls play ≡ true
+pub over_done : (calls : List Call) (course : Option Course) → tricks_answer course ≡ Ok tt → is_done calls course ≡ true
 over_done calls None is = absurd cc
-over_done calls (Some play) is = accepted_is (is_over play) NotFinished is
+over_done calls (Some course) is = accepted_is (is_run course) NotFinished is
 
 -- a play of an earlier round whose ruling is taken back is finished
 restored_done : (over done : Bool) → over ≡ true → ◌≡◌ {A = Result (Unit {0}) Refused} (cond (over && not done) (Err NotFinished) (Ok tt)) (Ok tt) → done ≡ true
@@ -42,11 +41,11 @@ restored_done true true e is = refl
 restored_done true false e is = absurd cc
 restored_done false done e is = absurd cc
 
-closed_after : (scoring : Scoring) (made : Correction) (x : PlainRecord) (over : Bool) → over ≡ true → ruling_answer scoring x.calls (play_of [] x) made over ≡ Ok tt → is_open (with_ruling made x) ≡ false
-closed_after scoring (correction.Tricks tricks) x over e ok = ap not (over_done x.calls (play_of [] x) ok)
+closed_after : (scoring : Scoring) (made : Correction) (x : PlainRecord) (over : Bool) → over ≡ true → ruling_answer scoring x.calls (course_in x) made over ≡ Ok tt → is_open (with_ruling made x) ≡ false
+closed_after scoring (correction.Tricks tricks) x over e ok = ap not (over_done x.calls (course_in x) ok)
 closed_after scoring correction.Void x over e ok = refl
 closed_after scoring (correction.Adjust ns ew) x over e ok = refl
-closed_after scoring correction.Restore x over e ok = ap not (restored_done over (is_done x.calls (play_of [] x)) e ok)
+closed_after scoring correction.Restore x over e ok = ap not (restored_done over (is_done x.calls (course_in x)) e ok)
 
 -- averages are of matchpoints
 adjusted_matchpoints : (scoring : Scoring) → adjust_answer scoring ≡ Ok tt → scoring ≡ MatchPoints
@@ -54,7 +53,7 @@ adjusted_matchpoints MatchPoints ok = refl
 adjusted_matchpoints Imps ok = absurd cc
 
 -- the record with the ruling is valid
-ruled_valid : (scoring : Scoring) (deals : List (Option (List ℕ))) (now round : ℕ) (made : Correction) (x : PlainRecord) → round ≤ now → ruling_answer scoring x.calls (play_of [] x) made (nat_lt round now) ≡ Ok tt → IsValidRecord scoring deals now round x → IsValidRecord scoring deals now round (with_ruling made x)
+ruled_valid : (scoring : Scoring) (deals : List (Option (List ℕ))) (now round : ℕ) (made : Correction) (x : PlainRecord) → round ≤ now → ruling_answer scoring x.calls (course_in x) made (nat_lt round now) ≡ Ok tt → IsValidRecord scoring deals now round x → IsValidRecord scoring deals now round (with_ruling made x)
 ruled_valid scoring deals now round (correction.Tricks tricks) x past ok valid = record {
   calls = valid.calls;
   dealt = valid.dealt;
@@ -97,7 +96,7 @@ pub record IsRuledOn (scoring : Scoring) (now round : ℕ) (made : Correction) (
   pub plain : PlainRecord
   pub is : found ≡ Some plain
   pub past : round ≤ now
-  pub ok : ruling_answer scoring plain.calls (play_of [] plain) made (nat_lt round now) ≡ Ok tt
+  pub ok : ruling_answer scoring plain.calls (course_in plain) made (nat_lt round now) ≡ Ok tt
 
 not_yet : (b : Bool) (rest : Result (Unit {0}) Refused) → cond b (Err NotYet) rest ≡ Ok tt → (b ≡ false) × (rest ≡ Ok tt)
 not_yet true rest is = absurd cc
@@ -106,7 +105,7 @@ not_yet false rest is = (refl, is)
 pub ruled_on : (scoring : Scoring) (now round : ℕ) (made : Correction) (found : Option PlainRecord) → rule_answer scoring now round made found ≡ Ok tt → IsRuledOn scoring now round made found
 ruled_on scoring now round made None is = absurd cc
 ruled_on scoring now round made (Some plain) is =
-    let parts = not_yet (nat_lt now round) (ruling_answer scoring plain.calls (play_of [] plain) made (nat_lt round now)) is in
+    let parts = not_yet (nat_lt now round) (ruling_answer scoring plain.calls (course_in plain) made (nat_lt round now)) is in
     record { plain = plain; is = refl; past = ltb-false now round parts.0; ok = parts.1 }
 
 pub found_within : (b : Bool) (o : Option PlainRecord) (x : PlainRecord) → cond b o None ≡ Some x → (b ≡ true) × (o ≡ Some x)
@@ -133,8 +132,8 @@ rule_valid s play made valid ranges ok =
     (λ row x is was good.
     let round : row.round ≡ play.round = row_round s.configuration play.round play.table row valid.configured ranges.0 ranges.1 within is in
     let same : on.plain ≡ x = let both : Some on.plain ≡ Some x = sym found.1 ∙ was in cc in
-    let accepted : ruling_answer scoring x.calls (play_of [] x) made (nat_lt row.round s.round) ≡ Ok tt =
-    subst (λ (r : ℕ). ruling_answer scoring x.calls (play_of [] x) made (nat_lt r s.round) ≡ Ok tt) (sym round)
-    (subst (λ (p : PlainRecord). ruling_answer scoring p.calls (play_of [] p) made (nat_lt play.round s.round) ≡ Ok tt) same on.ok) in
+    let accepted : ruling_answer scoring x.calls (course_in x) made (nat_lt row.round s.round) ≡ Ok tt =
+    subst (λ (r : ℕ). ruling_answer scoring x.calls (course_in x) made (nat_lt r s.round) ≡ Ok tt) (sym round)
+    (subst (λ (p : PlainRecord). ruling_answer scoring p.calls (course_in p) made (nat_lt play.round s.round) ≡ Ok tt) same on.ok) in
     let past : row.round ≤ s.round = omega (arith, round, on.past) in
     ruled_valid s.configuration.scoring s.deals s.round row.round made x past accepted good)

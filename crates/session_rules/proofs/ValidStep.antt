@@ -13,7 +13,7 @@ use Rattle.session_rules.proofs.ValidRound.{deal_valid, next_valid}
 use Rattle.session_rules.proofs.ValidPlayer.{player_valid}
 
 act_valid : (a : Act) (s : SessionValue) → IsAct a → IsValid s → act_answer s a ≡ Ok tt → IsValid (changed_by s a)
-act_valid (act.Player key board at done) s ranges valid ok = player_valid s key.0 board at done valid ranges ok
+act_valid (act.Player key board at deed) s ranges valid ok = player_valid s key.0 board at deed valid ranges ok
 act_valid (act.Deal key board hands) s ranges valid ok =
     deal_valid s board hands valid (allowed_ok (director_answer s.configuration key.0) (deal_answer s board hands) ok)
 act_valid (act.RoundEnd key round) s ranges valid ok =

@@ -6,14 +6,8 @@ use Rattle.session_rules.specs.declared.refused.Refused.{Refused}
 abbrev pub Answer : Type 0
 Answer = Result (Unit {0}) Refused
 
-infixl 10 ◌>>=◌
 infixl 10 ◌>>◌
--- what was found goes on to the next test; the first error is the answer
-abbrev pub ◌>>=◌ : {A B E : Type 0} → Result A E → (A → Result B E) → Result B E
-(Ok found) >>= next = next found
-(Err error) >>= next = Err error
-
--- the same of a test that finds nothing more
+-- the test passes and the next one follows, or its error is the answer
 abbrev pub ◌>>◌ : {B E : Type 0} → Result (Unit {0}) E → Result B E → Result B E
 (Ok passed) >> next = next
 (Err error) >> next = Err error

@@ -7,7 +7,7 @@ use Rattle.session_rules.specs.declared.action.PlayId.{PlayId}
 use Rattle.session_rules.specs.declared.correction.Correction.{Correction}
 use Rattle.session_rules.specs.declared.refused.Refused.TheVariants.{Closed, NoSuchPlay, NotYet, Stale, AlreadyDealt, BadDeal, RoundOpen}
 use Rattle.session_rules.specs.Answer.{Answer}
-use Rattle.session_rules.specs.Record.{PlainRecord, play_of, is_open}
+use Rattle.session_rules.specs.Record.{PlainRecord, course_in, is_open}
 use Rattle.session_rules.specs.Correction.{ruling_by, ruling_answer}
 use Rattle.session_rules.specs.State.{SessionValue, deal_on, changed_at, index_of_row, is_closed}
 
@@ -38,11 +38,11 @@ next_answer s round =
     else if list_any (list_any is_open) (records_of_round s) then Err RoundOpen
     else Ok tt
 
--- the answer to a ruling on the play of that record, if there is such a play; the hands do not matter to it
+-- the answer to a ruling on the play of that record, if there is such a play
 abbrev pub rule_answer : Scoring → ℕ → ℕ → Correction → Option PlainRecord → Answer
 rule_answer scoring now round correction None = Err NoSuchPlay
 rule_answer scoring now round correction (Some plain) =
-    if nat_lt now round then Err NotYet else ruling_answer scoring plain.calls (play_of [] plain) correction (nat_lt round now)
+    if nat_lt now round then Err NotYet else ruling_answer scoring plain.calls (course_in plain) correction (nat_lt round now)
 
 -- the record with what is left of a ruling
 abbrev pub with_ruling : Correction → PlainRecord → PlainRecord

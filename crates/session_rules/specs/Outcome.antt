@@ -4,29 +4,31 @@ use Rattle.std.specs.Option.{option_map_or}
 use Rattle.bridge_cards.specs.Seat.{side_of}
 use Rattle.bridge_auction.specs.declared.call.Call.{Call}
 use Rattle.bridge_auction.specs.Legal.{is_ended}
-use Rattle.bridge_play.specs.Play.{PlayValue, is_over, tricks_of}
+use Rattle.bridge_play.specs.Play.{tricks_by}
 use Rattle.session_rules.specs.declared.outcome.Outcome.{Outcome}
 use Rattle.session_rules.specs.declared.outcome.Outcome.TheVariants.{Unfinished, PassedOut, Played, Voided, Adjusted}
 use Rattle.session_rules.specs.declared.ruling.Ruling.{Ruling}
 use Rattle.session_rules.specs.declared.ruling.Ruling.TheVariants as ruling
-use Rattle.session_rules.specs.Record.{PlainRecord, play_of}
+use Rattle.session_rules.specs.Record.{PlainRecord, Course, course_in, is_run}
 
 -- without a ruling: declarer's tricks once the play is over
-abbrev pub outcome_of_play : List Call → Option PlayValue → Outcome
-outcome_of_play calls None = if is_ended calls then PassedOut else Unfinished
-outcome_of_play calls (Some play) =
-    if is_over play then Played play.contract (tricks_of play (side_of play.contract.declarer)) else Unfinished
+abbrev pub outcome_of_course : List Call → Option Course → Outcome
+outcome_of_course calls None = if is_ended calls then PassedOut else Unfinished
+outcome_of_course calls (Some course) =
+    if is_run course
+    then Played course.contract (tricks_by course.contract course.cards course.claim (side_of course.contract.declarer))
+    else Unfinished
 
 -- the latest ruling holds
-abbrev pub outcome_by : List Call → Option PlayValue → Option Ruling → Outcome
-outcome_by calls play None = outcome_of_play calls play
-outcome_by calls play (Some (ruling.Tricks tricks)) = option_map_or (λ (p : PlayValue). Played p.contract tricks) play Unfinished
-outcome_by calls play (Some ruling.Void) = Voided
-outcome_by calls play (Some (ruling.Adjusted ns ew)) = Adjusted ns ew
+abbrev pub outcome_by : List Call → Option Course → Option Ruling → Outcome
+outcome_by calls course None = outcome_of_course calls course
+outcome_by calls course (Some (ruling.Tricks tricks)) = option_map_or (λ (c : Course). Played c.contract tricks) course Unfinished
+outcome_by calls course (Some ruling.Void) = Voided
+outcome_by calls course (Some (ruling.Adjusted ns ew)) = Adjusted ns ew
 
--- what came of the play of a record; the hands do not matter to it
+-- what came of the play of a record
 abbrev pub outcome_of : PlainRecord → Outcome
-outcome_of plain = outcome_by plain.calls (play_of [] plain) plain.ruling
+outcome_of plain = outcome_by plain.calls (course_in plain) plain.ruling
 
 -- there are 13 tricks in a play
 abbrev pub HasFewTricks : Outcome → Type 0

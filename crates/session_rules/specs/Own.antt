@@ -27,9 +27,9 @@ use Rattle.session_rules.specs.Valid.{IsAction}
 -- A list of accepted actions
 
 -- the session after the actions
-abbrev pub after : SessionValue → List Action → SessionValue
-after s [] = s
-after s (action ∷ actions) = after (changed s action) actions
+abbrev pub after_actions : SessionValue → List Action → SessionValue
+after_actions s [] = s
+after_actions s (action ∷ actions) = after_actions (changed s action) actions
 
 -- each action is accepted in its turn
 abbrev pub AreAccepted : SessionValue → List Action → Type 0
@@ -39,14 +39,14 @@ AreAccepted s (action ∷ actions) = IsAction action × (step_answer s action �
 -- The actions that concern a play
 
 -- what is done in a play: by a player in a seat, or by the director
-pub data Done : Type 0 where
-  ByPlayer : (seat : Seat) (deed : Deed) → Done
-  ByDirector : (made : Correction) → Done
+pub data OwnDeed : Type 0 where
+  ByPlayer : (seat : Seat) (deed : Deed) → OwnDeed
+  ByDirector : (made : Correction) → OwnDeed
 
 -- by a player who sits at the table of the play in its round, and names its board
-abbrev pub done_by : ConfigValue → PlayId → ℕ → ℕ → Deed → Result Seating Refused → Option Done
-done_by configuration play board named deed (Err refused) = None
-done_by configuration play board named deed (Ok seating) =
+abbrev pub own_deed_by : ConfigValue → PlayId → ℕ → ℕ → Deed → Result Seating Refused → Option OwnDeed
+own_deed_by configuration play board named deed (Err refused) = None
+own_deed_by configuration play board named deed (Ok seating) =
     if (seating.row == index_of_row configuration.movement.shape play.round play.table) && (named == board) then Some (ByPlayer seating.seat deed) else None
 
 -- the two name one play
@@ -54,14 +54,14 @@ abbrev pub same_play : PlayId → PlayId → Bool
 same_play a b = (a.round == b.round) && ((a.table == b.table) && (a.index == b.index))
 
 -- by the director, who names the play
-abbrev pub ruled_in : PlayId → PlayId → Correction → Option Done
+abbrev pub ruled_in : PlayId → PlayId → Correction → Option OwnDeed
 ruled_in play named made = if same_play named play then Some (ByDirector made) else None
 
 -- what an act in that round does in the play of the board, if it concerns it
-abbrev pub done_in : ConfigValue → PlayId → ℕ → ℕ → Act → Option Done
-done_in configuration play board round (act.Player key named at deed) = done_by configuration play board named deed (seating_of configuration round key.0)
-done_in configuration play board round (act.Ruling key named made) = ruled_in play named made
-done_in configuration play board round _ = None
+abbrev pub own_deed_in : ConfigValue → PlayId → ℕ → ℕ → Act → Option OwnDeed
+own_deed_in configuration play board round (act.Player key named at deed) = own_deed_by configuration play board named deed (seating_of configuration round key.0)
+own_deed_in configuration play board round (act.Ruling key named made) = ruled_in play named made
+own_deed_in configuration play board round _ = None
 
 -- the round after an act: one more after the end of a round
 abbrev pub round_after : ℕ → Act → ℕ
@@ -69,68 +69,68 @@ round_after round (act.RoundEnd key of_round) = round + 1
 round_after round _ = round
 
 -- what the play's own actions do in it, the first of them in that round
-abbrev pub own : ConfigValue → PlayId → ℕ → ℕ → List Action → List Done
+abbrev pub own : ConfigValue → PlayId → ℕ → ℕ → List Action → List OwnDeed
 own configuration play board round [] = []
 own configuration play board round (action ∷ actions) =
-    cons_option (done_in configuration play board round (act_of action)) (own configuration play board (round_after round (act_of action)) actions)
+    cons_option (own_deed_in configuration play board round (act_of action)) (own configuration play board (round_after round (act_of action)) actions)
 
 -- The plain record
 
 -- the call that was made, if it was one
-abbrev pub call_in : Done → Option CallType
-call_in (ByPlayer seat (deed.Call call)) = Some call
-call_in _ = None
+abbrev pub call_made : OwnDeed → Option CallType
+call_made (ByPlayer seat (deed.Call call)) = Some call
+call_made _ = None
 
 -- the card that was played, if it was one
-abbrev pub card_in : Done → Option ℕ
-card_in (ByPlayer seat (deed.Card card)) = Some card
-card_in _ = None
+abbrev pub card_played : OwnDeed → Option ℕ
+card_played (ByPlayer seat (deed.Card card)) = Some card
+card_played _ = None
 
 -- a claim as it is made, to which nobody has agreed
-abbrev pub claim_in : Done → Option ClaimType
-claim_in (ByPlayer seat (deed.Claim tricks)) =
+abbrev pub claim_made : OwnDeed → Option ClaimType
+claim_made (ByPlayer seat (deed.Claim tricks)) =
     Some (record { claimer = seat; tricks = tricks; agreed = false ∷ false ∷ false ∷ false ∷ [] })
-claim_in _ = None
+claim_made _ = None
 
 -- a claim was refused
-abbrev pub is_refusal : Done → Bool
+abbrev pub is_refusal : OwnDeed → Bool
 is_refusal (ByPlayer seat deed.Refuse) = true
 is_refusal _ = false
 
 -- the seat agrees to the claim
-abbrev pub agrees : Seat → Done → Bool
+abbrev pub agrees : Seat → OwnDeed → Bool
 agrees one (ByPlayer seat deed.Agree) = same_seat seat one
 agrees one _ = false
 
 -- what the director did, if it was the director
-abbrev pub correction_in : Done → Option Correction
-correction_in (ByPlayer seat deed) = None
-correction_in (ByDirector made) = Some made
+abbrev pub correction_made : OwnDeed → Option Correction
+correction_made (ByPlayer seat deed) = None
+correction_made (ByDirector made) = Some made
 
 -- the last claim, with what was done after it
-abbrev pub last_claim : List Done → Option (ClaimType × List Done)
+abbrev pub last_claim : List OwnDeed → Option (ClaimType × List OwnDeed)
 last_claim [] = None
-last_claim (done ∷ later) = option_or (last_claim later) (option_map (λ (claim : ClaimType). (claim, later)) (claim_in done))
+last_claim (deed ∷ later) = option_or (last_claim later) (option_map (λ (claim : ClaimType). (claim, later)) (claim_made deed))
 
 -- a claim, agreed by the seats that agree to it later, if no refusal follows it
-abbrev pub claim_after : ClaimType × List Done → Option ClaimType
+abbrev pub claim_after : ClaimType × List OwnDeed → Option ClaimType
 claim_after last =
     if list_any is_refusal last.1 then None
     else Some (record last.0 { agreed = map (λ seat. list_any (agrees seat) last.1) (North ∷ East ∷ South ∷ West ∷ []) })
 
 -- the last thing that the director did
-abbrev pub last_correction : List Done → Option Correction
+abbrev pub last_correction : List OwnDeed → Option Correction
 last_correction [] = None
-last_correction (done ∷ later) = option_or (last_correction later) (correction_in done)
+last_correction (deed ∷ later) = option_or (last_correction later) (correction_made deed)
 
 -- The record of a play of the board that these make: the calls and the cards, the number of claims, the last claim if no refusal
 -- follows it, agreed by those who agree after it, and the ruling that the director left last.
-abbrev pub plain_record : ℕ → List Done → PlainRecord
-plain_record board dones = record {
+abbrev pub plain_record : ℕ → List OwnDeed → PlainRecord
+plain_record board deeds = record {
   board = board;
-  calls = filter_map call_in dones;
-  cards = filter_map card_in dones;
-  claims = length (filter_map claim_in dones);
-  claim = option_and_then claim_after (last_claim dones);
-  ruling = option_and_then ruling_by (last_correction dones);
+  calls = filter_map call_made deeds;
+  cards = filter_map card_played deeds;
+  claims = length (filter_map claim_made deeds);
+  claim = option_and_then claim_after (last_claim deeds);
+  ruling = option_and_then ruling_by (last_correction deeds);
 }

@@ -8,7 +8,7 @@ use Rattle.bridge_auction.specs.Auction.{AuctionValue}
 use Rattle.bridge_auction.specs.Contract.{contract_of}
 use Rattle.bridge_auction.specs.Legal.{is_ended}
 use Rattle.bridge_play.specs.declared.claim.Claim.{Claim}
-use Rattle.bridge_play.specs.Play.{PlayValue, is_over}
+use Rattle.bridge_play.specs.Play.{PlayValue, is_over_by}
 use Rattle.session_rules.specs.declared.ruling.Ruling.{Ruling}
 use Rattle.session_rules.specs.declared.ruling.Ruling.TheVariants as ruling
 
@@ -48,13 +48,36 @@ playing_in hands plain contract = record {
 abbrev pub play_of : List ℕ → PlainRecord → Option PlayValue
 play_of hands plain = option_map (playing_in hands plain) (contract_in plain)
 
--- a play is finished when it is over, or passed out where the auction ended without a contract
-abbrev pub is_done : List Call → Option PlayValue → Bool
-is_done calls play = option_map_or is_over play (is_ended calls)
+-- what tells whether a play is over, and its tricks: the contract, the cards, and the claim that stands or was agreed. The
+-- hands do not matter to it.
+pub record Course : Type 0 where
+  pub contract : Contract
+  pub cards : List ℕ
+  pub claim : Option Claim
 
--- whether the record is of a finished play; the hands do not matter to it
+-- the course of a play
+abbrev pub course_of : PlayValue → Course
+course_of play = record { contract = play.contract; cards = play.cards; claim = play.claim }
+
+-- the course that a record tells of in that contract
+abbrev pub course_by : PlainRecord → Contract → Course
+course_by plain contract = record { contract = contract; cards = plain.cards; claim = plain.claim }
+
+-- the course that a record tells of, once there is a contract
+abbrev pub course_in : PlainRecord → Option Course
+course_in plain = option_map (course_by plain) (contract_in plain)
+
+-- the play is over
+abbrev pub is_run : Course → Bool
+is_run course = is_over_by course.contract course.cards course.claim
+
+-- a play is finished when it is over, or passed out where the auction ended without a contract
+abbrev pub is_done : List Call → Option Course → Bool
+is_done calls course = option_map_or is_run course (is_ended calls)
+
+-- whether the record is of a finished play
 abbrev pub is_finished : PlainRecord → Bool
-is_finished plain = is_done plain.calls (play_of [] plain)
+is_finished plain = is_done plain.calls (course_in plain)
 
 -- whether a play is void or adjusted, so that no more of it is played
 abbrev pub is_ruled_out : Option Ruling → Bool

@@ -15,7 +15,7 @@ use Rattle.bridge_play.specs.Play.{PlayValue}
 use Rattle.bridge_play.specs.Trick.{leader_of, trick_at, whole_tricks, tricks_won}
 use Rattle.session_rules.specs.declared.refused.Refused.{Refused}
 use Rattle.session_rules.specs.declared.refused.Refused.TheVariants.{NotCurrent, NotDealt}
-use Rattle.session_rules.specs.Answer.{◌>>=◌}
+use Rattle.bridge_config.specs.Then.{◌>>=◌}
 use Rattle.session_rules.specs.Record.{PlainRecord, play_of}
 use Rattle.session_rules.specs.State.{SessionValue, Deals, deal_on, row_at, current_index, seating_of}
 

@@ -7,7 +7,7 @@ use Rattle.bridge_movement.specs.declared.row.Row.{Row}
 use Rattle.bridge_score.specs.declared.Scoring.{Scoring}
 use Rattle.bridge_score.specs.declared.Scoring.TheVariants.{MatchPoints}
 use Rattle.bridge_config.specs.Limits.{IsConfiguration}
-use Rattle.bridge_play.specs.Play.{PlayValue, IsPlay}
+use Rattle.bridge_play.specs.Play.{IsPlay}
 use Rattle.session_rules.specs.declared.act.Act.{Act}
 use Rattle.session_rules.specs.declared.act.Act.TheVariants as act
 use Rattle.session_rules.specs.declared.action.Action.{Action}
@@ -18,14 +18,14 @@ use Rattle.session_rules.specs.declared.ruling.Ruling.{Ruling}
 use Rattle.session_rules.specs.declared.ruling.Ruling.TheVariants as ruling
 use Rattle.session_rules.specs.Act.{act_of}
 use Rattle.session_rules.specs.Correction.{tricks_answer}
-use Rattle.session_rules.specs.Record.{PlainRecord, empty_record, contract_in, play_of, is_open}
+use Rattle.session_rules.specs.Record.{PlainRecord, Course, empty_record, contract_in, course_in, play_of, is_open}
 use Rattle.session_rules.specs.State.{SessionValue, Deals, deal_on, row_at, row_boards, hands_on}
 
 -- a ruling may stand: one of tricks where the play is over, averages where the scoring is by matchpoints
-abbrev pub MayStand : Scoring → Option PlayValue → Ruling → Type 0
-MayStand scoring play (ruling.Tricks tricks) = tricks_answer play ≡ Ok tt
-MayStand scoring play (ruling.Adjusted ns ew) = scoring ≡ MatchPoints
-MayStand scoring play ruling.Void = Unit {0}
+abbrev pub MayStand : Scoring → Option Course → Ruling → Type 0
+MayStand scoring course (ruling.Tricks tricks) = tricks_answer course ≡ Ok tt
+MayStand scoring course (ruling.Adjusted ns ew) = scoring ≡ MatchPoints
+MayStand scoring course ruling.Void = Unit {0}
 
 -- nothing was played or claimed
 pub record IsUnplayed (plain : PlainRecord) : Type 0 where
@@ -41,7 +41,7 @@ pub record IsValidRecord (scoring : Scoring) (deals : Deals) (now round : ℕ) (
   pub dealt : deal_on deals plain.board ≡ None → plain.calls ≡ []
   pub unplayed : contract_in plain ≡ None → IsUnplayed plain
   pub play : IfSome (play_of (hands_on deals plain.board) plain) IsPlay
-  pub ruled : IfSome plain.ruling (MayStand scoring (play_of [] plain))
+  pub ruled : IfSome plain.ruling (MayStand scoring (course_in plain))
   pub later : now < round → plain ≡ empty_record plain.board
   pub earlier : round < now → is_open plain ≡ false
 

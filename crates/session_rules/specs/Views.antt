@@ -54,3 +54,26 @@ pub record IsViewTo (s : SessionValue) (key : ℕ) (view : View) : Type 0 where
   pub shown : Shown
   pub allowed : shown_to s key ≡ Ok shown
   pub fields : IsViewOf s.round seating.table seating.seat shown view
+
+-- two views show the same
+pub record ShowSame (one other : View) : Type 0 where
+  pub round : one.play.round ≡ other.play.round
+  pub table : one.play.table ≡ other.play.table
+  pub index : one.play.index ≡ other.play.index
+  pub board : one.board ≡ other.board
+  pub seat : one.seat ≡ other.seat
+  pub dealer : one.dealer ≡ other.dealer
+  pub vulnerability : one.vulnerability ≡ other.vulnerability
+  pub in_play : one.in_play ≡ other.in_play
+  pub turn : one.turn ≡ other.turn
+  pub calls_made : one.calls_made ≡ other.calls_made
+  pub cards_made : one.cards_made ≡ other.cards_made
+  pub claims_made : one.claims_made ≡ other.claims_made
+  pub hand : cards_of one.hand ≡ cards_of other.hand
+  pub dummy : option_map cards_of one.dummy ≡ option_map cards_of other.dummy
+  pub calls : one.calls.now ≡ other.calls.now
+  pub trick : option_map plain_seen one.trick ≡ option_map plain_seen other.trick
+  pub last : option_map plain_seen one.last ≡ option_map plain_seen other.last
+  pub tricks_ns : one.tricks_ns ≡ other.tricks_ns
+  pub tricks_ew : one.tricks_ew ≡ other.tricks_ew
+  pub claim : one.claim ≡ other.claim

@@ -12,7 +12,7 @@ ghost use Rattle.session_rules.specs.See.{shown_to};
 ghost use Rattle.session_rules.specs.Sight.{LookAlikeTo};
 ghost use Rattle.session_rules.specs.Views.{IsViewTo};
 ghost use Rattle.session_rules.specs.Stage.{stage_to};
-ghost use Rattle.session_rules.specs.Own.{after, AreAccepted, own, plain_record};
+ghost use Rattle.session_rules.specs.Own.{after_actions, AreAccepted, own, plain_record};
 ghost use Rattle.session_rules.specs.Valid.{IsPlayId};
 ghost use Rattle.session_rules.specs.Record.{empty_record};
 
@@ -38,5 +38,5 @@ pub fn hidden_cards_are_not_shown()
 pub fn records_are_of_own_actions()
     ensures { (configuration : ConfigValue) (actions : List ActionType) (play : PlayIdType) (board : ℕ) → IsConfiguration configuration → IsPlayId play →
         AreAccepted (opening configuration) actions → record_of (opening configuration) play ≡ Some (empty_record board) →
-        record_of (after (opening configuration) actions) play ≡ Some (plain_record board (own configuration play board 1 actions)) }
+        record_of (after_actions (opening configuration) actions) play ≡ Some (plain_record board (own configuration play board 1 actions)) }
 {}

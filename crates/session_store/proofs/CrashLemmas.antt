@@ -11,7 +11,7 @@ use Rattle.session_store.specs.Sound.{IsSoundDisk}
 use Rattle.session_store.specs.Opening.{IsStillSound, IsOpened}
 use Rattle.session_store.specs.Value.{StoreValue}
 use Rattle.session_store.specs.Store.{IsSoundStore, Continues}
-use Rattle.session_store.specs.Run.{Place, AtRest, AtWork, Doing, Calls, Waits, Closes, Opens, Fails, Event, Done, Cut, Standing, accepts, StandsForAtLeast, IsLongest, Does, MayLeave, HoldsOnly, Happens, Runs, FormattedLaw, CrashLaw}
+use Rattle.session_store.specs.Run.{Place, AtRest, AtWork, Doing, Calls, Waits, Closes, Opens, Fails, Event, Done, Cut, RunStanding, accepts, StandsForAtLeast, IsLongest, Does, MayLeave, HoldsOnly, Happens, Runs, FormattedLaw, CrashLaw}
 use Rattle.session_store.proofs.CallLaws.{fold-behind}
 use Rattle.session_store.proofs.StandsLemmas.{fold-nil}
 use Rattle.session_store.proofs.StoreLemmas.{of_nil}
@@ -152,7 +152,7 @@ module _ {D S A R : Type 0} (kept : Keeping S A R) (disk : Disk D) (start : S) w
       }
 
   -- what a power cut may leave while something is done
-  images : (place : Place D S A) (accepted : List A) (confirmed : ℕ) (x : Doing D S A) (t : Standing D S A)
+  images : (place : Place D S A) (accepted : List A) (confirmed : ℕ) (x : Doing D S A) (t : RunStanding D S A)
       → IsGood place accepted confirmed → Does kept disk start place accepted confirmed x t
       → (c : Image) → MayLeave kept disk place x c → StandsForAtLeast kept disk start (accepted ++ accepts x) confirmed c
   unfolding IsGood
@@ -175,7 +175,7 @@ module _ {D S A R : Type 0} (kept : Keeping S A R) (disk : Disk D) (start : S) w
       (still_images d accepted confirmed good c ((did.0.any_moment good.sound).each c left))
 
   -- the place, the actions and their number are those of a standing
-  at : (t : Standing D S A) (place : Place D S A) (accepted : List A) (confirmed : ℕ) → t.place ≡ place → t.accepted ≡ accepted
+  at : (t : RunStanding D S A) (place : Place D S A) (accepted : List A) (confirmed : ℕ) → t.place ≡ place → t.accepted ≡ accepted
       → t.confirmed ≡ confirmed → IsGood place accepted confirmed → IsGood t.place t.accepted t.confirmed
   at t place accepted confirmed is_place is_accepted is_confirmed good =
       subst (λ (p : Place D S A). IsGood p t.accepted t.confirmed) (sym is_place)
@@ -183,7 +183,7 @@ module _ {D S A R : Type 0} (kept : Keeping S A R) (disk : Disk D) (start : S) w
       (subst (λ (k : ℕ). IsGood place accepted k) (sym is_confirmed) good))
 
   -- what is done leaves a good standing
-  done : (place : Place D S A) (accepted : List A) (confirmed : ℕ) (x : Doing D S A) (t : Standing D S A)
+  done : (place : Place D S A) (accepted : List A) (confirmed : ℕ) (x : Doing D S A) (t : RunStanding D S A)
       → IsGood place accepted confirmed → Does kept disk start place accepted confirmed x t → IsGood t.place t.accepted t.confirmed
   unfolding IsGood
   done (AtWork v) accepted confirmed (Calls actions w) t good did =
@@ -226,7 +226,7 @@ module _ {D S A R : Type 0} (kept : Keeping S A R) (disk : Disk D) (start : S) w
         images = λ c left. subst (λ (i : Image). StandsForAtLeast kept disk start (take n actions) k i) (sym (image_is c image (holds.only c left))) alone;
       }
 
-  happens : (s : Standing D S A) (e : Event D S A) (t : Standing D S A) → IsGood s.place s.accepted s.confirmed
+  happens : (s : RunStanding D S A) (e : Event D S A) (t : RunStanding D S A) → IsGood s.place s.accepted s.confirmed
       → Happens kept disk start s e t → IsGood t.place t.accepted t.confirmed
   unfolding IsGood
   happens s (Done x) t good did = done s.place s.accepted s.confirmed x t good did
@@ -236,10 +236,10 @@ module _ {D S A R : Type 0} (kept : Keeping S A R) (disk : Disk D) (start : S) w
       at t (AtRest d) (take cut.0.0 (s.accepted ++ accepts x)) s.confirmed cut.3 cut.0.2 cut.4
       (cut_good (s.accepted ++ accepts x) s.confirmed cut.0.0 image d stands cut.0.1 cut.2)
 
-  runs : (events : List (Event D S A)) (s t : Standing D S A) → IsGood s.place s.accepted s.confirmed
+  runs : (events : List (Event D S A)) (s t : RunStanding D S A) → IsGood s.place s.accepted s.confirmed
       → Runs kept disk start s events t → IsGood t.place t.accepted t.confirmed
   unfolding Runs
-  runs [] s t good same = subst (λ (m : Standing D S A). IsGood m.place m.accepted m.confirmed) same good
+  runs [] s t good same = subst (λ (m : RunStanding D S A). IsGood m.place m.accepted m.confirmed) same good
   runs (e ∷ events) s t good went = runs events went.0 t (happens s e went.0 good went.1) went.2
 
 -- a formatted disk is a beginning

@@ -202,7 +202,7 @@ module _ {D S A R : Type 0} (kept : Keeping S A R) (disk : Disk D) where
         };
         only_read = λ other. absurd (other refl);
         at_rest = λ other. absurd (other refl);
-        opens = λ sound. inl refl;
+        causes = λ sound. inl refl;
       }
 
   -- nor was one whose state was not read
@@ -217,7 +217,7 @@ module _ {D S A R : Type 0} (kept : Keeping S A R) (disk : Disk D) where
     unread = unread;
     only_read = λ other. quiet.only_read;
     at_rest = λ other honest. at_rest honest other;
-    opens = λ sound.
+    causes = λ sound.
         let stands = sound.stands (disk.reads old) (disk.reads_left old sound.honest) in
         cause-stands kept (disk.reads old) stands.0 (disk.honest old) _ _ fault sound.honest stands.1 unread.cause;
   }

@@ -1,6 +1,7 @@
 -- What the calls of a store answer, and the store that each answer leaves.
 use Rattle.std.specs.Prelude.{◌≡◌, ◌≢◌, ◌<◌, ◌+◌, ◌-◌, ◌*◌, ◌^◌, ◌==◌, ℕ, List, [], ◌∷◌, ◌++◌, length, true, false, Result, Ok, Err, if◌then◌else◌}
 use Rattle.sector_disk.specs.Disk.{Disk, Rose}
+use Rattle.session_store.specs.Layout.{record_limit}
 use Rattle.session_store.specs.Keeping.{Keeping}
 use Rattle.session_store.specs.Value.{StoreValue}
 use Rattle.session_store.specs.declared.fault.SubmitFault.{SubmitFault}
@@ -13,7 +14,7 @@ use Rattle.session_store.specs.declared.fault.CheckpointFault.TheVariants.{Faile
 module _ {D S A : Type 0} where
   -- how many actions can still be accepted before the epochs are spent
   unfoldable pub room : StoreValue D S A → ℕ
-  room v = (2 ^ 64 - 1 - v.epoch) * 1025 + (1024 - v.records)
+  room v = (2 ^ 64 - 1 - v.epoch) * (record_limit + 1) + (record_limit - v.records)
 
   -- the store once a call of the disk has failed
   abbrev pub after_fault : StoreValue D S A → D → StoreValue D S A
@@ -38,12 +39,12 @@ module _ {D S A : Type 0} where
   -- the store that took an action: with a record of it, or, where the journal is full, with a snapshot
   abbrev pub after_submit : StoreValue D S A → A → S → D → StoreValue D S A
   after_submit v a s d =
-      if v.records == 1024 then after_snapshot (with_action v a s) d else record (with_record v a s) { disk = d }
+      if v.records == record_limit then after_snapshot (with_action v a s) d else record (with_record v a s) { disk = d }
 
   -- the store that accepted an action and failed to write it
   abbrev pub after_failed_submit : StoreValue D S A → A → S → D → StoreValue D S A
   after_failed_submit v a s d =
-      if v.records == 1024 then after_fault (with_action v a s) d else after_fault (with_record v a s) d
+      if v.records == record_limit then after_fault (with_action v a s) d else after_fault (with_record v a s) d
 
 -- the actions that a call of `submit` accepted: its own, where it answered Ok or a call of the disk failed
 abbrev pub accepted_by : {A R : Type 0} → A → Result (Unit {0}) (SubmitFault R) → List A

@@ -1,6 +1,7 @@
 -- What an image stands for whatever becomes of the sectors that are not in use. What a store writes is of the second format.
 use Rattle.std.specs.Prelude.{◌≡◌, ◌⊎◌, ◌<◌, ◌≤◌, ◌+◌, ◌-◌, ℕ, List, [], ◌∷◌, length, take, Some, Ok}
 use Rattle.sector_disk.specs.Disk.{Image}
+use Rattle.session_store.specs.Layout.{journal_place, record_limit, snapshot_size}
 use Rattle.session_store.specs.Keeping.{Keeping, fold}
 use Rattle.session_store.specs.declared.disk_format.DiskFormat.{DiskFormat}
 use Rattle.session_store.specs.declared.disk_format.DiskFormat.TheVariants.{Two}
@@ -11,11 +12,11 @@ use Rattle.session_store.specs.declared.reading.Entry.TheVariants.{Missing, Hold
 
 -- a sector of the snapshot that this epoch does not use, past its header
 abbrev pub IsSpare : ℕ → ℕ → Type 0
-IsSpare epoch k = (place (epoch + 1) < k) × (k < place (epoch + 1) + 512)
+IsSpare epoch k = (place (epoch + 1) < k) × (k < place (epoch + 1) + snapshot_size)
 
 -- the same in both snapshots and the first n sectors of the journal, but for the spare ones
 abbrev pub Agrees : ℕ → ℕ → Image → Image → Type 0
-Agrees epoch n a b = (k : ℕ) → k < 1024 + n → (IsSpare epoch k → ⊥) → b k ≡ a k
+Agrees epoch n a b = (k : ℕ) → k < journal_place + n → (IsSpare epoch k → ⊥) → b k ≡ a k
 
 -- the header that counts is of this epoch
 abbrev pub HasEpoch : ℕ → Image → Type 0
@@ -31,20 +32,20 @@ module _ {S A R : Type 0} (kept : Keeping S A R) where
   pub record IsBase (epoch : ℕ) (base : S) (n : ℕ) (image : Image) : Type 0 where
     pub header : (other : Image) → Agrees epoch n image other → HasEpoch epoch other
     pub stands : (other : Image) → Agrees epoch n image other
-        → recovered kept other ≡ replay kept Two (1024 - n) other epoch n base
+        → recovered kept other ≡ replay kept Two (record_limit - n) other epoch n base
 
   -- from record k on these actions stand in the journal, each there or missing, and then no record
   unfoldable pub MayHold : ℕ → ℕ → List A → Image → Type 0
-  MayHold epoch k [] image = (j : ℕ) → k ≤ j → j < 1024 → entry_in kept Two epoch j (image (1024 + j)) ≡ Missing
+  MayHold epoch k [] image = (j : ℕ) → k ≤ j → j < record_limit → entry_in kept Two epoch j (image (journal_place + j)) ≡ Missing
   MayHold epoch k (a ∷ actions) image =
-      ((entry_in kept Two epoch k (image (1024 + k)) ≡ Holds a) ⊎ (entry_in kept Two epoch k (image (1024 + k)) ≡ Missing))
+      ((entry_in kept Two epoch k (image (journal_place + k)) ≡ Holds a) ⊎ (entry_in kept Two epoch k (image (journal_place + k)) ≡ Missing))
       × MayHold epoch (k + 1) actions image
 
   -- from record k on these actions stand in the journal
   unfoldable pub HoldsAll : ℕ → ℕ → List A → Image → Type 0
   HoldsAll epoch k [] image = Unit {0}
   HoldsAll epoch k (a ∷ actions) image =
-      (entry_in kept Two epoch k (image (1024 + k)) ≡ Holds a) × HoldsAll epoch (k + 1) actions image
+      (entry_in kept Two epoch k (image (journal_place + k)) ≡ Holds a) × HoldsAll epoch (k + 1) actions image
 
   -- the image of a store at work: its base is that of n records, and its pending actions are there or missing
   pub record IsSettled (epoch : ℕ) (base : S) (n : ℕ) (pending : List A) (image : Image) : Type 0 where

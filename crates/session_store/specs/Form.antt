@@ -3,6 +3,7 @@ use Rattle.std.specs.Prelude.{◌+◌, ◌-◌, ◌*◌, ◌%◌, ◌&&◌, nat_
 use Rattle.std.specs.Option.{option_or}
 use Rattle.std.specs.Int.{w16, w32, w64, to_be_bytes, from_be_bytes}
 use Rattle.std.specs.Str.{bytes_eq}
+use Rattle.session_store.specs.Layout.{part_limit, payload_limit, payload_room, second_place}
 use Rattle.session_store.specs.Keeping.{Keeping}
 use Rattle.session_store.specs.declared.disk_format.DiskFormat.{DiskFormat}
 use Rattle.session_store.specs.declared.disk_format.DiskFormat.TheVariants.{One, Two}
@@ -38,7 +39,7 @@ label mark epoch number = mark ++ to_be_bytes w64 epoch ++ to_be_bytes w32 numbe
 -- the 512 bytes of a sector with this payload, of at most 480 bytes
 unfoldable pub sector : List ℕ → ℕ → ℕ → List ℕ → List ℕ
 sector mark epoch number payload =
-    label mark epoch number ++ to_be_bytes w16 (length payload) ++ payload ++ replicate (494 - length payload) 0
+    label mark epoch number ++ to_be_bytes w16 (length payload) ++ payload ++ replicate (payload_room - length payload) 0
 
 -- the epoch that a sector states
 unfoldable pub epoch_field : List ℕ → ℕ
@@ -55,13 +56,13 @@ payload_field bytes = take (from_be_bytes w16 (take 2 (drop 16 bytes))) (drop 18
 -- the payload of a sector of this mark, epoch and number that is in form: the sector written anew
 unfoldable pub payload_in : List ℕ → ℕ → ℕ → List ℕ → Option (List ℕ)
 payload_in mark epoch number bytes =
-    if nat_le (length (payload_field bytes)) 480 && bytes_eq (sector mark epoch number (payload_field bytes)) bytes
+    if nat_le (length (payload_field bytes)) payload_limit && bytes_eq (sector mark epoch number (payload_field bytes)) bytes
     then Some (payload_field bytes) else None
 
 -- what a header of a format states: an epoch from 1 on, and a number of parts from 1 to 494
 unfoldable pub header_as : DiskFormat → List ℕ → Option Header
 header_as format bytes =
-    if nat_le 1 (epoch_field bytes) && nat_le 1 (number_field bytes) && nat_le (number_field bytes) 494
+    if nat_le 1 (epoch_field bytes) && nat_le 1 (number_field bytes) && nat_le (number_field bytes) part_limit
     && bytes_eq (sector (header_mark format) (epoch_field bytes) (number_field bytes) []) bytes
     then Some (record { format = format; epoch = epoch_field bytes; parts = number_field bytes }) else None
 
@@ -71,7 +72,7 @@ header_of bytes = option_or (header_as Two bytes) (header_as One bytes)
 
 -- where the snapshot of an epoch stands: at 0 where it is odd, at 512 where it is even
 unfoldable pub place : ℕ → ℕ
-place epoch = 512 * ((epoch + 1) % 2)
+place epoch = second_place * ((epoch + 1) % 2)
 
 module _ {S A R : Type 0} (kept : Keeping S A R) where
   -- what a sector of the journal is to the epoch's record of this number and format: without its label it is missing;

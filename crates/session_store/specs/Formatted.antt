@@ -2,6 +2,7 @@
 use Rattle.std.specs.Prelude.{◌≡◌, ◌≤◌}
 use Rattle.sector_disk.specs.Disk.{Image, Disk, Rose}
 use Rattle.sector_disk.specs.Runs.{EveryMoment, Remains}
+use Rattle.session_store.specs.Layout.{sector_count}
 use Rattle.session_store.specs.Keeping.{Keeping}
 use Rattle.session_store.specs.declared.disk_format.DiskFormat.TheVariants.{Two}
 use Rattle.session_store.specs.Base.{HasEpoch, HasFormat}
@@ -12,7 +13,7 @@ use Rattle.session_store.specs.Sound.{IsSoundDisk, StandsOnlyFor}
 -- sectors behind those that a store uses were left alone at every moment.
 pub record IsFormatted {D S A R : Type 0} (kept : Keeping S A R) (disk : Disk D) (state : S) (old new : D) : Type 0 where
   pub remains : Remains disk old new
-  pub large : 2048 ≤ disk.count new
+  pub large : sector_count ≤ disk.count new
   pub no_fault : disk.faults new ≡ disk.faults old
   pub epoch : disk.honest old → (c : Image) → disk.may_leave new c → HasEpoch 1 c
   pub format : disk.honest old → (c : Image) → disk.may_leave new c → HasFormat Two c

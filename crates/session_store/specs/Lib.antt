@@ -1,3 +1,4 @@
+pub mod Layout
 pub mod Keeping
 pub mod Form
 pub mod Stands

@@ -109,4 +109,4 @@ module _ {D S A R : Type 0} (kept : Keeping S A R) (disk : Disk D) where
     pub unread : IsUnread d e fault
     pub only_read : fault ≢ DiskFailed → disk.honest d → OnlyRead disk d e
     pub at_rest : fault ≢ DiskFailed → disk.honest d → IsOnly (disk.may_leave e) (disk.reads d)
-    pub opens : IsSoundDisk kept disk d → (fault ≡ DiskFailed) ⊎ ((fault ≡ EpochsSpent) ⊎ (fault ≡ NoMemory))
+    pub causes : IsSoundDisk kept disk d → (fault ≡ DiskFailed) ⊎ ((fault ≡ EpochsSpent) ⊎ (fault ≡ NoMemory))

@@ -1,6 +1,7 @@
 -- Runs: what stores, their disks and power cuts make of the actions that were accepted.
 use Rattle.std.specs.Prelude.{◌≡◌, ◌≤◌, ◌+◌, ℕ, List, [], ◌∷◌, ◌++◌, length, take, Some, Ok}
 use Rattle.sector_disk.specs.Disk.{Image, IsSame, Disk}
+use Rattle.session_store.specs.Layout.{sector_count}
 use Rattle.session_store.specs.Keeping.{Keeping, fold}
 use Rattle.session_store.specs.Stands.{recovered, IsInOrder}
 use Rattle.session_store.specs.Former.{IsFormer, WasInOrder, formerly}
@@ -29,7 +30,7 @@ pub data Event (D S A : Type 0) : Type 0 where
   Cut : Doing D S A → Image → D → Event D S A
 
 -- where a run stands, the actions accepted so far, and how many of the first of them are confirmed
-pub record Standing (D S A : Type 0) : Type 0 where
+pub record RunStanding (D S A : Type 0) : Type 0 where
   pub place : Place D S A
   pub accepted : List A
   pub confirmed : ℕ
@@ -57,7 +58,7 @@ module _ {D S A R : Type 0} (kept : Keeping S A R) (disk : Disk D) where
   -- many of them are confirmed
   pub record IsBeginning (start : S) (accepted : List A) (confirmed : ℕ) (d : D) : Type 0 where
     pub honest : disk.honest d
-    pub large : 2048 ≤ disk.count d
+    pub large : sector_count ≤ disk.count d
     pub images : (c : Image) → disk.may_leave d c → StandsForAtLeast start accepted confirmed c
 
   -- these are the most of the first actions whose state the image stands for
@@ -70,7 +71,7 @@ module _ {D S A R : Type 0} (kept : Keeping S A R) (disk : Disk D) where
         → recovered kept image ≡ Ok t → n ≤ count
 
   -- A call that confirms leaves unconfirmed what is pending; opening confirms what the disk reads, and the rest is lost.
-  abbrev pub Does : S → Place D S A → List A → ℕ → Doing D S A → Standing D S A → Type 0
+  abbrev pub Does : S → Place D S A → List A → ℕ → Doing D S A → RunStanding D S A → Type 0
   Does start (AtWork v) accepted confirmed (Calls actions w) t = Continues kept disk v actions w
       × (t.place ≡ AtWork w) × (t.accepted ≡ accepted ++ actions) × (t.confirmed + length w.pending ≡ length t.accepted)
   Does start (AtWork v) accepted confirmed Waits t =
@@ -104,32 +105,32 @@ module _ {D S A R : Type 0} (kept : Keeping S A R) (disk : Disk D) where
   -- after a power cut the disk holds this image alone
   pub record HoldsOnly (image : Image) (d : D) : Type 0 where
     pub honest : disk.honest d
-    pub large : 2048 ≤ disk.count d
+    pub large : sector_count ≤ disk.count d
     pub only : (c : Image) → disk.may_leave d c → IsSame c image
 
   -- a power cut leaves the longest of the first actions that its image stands for
-  abbrev pub IsCut : S → Standing D S A → Doing D S A → Image → D → Standing D S A → Type 0
+  abbrev pub IsCut : S → RunStanding D S A → Doing D S A → Image → D → RunStanding D S A → Type 0
   IsCut start s x image d t = ((n : ℕ) × IsLongest start (s.accepted ++ accepts x) image n × (t.accepted ≡ take n (s.accepted ++ accepts x)))
       × MayLeave s.place x image × HoldsOnly image d × (t.place ≡ AtRest d) × (t.confirmed ≡ s.confirmed)
 
   -- an event: something is done, or power is cut while it might have been done
-  abbrev pub Happens : S → Standing D S A → Event D S A → Standing D S A → Type 0
+  abbrev pub Happens : S → RunStanding D S A → Event D S A → RunStanding D S A → Type 0
   Happens start s (Done x) t = Does start s.place s.accepted s.confirmed x t
   Happens start s (Cut x image d) t =
-      ((m : Standing D S A) × Does start s.place s.accepted s.confirmed x m) × IsCut start s x image d t
+      ((m : RunStanding D S A) × Does start s.place s.accepted s.confirmed x m) × IsCut start s x image d t
 
   -- these events lead from one standing to another
-  unfoldable pub Runs : S → Standing D S A → List (Event D S A) → Standing D S A → Type 0
+  unfoldable pub Runs : S → RunStanding D S A → List (Event D S A) → RunStanding D S A → Type 0
   Runs start s [] t = s ≡ t
-  Runs start s (e ∷ events) t = (m : Standing D S A) × Happens start s e m × Runs start m events t
+  Runs start s (e ∷ events) t = (m : RunStanding D S A) × Happens start s e m × Runs start m events t
 
   -- After any events, at every moment of what is done next, a power cut leaves an image that stands for what some of the
   -- first accepted actions make of the starting state, with all that are confirmed.
   abbrev pub CrashLaw : Type 0
   CrashLaw = (start : S) (accepted : List A) (confirmed : ℕ) (d : D) → IsBeginning start accepted confirmed d
-      → (events : List (Event D S A)) (s : Standing D S A)
+      → (events : List (Event D S A)) (s : RunStanding D S A)
       → Runs start (record { place = AtRest d; accepted = accepted; confirmed = confirmed }) events s
-      → (x : Doing D S A) (t : Standing D S A) → Does start s.place s.accepted s.confirmed x t
+      → (x : Doing D S A) (t : RunStanding D S A) → Does start s.place s.accepted s.confirmed x t
       → (c : Image) → MayLeave s.place x c → StandsForAtLeast start (s.accepted ++ accepts x) s.confirmed c
 
   -- a disk that was formatted with a state is a beginning: no action was accepted
@@ -150,5 +151,5 @@ module _ {D S A R : Type 0} (kept : Keeping S A R) (disk : Disk D) where
 
   -- a disk that a store of the first format left, after any run of its own, is one
   abbrev pub FormerRunLaw : Type 0
-  FormerRunLaw = (start : S) (accepted : List A) (confirmed : ℕ) (d : D) → disk.honest d → 2048 ≤ disk.count d
+  FormerRunLaw = (start : S) (accepted : List A) (confirmed : ℕ) (d : D) → disk.honest d → sector_count ≤ disk.count d
       → ((c : Image) → disk.may_leave d c → StoodForAtLeast start accepted confirmed c) → IsBeginning start accepted confirmed d

@@ -2,6 +2,7 @@
 use Rattle.std.specs.Prelude.{◌≡◌, ◌⊎◌, ◌<◌, ◌≤◌, ◌+◌, ℕ, List, [], length, slice_index_or, Some, Result, OnOk, OnErr}
 use Rattle.sector_disk.specs.Disk.{Image, with_sector, Disk, Rose}
 use Rattle.sector_disk.specs.Runs.{EveryMoment, Remains}
+use Rattle.session_store.specs.Layout.{second_place, sector_count, snapshot_size}
 use Rattle.session_store.specs.Keeping.{Keeping}
 use Rattle.session_store.specs.declared.disk_format.DiskFormat.TheVariants.{Two}
 use Rattle.session_store.specs.declared.reading.Header.{Header}
@@ -11,7 +12,7 @@ use Rattle.session_store.specs.Stands.{header_at, NoneLater}
 -- the same but for the sectors of this epoch's snapshot past its header
 abbrev pub SameButParts : ℕ → Image → Image → Type 0
 SameButParts epoch a b =
-    (k : ℕ) → ((place epoch < k) × (k < place epoch + 512) → ⊥) → b k ≡ a k
+    (k : ℕ) → ((place epoch < k) × (k < place epoch + snapshot_size) → ⊥) → b k ≡ a k
 
 -- one of these images, but for the parts of this epoch's snapshot
 abbrev pub ButForParts : (Image → Type 0) → ℕ → Image → Type 0
@@ -19,12 +20,12 @@ ButForParts images epoch c = (d : Image) × images d × SameButParts epoch d c
 
 -- from sector 2,048 on, behind those that a store uses, the same as one of these images
 abbrev pub SameBehind : (Image → Type 0) → Image → Type 0
-SameBehind images c = (d : Image) × images d × ((k : ℕ) → 2048 ≤ k → c k ≡ d k)
+SameBehind images c = (d : Image) × images d × ((k : ℕ) → sector_count ≤ k → c k ≡ d k)
 
 -- no header and no record is of an epoch above this one
 pub record NothingLater (epoch : ℕ) (image : Image) : Type 0 where
   pub first : (h : Header) → header_at 0 (image 0) ≡ Some h → h.epoch ≤ epoch
-  pub second : (h : Header) → header_at 512 (image 512) ≡ Some h → h.epoch ≤ epoch
+  pub second : (h : Header) → header_at second_place (image second_place) ≡ Some h → h.epoch ≤ epoch
   pub none_later : NoneLater epoch image
 
 module _ {S A R : Type 0} (kept : Keeping S A R) where

@@ -2,6 +2,7 @@
 -- says in which format its parts and records are read.
 use Rattle.std.specs.Prelude.{◌≡◌, ◌<◌, ◌≤◌, ◌+◌, ◌==◌, nat_lt, ℕ, zero, suc, List, [], ◌∷◌, take, if◌then◌else◌, Option, Some, None, Result, Ok, Err}
 use Rattle.sector_disk.specs.Disk.{Image}
+use Rattle.session_store.specs.Layout.{journal_place, record_limit, second_place, sector_count}
 use Rattle.session_store.specs.Keeping.{Keeping}
 use Rattle.session_store.specs.declared.disk_format.DiskFormat.{DiskFormat}
 use Rattle.session_store.specs.declared.reading.Header.{Header}
@@ -28,7 +29,7 @@ newer (Some a) (Some b) = if nat_lt a.epoch b.epoch then Some b else Some a
 
 -- the header that counts
 unfoldable pub header_in : Image → Option Header
-header_in image = newer (header_at 0 (image 0)) (header_at 512 (image 512))
+header_in image = newer (header_at 0 (image 0)) (header_at second_place (image second_place))
 
 -- a part before those that follow it
 unfoldable pub with_part : List ℕ → Result (List (List ℕ)) StoreFault → Result (List (List ℕ)) StoreFault
@@ -51,12 +52,12 @@ module _ {S A R : Type 0} (kept : Keeping S A R) where
   -- after record k's step: the records go on where it is accepted
   unfoldable pub after_step : ℕ → (S → Result S StoreFault) → Result S R → Result S StoreFault
   after_step k next (Ok s) = next s
-  after_step k next (Err _) = Err (Damaged (1024 + k))
+  after_step k next (Err _) = Err (Damaged (journal_place + k))
 
   -- after record k's sector: the records end where it is missing
   unfoldable pub after_entry : ℕ → S → (S → Result S StoreFault) → Entry A → Result S StoreFault
   after_entry k s next Missing = Ok s
-  after_entry k s next DamagedEntry = Err (Damaged (1024 + k))
+  after_entry k s next DamagedEntry = Err (Damaged (journal_place + k))
   after_entry k s next (Holds a) = after_step k next (kept.step s a)
 
   -- the state after records k, k + 1, .. up to the first that is missing, of at most so many; or the first sector that
@@ -64,12 +65,12 @@ module _ {S A R : Type 0} (kept : Keeping S A R) where
   unfoldable pub replay : DiskFormat → ℕ → Image → ℕ → ℕ → S → Result S StoreFault
   replay format zero image epoch k s = Ok s
   replay format (suc left) image epoch k s =
-      after_entry k s (λ t. replay format left image epoch (k + 1) t) (entry_in kept format epoch k (image (1024 + k)))
+      after_entry k s (λ t. replay format left image epoch (k + 1) t) (entry_in kept format epoch k (image (journal_place + k)))
 
   -- after the state of the header's parts: that of its epoch's records, if the parts have one
   unfoldable pub after_state : Image → Header → Option S → Result S StoreFault
   after_state image h None = Err (Damaged (place h.epoch))
-  after_state image h (Some s) = replay h.format 1024 image h.epoch 0 s
+  after_state image h (Some s) = replay h.format record_limit image h.epoch 0 s
 
   -- after the parts, if each is in form
   unfoldable pub after_parts : Image → Header → Result (List (List ℕ)) StoreFault → Result S StoreFault
@@ -91,7 +92,7 @@ IsLater epoch bytes = ((format : DiskFormat) × (take 4 bytes ≡ record_mark fo
 
 -- no sector of the journal is of an epoch above this one
 abbrev pub NoneLater : ℕ → Image → Type 0
-NoneLater epoch image = (k : ℕ) → 1024 ≤ k → k < 2048 → IsLater epoch (image k) → ⊥
+NoneLater epoch image = (k : ℕ) → journal_place ≤ k → k < sector_count → IsLater epoch (image k) → ⊥
 
 -- no sector of the journal is of an epoch above the header's
 abbrev pub IsInOrder : Image → Type 0

@@ -2,6 +2,7 @@
 use Rattle.std.specs.Prelude.{◌≡◌, ◌<◌, ◌≤◌, ◌^◌, ℕ, List, length, Bool, Some, refl}
 use Rattle.std.specs.Coded.{Coded, code_by, coded×, coded_ℕ, coded_bool, coded_list}
 use Rattle.sector_disk.specs.Disk.{Disk}
+use Rattle.session_store.specs.Layout.{record_limit, sector_count}
 use Rattle.session_store.specs.Keeping.{Keeping, fold}
 
 -- the disk, the base, the actions accepted and not yet confirmed, the state with them, the epoch, the number of its
@@ -34,10 +35,10 @@ store_code {D} {S} {A} of_disk of_state of_action =
 
 -- what holds of every store, also after a failed call
 pub record IsStore {D S A R : Type 0} (kept : Keeping S A R) (disk : Disk D) (v : StoreValue D S A) : Type 0 where
-  pub large : 2048 ≤ disk.count v.disk
+  pub large : sector_count ≤ disk.count v.disk
   pub accepted : fold kept v.base v.pending ≡ Some v.state
   pub few : length v.pending ≤ 64
   pub recorded : length v.pending ≤ v.records
-  pub records : v.records ≤ 1024
+  pub records : v.records ≤ record_limit
   pub some_epoch : 1 ≤ v.epoch
   pub epoch : v.epoch < 2 ^ 64

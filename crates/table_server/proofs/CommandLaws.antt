@@ -3,13 +3,13 @@ use Rattle.std.proofs.Common.{◌≡◌, ℕ, Bool, true, false, List, [], ◌�
 use Rattle.std.proofs.lemmas.List.Splits.{join_with_byte-slice_split}
 use Rattle.line_text.proofs.Splits.{some_part}
 use Rattle.bridge_config.specs.declared.fields.Key.{Key}
-use Rattle.table_server.specs.LineWords.{first_of, key_of, board_of}
+use Rattle.table_server.specs.LineWords.{first_of, key_of_word, board_of_word}
 use Rattle.std.specs.Prelude.{codes}
 use Rattle.std.specs.Str.{bytes_eq}
 use Rattle.line_text.specs.Words.{spaced_words}
 use Rattle.table_server.specs.declared.command.Command.{Command}
 use Rattle.table_server.specs.declared.command.Command.TheVariants.{Deal}
-use Rattle.table_server.specs.LineCommand.{Dealing, Deals, deal_words, ReadsAfter, ReadsWords, Reads, plain_line}
+use Rattle.table_server.specs.LineCommand.{Dealing, ReadsDeal, deal_words, ReadsAfter, ReadsWords, ReadsLine, plain_line}
 
 -- what equals the same command twice
 both_are : (c d : Command) (found : Option Command) → Some c ≡ found → Some d ≡ found → d ≡ c
@@ -19,12 +19,12 @@ both_are c d found p q = cc
 none_is_not : (c : Command) (found : Option Command) → None ≡ found → Some c ≡ found → ⊥
 none_is_not c found p q = cc
 
-deals_one : (dealing : Option Dealing) (c d : Command) → Deals dealing (Some c) → Deals dealing (Some d) → d ≡ c
+deals_one : (dealing : Option Dealing) (c d : Command) → ReadsDeal dealing (Some c) → ReadsDeal dealing (Some d) → d ≡ c
 deals_one None c d p q = both_are c d None p q
 deals_one (Some dealing) c d p q =
     q.deals ∙ ap (λ (hands : List ℕ). Deal dealing.key dealing.board hands) (p.only q.hands q.states) ∙ sym p.deals
 
-deals_none : (dealing : Option Dealing) (c : Command) → Deals dealing None → Deals dealing (Some c) → ⊥
+deals_none : (dealing : Option Dealing) (c : Command) → ReadsDeal dealing None → ReadsDeal dealing (Some c) → ⊥
 deals_none None c p q = none_is_not c None p q
 deals_none (Some dealing) c p q = p q.hands q.states
 
@@ -47,33 +47,33 @@ words_none (keyword ∷ []) c p q = none_is_not c _ p q
 words_none (keyword ∷ word ∷ words) c p q = after_none (bytes_eq keyword (codes "DEAL")) keyword (word ∷ words) c p q
 
 -- two commands that a line states are one
-pub reads_one : (line : List ℕ) (c d : Command) → Reads line (Some c) → Reads line (Some d) → d ≡ c
+pub reads_one : (line : List ℕ) (c d : Command) → ReadsLine line (Some c) → ReadsLine line (Some d) → d ≡ c
 reads_one line c d p q = words_one (spaced_words line) c d p q
 
 -- a line that states none states no command
-pub reads_none : (line : List ℕ) (c : Command) → Reads line None → Reads line (Some c) → ⊥
+pub reads_none : (line : List ℕ) (c : Command) → ReadsLine line None → ReadsLine line (Some c) → ⊥
 reads_none line c p q = words_none (spaced_words line) c p q
 
 -- what a line that deals names, by its words
-pub dealing_is : (words rest : List (List ℕ)) (key : Key) (board : ℕ) (text : List ℕ) → first_of key_of words ≡ Some (key, rest) → first_of board_of rest ≡ Some (board, spaced_words text) → deal_words words ≡ Some (record { key = key; board = board; text = text })
+pub dealing_is : (words rest : List (List ℕ)) (key : Key) (board : ℕ) (text : List ℕ) → first_of key_of_word words ≡ Some (key, rest) → first_of board_of_word rest ≡ Some (board, spaced_words text) → deal_words words ≡ Some (record { key = key; board = board; text = text })
 unfolding deal_words
 dealing_is words rest key board text first second = rw (first, second, join_with_byte-slice_split 32 text) refl
 
 -- what is read of it is what the line states
-pub deals_by : (dealing : Dealing) (words : List (List ℕ)) (found : Option Command) → deal_words words ≡ Some dealing → Deals (Some dealing) found → Deals (deal_words words) found
-deals_by dealing words found is deals = subst (λ (d : Option Dealing). Deals d found) (sym is) deals
+pub deals_by : (dealing : Dealing) (words : List (List ℕ)) (found : Option Command) → deal_words words ≡ Some dealing → ReadsDeal (Some dealing) found → ReadsDeal (deal_words words) found
+deals_by dealing words found is deals = subst (λ (d : Option Dealing). ReadsDeal d found) (sym is) deals
 
 -- no board, or no key before it
-pub no_board : (words rest : List (List ℕ)) (key : Key) → first_of key_of words ≡ Some (key, rest) → first_of board_of rest ≡ None → Deals (deal_words words) None
+pub no_board : (words rest : List (List ℕ)) (key : Key) → first_of key_of_word words ≡ Some (key, rest) → first_of board_of_word rest ≡ None → ReadsDeal (deal_words words) None
 unfolding deal_words
 no_board words rest key first second = rw (first, second) refl
 
-pub no_key : (words : List (List ℕ)) → first_of key_of words ≡ None → Deals (deal_words words) None
+pub no_key : (words : List (List ℕ)) → first_of key_of_word words ≡ None → ReadsDeal (deal_words words) None
 unfolding deal_words
 no_key words first = rw first refl
 
 -- a first word and others, read by the first word
-pub read_after : (line keyword rest : List ℕ) (found : Option Command) → spaced_words line ≡ keyword ∷ spaced_words rest → ReadsAfter (bytes_eq keyword (codes "DEAL")) keyword (spaced_words rest) found → Reads line found
+pub read_after : (line keyword rest : List ℕ) (found : Option Command) → spaced_words line ≡ keyword ∷ spaced_words rest → ReadsAfter (bytes_eq keyword (codes "DEAL")) keyword (spaced_words rest) found → ReadsLine line found
 read_after line keyword rest found words read =
     let parts = some_part 32 rest in
     subst (λ (ws : List (List ℕ)). ReadsWords ws found) (sym (words ∙ ap (λ (ws : List (List ℕ)). keyword ∷ ws) parts.2))

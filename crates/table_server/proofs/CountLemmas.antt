@@ -5,7 +5,7 @@ use Rattle.session_rules.specs.declared.refused.Refused.{Refused as SessionRefus
 use Rattle.session_rules.specs.State.{SessionValue}
 use Rattle.table_server.specs.declared.asked.Asked.{Asked}
 use Rattle.table_server.specs.declared.asked.Asked.TheVariants.{Change, Told, BadLine, LongLine}
-use Rattle.table_server.specs.Answered.{after, accepted, after_all, accepted_all}
+use Rattle.table_server.specs.Answered.{after_asked, accepted, after_all, accepted_all}
 use Rattle.table_server.specs.Serving.{accepted_count}
 use Rattle.table_server.specs.Standing.{Standing, answer_in, change_reply, reply_within, accepted_change, accepted_within}
 use Rattle.table_server.proofs.Folds.{accepted_one}
@@ -31,9 +31,9 @@ few_of_one s LongLine = omega arith
 pub accepted_few : (s : Standing) (xs : List Asked) → length (accepted_all s xs) ≤ length xs
 accepted_few s [] = omega arith
 accepted_few s (x ∷ xs) =
-    let count = length-append (accepted s x) (accepted_all (after s x) xs) in
+    let count = length-append (accepted s x) (accepted_all (after_asked s x) xs) in
     let one = few_of_one s x in
-    let rest = accepted_few (after s x) xs in
+    let rest = accepted_few (after_asked s x) xs in
     omega (arith, count, one, rest)
 
 -- a change adds as many as its reply says

@@ -11,7 +11,7 @@ use Rattle.bridge_session.specs.SessionKeeping.{session_keeping}
 use Rattle.session_rules.specs.State.{SessionValue}
 use Rattle.table_server.specs.declared.asked.Asked.{Asked}
 use Rattle.table_server.specs.declared.asked.Asked.TheVariants.{Change}
-use Rattle.table_server.specs.Answered.{after, accepted, after_all, accepted_all, disk_errors}
+use Rattle.table_server.specs.Answered.{after_asked, accepted, after_all, accepted_all, disk_errors}
 use Rattle.table_server.specs.Served.{IsServed}
 use Rattle.table_server.specs.Serving.{FailsTaking, Holding}
 use Rattle.table_server.specs.Standing.{Standing, standing_of, after_change, accepted_change}
@@ -88,7 +88,7 @@ module _ {D : Type 0} (disk : Disk D) where
       let counted : length (accepted_all from asked) + 1 ≡ length (accepted_all from lines)
       = sym (ap length lines_more ∙ length-append (accepted_all from asked) (action ∷ [])) in
       let after_is : after_change (standing_of store) action ≡ after_all from lines
-      = ap (λ (t : Standing). after t one) h.standing ∙ sym (after_append from asked (one ∷ [])) ∙ ap (after_all from) all in record {
+      = ap (λ (t : Standing). after_asked t one) h.standing ∙ sym (after_append from asked (one ∷ [])) ∙ ap (after_all from) all in record {
         answered = h.answered;
         taken = group;
         later = [];

@@ -12,21 +12,21 @@ use Rattle.table_server.specs.declared.asked.Asked.{Asked}
 use Rattle.table_server.specs.declared.asked.Asked.TheVariants.{Change, Told, BadLine, LongLine}
 use Rattle.table_server.specs.declared.asked.Question.{Question}
 use Rattle.table_server.specs.declared.short_reply.ShortReply.TheVariants as short
-use Rattle.table_server.specs.Answered.{IsReply, after, accepted, after_all, accepted_all, AreReplies, is_held, held_with, held_from, held_after, disk_errors}
+use Rattle.table_server.specs.Answered.{IsReply, after_asked, accepted, after_all, accepted_all, AreReplies, is_held, held_with, held_from, held_after, disk_errors}
 use Rattle.table_server.specs.ReplyTexts.{short_text}
 use Rattle.table_server.specs.Standing.{Standing, answer_in, standing_within, accepted_within}
 
 -- the session after some lines and others
 pub after_append : (s : Standing) (xs ys : List Asked) → after_all s (xs ++ ys) ≡ after_all (after_all s xs) ys
 after_append s [] ys = refl
-after_append s (x ∷ xs) ys = after_append (after s x) xs ys
+after_append s (x ∷ xs) ys = after_append (after_asked s x) xs ys
 
 -- the actions accepted of some lines and others
 pub accepted_append : (s : Standing) (xs ys : List Asked) → accepted_all s (xs ++ ys) ≡ accepted_all s xs ++ accepted_all (after_all s xs) ys
 accepted_append s [] ys = refl
 accepted_append s (x ∷ xs) ys =
-    ap (λ more. accepted s x ++ more) (accepted_append (after s x) xs ys)
-    ∙ sym (append_assoc (accepted s x) (accepted_all (after s x) xs) (accepted_all (after_all (after s x) xs) ys))
+    ap (λ more. accepted s x ++ more) (accepted_append (after_asked s x) xs ys)
+    ∙ sym (append_assoc (accepted s x) (accepted_all (after_asked s x) xs) (accepted_all (after_all (after_asked s x) xs) ys))
 
 -- the actions accepted of one line more
 pub accepted_one : (s : Standing) (xs : List Asked) (x : Asked) → accepted_all s (xs ++ x ∷ []) ≡ accepted_all s xs ++ accepted (after_all s xs) x
@@ -38,7 +38,7 @@ room_within s zero action answer is = omega arith
 room_within s (suc n) action (Ok state) is = omega (arith, is)
 room_within s (suc n) action (Err refused) is = omega arith
 
-room_one : (s : Standing) (x : Asked) → (after s x).room + length (accepted s x) ≡ s.room
+room_one : (s : Standing) (x : Asked) → (after_asked s x).room + length (accepted s x) ≡ s.room
 room_one s (Change action) = room_within s s.room action (answer_in s action) refl
 room_one s (Told question) = omega arith
 room_one s BadLine = omega arith
@@ -47,8 +47,8 @@ room_one s LongLine = omega arith
 pub room_left : (s : Standing) (xs : List Asked) → (after_all s xs).room + length (accepted_all s xs) ≡ s.room
 room_left s [] = omega arith
 room_left s (x ∷ xs) =
-    let both = length-append (accepted s x) (accepted_all (after s x) xs) in
-    omega (arith, both, room_one s x, room_left (after s x) xs)
+    let both = length-append (accepted s x) (accepted_all (after_asked s x) xs) in
+    omega (arith, both, room_one s x, room_left (after_asked s x) xs)
 
 -- the replies to some lines and others
 pub replies_append : (s : Standing) (xs ys : List Asked) (text more : List ℕ) → AreReplies s xs text → AreReplies (after_all s xs) ys more → AreReplies s (xs ++ ys) (text ++ more)
@@ -57,7 +57,7 @@ replies_append s (x ∷ xs) ys text more first second = (
   first.0,
   first.1 ++ more,
   first.2,
-  replies_append (after s x) xs ys first.1 more first.3 second,
+  replies_append (after_asked s x) xs ys first.1 more first.3 second,
   rw first.4 (append_assoc first.0 first.1 more),
 )
 

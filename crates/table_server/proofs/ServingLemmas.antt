@@ -13,7 +13,7 @@ use Rattle.session_rules.specs.State.{SessionValue}
 use Rattle.table_server.specs.declared.asked.Asked.{Asked}
 use Rattle.table_server.specs.declared.asked.Asked.TheVariants.{Told}
 use Rattle.table_server.specs.declared.asked.Question.{Question}
-use Rattle.table_server.specs.Answered.{IsReply, after, accepted, after_all, accepted_all, is_held, held_after}
+use Rattle.table_server.specs.Answered.{IsReply, after_asked, accepted, after_all, accepted_all, is_held, held_after}
 use Rattle.table_server.specs.Served.{IsServed}
 use Rattle.table_server.specs.Serving.{Holding, Settled}
 use Rattle.table_server.specs.Standing.{Standing, standing_of}
@@ -133,7 +133,7 @@ module _ {D : Type 0} where
     -- one line more is held
     pub held_more : (start store new : StoreValue D SessionValue Action) (asked : List Asked) (one : Asked) (text reply : List ℕ) (count : ℕ) (written : List ℕ)
         → Holding disk start asked store text count written → count < 64 → is_held one ≡ true
-        → IsReply (standing_of store) one reply → new.failed ≡ false → standing_of new ≡ after (standing_of store) one
+        → IsReply (standing_of store) one reply → new.failed ≡ false → standing_of new ≡ after_asked (standing_of store) one
         → Continues session_keeping disk store (accepted (standing_of store) one) new
         → Holding disk start (asked ++ one ∷ []) new (text ++ reply) (count + 1) written
     held_more start store new asked one text reply count written h room held is_reply works standing call =
@@ -159,7 +159,7 @@ module _ {D : Type 0} where
           few = omega (arith, room);
           works = works;
           worked = h.worked;
-          standing = standing ∙ ap (λ (t : Standing). after t one) h.standing ∙ sym (after_append from asked (one ∷ []));
+          standing = standing ∙ ap (λ (t : Standing). after_asked t one) h.standing ∙ sym (after_append from asked (one ∷ []));
           continues =
               joined start store new from asked more (accepted_all from (asked ++ one ∷ [])) h.continues call
               (accepted_one from asked one ∙ ap (λ (t : Standing). accepted_all from asked ++ accepted t one) (sym h.standing));

@@ -17,11 +17,11 @@ IsReply standing BadLine text = text ≡ short_text short.BadLine
 IsReply standing LongLine text = text ≡ short_text short.LongLine
 
 -- the session after it
-abbrev pub after : Standing → Asked → Standing
-after standing (Change action) = after_change standing action
-after standing (Told question) = standing
-after standing BadLine = standing
-after standing LongLine = standing
+abbrev pub after_asked : Standing → Asked → Standing
+after_asked standing (Change action) = after_change standing action
+after_asked standing (Told question) = standing
+after_asked standing BadLine = standing
+after_asked standing LongLine = standing
 
 -- the actions that it adds to those accepted
 abbrev pub accepted : Standing → Asked → List Action
@@ -33,18 +33,18 @@ accepted standing LongLine = []
 -- the session after lines that ask for these
 abbrev pub after_all : Standing → List Asked → Standing
 after_all standing [] = standing
-after_all standing (asked ∷ more) = after_all (after standing asked) more
+after_all standing (asked ∷ more) = after_all (after_asked standing asked) more
 
 -- the actions accepted of them
 abbrev pub accepted_all : Standing → List Asked → List Action
 accepted_all standing [] = []
-accepted_all standing (asked ∷ more) = accepted standing asked ++ accepted_all (after standing asked) more
+accepted_all standing (asked ∷ more) = accepted standing asked ++ accepted_all (after_asked standing asked) more
 
 -- the text is their replies, one after another
 abbrev pub AreReplies : Standing → List Asked → List ℕ → Type 0
 AreReplies standing [] text = text ≡ []
 AreReplies standing (asked ∷ more) text = (reply : List ℕ) × (rest : List ℕ)
-    × IsReply standing asked reply × AreReplies (after standing asked) more rest × (text ≡ reply ++ rest)
+    × IsReply standing asked reply × AreReplies (after_asked standing asked) more rest × (text ≡ reply ++ rest)
 
 -- these lines ask for these
 abbrev pub AskAll : List (List ℕ) → List Asked → Type 0
@@ -64,6 +64,7 @@ is_held LongLine = true
 abbrev pub held_with : ℕ → Asked → ℕ
 held_with held asked = if is_held asked then (if held == 63 then 0 else held + 1) else 0
 
+-- how many lines are held after these, where so many were held before
 abbrev pub held_from : ℕ → List Asked → ℕ
 held_from held [] = held
 held_from held (asked ∷ more) = held_from (held_with held asked) more

@@ -11,7 +11,7 @@ use Rattle.table_server.specs.declared.asked.Asked.TheVariants.{Change, Told, Ba
 use Rattle.table_server.specs.declared.asked.Question.TheVariants as question
 use Rattle.table_server.specs.declared.command.Command.{Command}
 use Rattle.table_server.specs.declared.command.Command.TheVariants.{Deal, Shuffle, Call, Card, Claim, Agree, Refuse, Next, Tricks, Void, Adjust, Restore, Sync, See, Rank, Solve, Pbn}
-use Rattle.table_server.specs.LineCommand.{Reads}
+use Rattle.table_server.specs.LineCommand.{ReadsLine}
 
 -- the deal of a board by the shuffle of a seed is asked for
 pub record AsksForDeal (key : Key) (board : ℕ) (seed : List ℕ) (asked : AskedType) : Type 0 where
@@ -40,6 +40,7 @@ AsksFor (Rank key field) asked = asked ≡ Told (question.Rank key field)
 AsksFor (Solve key play cards) asked = asked ≡ Told (question.Solve key play cards)
 AsksFor (Pbn key) asked = asked ≡ Told (question.Pbn key)
 
+-- a line that states no command is a bad one
 abbrev pub AsksIf : Option Command → AskedType → Type 0
 AsksIf None asked = asked ≡ BadLine
 AsksIf (Some command) asked = AsksFor command asked
@@ -47,9 +48,10 @@ AsksIf (Some command) asked = AsksFor command asked
 -- a line that is not too long asks for what its command does, if it states one
 pub record AsksByWords (line : List ℕ) (asked : AskedType) : Type 0 where
   pub found : Option Command
-  pub reads : Reads (strip_carriage_return line) found
+  pub reads : ReadsLine (strip_carriage_return line) found
   pub asks : AsksIf found asked
 
+-- a line that is too long is answered as that, whatever its words are
 abbrev pub AsksBy : Bool → List ℕ → AskedType → Type 0
 AsksBy true line asked = asked ≡ LongLine
 AsksBy false line asked = AsksByWords line asked

@@ -9,15 +9,15 @@ use Rattle.session_rules.specs.declared.action.PlayId.{PlayId}
 use Rattle.session_rules.specs.declared.average.Average.{Average}
 use Rattle.table_server.specs.declared.command.Command.{Command}
 use Rattle.table_server.specs.declared.command.Command.TheVariants.{Deal, Shuffle, Call, Card, Claim, Agree, Refuse, Next, Tricks, Void, Adjust, Restore, Sync, See, Rank, Solve, Pbn}
-use Rattle.table_server.specs.LineWords.{◌>>=◌, first_of, key_of, board_of, made_of, tricks_of, average_of_word, round_of, table_of, index_of, cards_of_word, field_of, card_of_word, seed_of}
+use Rattle.table_server.specs.LineWords.{◌>>=◌, first_of, key_of_word, board_of_word, made_of_word, tricks_of_word, average_of_word, round_of_word, table_of_word, index_of_word, cards_of_word, field_of_word, card_of_word, seed_of}
 
 -- Each line by the words after its first.
 
 -- a key, a board and 64 hexadecimal digits
 unfoldable pub shuffle_line : List (List ℕ) → Option Command
 shuffle_line words = do
-  key ← first_of key_of words
-  board ← first_of board_of key.1
+  key ← first_of key_of_word words
+  board ← first_of board_of_word key.1
   word ← only_word board.1
   seed ← seed_of word
   Some (Shuffle key.0 board.0 seed)
@@ -25,90 +25,97 @@ shuffle_line words = do
 -- a key, a board, how many calls were made, and a call
 unfoldable pub call_line : List (List ℕ) → Option Command
 call_line words = do
-  key ← first_of key_of words
-  board ← first_of board_of key.1
-  at ← first_of made_of board.1
+  key ← first_of key_of_word words
+  board ← first_of board_of_word key.1
+  at ← first_of made_of_word board.1
   word ← only_word at.1
   call ← call_of word
   Some (Call key.0 board.0 at.0 call)
 
+-- a key, a board, how many cards were played, and a card
 unfoldable pub card_line : List (List ℕ) → Option Command
 card_line words = do
-  key ← first_of key_of words
-  board ← first_of board_of key.1
-  at ← first_of made_of board.1
+  key ← first_of key_of_word words
+  board ← first_of board_of_word key.1
+  at ← first_of made_of_word board.1
   word ← only_word at.1
   card ← card_of_word word
   Some (Card key.0 board.0 at.0 card)
 
+-- a key, a board, how many claims were made, and tricks
 unfoldable pub claim_line : List (List ℕ) → Option Command
 claim_line words = do
-  key ← first_of key_of words
-  board ← first_of board_of key.1
-  at ← first_of made_of board.1
+  key ← first_of key_of_word words
+  board ← first_of board_of_word key.1
+  at ← first_of made_of_word board.1
   word ← only_word at.1
-  tricks ← tricks_of word
+  tricks ← tricks_of_word word
   Some (Claim key.0 board.0 at.0 tricks)
 
+-- a key, a board, and how many claims were made
 unfoldable pub agree_line : List (List ℕ) → Option Command
 agree_line words = do
-  key ← first_of key_of words
-  board ← first_of board_of key.1
+  key ← first_of key_of_word words
+  board ← first_of board_of_word key.1
   word ← only_word board.1
-  at ← made_of word
+  at ← made_of_word word
   Some (Agree key.0 board.0 at)
 
+-- the same, where the claim is refused
 unfoldable pub refuse_line : List (List ℕ) → Option Command
 refuse_line words = do
-  key ← first_of key_of words
-  board ← first_of board_of key.1
+  key ← first_of key_of_word words
+  board ← first_of board_of_word key.1
   word ← only_word board.1
-  at ← made_of word
+  at ← made_of_word word
   Some (Refuse key.0 board.0 at)
 
+-- a key, and the round that ends
 unfoldable pub next_line : List (List ℕ) → Option Command
 next_line words = do
-  key ← first_of key_of words
+  key ← first_of key_of_word words
   word ← only_word key.1
-  round ← round_of word
+  round ← round_of_word word
   Some (Next key.0 round)
 
 -- a round, a table and the index of a board in its set
 unfoldable pub play_words : List (List ℕ) → Option PlayId
 play_words words = do
-  round ← first_of round_of words
-  table ← first_of table_of round.1
+  round ← first_of round_of_word words
+  table ← first_of table_of_word round.1
   word ← only_word table.1
-  index ← index_of word
+  index ← index_of_word word
   Some (record { round = round.0; table = table.0; index = index })
 
 -- the same, and a word after them
 unfoldable pub play_and_word : List (List ℕ) → Option (PlayId × List ℕ)
 play_and_word words = do
-  round ← first_of round_of words
-  table ← first_of table_of round.1
-  index ← first_of index_of table.1
+  round ← first_of round_of_word words
+  table ← first_of table_of_word round.1
+  index ← first_of index_of_word table.1
   word ← only_word index.1
   Some (record { round = round.0; table = table.0; index = index.0 }, word)
 
+-- a key and a play
 unfoldable pub void_line : List (List ℕ) → Option Command
 void_line words = do
-  key ← first_of key_of words
+  key ← first_of key_of_word words
   play ← play_words key.1
   Some (Void key.0 play)
 
+-- the same, where the play is brought back
 unfoldable pub restore_line : List (List ℕ) → Option Command
 restore_line words = do
-  key ← first_of key_of words
+  key ← first_of key_of_word words
   play ← play_words key.1
   Some (Restore key.0 play)
 
 -- a round, a table and an index, and the words after them
 unfoldable pub play_and_words : List (List ℕ) → Option (PlayId × List (List ℕ))
 play_and_words words = do
-  round ← first_of round_of words
-  table ← first_of table_of round.1
-  index ← first_of index_of table.1
+  round ← first_of round_of_word words
+  table ← first_of table_of_word round.1
+  index ← first_of index_of_word table.1
   Some (record { round = round.0; table = table.0; index = index.0 }, index.1)
 
 -- the averages of both sides
@@ -119,48 +126,55 @@ average_words words = do
   ew ← average_of_word word
   Some (ns.0, ew)
 
+-- a key, a play, and the averages of both sides
 unfoldable pub adjust_line : List (List ℕ) → Option Command
 adjust_line words = do
-  key ← first_of key_of words
+  key ← first_of key_of_word words
   play ← play_and_words key.1
   averages ← average_words play.1
   Some (Adjust key.0 play.0 averages.0 averages.1)
 
+-- a key, a play, and the tricks of declarer
 unfoldable pub tricks_line : List (List ℕ) → Option Command
 tricks_line words = do
-  key ← first_of key_of words
+  key ← first_of key_of_word words
   play ← play_and_word key.1
-  tricks ← tricks_of play.1
+  tricks ← tricks_of_word play.1
   Some (Tricks key.0 play.0 tricks)
 
+-- a key, a play, and how many cards were played before the ending
 unfoldable pub solve_line : List (List ℕ) → Option Command
 solve_line words = do
-  key ← first_of key_of words
+  key ← first_of key_of_word words
   play ← play_and_word key.1
   cards ← cards_of_word play.1
   Some (Solve key.0 play.0 cards)
 
+-- a key alone
 unfoldable pub see_line : List (List ℕ) → Option Command
 see_line words = do
   word ← only_word words
-  key ← key_of word
+  key ← key_of_word word
   Some (See key)
 
+-- a key and a field
 unfoldable pub rank_line : List (List ℕ) → Option Command
 rank_line words = do
-  key ← first_of key_of words
+  key ← first_of key_of_word words
   word ← only_word key.1
-  field ← field_of word
+  field ← field_of_word word
   Some (Rank key.0 field)
 
+-- a key alone
 unfoldable pub pbn_line : List (List ℕ) → Option Command
 pbn_line words = do
   word ← only_word words
-  key ← key_of word
+  key ← key_of_word word
   Some (Pbn key)
 
 -- The lines by their first word, all but those of `DEAL`.
 
+-- the questions,
 abbrev pub reading_line : List ℕ → List (List ℕ) → Option Command
 reading_line keyword words =
     if bytes_eq keyword (codes "SEE") then see_line words
@@ -169,6 +183,7 @@ reading_line keyword words =
     else if bytes_eq keyword (codes "PBN") then pbn_line words
     else None
 
+-- what the director does, or else a question,
 abbrev pub director_line : List ℕ → List (List ℕ) → Option Command
 director_line keyword words =
     if bytes_eq keyword (codes "SHUFFLE") then shuffle_line words
@@ -179,6 +194,7 @@ director_line keyword words =
     else if bytes_eq keyword (codes "RESTORE") then restore_line words
     else reading_line keyword words
 
+-- and what players do, or else one of those
 abbrev pub plain_line : List ℕ → List (List ℕ) → Option Command
 plain_line keyword words =
     if bytes_eq keyword (codes "CALL") then call_line words
@@ -194,10 +210,11 @@ pub record Dealing : Type 0 where
   pub board : ℕ
   pub text : List ℕ
 
+-- the key, the board, and the words behind them, with single spaces between
 unfoldable pub deal_words : List (List ℕ) → Option Dealing
 deal_words words = do
-  key ← first_of key_of words
-  board ← first_of board_of key.1
+  key ← first_of key_of_word words
+  board ← first_of board_of_word key.1
   Some (record { key = key.0; board = board.0; text = spaced board.1 })
 
 -- the hands that the text states, and no others
@@ -207,20 +224,23 @@ pub record DealsHands (dealing : Dealing) (command : Command) : Type 0 where
   pub only : StatesOnly dealing.text hands
   pub deals : command ≡ Deal dealing.key dealing.board hands
 
-abbrev pub Deals : Option Dealing → Option Command → Type 0
-Deals None found = found ≡ None
-Deals (Some dealing) None = StatesNone dealing.text
-Deals (Some dealing) (Some command) = DealsHands dealing command
+-- a line that deals is read as the hands that its text states, if it states four
+abbrev pub ReadsDeal : Option Dealing → Option Command → Type 0
+ReadsDeal None found = found ≡ None
+ReadsDeal (Some dealing) None = StatesNone dealing.text
+ReadsDeal (Some dealing) (Some command) = DealsHands dealing command
 
+-- by whether the keyword is `DEAL`
 abbrev pub ReadsAfter : Bool → List ℕ → List (List ℕ) → Option Command → Type 0
-ReadsAfter true keyword words found = Deals (deal_words words) found
+ReadsAfter true keyword words found = ReadsDeal (deal_words words) found
 ReadsAfter false keyword words found = found ≡ plain_line keyword words
 
+-- by the words: `SYNC` stands alone, and no other keyword does
 abbrev pub ReadsWords : List (List ℕ) → Option Command → Type 0
 ReadsWords [] found = found ≡ None
 ReadsWords (keyword ∷ []) found = found ≡ (if bytes_eq keyword (codes "SYNC") then Some Sync else None)
 ReadsWords (keyword ∷ word ∷ words) found = ReadsAfter (bytes_eq keyword (codes "DEAL")) keyword (word ∷ words) found
 
 -- the command that the line states, if it states one
-abbrev pub Reads : List ℕ → Option Command → Type 0
-Reads line found = ReadsWords (spaced_words line) found
+abbrev pub ReadsLine : List ℕ → Option Command → Type 0
+ReadsLine line found = ReadsWords (spaced_words line) found

@@ -14,56 +14,66 @@ use Rattle.session_rules.specs.Average.{average_of}
 use Rattle.bridge_ranking.specs.declared.field.Field.{Field}
 use Rattle.bridge_ranking.specs.declared.field.Field.TheVariants.{First, Second}
 
+-- what follows where a word was read, and otherwise nothing
 infixl 10 ◌>>=◌
+-- what follows where a word was read, and otherwise nothing
 abbrev pub ◌>>=◌ : {A B : Type 0} → Option A → (A → Option B) → Option B
 (Some value) >>= f = f value
 None >>= f = None
 
 -- what a function found, seen by view, is what reading gives
-abbrev pub Gives : {X Y : Type 0} → (X → Y) → Option X → Option Y → Type 0
-Gives view (Some value) read = read ≡ Some (view value)
-Gives view None read = read ≡ None
+abbrev pub FoundAs : {X Y : Type 0} → (X → Y) → Option X → Option Y → Type 0
+FoundAs view (Some value) read = read ≡ Some (view value)
+FoundAs view None read = read ≡ None
 
 -- the number of a numeral, from low to high
-abbrev pub number_of : ℕ → ℕ → List ℕ → Option ℕ
-number_of low high word =
+abbrev pub number_of_word : ℕ → ℕ → List ℕ → Option ℕ
+number_of_word low high word =
     if is_numeral word && is_between low high (digits_value 10 word) then Some (digits_value 10 word) else None
 
+-- the key of a number
 abbrev pub key_numbered : ℕ → Key
 key_numbered number = record { 0 = number }
 
-abbrev pub key_of : List ℕ → Option Key
-key_of word = option_map key_numbered (number_of 0 4294967295 word)
+-- a key: a number of 32 bits
+abbrev pub key_of_word : List ℕ → Option Key
+key_of_word word = option_map key_numbered (number_of_word 0 4294967295 word)
 
-abbrev pub board_of : List ℕ → Option ℕ
-board_of word = number_of 1 36 word
+-- a board: 1 to 36
+abbrev pub board_of_word : List ℕ → Option ℕ
+board_of_word word = number_of_word 1 36 word
 
 -- how many calls, cards or claims were made
-abbrev pub made_of : List ℕ → Option ℕ
-made_of word = number_of 0 999 word
+abbrev pub made_of_word : List ℕ → Option ℕ
+made_of_word word = number_of_word 0 999 word
 
-abbrev pub tricks_of : List ℕ → Option ℕ
-tricks_of word = number_of 0 13 word
+-- tricks: 0 to 13
+abbrev pub tricks_of_word : List ℕ → Option ℕ
+tricks_of_word word = number_of_word 0 13 word
 
 -- per cent of the matchpoints available, as an average
 abbrev pub average_of_word : List ℕ → Option Average
-average_of_word word = number_of 40 60 word >>= average_of
+average_of_word word = number_of_word 40 60 word >>= average_of
 
-abbrev pub round_of : List ℕ → Option ℕ
-round_of word = number_of 1 12 word
+-- a round: 1 to 12
+abbrev pub round_of_word : List ℕ → Option ℕ
+round_of_word word = number_of_word 1 12 word
 
-abbrev pub table_of : List ℕ → Option ℕ
-table_of word = number_of 1 12 word
+-- a table: 1 to 12
+abbrev pub table_of_word : List ℕ → Option ℕ
+table_of_word word = number_of_word 1 12 word
 
-abbrev pub index_of : List ℕ → Option ℕ
-index_of word = number_of 1 3 word
+-- the index of a board in its set: 1 to 3
+abbrev pub index_of_word : List ℕ → Option ℕ
+index_of_word word = number_of_word 1 3 word
 
 -- how many cards were played before an ending
 abbrev pub cards_of_word : List ℕ → Option ℕ
-cards_of_word word = number_of 0 52 word
+cards_of_word word = number_of_word 0 52 word
 
-abbrev pub field_of : List ℕ → Option Field
-field_of word = if bytes_eq word (codes "1") then Some First else if bytes_eq word (codes "2") then Some Second else None
+-- a field: 1 for the first, 2 for the second
+abbrev pub field_of_word : List ℕ → Option Field
+field_of_word word = if bytes_eq word (codes "1") then Some First else if bytes_eq word (codes "2") then Some Second else None
 
 -- the card that has this text
 abbrev pub card_of_word : List ℕ → Option ℕ
@@ -73,6 +83,7 @@ card_of_word word = position (λ card. bytes_eq (card_text card) word) (range_wi
 abbrev pub is_lower_hex : ℕ → Bool
 is_lower_hex digit = is_ascii_digit digit || (nat_le 97 digit && nat_le digit 102)
 
+-- the value of a digit
 abbrev pub hex_value : ℕ → ℕ
 hex_value digit = if is_ascii_digit digit then digit - 48 else digit - 87
 

@@ -18,10 +18,12 @@ use Rattle.line_text.specs.Lines.{complete_lines, is_long}
 abbrev pub line_call : List ℕ → Option Call
 line_call line = if is_long line then None else call_of (strip_carriage_return line)
 
+-- the reply by the answer of the rules
 abbrev pub answer_reply : Result (Unit {0}) CallRefused → ShortReply
 answer_reply (Ok _) = Done
 answer_reply (Err refused) = Illegal refused
 
+-- the reply to a line that spells this call, or none
 abbrev pub call_reply : List Call → Option Call → ShortReply
 call_reply calls None = BadLine
 call_reply calls (Some call) = answer_reply (answer_to calls call)
@@ -30,10 +32,12 @@ call_reply calls (Some call) = answer_reply (answer_to calls call)
 abbrev pub line_reply : List Call → List ℕ → ShortReply
 line_reply calls line = if is_long line then LongLine else call_reply calls (line_call line)
 
+-- the calls after a call that got this answer
 abbrev pub calls_by : Result (Unit {0}) CallRefused → List Call → Call → List Call
 calls_by (Ok _) calls call = calls ++ call ∷ []
 calls_by (Err refused) calls call = calls
 
+-- the calls after a line that spells this call, or none
 abbrev pub calls_with : List Call → Option Call → List Call
 calls_with calls None = calls
 calls_with calls (Some call) = calls_by (answer_to calls call) calls call
@@ -48,6 +52,7 @@ abbrev pub replies_to : List Call → List (List ℕ) → List ℕ
 replies_to calls [] = []
 replies_to calls (line ∷ lines) = short_text (line_reply calls line) ++ replies_to (calls_with calls (line_call line)) lines
 
+-- the contract that the auction made, or that all passed
 abbrev pub contract_line : Option Contract → List ℕ
 contract_line None = codes "PASSED OUT\n"
 contract_line (Some contract) = (codes "CONTRACT " ++ contract_text contract) ++ codes "\n"

@@ -7,7 +7,7 @@ use Rattle.bridge_score.specs.declared.ranking.Ranked.{Ranked}
 use Rattle.bridge_score.specs.declared.ranking.Scoring.{Scoring}
 use Rattle.bridge_score.specs.declared.ranking.Scoring.TheVariants.{MatchPoints, Imps}
 use Rattle.bridge_score.specs.Percent.{percent_hundredths_of}
-use Rattle.bridge_pbn.specs.Lines.{lines_text}
+use Rattle.line_text.specs.Lines.{lines_text}
 use Rattle.session_rules.specs.Refused.{refusal_number, refusal_name}
 use Rattle.table_server.specs.declared.short_reply.ShortReply.{ShortReply}
 use Rattle.table_server.specs.declared.short_reply.ShortReply.TheVariants.{Done, Refused, Illegal, BadLine, LongLine, Disk, EpochsSpent}
@@ -27,16 +27,16 @@ abbrev pub each_spaced : List (List ℕ) → List ℕ
 each_spaced words = flat_map (λ word. 32 ∷ word) words
 
 -- a first word and others, with single spaces between
-abbrev pub line_of : List ℕ → List (List ℕ) → List ℕ
-line_of first words = first ++ each_spaced words
+abbrev pub spaced_line : List ℕ → List (List ℕ) → List ℕ
+spaced_line first words = first ++ each_spaced words
 
 -- `OK`, lines, and a full stop on a line of its own
-abbrev pub listed : List (List ℕ) → List ℕ
-listed lines = lines_text (codes "OK" ∷ (lines ++ codes "." ∷ []))
+abbrev pub listed_text : List (List ℕ) → List ℕ
+listed_text lines = lines_text (codes "OK" ∷ (lines ++ codes "." ∷ []))
 
 -- the tricks of both sides
 abbrev pub solved_text : ℕ → ℕ → List ℕ
-solved_text ns ew = lines_text (line_of (codes "OK") (decimal ns ∷ decimal ew ∷ []) ∷ [])
+solved_text ns ew = lines_text (spaced_line (codes "OK") (decimal ns ∷ decimal ew ∷ []) ∷ [])
 
 -- a number below 100 in two digits
 abbrev pub two_digits : ℕ → List ℕ
@@ -71,8 +71,9 @@ gain_words MatchPoints ranked = share_text ranked ∷ percent_text (share_percen
 gain_words Imps ranked = signed_decimal ranked.value ∷ []
 
 -- the place, the pair, and what it gained
-abbrev pub rank_line : Scoring → Ranked → List ℕ
-rank_line scoring ranked = line_of (decimal ranked.place) (decimal ranked.pair ∷ gain_words scoring ranked)
+abbrev pub ranked_line : Scoring → Ranked → List ℕ
+ranked_line scoring ranked = spaced_line (decimal ranked.place) (decimal ranked.pair ∷ gain_words scoring ranked)
 
+-- a ranking: a line for each pair, in order
 abbrev pub ranking_text : Scoring → List Ranked → List ℕ
-ranking_text scoring ranking = listed (map (rank_line scoring) ranking)
+ranking_text scoring ranking = listed_text (map (ranked_line scoring) ranking)

@@ -74,9 +74,9 @@ module _ {D : Type 0} (disk : Disk D) where
     pub continues : Continues session_keeping disk old (accepted_change (standing_of old) action) new
 
   -- a reply, where the store did not fail
-  abbrev pub Gives : StoreValue D SessionValue Action → Action → StoreValue D SessionValue Action → Option ShortReply → Type 0
-  Gives old action new (Some reply) = IsTaken old action new reply
-  Gives old action new None = FailsTaking old action new
+  abbrev pub GivesReply : StoreValue D SessionValue Action → Action → StoreValue D SessionValue Action → Option ShortReply → Type 0
+  GivesReply old action new (Some reply) = IsTaken old action new reply
+  GivesReply old action new None = FailsTaking old action new
 
   -- what was accepted is confirmed, and the replies are written; or the store has failed, and for each the error is
   abbrev pub SettlesBy : {E : Type 0} → Bool → StoreValue D SessionValue Action → StoreValue D SessionValue Action → List ℕ → ℕ → Stream → Result (Unit {0}) E → Type 0
@@ -121,6 +121,7 @@ module _ {D : Type 0} (disk : Disk D) where
     pub none_held : held.count ≡ 0
     pub served : IsServed disk start asked store written held.served.accepted
 
+  -- the store has failed, or it works
   abbrev pub ServingBy : Bool → StoreValue D SessionValue Action → List Asked → StoreValue D SessionValue Action → HeldReplies → List ℕ → Type 0
   ServingBy true start asked store held written = Failed start asked store held written
   ServingBy false start asked store held written = Works start asked store held written

@@ -22,6 +22,7 @@ standing_of v = record { state = v.state; room = room v }
 abbrev pub answer_in : Standing → Action → Result SessionValue SessionRefused
 answer_in standing action = session_keeping.step standing.state action
 
+-- the reply by the answer of the session
 abbrev pub reply_by : Result SessionValue SessionRefused → ShortReply
 reply_by (Ok state) = Done
 reply_by (Err refused) = Refused refused
@@ -35,10 +36,12 @@ reply_within (suc room) answer = reply_by answer
 abbrev pub change_reply : Standing → Action → ShortReply
 change_reply standing action = reply_within standing.room (answer_in standing action)
 
+-- where it stands after this answer, with room for so many actions if it is accepted
 abbrev pub standing_by : Standing → ℕ → Result SessionValue SessionRefused → Standing
 standing_by standing room (Ok state) = record { state = state; room = room }
 standing_by standing room (Err refused) = standing
 
+-- the same where so many actions can be taken; with none, nothing changes
 abbrev pub standing_within : Standing → ℕ → Result SessionValue SessionRefused → Standing
 standing_within standing zero answer = standing
 standing_within standing (suc room) answer = standing_by standing room answer
@@ -47,10 +50,12 @@ standing_within standing (suc room) answer = standing_by standing room answer
 abbrev pub after_change : Standing → Action → Standing
 after_change standing action = standing_within standing standing.room (answer_in standing action)
 
+-- the action, where this answer accepts it
 abbrev pub accepted_by_answer : Action → Result SessionValue SessionRefused → List Action
 accepted_by_answer action (Ok state) = action ∷ []
 accepted_by_answer action (Err refused) = []
 
+-- the same where so many actions can be taken; with none, it is not accepted
 abbrev pub accepted_within : ℕ → Action → Result SessionValue SessionRefused → List Action
 accepted_within zero action answer = []
 accepted_within (suc room) action answer = accepted_by_answer action answer

@@ -1,5 +1,4 @@
 //! What complete lines ask for.
-ghost use Rattle.std.specs.Prelude.{◌≡◌};
 ghost use Rattle.table_server.specs.Asked.{AsksForDeal, AsksFor, Asks};
 
 use crate::command::Command;

@@ -1,9 +1,9 @@
 //! The command that a line of the protocol states.
 ghost use Rattle.std.specs.Prelude.{◌≡◌, Some, None, IfOk, IfErr};
-ghost use Rattle.line_text.specs.Words.{spaced_words, spaced};
+ghost use Rattle.line_text.specs.Words.{spaced_words};
 ghost use Rattle.table_server.specs.declared.command.Command.{Command as CommandType};
-ghost use Rattle.table_server.specs.LineWords.{Gives};
-ghost use Rattle.table_server.specs.LineCommand.{shuffle_line, call_line, card_line, claim_line, agree_line, refuse_line, next_line, play_words, play_and_word, void_line, restore_line, play_and_words, average_words, adjust_line, tricks_line, solve_line, see_line, rank_line, pbn_line, reading_line, director_line, plain_line, deal_words, Deals, Reads};
+ghost use Rattle.table_server.specs.LineWords.{FoundAs};
+ghost use Rattle.table_server.specs.LineCommand.{shuffle_line, call_line, card_line, claim_line, agree_line, refuse_line, next_line, play_words, play_and_word, void_line, restore_line, play_and_words, average_words, adjust_line, tricks_line, solve_line, see_line, rank_line, pbn_line, reading_line, director_line, plain_line, deal_words, ReadsDeal, ReadsLine};
 
 use crate::command::{BadLine, Command};
 use crate::line_words::{
@@ -24,10 +24,10 @@ use line_text::{first_word, only_word};
 /// from 1 to 12, an index from 1 to 3, a field 1 or 2, and cards from 0 to 52.
 pub fn read_line_command(line: &[u8]) -> Result<Command, BadLine>
     // The line states the command that is found, and no other.
-    ensures found { IfOk result (λ command. Reads line.now (Some command)) }
-    ensures only { IfOk result (λ command. (other : CommandType) → Reads line.now (Some other) → other ≡ command) }
-    ensures bad { IfErr result (λ refused. Reads line.now None) }
-    ensures none { IfErr result (λ refused. (command : CommandType) → ¬ Reads line.now (Some command)) }
+    ensures found { IfOk result (λ command. ReadsLine line.now (Some command)) }
+    ensures only { IfOk result (λ command. (other : CommandType) → ReadsLine line.now (Some other) → other ≡ command) }
+    ensures bad { IfErr result (λ refused. ReadsLine line.now None) }
+    ensures none { IfErr result (λ refused. (command : CommandType) → ¬ ReadsLine line.now (Some command)) }
 {
     match read_line(line) {
         Some(command) => Ok(command),
@@ -36,7 +36,7 @@ pub fn read_line_command(line: &[u8]) -> Result<Command, BadLine>
 }
 
 fn read_line(line: &[u8]) -> Option<Command>
-    ensures { Reads line.now result }
+    ensures { ReadsLine line.now result }
 {
     match first_word(line) {
         Some((keyword, rest)) => {
@@ -58,7 +58,7 @@ fn read_line(line: &[u8]) -> Option<Command>
 
 /// Reads what follows `DEAL`.
 fn read_deal_line(text: &[u8]) -> Option<Command>
-    ensures { Deals (deal_words (spaced_words text.now)) result }
+    ensures { ReadsDeal (deal_words (spaced_words text.now)) result }
 {
     let (key, rest) = first_key(text)?;
     match first_board(rest) {
@@ -69,7 +69,7 @@ fn read_deal_line(text: &[u8]) -> Option<Command>
 
 /// The command that deals a board the hands of a text.
 fn read_dealt(key: Key, board_and_hands: &(BoardNumber, &[u8])) -> Option<Command>
-    ensures { Deals (Some (record { key = key; board = board_and_hands.now.0; text = board_and_hands.now.1.now })) result }
+    ensures { ReadsDeal (Some (record { key = key; board = board_and_hands.now.0; text = board_and_hands.now.1.now })) result }
 {
     let (board, text) = *board_and_hands;
     match read_hands(text) {
@@ -262,7 +262,7 @@ fn read_play(text: &[u8]) -> Option<PlayId>
 /// The play that a text of four words names, and its last word.
 #[tactic(auto, unfolding(crate::specs::LineCommand::play_and_word))]
 fn read_play_and_word(text: &[u8]) -> Option<(PlayId, &[u8])>
-    ensures { Gives (λ read. (read.0, read.1.now)) result (play_and_word (spaced_words text.now)) }
+    ensures { FoundAs (λ read. (read.0, read.1.now)) result (play_and_word (spaced_words text.now)) }
 {
     let Some((round, rest)) = first_round(text) else {
         return None;
@@ -303,7 +303,7 @@ fn read_restore_line(text: &[u8]) -> Option<Command>
 /// The play that the first three words of a text name, and the words after them.
 #[tactic(auto, unfolding(crate::specs::LineCommand::play_and_words))]
 fn first_play(text: &[u8]) -> Option<(PlayId, &[u8])>
-    ensures { Gives (λ read. (read.0, spaced_words read.1.now)) result (play_and_words (spaced_words text.now)) }
+    ensures { FoundAs (λ read. (read.0, spaced_words read.1.now)) result (play_and_words (spaced_words text.now)) }
 {
     let Some((round, rest)) = first_round(text) else {
         return None;

@@ -2,7 +2,7 @@
 ghost use Rattle.std.specs.Prelude.{◌≡◌, ◌+◌, ◌*◌, ◌<◌, ◌≤◌, IfSome, length, map, true};
 ghost use Rattle.std.specs.List.{list_all, range_with_len};
 ghost use Rattle.line_text.specs.Words.{spaced_words};
-ghost use Rattle.table_server.specs.LineWords.{Gives, number_of, key_of, board_of, made_of, tricks_of, average_of_word, round_of, table_of, index_of, cards_of_word, field_of, card_of_word, is_lower_hex, hex_value, hex_byte, seed_of, first_of};
+ghost use Rattle.table_server.specs.LineWords.{FoundAs, number_of_word, key_of_word, board_of_word, made_of_word, tricks_of_word, average_of_word, round_of_word, table_of_word, index_of_word, cards_of_word, field_of_word, card_of_word, is_lower_hex, hex_value, hex_byte, seed_of, first_of};
 
 use bridge_cards::{BoardNumber, Card, DECK, read_card};
 use bridge_config::Key;
@@ -11,7 +11,7 @@ use line_text::{first_word, is_numeral, value_of};
 
 /// The number of a numeral, from low to high.
 fn read_number(low: u32, high: u32, word: &[u8]) -> Option<u32>
-    ensures value { result ≡ number_of low high word.now }
+    ensures value { result ≡ number_of_word low high word.now }
     ensures least { IfSome result (λ number. low ≤ number) }
     ensures most { IfSome result (λ number. number ≤ high) }
 {
@@ -26,7 +26,7 @@ fn read_number(low: u32, high: u32, word: &[u8]) -> Option<u32>
 
 /// A key, 0 to 4,294,967,295.
 pub fn read_key(word: &[u8]) -> Option<Key>
-    ensures { result ≡ key_of word.now }
+    ensures { result ≡ key_of_word word.now }
 {
     let number = read_number(0, u32::MAX, word)?;
     Some(Key(number))
@@ -34,7 +34,7 @@ pub fn read_key(word: &[u8]) -> Option<Key>
 
 /// A board, 1 to 36.
 pub fn read_board(word: &[u8]) -> Option<BoardNumber>
-    ensures { result ≡ board_of word.now }
+    ensures { result ≡ board_of_word word.now }
 {
     let number = read_number(1, BoardNumber::MAX as u32, word)?;
     Some(BoardNumber::new(number as u8).unwrap())
@@ -42,7 +42,7 @@ pub fn read_board(word: &[u8]) -> Option<BoardNumber>
 
 /// How many calls, cards or claims were made, 0 to 999.
 pub fn read_made(word: &[u8]) -> Option<MadeCount>
-    ensures { result ≡ made_of word.now }
+    ensures { result ≡ made_of_word word.now }
 {
     let number = read_number(0, MadeCount::MAX as u32, word)?;
     Some(MadeCount::new(number as u16).unwrap())
@@ -50,7 +50,7 @@ pub fn read_made(word: &[u8]) -> Option<MadeCount>
 
 /// A number of tricks, 0 to 13.
 pub fn read_tricks(word: &[u8]) -> Option<TrickCount>
-    ensures { result ≡ tricks_of word.now }
+    ensures { result ≡ tricks_of_word word.now }
 {
     let number = read_number(0, TrickCount::MAX as u32, word)?;
     Some(TrickCount::new(number as u8).unwrap())
@@ -66,7 +66,7 @@ pub fn read_average(word: &[u8]) -> Option<Average>
 
 /// A round, 1 to 12.
 pub fn read_round(word: &[u8]) -> Option<RoundNumber>
-    ensures { result ≡ round_of word.now }
+    ensures { result ≡ round_of_word word.now }
 {
     let number = read_number(1, RoundNumber::MAX as u32, word)?;
     Some(RoundNumber::new(number as u8).unwrap())
@@ -74,7 +74,7 @@ pub fn read_round(word: &[u8]) -> Option<RoundNumber>
 
 /// A table, 1 to 12.
 pub fn read_table(word: &[u8]) -> Option<TableNumber>
-    ensures { result ≡ table_of word.now }
+    ensures { result ≡ table_of_word word.now }
 {
     let number = read_number(1, TableNumber::MAX as u32, word)?;
     Some(TableNumber::new(number as u8).unwrap())
@@ -82,7 +82,7 @@ pub fn read_table(word: &[u8]) -> Option<TableNumber>
 
 /// The index of a board in its set, 1 to 3.
 pub fn read_index(word: &[u8]) -> Option<BoardIndex>
-    ensures { result ≡ index_of word.now }
+    ensures { result ≡ index_of_word word.now }
 {
     let number = read_number(1, BoardIndex::MAX as u32, word)?;
     Some(BoardIndex::new(number as u8).unwrap())
@@ -98,7 +98,7 @@ pub fn read_cards(word: &[u8]) -> Option<u8>
 
 /// A field, `1` or `2`.
 pub fn read_field(word: &[u8]) -> Option<Field>
-    ensures { result ≡ field_of word.now }
+    ensures { result ≡ field_of_word word.now }
 {
     if word == b"1".as_slice() {
         Some(Field::First)
@@ -177,7 +177,7 @@ pub fn read_seed(word: &[u8]) -> Option<[u8; 32]>
 
 /// The key that several words begin with, and the words after it.
 pub fn first_key(text: &[u8]) -> Option<(Key, &[u8])>
-    ensures { Gives (λ read. (read.0, spaced_words read.1.now)) result (first_of key_of (spaced_words text.now)) }
+    ensures { FoundAs (λ read. (read.0, spaced_words read.1.now)) result (first_of key_of_word (spaced_words text.now)) }
 {
     let (word, rest) = first_word(text)?;
     let key = read_key(word)?;
@@ -186,7 +186,7 @@ pub fn first_key(text: &[u8]) -> Option<(Key, &[u8])>
 
 /// The board that several words begin with, and the words after it.
 pub fn first_board(text: &[u8]) -> Option<(BoardNumber, &[u8])>
-    ensures { Gives (λ read. (read.0, spaced_words read.1.now)) result (first_of board_of (spaced_words text.now)) }
+    ensures { FoundAs (λ read. (read.0, spaced_words read.1.now)) result (first_of board_of_word (spaced_words text.now)) }
 {
     let (word, rest) = first_word(text)?;
     let board = read_board(word)?;
@@ -195,7 +195,7 @@ pub fn first_board(text: &[u8]) -> Option<(BoardNumber, &[u8])>
 
 /// How many calls, cards or claims were made, where several words begin with it, and the words after it.
 pub fn first_made(text: &[u8]) -> Option<(MadeCount, &[u8])>
-    ensures { Gives (λ read. (read.0, spaced_words read.1.now)) result (first_of made_of (spaced_words text.now)) }
+    ensures { FoundAs (λ read. (read.0, spaced_words read.1.now)) result (first_of made_of_word (spaced_words text.now)) }
 {
     let (word, rest) = first_word(text)?;
     let made = read_made(word)?;
@@ -204,7 +204,7 @@ pub fn first_made(text: &[u8]) -> Option<(MadeCount, &[u8])>
 
 /// The round that several words begin with, and the words after it.
 pub fn first_round(text: &[u8]) -> Option<(RoundNumber, &[u8])>
-    ensures { Gives (λ read. (read.0, spaced_words read.1.now)) result (first_of round_of (spaced_words text.now)) }
+    ensures { FoundAs (λ read. (read.0, spaced_words read.1.now)) result (first_of round_of_word (spaced_words text.now)) }
 {
     let (word, rest) = first_word(text)?;
     let round = read_round(word)?;
@@ -213,7 +213,7 @@ pub fn first_round(text: &[u8]) -> Option<(RoundNumber, &[u8])>
 
 /// The table that several words begin with, and the words after it.
 pub fn first_table(text: &[u8]) -> Option<(TableNumber, &[u8])>
-    ensures { Gives (λ read. (read.0, spaced_words read.1.now)) result (first_of table_of (spaced_words text.now)) }
+    ensures { FoundAs (λ read. (read.0, spaced_words read.1.now)) result (first_of table_of_word (spaced_words text.now)) }
 {
     let (word, rest) = first_word(text)?;
     let table = read_table(word)?;
@@ -222,7 +222,7 @@ pub fn first_table(text: &[u8]) -> Option<(TableNumber, &[u8])>
 
 /// The index of a board that several words begin with, and the words after it.
 pub fn first_index(text: &[u8]) -> Option<(BoardIndex, &[u8])>
-    ensures { Gives (λ read. (read.0, spaced_words read.1.now)) result (first_of index_of (spaced_words text.now)) }
+    ensures { FoundAs (λ read. (read.0, spaced_words read.1.now)) result (first_of index_of_word (spaced_words text.now)) }
 {
     let (word, rest) = first_word(text)?;
     let index = read_index(word)?;
@@ -231,7 +231,7 @@ pub fn first_index(text: &[u8]) -> Option<(BoardIndex, &[u8])>
 
 /// The average that several words begin with, and the words after it.
 pub fn first_average(text: &[u8]) -> Option<(Average, &[u8])>
-    ensures { Gives (λ read. (read.0, spaced_words read.1.now)) result (first_of average_of_word (spaced_words text.now)) }
+    ensures { FoundAs (λ read. (read.0, spaced_words read.1.now)) result (first_of average_of_word (spaced_words text.now)) }
 {
     let (word, rest) = first_word(text)?;
     let average = read_average(word)?;

@@ -1,5 +1,4 @@
 //! The reply to a question for the results.
-ghost use Rattle.std.specs.Prelude.{◌≡◌};
 ghost use Rattle.line_text.specs.Streams.{stream, Written};
 ghost use Rattle.table_server.specs.PbnReply.{text_and_stop, pbn_reply};
 
@@ -12,10 +11,8 @@ use std::io::{Error, Write};
 fn write_text_and_stop<W: Write>(session: &Session, writer: &mut W) -> Result<(), Error>
     ensures { Written (stream W.contents writer.old writer.new) (text_and_stop session.now) result }
 {
-    match write_pbn(session, writer) {
-        Ok(()) => write_text(writer, b".\n"),
-        Err(error) => Err(error),
-    }
+    write_pbn(session, writer)?;
+    write_text(writer, b".\n")
 }
 
 /// Writes the reply to a question for the results: `OK`, the text in Portable Bridge Notation, and a full stop on a line of
@@ -26,8 +23,6 @@ fn write_text_and_stop<W: Write>(session: &Session, writer: &mut W) -> Result<()
 pub fn write_pbn_reply<W: Write>(session: &Session, writer: &mut W) -> Result<(), Error>
     ensures { Written (stream W.contents writer.old writer.new) (pbn_reply session.now) result }
 {
-    match write_text(writer, b"OK\n") {
-        Ok(()) => write_text_and_stop(session, writer),
-        Err(error) => Err(error),
-    }
+    write_text(writer, b"OK\n")?;
+    write_text_and_stop(session, writer)
 }

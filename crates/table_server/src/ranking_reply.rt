@@ -1,12 +1,12 @@
 //! The reply to a question for the ranking of a field.
-ghost use Rattle.std.specs.Prelude.{◌≡◌, ◌+◌, ◌*◌, ◌/◌, ◌%◌, ◌<◌, ◌≤◌, ◌≤ℤ◌, ◌∷◌, ◌++◌, [], codes, length, map, pos, All};
+ghost use Rattle.std.specs.Prelude.{◌≡◌, ◌+◌, ◌*◌, ◌/◌, ◌%◌, ◌<◌, ◌≤◌, ◌∷◌, ◌++◌, [], length, map};
 ghost use Rattle.std.specs.Fmt.{decimal};
 ghost use Rattle.arrayvec.specs.ArrayString.{array_string_len};
-ghost use Rattle.bridge_pbn.specs.Lines.{lines_text};
+ghost use Rattle.line_text.specs.Lines.{lines_text};
 ghost use Rattle.bridge_score.specs.declared.ranking.Scoring.TheVariants.{MatchPoints};
-ghost use Rattle.table_server.specs.ReplyTexts.{two_digits, percent_text, tenths_text, each_spaced, gain_words, rank_line, ranking_text, share_percent};
+ghost use Rattle.table_server.specs.ReplyTexts.{two_digits, percent_text, tenths_text, each_spaced, gain_words, ranked_line, ranking_text, share_percent};
 
-use crate::reply_text::{ReplyText, TEXT_BYTES, push_word};
+use crate::reply_text::{REPLY_BYTES, ReplyText, push_word};
 use bridge_score::{Ranked, Scoring, percent_hundredths};
 use itoa::Buffer;
 
@@ -19,7 +19,7 @@ const MOST_AVAILABLE: u32 = 10_000_000;
 /// Adds a number below 100 in two digits.
 fn push_two_digits(text: &mut ReplyText, number: u32)
     requires small { number < 100 }
-    requires room { array_string_len text.old + 2 ≤ TEXT_BYTES }
+    requires room { array_string_len text.old + 2 ≤ REPLY_BYTES }
     ensures text { text.new.bytes ≡ text.old.bytes ++ two_digits number }
     ensures room { array_string_len text.new ≤ array_string_len text.old + 2 }
 {
@@ -29,7 +29,7 @@ fn push_two_digits(text: &mut ReplyText, number: u32)
 
 /// Adds a percentage with two decimals, or `-` where there is none.
 fn push_percent(text: &mut ReplyText, hundredths: Option<u32>)
-    requires { array_string_len text.old + 13 ≤ TEXT_BYTES }
+    requires { array_string_len text.old + 13 ≤ REPLY_BYTES }
     ensures text { text.new.bytes ≡ text.old.bytes ++ percent_text hundredths }
     ensures room { array_string_len text.new ≤ array_string_len text.old + 13 }
 {
@@ -57,7 +57,7 @@ fn share_percent(ranked: &Ranked) -> Option<u32>
 
 /// Adds a number of tenths, in units with one decimal.
 fn push_tenths(text: &mut ReplyText, tenths: u32)
-    requires { array_string_len text.old + 12 ≤ TEXT_BYTES }
+    requires { array_string_len text.old + 12 ≤ REPLY_BYTES }
     ensures text { text.new.bytes ≡ text.old.bytes ++ tenths_text tenths }
     ensures room { array_string_len text.new ≤ array_string_len text.old + 12 }
 {
@@ -68,7 +68,7 @@ fn push_tenths(text: &mut ReplyText, tenths: u32)
 
 /// Adds the share of a pair: its matchpoints, those available to it, and the percentage.
 fn push_share(text: &mut ReplyText, ranked: &Ranked)
-    requires { array_string_len text.old + 66 ≤ TEXT_BYTES }
+    requires { array_string_len text.old + 66 ≤ REPLY_BYTES }
     ensures text { text.new.bytes ≡ text.old.bytes ++ each_spaced (gain_words MatchPoints ranked.now) }
     ensures room { array_string_len text.new ≤ array_string_len text.old + 66 }
 {
@@ -82,7 +82,7 @@ fn push_share(text: &mut ReplyText, ranked: &Ranked)
 
 /// Adds what a pair gained.
 fn push_gain(text: &mut ReplyText, scoring: Scoring, ranked: &Ranked)
-    requires { array_string_len text.old + 66 ≤ TEXT_BYTES }
+    requires { array_string_len text.old + 66 ≤ REPLY_BYTES }
     ensures text { text.new.bytes ≡ text.old.bytes ++ each_spaced (gain_words scoring ranked.now) }
     ensures room { array_string_len text.new ≤ array_string_len text.old + 66 }
 {
@@ -94,8 +94,8 @@ fn push_gain(text: &mut ReplyText, scoring: Scoring, ranked: &Ranked)
 
 /// Adds the line of a pair: its place, its number, and what it gained.
 fn push_ranked(text: &mut ReplyText, scoring: Scoring, ranked: &Ranked)
-    requires { array_string_len text.old + RANK_BYTES ≤ TEXT_BYTES }
-    ensures line { text.new.bytes ≡ text.old.bytes ++ (rank_line scoring ranked.now ++ 10 ∷ []) }
+    requires { array_string_len text.old + RANK_BYTES ≤ REPLY_BYTES }
+    ensures line { text.new.bytes ≡ text.old.bytes ++ (ranked_line scoring ranked.now ++ 10 ∷ []) }
     ensures room { array_string_len text.new ≤ array_string_len text.old + RANK_BYTES }
 {
     text.push_str(Buffer::new().format(ranked.place));
@@ -108,8 +108,8 @@ fn push_ranked(text: &mut ReplyText, scoring: Scoring, ranked: &Ranked)
 /// as `1.2/2.0`, and the percentage with two decimals, or `-` where nothing was available; under IMPs the sum.
 pub fn push_pairs(text: &mut ReplyText, scoring: Scoring, ranking: &[Ranked])
     requires few { length ranking.now ≤ 24 }
-    requires room { array_string_len text.old + 24 * RANK_BYTES ≤ TEXT_BYTES }
-    ensures lines { text.new.bytes ≡ text.old.bytes ++ lines_text (map (rank_line scoring) ranking.now) }
+    requires room { array_string_len text.old + 24 * RANK_BYTES ≤ REPLY_BYTES }
+    ensures lines { text.new.bytes ≡ text.old.bytes ++ lines_text (map (ranked_line scoring) ranking.now) }
     ensures room { array_string_len text.new ≤ array_string_len text.old + 24 * RANK_BYTES }
 {
     for ranked in ranking {

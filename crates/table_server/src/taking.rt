@@ -1,6 +1,6 @@
 //! Taking changes.
 ghost use Rattle.std.specs.Prelude.{◌≡◌, ◌<◌, None, false, true, length};
-ghost use Rattle.table_server.specs.Serving.{Gives};
+ghost use Rattle.table_server.specs.Serving.{GivesReply};
 ghost use Rattle.table_server.specs.Faulted.{FailsWithDisk};
 
 use crate::short_reply::ShortReply;
@@ -16,7 +16,7 @@ pub fn take_change<D: SectorDisk + Drop>(
     action: &Action,
 ) -> Option<ShortReply>
     ensures taken { store.old.failed ≡ false → length store.old.pending < 64
-        → Gives D.disk store.old action.now store.new result }
+        → GivesReply D.disk store.old action.now store.new result }
     ensures full { store.old.failed ≡ false → length store.old.pending ≡ 64 → result ≡ None }
     ensures failed { store.old.failed ≡ true → result ≡ None }
     ensures faults { FailsWithDisk D.disk store.old store.new }

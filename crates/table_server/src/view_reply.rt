@@ -5,10 +5,10 @@ ghost use Rattle.arrayvec.specs.ArrayString.{array_string_len};
 ghost use Rattle.bridge_cards.specs.Card.{card_text};
 ghost use Rattle.bridge_cards.specs.DealText.{hand_text};
 ghost use Rattle.bridge_auction.specs.Spelling.{call_text};
-ghost use Rattle.table_server.specs.ReplyTexts.{line_of, each_spaced};
+ghost use Rattle.table_server.specs.ReplyTexts.{spaced_line, each_spaced};
 ghost use Rattle.table_server.specs.ViewText.{seat_word, phase_text, hand_or_dash, trick_words, claim_words, play_line, dealer_line, at_line, view_text};
 
-use crate::reply_text::{ReplyText, TEXT_BYTES, push_number, push_word};
+use crate::reply_text::{REPLY_BYTES, ReplyText, push_number, push_word};
 use bridge_auction::{Call, print_bid};
 use bridge_cards::{Card, CardSet, Seat, print_hand, seat_text, vulnerability_text};
 use bridge_session::{Trick, View};
@@ -22,7 +22,7 @@ fn phase_text(in_play: bool) -> &'static str
 
 /// Adds the round, the table, the board's place in its set and the board.
 fn push_play_line(text: &mut ReplyText, view: &View<'_>)
-    requires { array_string_len text.old + 49 ≤ TEXT_BYTES }
+    requires { array_string_len text.old + 49 ≤ REPLY_BYTES }
     ensures line { text.new.bytes ≡ text.old.bytes ++ (play_line view.now ++ 10 ∷ []) }
     ensures room { array_string_len text.new ≤ array_string_len text.old + 49 }
 {
@@ -37,8 +37,8 @@ fn push_play_line(text: &mut ReplyText, view: &View<'_>)
 /// Adds a line of a first word and a seat.
 fn push_seat_line(text: &mut ReplyText, first: &str, seat: Seat)
     requires first { length first.now ≤ 6 }
-    requires room { array_string_len text.old + 9 ≤ TEXT_BYTES }
-    ensures line { text.new.bytes ≡ text.old.bytes ++ (line_of first.now (seat_word seat ∷ []) ++ 10 ∷ []) }
+    requires room { array_string_len text.old + 9 ≤ REPLY_BYTES }
+    ensures line { text.new.bytes ≡ text.old.bytes ++ (spaced_line first.now (seat_word seat ∷ []) ++ 10 ∷ []) }
     ensures room { array_string_len text.new ≤ array_string_len text.old + 9 }
 {
     text.push_str(first);
@@ -48,7 +48,7 @@ fn push_seat_line(text: &mut ReplyText, first: &str, seat: Seat)
 
 /// Adds the dealer and the vulnerability.
 fn push_dealer_line(text: &mut ReplyText, view: &View<'_>)
-    requires { array_string_len text.old + 18 ≤ TEXT_BYTES }
+    requires { array_string_len text.old + 18 ≤ REPLY_BYTES }
     ensures line { text.new.bytes ≡ text.old.bytes ++ (dealer_line view.now ++ 10 ∷ []) }
     ensures room { array_string_len text.new ≤ array_string_len text.old + 18 }
 {
@@ -61,8 +61,8 @@ fn push_dealer_line(text: &mut ReplyText, view: &View<'_>)
 
 /// Adds whether there is a contract.
 fn push_phase_line(text: &mut ReplyText, in_play: bool)
-    requires { array_string_len text.old + 14 ≤ TEXT_BYTES }
-    ensures line { text.new.bytes ≡ text.old.bytes ++ (line_of (codes "PHASE") (phase_text in_play ∷ []) ++ 10 ∷ []) }
+    requires { array_string_len text.old + 14 ≤ REPLY_BYTES }
+    ensures line { text.new.bytes ≡ text.old.bytes ++ (spaced_line (codes "PHASE") (phase_text in_play ∷ []) ++ 10 ∷ []) }
     ensures room { array_string_len text.new ≤ array_string_len text.old + 14 }
 {
     text.push_str("PHASE");
@@ -72,7 +72,7 @@ fn push_phase_line(text: &mut ReplyText, in_play: bool)
 
 /// Adds how many calls, cards and claims were made.
 fn push_at_line(text: &mut ReplyText, view: &View<'_>)
-    requires { array_string_len text.old + 36 ≤ TEXT_BYTES }
+    requires { array_string_len text.old + 36 ≤ REPLY_BYTES }
     ensures line { text.new.bytes ≡ text.old.bytes ++ (at_line view.now ++ 10 ∷ []) }
     ensures room { array_string_len text.new ≤ array_string_len text.old + 36 }
 {
@@ -85,8 +85,8 @@ fn push_at_line(text: &mut ReplyText, view: &View<'_>)
 
 /// Adds the viewer's cards.
 fn push_hand_line(text: &mut ReplyText, hand: CardSet)
-    requires { array_string_len text.old + 61 ≤ TEXT_BYTES }
-    ensures line { text.new.bytes ≡ text.old.bytes ++ (line_of (codes "HAND") (hand_text hand ∷ []) ++ 10 ∷ []) }
+    requires { array_string_len text.old + 61 ≤ REPLY_BYTES }
+    ensures line { text.new.bytes ≡ text.old.bytes ++ (spaced_line (codes "HAND") (hand_text hand ∷ []) ++ 10 ∷ []) }
     ensures room { array_string_len text.new ≤ array_string_len text.old + 61 }
 {
     text.push_str("HAND ");
@@ -96,8 +96,8 @@ fn push_hand_line(text: &mut ReplyText, hand: CardSet)
 
 /// Adds dummy's cards, or `-` where they are not shown.
 fn push_dummy_line(text: &mut ReplyText, dummy: Option<CardSet>)
-    requires { array_string_len text.old + 62 ≤ TEXT_BYTES }
-    ensures line { text.new.bytes ≡ text.old.bytes ++ (line_of (codes "DUMMY") (hand_or_dash dummy ∷ []) ++ 10 ∷ []) }
+    requires { array_string_len text.old + 62 ≤ REPLY_BYTES }
+    ensures line { text.new.bytes ≡ text.old.bytes ++ (spaced_line (codes "DUMMY") (hand_or_dash dummy ∷ []) ++ 10 ∷ []) }
     ensures room { array_string_len text.new ≤ array_string_len text.old + 62 }
 {
     text.push_str("DUMMY ");
@@ -110,7 +110,7 @@ fn push_dummy_line(text: &mut ReplyText, dummy: Option<CardSet>)
 
 /// Adds a space and a call.
 fn push_call(text: &mut ReplyText, call: Call)
-    requires { array_string_len text.old + 5 ≤ TEXT_BYTES }
+    requires { array_string_len text.old + 5 ≤ REPLY_BYTES }
     ensures text { text.new.bytes ≡ text.old.bytes ++ 32 ∷ call_text call }
     ensures room { array_string_len text.new ≤ array_string_len text.old + 5 }
 {
@@ -128,7 +128,7 @@ fn push_call(text: &mut ReplyText, call: Call)
 /// Adds all calls.
 fn push_calls(text: &mut ReplyText, calls: &[Call])
     requires few { length calls.now ≤ 319 }
-    requires room { array_string_len text.old + 5 * 319 ≤ TEXT_BYTES }
+    requires room { array_string_len text.old + 5 * 319 ≤ REPLY_BYTES }
     ensures text { text.new.bytes ≡ text.old.bytes ++ each_spaced (map call_text calls.now) }
     ensures room { array_string_len text.new ≤ array_string_len text.old + 5 * 319 }
 {
@@ -140,8 +140,8 @@ fn push_calls(text: &mut ReplyText, calls: &[Call])
 /// Adds the line of all calls.
 fn push_calls_line(text: &mut ReplyText, calls: &[Call])
     requires few { length calls.now ≤ 319 }
-    requires room { array_string_len text.old + 1601 ≤ TEXT_BYTES }
-    ensures line { text.new.bytes ≡ text.old.bytes ++ (line_of (codes "CALLS") (map call_text calls.now) ++ 10 ∷ []) }
+    requires room { array_string_len text.old + 1601 ≤ REPLY_BYTES }
+    ensures line { text.new.bytes ≡ text.old.bytes ++ (spaced_line (codes "CALLS") (map call_text calls.now) ++ 10 ∷ []) }
     ensures room { array_string_len text.new ≤ array_string_len text.old + 1601 }
 {
     text.push_str("CALLS");
@@ -151,7 +151,7 @@ fn push_calls_line(text: &mut ReplyText, calls: &[Call])
 
 /// Adds a space and a card.
 fn push_card(text: &mut ReplyText, card: Card)
-    requires { array_string_len text.old + 3 ≤ TEXT_BYTES }
+    requires { array_string_len text.old + 3 ≤ REPLY_BYTES }
     ensures text { text.new.bytes ≡ text.old.bytes ++ 32 ∷ card_text card }
     ensures room { array_string_len text.new ≤ array_string_len text.old + 3 }
 {
@@ -163,7 +163,7 @@ fn push_card(text: &mut ReplyText, card: Card)
 /// Adds the cards of a trick.
 fn push_cards(text: &mut ReplyText, cards: &[Card])
     requires few { length cards.now ≤ 4 }
-    requires room { array_string_len text.old + 3 * 4 ≤ TEXT_BYTES }
+    requires room { array_string_len text.old + 3 * 4 ≤ REPLY_BYTES }
     ensures text { text.new.bytes ≡ text.old.bytes ++ each_spaced (map card_text cards.now) }
     ensures room { array_string_len text.new ≤ array_string_len text.old + 3 * 4 }
 {
@@ -174,7 +174,7 @@ fn push_cards(text: &mut ReplyText, cards: &[Card])
 
 /// Adds a trick, or `-` where there is none, after the line's first word.
 fn push_trick(text: &mut ReplyText, trick: &Option<Trick>)
-    requires { array_string_len text.old + 14 ≤ TEXT_BYTES }
+    requires { array_string_len text.old + 14 ≤ REPLY_BYTES }
     ensures text { text.new.bytes ≡ text.old.bytes ++ each_spaced (trick_words trick.now) }
     ensures room { array_string_len text.new ≤ array_string_len text.old + 14 }
 {
@@ -190,8 +190,8 @@ fn push_trick(text: &mut ReplyText, trick: &Option<Trick>)
 /// Adds the line of a trick.
 fn push_trick_line(text: &mut ReplyText, first: &str, trick: &Option<Trick>)
     requires first { length first.now ≤ 5 }
-    requires room { array_string_len text.old + 20 ≤ TEXT_BYTES }
-    ensures line { text.new.bytes ≡ text.old.bytes ++ (line_of first.now (trick_words trick.now) ++ 10 ∷ []) }
+    requires room { array_string_len text.old + 20 ≤ REPLY_BYTES }
+    ensures line { text.new.bytes ≡ text.old.bytes ++ (spaced_line first.now (trick_words trick.now) ++ 10 ∷ []) }
     ensures room { array_string_len text.new ≤ array_string_len text.old + 20 }
 {
     text.push_str(first);
@@ -201,8 +201,8 @@ fn push_trick_line(text: &mut ReplyText, first: &str, trick: &Option<Trick>)
 
 /// Adds the whole tricks of both sides.
 fn push_tricks_line(text: &mut ReplyText, ns: u8, ew: u8)
-    requires { array_string_len text.old + 29 ≤ TEXT_BYTES }
-    ensures line { text.new.bytes ≡ text.old.bytes ++ (line_of (codes "TRICKS") (decimal ns ∷ decimal ew ∷ []) ++ 10 ∷ []) }
+    requires { array_string_len text.old + 29 ≤ REPLY_BYTES }
+    ensures line { text.new.bytes ≡ text.old.bytes ++ (spaced_line (codes "TRICKS") (decimal ns ∷ decimal ew ∷ []) ++ 10 ∷ []) }
     ensures room { array_string_len text.new ≤ array_string_len text.old + 29 }
 {
     text.push_str("TRICKS");
@@ -213,7 +213,7 @@ fn push_tricks_line(text: &mut ReplyText, ns: u8, ew: u8)
 
 /// Adds the claim, or `-`, after the line's first word.
 fn push_claim(text: &mut ReplyText, claim: Option<(Seat, u8)>)
-    requires { array_string_len text.old + 13 ≤ TEXT_BYTES }
+    requires { array_string_len text.old + 13 ≤ REPLY_BYTES }
     ensures text { text.new.bytes ≡ text.old.bytes ++ each_spaced (claim_words claim) }
     ensures room { array_string_len text.new ≤ array_string_len text.old + 13 }
 {
@@ -228,8 +228,8 @@ fn push_claim(text: &mut ReplyText, claim: Option<(Seat, u8)>)
 
 /// Adds the line of the claim.
 fn push_claim_line(text: &mut ReplyText, claim: Option<(Seat, u8)>)
-    requires { array_string_len text.old + 19 ≤ TEXT_BYTES }
-    ensures line { text.new.bytes ≡ text.old.bytes ++ (line_of (codes "CLAIM") (claim_words claim) ++ 10 ∷ []) }
+    requires { array_string_len text.old + 19 ≤ REPLY_BYTES }
+    ensures line { text.new.bytes ≡ text.old.bytes ++ (spaced_line (codes "CLAIM") (claim_words claim) ++ 10 ∷ []) }
     ensures room { array_string_len text.new ≤ array_string_len text.old + 19 }
 {
     text.push_str("CLAIM");

@@ -1,9 +1,8 @@
 //! What players and the director do in a session.
-ghost use Rattle.std.specs.Prelude.{◌≡◌, ◌+◌, ◌<◌, ◌≤◌, OnOk, OnErr, IfSome, if◌then◌else◌, Some, None, map, take, drop, length, slice_set, ◌-◌};
+ghost use Rattle.std.specs.Prelude.{◌≡◌, ◌+◌, ◌<◌, OnOk, OnErr, if◌then◌else◌, Some, take, drop, slice_set, ◌-◌};
 ghost use Rattle.std.specs.List.{list_any};
-ghost use Rattle.bridge_movement.specs.Shape.{row_count};
 ghost use Rattle.session_rules.specs.Record.{is_open};
-ghost use Rattle.session_rules.specs.State.{director_answer, index_of_row, is_row_within, record_of};
+ghost use Rattle.session_rules.specs.State.{director_answer, record_of};
 ghost use Rattle.session_rules.specs.PlayerStep.{seen_by, player_answer, acted};
 ghost use Rattle.session_rules.specs.DirectorStep.{if_allowed, deal_answer, next_answer, records_of_round, rule_answer, ruled};
 ghost use Rattle.session_rules.specs.Step.{act_answer, step_answer, changed_by, changed};

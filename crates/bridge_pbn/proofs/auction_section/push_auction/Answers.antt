@@ -2,7 +2,7 @@ use Rattle.std.proofs.Common.{◌+◌, ◌/◌, [], ◌∷◌, length, map}
 use Rattle.std.specs.Prelude.{codes}
 use Rattle.std.specs.List.{range_with_len}
 use Rattle.bridge_cards.specs.Seat.{seat_letter}
-use Rattle.bridge_pbn.specs.Lines.{tag}
+use Rattle.bridge_pbn.specs.Tags.{tag}
 use Rattle.bridge_pbn.specs.Sections.{calls_line}
 use Rattle.bridge_pbn.proofs.Pushed.{line_then}
 use Rattle.bridge_pbn.proofs.auction_section.push_auction.Goals as goal

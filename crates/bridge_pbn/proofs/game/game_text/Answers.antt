@@ -1,7 +1,7 @@
 use Rattle.std.proofs.Common.{Some, [], ◌∷◌, List, ℕ, refl, sym, ap, ◌∙◌}
 use Rattle.std.specs.Option.{option_map, option_copied}
 use Rattle.session_rules.specs.State.{record_of}
-use Rattle.bridge_pbn.specs.Lines.{lines_text}
+use Rattle.line_text.specs.Lines.{lines_text}
 use Rattle.bridge_pbn.specs.Written.{games_after}
 use Rattle.bridge_pbn.proofs.Found.{game_found}
 use Rattle.bridge_pbn.proofs.game.game_text.Goals as goal

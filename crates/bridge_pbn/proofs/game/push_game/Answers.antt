@@ -3,7 +3,7 @@ use Rattle.std.specs.Option.{option_copied}
 use Rattle.bridge_cards.specs.Board.{dealer_of}
 use Rattle.bridge_auction.specs.declared.call.Call.{Call}
 use Rattle.bridge_config.specs.ConfigValue.{ConfigValue}
-use Rattle.bridge_pbn.specs.Lines.{lines_text}
+use Rattle.line_text.specs.Lines.{lines_text}
 use Rattle.bridge_pbn.specs.Tags.{event_tags, player_tags, board_tags, outcome_tags, table_tags}
 use Rattle.bridge_pbn.specs.Sections.{auction_lines, play_lines}
 use Rattle.bridge_pbn.proofs.Pushed.{lines_then}

@@ -3,7 +3,7 @@ use Rattle.std.specs.Prelude.{codes}
 use Rattle.std.specs.List.{range_with_len}
 use Rattle.bridge_cards.specs.Seat.{seat_letter}
 use Rattle.bridge_play.specs.Trick.{leader_of}
-use Rattle.bridge_pbn.specs.Lines.{tag}
+use Rattle.bridge_pbn.specs.Tags.{tag}
 use Rattle.bridge_pbn.specs.Sections.{trick_line, star_lines}
 use Rattle.bridge_pbn.proofs.Pushed.{line_then, lines_then}
 use Rattle.bridge_pbn.proofs.play_section.push_play.Goals as goal

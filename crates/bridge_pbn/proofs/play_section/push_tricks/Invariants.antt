@@ -1,6 +1,6 @@
 use Rattle.std.proofs.Common.{◌≡◌, ◌+◌, ◌*◌, ◌≤◌, ◌++◌, length, map}
 use Rattle.std.specs.List.{range_with_len}
-use Rattle.bridge_pbn.specs.Lines.{lines_text}
+use Rattle.line_text.specs.Lines.{lines_text}
 use Rattle.bridge_pbn.specs.Sections.{trick_line}
 use Rattle.bridge_pbn.proofs.play_section.push_tricks.Given as goal
 

@@ -3,9 +3,8 @@ use Rattle.std.specs.Prelude.{codes}
 use Rattle.bridge_cards.specs.Seat.{seat_letter}
 use Rattle.bridge_cards.specs.Board.{dealer_of, vulnerability_on}
 use Rattle.bridge_cards.specs.DealText.{deal_text}
-use Rattle.bridge_pbn.specs.Lines.{tag}
 use Rattle.bridge_cards.specs.Vulnerability.{vulnerability_text}
-use Rattle.bridge_pbn.specs.Tags.{scoring_text}
+use Rattle.bridge_pbn.specs.Tags.{tag, scoring_text}
 use Rattle.bridge_pbn.proofs.Pushed.{line_then, line_last}
 use Rattle.bridge_pbn.proofs.tags.push_board_tags.Goals as goal
 

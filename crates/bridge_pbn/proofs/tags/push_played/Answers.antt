@@ -3,7 +3,7 @@ use Rattle.std.specs.Prelude.{codes}
 use Rattle.std.specs.Fmt.{decimal}
 use Rattle.bridge_cards.specs.Seat.{seat_letter}
 use Rattle.bridge_auction.specs.Spelling.{bid_text, doubling_text}
-use Rattle.bridge_pbn.specs.Lines.{tag}
+use Rattle.bridge_pbn.specs.Tags.{tag}
 use Rattle.bridge_pbn.proofs.Pushed.{line_then, line_last}
 use Rattle.bridge_pbn.proofs.tags.push_played.Goals as goal
 

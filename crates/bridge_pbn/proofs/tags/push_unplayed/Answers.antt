@@ -1,6 +1,6 @@
 use Rattle.std.proofs.Common.{[], ◌∷◌}
 use Rattle.std.specs.Prelude.{codes}
-use Rattle.bridge_pbn.specs.Lines.{tag}
+use Rattle.bridge_pbn.specs.Tags.{tag}
 use Rattle.bridge_pbn.proofs.Pushed.{line_then, line_last}
 use Rattle.bridge_pbn.proofs.tags.push_unplayed.Goals as goal
 

@@ -6,7 +6,7 @@ use Rattle.std.proofs.lemmas.Result.{err_from_is_err_and}
 use Rattle.line_text.specs.Streams.{between, Takes, TakesPrefix}
 use Rattle.bridge_movement.specs.declared.row.Row.{Row}
 use Rattle.bridge_config.specs.ConfigValue.{ConfigValue}
-use Rattle.bridge_pbn.specs.Lines.{lines_text}
+use Rattle.line_text.specs.Lines.{lines_text}
 use Rattle.bridge_pbn.specs.Games.{game_at}
 use Rattle.bridge_pbn.specs.Written.{games_after, has_begun}
 use Rattle.bridge_pbn.proofs.Joined.{written_more, written_prefix}

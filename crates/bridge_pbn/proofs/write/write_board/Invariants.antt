@@ -1,7 +1,7 @@
 use Rattle.std.proofs.Common.{◌≡◌, take}
 use Rattle.std.specs.List.{filter_map}
 use Rattle.line_text.specs.Streams.{between, Takes}
-use Rattle.bridge_pbn.specs.Lines.{lines_text}
+use Rattle.line_text.specs.Lines.{lines_text}
 use Rattle.bridge_pbn.specs.Games.{game_at}
 use Rattle.bridge_pbn.specs.Written.{games_after, has_begun}
 use Rattle.bridge_pbn.proofs.write.write_board.Given as goal

@@ -2,7 +2,7 @@ use Rattle.std.proofs.Common.{[], ◌∷◌, ◌++◌}
 use Rattle.std.specs.Prelude.{codes}
 use Rattle.std.proofs.lemmas.Result.{err_from_is_err_and}
 use Rattle.line_text.proofs.Streams.{takes_prefix, prefix_longer}
-use Rattle.bridge_pbn.specs.Lines.{lines_text, parted}
+use Rattle.line_text.specs.Lines.{lines_text, parted}
 use Rattle.bridge_pbn.specs.Games.{all_games}
 use Rattle.bridge_pbn.proofs.write.write_pbn.Goals as goal
 

@@ -1,6 +1,5 @@
-use Rattle.std.proofs.Common.{◌≡◌, ◌*◌, None, map, ap, ◌∙◌}
+use Rattle.std.proofs.Common.{◌*◌, None, map, ap, ◌∙◌}
 use Rattle.std.specs.Prelude.{replicate}
-use Rattle.bridge_movement.specs.declared.row.Row.{Row}
 use Rattle.bridge_movement.specs.declared.shape.Shape.{Shape}
 use Rattle.bridge_config.specs.ConfigValue.{ConfigValue}
 use Rattle.bridge_session.specs.KeptSession.{new_table}

@@ -1,12 +1,12 @@
 use Rattle.std.proofs.Common.{◌∷◌, ◌++◌, [], map, sym, ap, ◌∙◌, arith}
 use Rattle.std.specs.List.{range_with_len}
 use Rattle.std.proofs.lemmas.List.FromFn.{map-range_with_len_more}
-use Rattle.session_bytes.specs.PartsRead.{row_in}
+use Rattle.session_bytes.specs.PartsRead.{row_of_part}
 use Rattle.session_bytes.proofs.head.read_rows.Goals as goal
 
 pub loop-index-preserved : goal.loop-index-preserved
 loop-index-preserved c =
-    let f = row_in c.args.shape.tables c.args.part.now in
+    let f = row_of_part c.args.shape.tables c.args.part.now in
     let index = c.loop-index.index in
     record {
       rows = c.push.ensures.items

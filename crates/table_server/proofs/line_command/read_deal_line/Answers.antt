@@ -1,11 +1,11 @@
 use Rattle.std.proofs.Common.{subst, sym}
 use Rattle.line_text.specs.Words.{spaced_words}
-use Rattle.table_server.specs.LineCommand.{Deals, deal_words}
+use Rattle.table_server.specs.LineCommand.{ReadsDeal, deal_words}
 use Rattle.table_server.proofs.CommandLaws.{dealing_is, deals_by, no_board, no_key}
 use Rattle.table_server.proofs.line_command.read_deal_line.Goals as goal
 
 pub returns-in_err-key : goal.returns-in_err-key
-returns-in_err-key c = subst (λ o. Deals (deal_words (spaced_words c.args.text.now)) o) (sym c.from_residual.ensures) (no_key (spaced_words c.args.text.now) c.in_err-key.ensures)
+returns-in_err-key c = subst (λ o. ReadsDeal (deal_words (spaced_words c.args.text.now)) o) (sym c.from_residual.ensures) (no_key (spaced_words c.args.text.now) c.in_err-key.ensures)
 
 pub returns-in-Some : goal.returns-in-Some
 returns-in-Some c =

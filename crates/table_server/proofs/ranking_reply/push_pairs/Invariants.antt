@@ -1,10 +1,10 @@
 use Rattle.std.proofs.Common.{◌≡◌, ◌+◌, ◌*◌, ◌≤◌, ◌++◌, length, map, take}
-use Rattle.bridge_pbn.specs.Lines.{lines_text}
-use Rattle.table_server.specs.ReplyTexts.{rank_line}
+use Rattle.line_text.specs.Lines.{lines_text}
+use Rattle.table_server.specs.ReplyTexts.{ranked_line}
 use Rattle.table_server.proofs.ranking_reply.push_pairs.Given as goal
 
 abbrev pub invariant-loop-ranked : goal.invariant-loop-ranked
 invariant-loop-ranked l = record {
-  text : l.text.bytes ≡ l.fn.text.bytes ++ lines_text (map (rank_line l.scoring) (take l.ranked-index l.ranking));
+  text : l.text.bytes ≡ l.fn.text.bytes ++ lines_text (map (ranked_line l.scoring) (take l.ranked-index l.ranking));
   room : length l.text.bytes ≤ length l.fn.text.bytes + 80 * l.ranked-index;
 }

@@ -8,7 +8,7 @@ use Rattle.session_rules.specs.PlayerStep.{seen_by, player_answer, answer_among,
 use Rattle.session_rules.specs.Valid.{IsDeed}
 use Rattle.session_rules.specs.StateRange.{IsSession}
 use Rattle.bridge_table.specs.Kept.{plain_of, IsTiedIn}
-use Rattle.bridge_session.specs.KeptSession.{state_of, IsKept}
+use Rattle.bridge_session.specs.KeptSession.{state_of, IsKeptSession}
 use Rattle.session_rules.proofs.Lists.{at_result, map_ok, map_err, set_there}
 use Rattle.bridge_session.proofs.Acted.{kept_session, seated_answer, acted_state, kept_with}
 use Rattle.bridge_table.proofs.Tables.{boards_same, row_at_is, tied_row, lists_in, list_there, list_changed}
@@ -89,7 +89,7 @@ pub invariant_of-self : goal.invariant_of-self
 invariant_of-self c =
     let s = c.self.inside in
     let tied = subst (λ deals. All (IsTiedIn deals) c.act_among.new.table) c.as_slice-deals.ensures.value c.act_among.ensures.tied in
-    subst (IsKept s.config s.round s.deals.items) (sym (is_changed c).left)
+    subst (IsKeptSession s.config s.round s.deals.items) (sym (is_changed c).left)
     (kept_with s.config s.round s.deals.items (lists_in s.tables.items) c.in_ok-seating.seating.row c.as_mut_slice.result.now c.act_among.new.table c.self.invariant (is_changed c).row
     (boards_same c.in_ok-seating.seating.seat c.args.deed c.act_among.result c.as_mut_slice.result.now c.act_among.new.table c.act_among.ensures.taken c.act_among.ensures.refused) tied (session_after c))
 

@@ -3,7 +3,7 @@ use Rattle.std.specs.Prelude.{slice_set}
 use Rattle.session_rules.specs.State.{SessionValue, deal_on, director_answer}
 use Rattle.session_rules.specs.DirectorStep.{if_allowed, deal_answer}
 use Rattle.session_rules.specs.StateRange.{AreHands, AreHandsOrNone, IsSession}
-use Rattle.bridge_session.specs.KeptSession.{state_of, IsKept}
+use Rattle.bridge_session.specs.KeptSession.{state_of, IsKeptSession}
 use Rattle.bridge_session.proofs.Acted.{kept_session}
 use Rattle.bridge_table.proofs.Tables.{lists_in}
 use Rattle.std.proofs.lemmas.List.Elements.{All-set}
@@ -51,7 +51,7 @@ invariant_of-self c =
       };
     } in
     let session = subst (λ hands. IsSession (state_of s.config s.round (slice_set s.deals.items (c.args.board - 1) (Some hands)) lists)) (sym c.in-Ok.ensures.judged.0) is in
-    subst (λ index. IsKept s.config s.round (slice_set s.deals.items index (Some c.in-Ok.deal)) lists) (sym (index_is c))
+    subst (λ index. IsKeptSession s.config s.round (slice_set s.deals.items index (Some c.in-Ok.deal)) lists) (sym (index_is c))
     (kept_dealt s.config s.round s.deals.items lists c.args.board c.in-Ok.deal (none_there c) session c.self.invariant)
 
 pub returns-clause-answer : goal.returns-clause-answer

@@ -4,7 +4,7 @@ use Rattle.session_rules.specs.Record.{is_open}
 use Rattle.session_rules.specs.State.{SessionValue, is_closed}
 use Rattle.session_rules.specs.DirectorStep.{records_of_round}
 use Rattle.session_rules.specs.StateRange.{IsSession}
-use Rattle.bridge_session.specs.KeptSession.{state_of, IsKept}
+use Rattle.bridge_session.specs.KeptSession.{state_of, IsKeptSession}
 use Rattle.bridge_session.proofs.Acted.{kept_session}
 use Rattle.bridge_table.proofs.Tables.{lists_in}
 use Rattle.bridge_session.proofs.Rounds.{next_accepted, kept_next}
@@ -25,4 +25,4 @@ invariant_of-self c =
       valid = next_valid before s.round was.valid (next_accepted before begun none);
       ranges = record { deals = was.ranges.deals; records = was.ranges.records };
     } in
-    subst (λ n. IsKept s.config (n + 1) s.deals.items lists) (sym round) (kept_next s.config s.round s.deals.items lists c.self.invariant is)
+    subst (λ n. IsKeptSession s.config (n + 1) s.deals.items lists) (sym round) (kept_next s.config s.round s.deals.items lists c.self.invariant is)

@@ -2,7 +2,6 @@ use Rattle.std.proofs.Common.{◌≡◌, ◌+◌, ◌++◌, ◌∙◌, refl, len
 use Rattle.std.specs.List.{drop-map}
 use Rattle.std.proofs.lemmas.List.{length-map, take-append-drop}
 use Rattle.bridge_config.specs.ConfigValue.{ConfigValue, pair_of}
-use Rattle.session_rules.specs.State.{SessionValue}
 use Rattle.session_bytes.specs.Head.{head_parts, board_part_count}
 use Rattle.session_bytes.specs.Parts.{pair_part, board_parts}
 use Rattle.session_bytes.specs.Reading.{items_of}

@@ -10,7 +10,7 @@ use Rattle.session_rules.specs.State.{SessionValue, director_answer, index_of_ro
 use Rattle.session_rules.specs.DirectorStep.{if_allowed, rule_answer, ruled, with_ruling}
 use Rattle.session_rules.specs.StateRange.{IsCorrectionInRange, IsSession}
 use Rattle.bridge_table.specs.Kept.{plain_of, board_kept, with_kept_ruling, kept_rule_answer, IsTiedIn}
-use Rattle.bridge_session.specs.KeptSession.{state_of, IsKept}
+use Rattle.bridge_session.specs.KeptSession.{state_of, IsKeptSession}
 use Rattle.session_rules.proofs.Lists.{at_result, map_ok, map_err, set_there}
 use Rattle.bridge_session.proofs.Acted.{kept_session, kept_with}
 use Rattle.session_rules.proofs.Lists.{map-changed_at}
@@ -124,7 +124,7 @@ invariant_of-self c =
     at_result _ _ (map board_kept c.rule_among.new.table ≡ map board_kept c.as_mut_slice.result.now) c.rule_among.result c.rule_among.ensures.taken c.rule_among.ensures.refused
     (λ ok taken. ap (map board_kept) taken ∙ map-changed_at board_kept (with_kept_ruling c.args.correction) c.as_mut_slice.result.now c.from-at.result (λ kept. refl))
     (λ same. ap (map board_kept) same) in
-    subst (IsKept s.config s.round deals) (sym (is_changed c).left)
+    subst (IsKeptSession s.config s.round deals) (sym (is_changed c).left)
     (kept_with s.config s.round deals (lists_in s.tables.items) c.in-Some.index c.as_mut_slice.result.now c.rule_among.new.table c.self.invariant (is_changed c).row boards tied (session_after c))
 
 pub returns-clause-answer : goal.returns-clause-answer

@@ -1,20 +1,20 @@
-use Rattle.std.proofs.Common.{Vec, Global, ◌≡◌, ◌*◌, ◌∙◌, ◌++◌, ℕ, List, Option, length, map, take, drop, sym, ap, subst, All, arith}
+use Rattle.std.proofs.Common.{Vec, Global, ◌≡◌, ◌*◌, ◌∙◌, ◌++◌, List, length, map, take, drop, sym, ap, subst, All, arith}
 use Rattle.std.specs.Prelude.{flat_map}
 use Rattle.std.specs.List.{take-map, drop-map}
 use Rattle.std.specs.Vec.{with_items}
-use Rattle.std.proofs.lemmas.List.{length-map, take-append-drop, with_items_is}
+use Rattle.std.proofs.lemmas.List.{take-append-drop, with_items_is}
 use Rattle.std.proofs.lemmas.Simd.{map-map}
 use Rattle.bridge_movement.specs.declared.row.Row.{Row}
 use Rattle.bridge_config.specs.ConfigValue.{ConfigValue, configuration_of}
 use Rattle.bridge_score.specs.declared.ranking.Scoring.{Scoring}
 use Rattle.bridge_table.specs.declared.record.Record.{Record}
-use Rattle.session_rules.specs.State.{SessionValue, Deals, row_boards}
+use Rattle.session_rules.specs.State.{Deals, row_boards}
 use Rattle.session_rules.specs.StateRange.{AreHandsOrNone, IsSession}
 use Rattle.bridge_table.specs.Kept.{board_kept, IsTiedIn}
 use Rattle.bridge_table.proofs.Tables.{lists_in}
-use Rattle.session_bytes.specs.Parts.{HasRulings, deal_part, row_parts, board_parts}
+use Rattle.session_bytes.specs.Parts.{HasRulings, row_parts, board_parts}
 use Rattle.session_bytes.specs.Reading.{items_of, plains_of, AreRows}
-use Rattle.bridge_session.specs.KeptSession.{state_of, IsKept}
+use Rattle.bridge_session.specs.KeptSession.{state_of, IsKeptSession}
 use Rattle.bridge_session.proofs.NewSession.{rows_boards}
 use Rattle.bridge_session.proofs.Restored.{AreMade, made_state, made_kept, made_is, made_session, made_rulings, session_deals, same_deals, board_half, play_half, rows_of}
 use Rattle.bridge_session.proofs.session.restored.read_boards.Goals as goal
@@ -126,8 +126,8 @@ pub invariant_of-result : goal.invariant_of-result
 invariant_of-result c =
     let config = c.args.head.config in
     let round = c.args.head.round in
-    subst (λ ds. IsKept config round ds (lists_in (with_items c.args.room.tables c.read_tables.new.tables).items)) (sym (deals_kept c))
-    (subst (λ (ts : List (Vec Record Global)). IsKept config round c.read_deals.new.deals (lists_in ts)) (sym (tables_kept c))
+    subst (λ ds. IsKeptSession config round ds (lists_in (with_items c.args.room.tables c.read_tables.new.tables).items)) (sym (deals_kept c))
+    (subst (λ (ts : List (Vec Record Global)). IsKeptSession config round c.read_deals.new.deals (lists_in ts)) (sym (tables_kept c))
     (made_kept c.args.format config round c.read_deals.new.deals c.read_tables.new.tables (made c)))
 
 pub returns-clause-parts : goal.returns-clause-parts

@@ -5,7 +5,7 @@ use Rattle.session_rules.specs.StateRange.{AreHandsOrNone}
 use Rattle.session_rules.specs.Valid.{IsDealOrNone}
 use Rattle.session_bytes.proofs.DealLaws.{IsDealOf, deal_written, deal_other}
 use Rattle.session_bytes.proofs.ReadRecords.{if_some_then}
-use Rattle.session_bytes.proofs.deal_read.read_deal.Goals as goal
+use Rattle.session_bytes.proofs.deal_read.read_deal_part.Goals as goal
 
 pub returns-clause-written : goal.returns-clause-written
 returns-clause-written c =
