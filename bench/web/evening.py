@@ -7,6 +7,7 @@ has a card that he may not see. In the end `rank` and `pbn` are, byte for byte, 
 console has a word. Then what other sites may try."""
 import http.client
 import http.server
+import json
 import os
 import subprocess
 import sys
@@ -115,7 +116,7 @@ def director_sends(window, line):
 def play(window, line):
     """One line by clicks; it was taken once the page shows so."""
     words = line.split(" ")
-    before = window.value("document.getElementById('main').innerText")
+    before = window.value("document.body.innerText")
     if words[0] == "CALL":
         window.click(f"#call-{words[4]}")
     elif words[0] == "CARD":
@@ -126,8 +127,7 @@ def play(window, line):
         window.click("#claim-button")
     else:
         window.click("#agree" if words[0] == "AGREE" else "#refuse")
-    import json
-    window.wait(f"!document.querySelector('#main').innerText.includes('nothing') && document.getElementById('main').innerText !== {json.dumps(before)}")
+    window.wait(f"document.body.innerText !== {json.dumps(before)}")
     notice = window.value("document.getElementById('notice').textContent")
     assert notice == "", f"{line}: {notice}"
 
@@ -168,7 +168,7 @@ def other_sites(browser, disk):
     for name, text in tries.items():
         got = window.value(f"(() => {{ const A = 'http://127.0.0.1:{PORT}', B = 'VOID 100 1 1 1\\n'; return {text}.then(() => 'answered', () => 'refused'); }})()")
         assert got == "refused", f"{name} of another site is {got}"
-    window.value(f"fetch('http://127.0.0.1:{PORT}/lines', {{ method: 'POST', mode: 'no-cors', body: 'VOID 100 1 1 1\\n' }}).then(() => 1)")
+    window.value(f"fetch('http://127.0.0.1:{PORT}/lines', {{ method: 'POST', mode: 'no-cors', body: 'VOID 100 1 1 1\\n' }}).then(() => 1, () => 0)")
     window.value(f"navigator.sendBeacon('http://127.0.0.1:{PORT}/lines', 'VOID 100 1 1 1\\n')")
     window.value("document.getElementById('form').submit()")
     time.sleep(1)

@@ -7,7 +7,7 @@ use Rattle.bridge_play.specs.Play.{PlayValue}
 use Rattle.session_rules.specs.declared.refused.Refused.{Refused}
 use Rattle.session_rules.specs.declared.refused.Refused.TheVariants.{NotCurrent, NotDealt}
 use Rattle.session_rules.specs.declared.stage.Stage.{Stage}
-use Rattle.session_rules.specs.Answer.{◌>>=◌}
+use Rattle.bridge_config.specs.Then.{◌>>=◌}
 use Rattle.session_rules.specs.Record.{PlainRecord, contract_in, play_of, playing_in}
 use Rattle.session_rules.specs.See.{shown_of, shown_with}
 use Rattle.session_rules.specs.Stage.{stage_of}

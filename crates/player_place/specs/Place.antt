@@ -15,8 +15,8 @@ use Rattle.session_rules.specs.declared.stage.Stage.{Stage}
 use Rattle.session_rules.specs.Stage.{stage_to}
 use Rattle.session_rules.specs.State.{SessionValue, acting_player, seating_of}
 use Rattle.table_server.specs.declared.short_reply.ShortReply.TheVariants.{Refused, BadLine}
-use Rattle.table_server.specs.LineWords.{key_of}
-use Rattle.table_server.specs.ReplyTexts.{short_text, line_of, listed}
+use Rattle.table_server.specs.LineWords.{key_of_word}
+use Rattle.table_server.specs.ReplyTexts.{short_text, spaced_line, listed_text}
 
 -- what stands where there is nothing to tell
 abbrev pub nothing : List (List ℕ)
@@ -43,12 +43,12 @@ names_words configuration (Ok seating) = names_of_row configuration.pairs (slice
 
 -- the round, one more than the last once the session is closed, and how many rounds there are
 abbrev pub round_line : ConfigValue → ℕ → List ℕ
-round_line configuration round = line_of (codes "ROUND") (decimal round ∷ decimal configuration.movement.shape.rounds ∷ [])
+round_line configuration round = spaced_line (codes "ROUND") (decimal round ∷ decimal configuration.movement.shape.rounds ∷ [])
 
 -- the pair's number and the player's name
 abbrev pub player_line : ConfigValue → Player → List ℕ
 player_line configuration player =
-    line_of (codes "PLAYER") (decimal player.pair ∷ name_in configuration.pairs player.pair player.first ∷ [])
+    spaced_line (codes "PLAYER") (decimal player.pair ∷ name_in configuration.pairs player.pair player.first ∷ [])
 
 -- the table, the seat, and the first and the last board of the table's set
 abbrev pub table_words : ℕ → Result Seating SessionRefused → List (List ℕ)
@@ -87,17 +87,17 @@ abbrev pub place_lines : ConfigValue → ℕ → Result Stage SessionRefused →
 place_lines configuration round stage key player =
     round_line configuration round
     ∷ player_line configuration player
-    ∷ line_of (codes "TABLE") (table_words configuration.boards (seating_of configuration round key))
-    ∷ line_of (codes "NAMES") (names_words configuration (seating_of configuration round key))
-    ∷ line_of (codes "CONTRACT") (contract_words (contract_seen stage))
-    ∷ line_of (codes "ANSWER") (answer_words (answer_seen stage))
-    ∷ line_of (codes "NEXT") (table_words configuration.boards (next_seating configuration round key))
+    ∷ spaced_line (codes "TABLE") (table_words configuration.boards (seating_of configuration round key))
+    ∷ spaced_line (codes "NAMES") (names_words configuration (seating_of configuration round key))
+    ∷ spaced_line (codes "CONTRACT") (contract_words (contract_seen stage))
+    ∷ spaced_line (codes "ANSWER") (answer_words (answer_seen stage))
+    ∷ spaced_line (codes "NEXT") (table_words configuration.boards (next_seating configuration round key))
     ∷ []
 
 -- the place of the player of the key, or the refusal where it is no player's
 abbrev pub place_by : ConfigValue → ℕ → Result Stage SessionRefused → ℕ → Result Player SessionRefused → List ℕ
 place_by configuration round stage key (Err refused) = short_text (Refused refused)
-place_by configuration round stage key (Ok player) = listed (place_lines configuration round stage key player)
+place_by configuration round stage key (Ok player) = listed_text (place_lines configuration round stage key player)
 
 -- what is told to the player of the key
 abbrev pub place_to : SessionValue → ℕ → List ℕ
@@ -105,4 +105,4 @@ place_to s key = place_by s.configuration s.round (stage_to s key) key (acting_p
 
 -- what is answered to these bytes, which are to be a key
 abbrev pub place_text : SessionValue → List ℕ → List ℕ
-place_text s bytes = option_map_or (λ key. place_to s key.0) (key_of bytes) (short_text BadLine)
+place_text s bytes = option_map_or (λ key. place_to s key.0) (key_of_word bytes) (short_text BadLine)

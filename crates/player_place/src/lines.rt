@@ -2,7 +2,7 @@
 ghost use Rattle.std.specs.Prelude.{◌≡◌, ◌+◌, ◌≤◌, ◌∷◌, ◌++◌, [], Some, codes, length};
 ghost use Rattle.arrayvec.specs.ArrayString.{array_string_len};
 ghost use Rattle.bridge_config.specs.ConfigValue.{configuration_of};
-ghost use Rattle.table_server.specs.ReplyTexts.{line_of, each_spaced};
+ghost use Rattle.table_server.specs.ReplyTexts.{spaced_line, each_spaced};
 ghost use Rattle.player_place.specs.Place.{round_line, player_line, table_words, names_words, contract_words, contract_seen, answer_words, answer_seen};
 
 use crate::names::{name_of, push_names};
@@ -64,7 +64,7 @@ pub fn push_seat_line(
 )
     requires first { length first.now ≤ 5 }
     requires room { array_string_len text.old + 41 ≤ TEXT_BYTES }
-    ensures line { text.new.bytes ≡ text.old.bytes ++ (line_of first.now (table_words boards seating) ++ 10 ∷ []) }
+    ensures line { text.new.bytes ≡ text.old.bytes ++ (spaced_line first.now (table_words boards seating) ++ 10 ∷ []) }
     ensures room { array_string_len text.new ≤ array_string_len text.old + 41 }
 {
     text.push_str(first);
@@ -94,7 +94,7 @@ pub fn push_names_line(
     seating: Result<Seating, Refused>,
 )
     requires { array_string_len text.old + 106 ≤ TEXT_BYTES }
-    ensures line { text.new.bytes ≡ text.old.bytes ++ (line_of (codes "NAMES") (names_words (configuration_of fields.now) seating) ++ 10 ∷ []) }
+    ensures line { text.new.bytes ≡ text.old.bytes ++ (spaced_line (codes "NAMES") (names_words (configuration_of fields.now) seating) ++ 10 ∷ []) }
     ensures room { array_string_len text.new ≤ array_string_len text.old + 106 }
 {
     text.push_str("NAMES");
@@ -129,7 +129,7 @@ fn push_contract_if(text: &mut ReplyText, contract: Option<Contract>)
 /// Adds the line of the contract.
 pub fn push_contract_line(text: &mut ReplyText, stage: Result<Stage, Refused>)
     requires { array_string_len text.old + 17 ≤ TEXT_BYTES }
-    ensures line { text.new.bytes ≡ text.old.bytes ++ (line_of (codes "CONTRACT") (contract_words (contract_seen stage)) ++ 10 ∷ []) }
+    ensures line { text.new.bytes ≡ text.old.bytes ++ (spaced_line (codes "CONTRACT") (contract_words (contract_seen stage)) ++ 10 ∷ []) }
     ensures room { array_string_len text.new ≤ array_string_len text.old + 17 }
 {
     text.push_str("CONTRACT");
@@ -153,7 +153,7 @@ fn answer_text(stage: Result<Stage, Refused>) -> &'static str
 /// Adds the line that says whether an answer to a claim is due.
 pub fn push_answer_line(text: &mut ReplyText, stage: Result<Stage, Refused>)
     requires { array_string_len text.old + 11 ≤ TEXT_BYTES }
-    ensures line { text.new.bytes ≡ text.old.bytes ++ (line_of (codes "ANSWER") (answer_words (answer_seen stage)) ++ 10 ∷ []) }
+    ensures line { text.new.bytes ≡ text.old.bytes ++ (spaced_line (codes "ANSWER") (answer_words (answer_seen stage)) ++ 10 ∷ []) }
     ensures room { array_string_len text.new ≤ array_string_len text.old + 11 }
 {
     text.push_str("ANSWER");

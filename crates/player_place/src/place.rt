@@ -3,7 +3,7 @@ ghost use Rattle.std.specs.Prelude.{◌≡◌, [], ℕ};
 ghost use Rattle.session_rules.specs.Sight.{LookAlikeTo};
 ghost use Rattle.session_rules.specs.Stage.{stage_to};
 ghost use Rattle.session_rules.specs.State.{SessionValue};
-ghost use Rattle.table_server.specs.ReplyTexts.{listed};
+ghost use Rattle.table_server.specs.ReplyTexts.{listed_text};
 ghost use Rattle.player_place.specs.Place.{next_seating, place_lines, place_to, place_text};
 
 use crate::lines::{
@@ -30,7 +30,7 @@ fn next_seating(config: &Config, round: u8, key: Key) -> Result<Seating, Refused
 /// Adds the lines of a player's place.
 fn push_lines(text: &mut ReplyText, session: &Session, key: Key, player: Player)
     requires { text.old.bytes ≡ [] }
-    ensures { text.new.bytes ≡ listed (place_lines session.now.configuration session.now.round (stage_to session.now key.0) key.0 player) }
+    ensures { text.new.bytes ≡ listed_text (place_lines session.now.configuration session.now.round (stage_to session.now key.0) key.0 player) }
 {
     let config = session.config();
     let fields = config.fields();

@@ -14,7 +14,7 @@ use Rattle.session_rules.specs.declared.refused.Refused.{Refused}
 use Rattle.session_rules.specs.declared.seating.Seating.{Seating}
 use Rattle.session_rules.specs.declared.stage.Stage.{Stage}
 use Rattle.session_rules.specs.declared.view.View.{View}
-use Rattle.session_rules.specs.Answer.{◌>>=◌}
+use Rattle.bridge_config.specs.Then.{◌>>=◌}
 use Rattle.session_rules.specs.Stage.{stage_of, stage_among, stage_to}
 use Rattle.session_rules.specs.Record.{PlainRecord, play_of}
 use Rattle.session_rules.specs.State.{SessionValue, deal_on, row_at, current_index, seating_of}

@@ -8,7 +8,7 @@ use Rattle.bridge_play.specs.declared.claim.Claim.{Claim}
 use Rattle.bridge_play.specs.Play.{is_awaited}
 use Rattle.session_rules.specs.declared.refused.Refused.{Refused}
 use Rattle.session_rules.specs.declared.stage.Stage.{Stage}
-use Rattle.session_rules.specs.Answer.{◌>>=◌}
+use Rattle.bridge_config.specs.Then.{◌>>=◌}
 use Rattle.session_rules.specs.Record.{PlainRecord}
 use Rattle.session_rules.specs.See.{Shown, shown_among}
 use Rattle.session_rules.specs.State.{SessionValue, Deals, row_at, seating_of}

@@ -2,7 +2,7 @@ use Rattle.std.proofs.Common.{◌≡◌, [], ◌∷◌, ap, ◌∙◌}
 use Rattle.std.specs.Prelude.{codes}
 use Rattle.bridge_config.specs.ConfigValue.{configuration_of}
 use Rattle.bridge_pbn.proofs.Pushed.{line_then, line_last}
-use Rattle.table_server.specs.ReplyTexts.{line_of, listed}
+use Rattle.table_server.specs.ReplyTexts.{spaced_line, listed_text}
 use Rattle.table_server.proofs.Pairs.{listed_is}
 use Rattle.session_rules.specs.Stage.{stage_to}
 use Rattle.player_place.specs.Place.{round_line, player_line, table_words, names_words, contract_words, contract_seen, answer_words, answer_seen, place_lines}
@@ -13,11 +13,11 @@ returns c =
     let fields = configuration_of c.fields-fields.result.now in
     let round = c.round-round.result in
     let player = c.args.player in
-    let next_line = line_of (codes "NEXT") (table_words fields.boards c.next_seating.result) in
-    let answer_line = line_of (codes "ANSWER") (answer_words (answer_seen c.stage-2.result)) in
-    let contract_line = line_of (codes "CONTRACT") (contract_words (contract_seen c.stage.result)) in
-    let names_line = line_of (codes "NAMES") (names_words fields c.seat_by-2.result) in
-    let table_line = line_of (codes "TABLE") (table_words fields.boards c.seat_by.result) in
+    let next_line = spaced_line (codes "NEXT") (table_words fields.boards c.next_seating.result) in
+    let answer_line = spaced_line (codes "ANSWER") (answer_words (answer_seen c.stage-2.result)) in
+    let contract_line = spaced_line (codes "CONTRACT") (contract_words (contract_seen c.stage.result)) in
+    let names_line = spaced_line (codes "NAMES") (names_words fields c.seat_by-2.result) in
+    let table_line = spaced_line (codes "TABLE") (table_words fields.boards c.seat_by.result) in
     let next = next_line ∷ [] in
     let answer = answer_line ∷ next in
     let contract = contract_line ∷ answer in
@@ -45,4 +45,4 @@ returns c =
     let stage = c.stage.ensures in
     let again = c.stage-2.ensures in
     let same : lines ≡ place_lines session.configuration session.round (stage_to session c.args.key.0) c.args.key.0 player = cc in
-    is_listed ∙ ap listed same
+    is_listed ∙ ap listed_text same
