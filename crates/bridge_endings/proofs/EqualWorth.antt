@@ -13,11 +13,12 @@ use Rattle.bridge_cards.proofs.OneHolder.{seat_few}
 use Rattle.bridge_endings.specs.Ending.{IsEnding}
 use Rattle.bridge_endings.specs.Worth.{dealt, after_playing, worth_after, worth_with}
 use Rattle.bridge_endings.specs.Left.{left_to, EachDealt}
+use Rattle.bridge_endings.specs.Lowered.{swap}
 use Rattle.bridge_endings.specs.Equal.{AreEqual}
 use Rattle.bridge_endings.proofs.WorthSteps.{worth_of_card}
 use Rattle.bridge_endings.proofs.SearchSteps.{inside_deck}
 use Rattle.bridge_endings.proofs.Seats.{same_seat-eq, same_seat-self, one_place}
-use Rattle.bridge_endings.proofs.Swap.{swap, swap_back, swap_apart, swap_other, swap_first, swap_second, swap_eq, swap_card}
+use Rattle.bridge_endings.proofs.Swap.{swap_back, swap_apart, swap_other, swap_first, swap_second, swap_eq, swap_card}
 use Rattle.bridge_endings.proofs.SwappedWorth.{IsApartFrom, apart_after, then_swapped, worth_swapped}
 
 and_false : (a : Bool) → (a && false) ≡ false

@@ -21,3 +21,5 @@ pub mod Winning
 pub mod TrickWon
 pub mod SureTrick
 pub mod SureCard
+pub mod Moved
+pub mod Lowering

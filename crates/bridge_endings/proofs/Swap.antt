@@ -1,15 +1,12 @@
 -- Two cards of one suit changed for each other, and what stays as it was.
-use Rattle.std.proofs.Common.{◌≡◌, ℕ, ◌<◌, ◌⊎◌, inl, inr, false, ◌||◌, ◌==◌, nat_lt, if◌then◌else◌, Option, Some, None, refl, ap, ◌∙◌, arith}
+use Rattle.std.proofs.Common.{◌≡◌, ℕ, ◌<◌, ◌⊎◌, inl, inr, false, ◌||◌, ◌==◌, nat_lt, Option, Some, None, refl, ap, ◌∙◌, arith}
 use Rattle.std.proofs.lemmas.Bool.Decides.{nat_tests}
 use Rattle.bridge_cards.specs.declared.suit.Suit.{Suit}
 use Rattle.bridge_cards.specs.Suit.{suit_number}
 use Rattle.bridge_cards.specs.Card.{same_suit, suit_number_of}
 use Rattle.bridge_cards.specs.Trick.{is_trump, beats, is_or_beats}
 use Rattle.bridge_endings.specs.Equal.{IsApart}
-
--- c for d, and d for c
-pub swap : ℕ → ℕ → ℕ → ℕ
-swap c d x = if x == c then d else if x == d then c else x
+use Rattle.bridge_endings.specs.Lowered.{swap}
 
 module _ (c d : ℕ) where
   pub swap_back : (x : ℕ) → swap c d (swap c d x) ≡ x

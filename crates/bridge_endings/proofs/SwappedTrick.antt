@@ -8,9 +8,10 @@ use Rattle.bridge_cards.specs.declared.seat.Seat.{Seat}
 use Rattle.bridge_cards.specs.Seat.{clockwise_from, same_seat}
 use Rattle.bridge_cards.specs.Card.{suit_number_of}
 use Rattle.bridge_cards.specs.Trick.{beats, is_or_beats, wins, winning_index, next_leader}
+use Rattle.bridge_endings.specs.Lowered.{swap}
 use Rattle.bridge_endings.specs.Equal.{IsApart}
 use Rattle.bridge_endings.proofs.Seats.{one_place}
-use Rattle.bridge_endings.proofs.Swap.{swap, is_or_beats_swapped}
+use Rattle.bridge_endings.proofs.Swap.{is_or_beats_swapped}
 
 -- tests of the cards of a list and of what f makes of them
 all_mapped : (p q : ℕ → Bool) (f : ℕ → ℕ) (xs : List ℕ) → ((k : ℕ) → k < length xs → q (f (get_or xs k 0)) ≡ p (get_or xs k 0)) → list_all q (map f xs) ≡ list_all p xs

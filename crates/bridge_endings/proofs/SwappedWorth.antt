@@ -10,10 +10,11 @@ use Rattle.bridge_cards.specs.Seat.{clockwise_from, side_of, same_seat}
 use Rattle.bridge_cards.specs.Card.{same_suit, suit_number_of}
 use Rattle.bridge_cards.specs.Trick.{has_suit, follows_suit, next_leader}
 use Rattle.bridge_endings.specs.Worth.{may_play, legal_cards, after_playing, best, trick_for, worth_after, worth_with}
+use Rattle.bridge_endings.specs.Lowered.{swap}
 use Rattle.bridge_endings.specs.Equal.{IsApart}
 use Rattle.bridge_endings.proofs.WorthSteps.{worth_of_card, worth_zero, worth_with-suc}
 use Rattle.bridge_endings.proofs.SearchSteps.{worth_after-part, worth_after-whole}
-use Rattle.bridge_endings.proofs.Swap.{swap, swap_back, swap_eq, swap_suit}
+use Rattle.bridge_endings.proofs.Swap.{swap_back, swap_eq, swap_suit}
 use Rattle.bridge_endings.proofs.SameBest.{best_same, any_same}
 use Rattle.bridge_endings.proofs.SwappedTrick.{IsApartTrick, next_leader_swapped}
 

@@ -5,6 +5,7 @@ pub mod TrickValue
 pub mod Left
 pub mod Sure
 pub mod Equal
+pub mod Lowered
 pub mod Between
 pub mod SearchValue
 pub mod CacheValue

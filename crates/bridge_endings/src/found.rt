@@ -6,13 +6,13 @@ use crate::bounds::Bounds;
 use bridge_cards::{CardSet, Seat};
 
 /// How many slots the table has; it lies on the stack.
-pub const SLOTS: usize = 1024;
+pub const SLOTS: usize = 512;
 
-/// What was found of the cards left at the start of a trick.
+/// What was found of hands at the start of a trick.
 #[derive(Clone, Copy)]
 pub struct Found {
-    /// The cards left.
-    pub left: CardSet,
+    /// The hands, lowered, so that what was found of some is known of all that are lowered alike.
+    pub hands: [CardSet; 4],
     /// The seat to lead.
     pub leader: Seat,
     /// How many tricks are left.
@@ -27,7 +27,7 @@ impl Found {
         ensures { IsNothing result }
     {
         Found {
-            left: CardSet::new(),
+            hands: [CardSet::new(); 4],
             leader: Seat::North,
             tricks: 0,
             bounds: Bounds { least: 0, most: 0 },
@@ -42,11 +42,16 @@ pub fn empty_table() -> [Found; SLOTS]
     [Found::nothing(); SLOTS]
 }
 
-/// The slot in the table of what is left.
-pub fn slot(left: CardSet, leader: Seat) -> usize
+/// The slot in the table of hands and their leader.
+pub fn slot(hands: &[CardSet; 4], leader: Seat) -> usize
     ensures { result < SLOTS }
 {
-    // 2^64 over the golden ratio, made odd: the upper bits of a product spread like sets over the slots.
-    let mixed = (left.bits() ^ u64::from(leader.number())).wrapping_mul(0x9e37_79b9_7f4a_7c15);
-    (mixed >> 32) as usize % SLOTS
+    // Odd numbers without a pattern, as the fraction of the golden ratio: the upper bits of the products spread like hands
+    // over the slots.
+    let [north, east, south, _] = hands;
+    let mixed = north.bits().wrapping_mul(0x9e37_79b9_7f4a_7c15)
+        ^ east.bits().wrapping_mul(0xc2b2_ae3d_27d4_eb4f)
+        ^ south.bits().wrapping_mul(0x1656_67b1_9e37_79f9)
+        ^ u64::from(leader.number()).wrapping_mul(0x27d4_eb2f_1656_67c5);
+    (mixed >> 48) as usize % SLOTS
 }

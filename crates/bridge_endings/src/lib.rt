@@ -13,6 +13,7 @@ pub mod cache;
 pub mod ending;
 mod equal;
 mod found;
+mod lowered;
 mod move_order;
 mod reaching;
 mod search;

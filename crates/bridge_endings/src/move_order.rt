@@ -5,25 +5,34 @@ ghost use Rattle.bridge_cards.specs.CardSet.{has_card};
 
 use crate::search::Search;
 use crate::trick::Trick;
-use bridge_cards::{Card, CardSet, Suit};
+use bridge_cards::{Card, CardSet, Seat, Suit};
 
-/// Which cards are good to lead.
+/// What is seen of the other hands before a card is played.
 #[derive(Clone, Copy, Default)]
-pub struct Leads {
-    /// Those of suits that no opponent ruffs.
+pub struct Seen {
+    /// The cards of suits that no opponent ruffs, if one is to be led.
     pub safe: CardSet,
     /// Those of them whose suit's highest card left is on the leader's side.
     pub high: CardSet,
+    /// The best card of the next hand, if it is an opponent's and would win so far.
+    pub next: Option<Card>,
 }
 
 impl Search {
-    /// Which cards are good to lead; none once one is led.
-    pub fn leads(&self, left: CardSet, trick: &Trick) -> Leads {
-        let mut leads = Leads::default();
-        if trick.len() > 0 {
-            return leads;
+    /// What is seen of the other hands before a card is played to the trick.
+    pub fn seen(&self, left: CardSet, trick: &Trick) -> Seen {
+        match trick.led() {
+            None => self.leads(left, trick.turn()),
+            Some(led) => Seen {
+                next: self.best_of_next(left, trick, led),
+                ..Seen::default()
+            },
         }
-        let leader = trick.turn();
+    }
+
+    /// Which cards are good to lead.
+    fn leads(&self, left: CardSet, leader: Seat) -> Seen {
+        let mut seen = Seen::default();
         let side = self
             .held(left, leader)
             .union(self.held(left, leader.partner()));
@@ -34,12 +43,31 @@ impl Search {
                 continue;
             }
             let cards = left.of_suit(suit);
-            leads.safe = leads.safe.union(cards);
+            seen.safe = seen.safe.union(cards);
             if cards.highest().is_some_and(|card| side.has(card)) {
-                leads.high = leads.high.union(cards);
+                seen.high = seen.high.union(cards);
             }
         }
-        leads
+        seen
+    }
+
+    /// The best card that the next hand may play to the trick, if it would win so far; the leader has played already.
+    fn best_of_next(&self, left: CardSet, trick: &Trick, led: Card) -> Option<Card> {
+        if trick.len() > 2 {
+            return None;
+        }
+        let next = self.held(left, trick.turn().left());
+        let suited = next.of_suit(led.suit());
+        let best = if suited.is_empty() {
+            next.of_suit(self.trump()?).highest()?
+        } else {
+            suited.highest()?
+        };
+        if trick.is_beaten_by(best) {
+            Some(best)
+        } else {
+            None
+        }
     }
 
     /// Whether a hand has trumps and none of the suit.
@@ -52,7 +80,7 @@ impl Search {
 }
 
 /// One of the cards, the one that the hand in turn tries first; `None` where there is none.
-pub fn next_card(cards: CardSet, trick: &Trick, leads: &Leads) -> Option<Card>
+pub fn next_card(cards: CardSet, trick: &Trick, seen: &Seen) -> Option<Card>
     ensures card { IfSome result (λ card. IsCard card × IsTrue (has_card cards card)) }
     ensures none { IsNone result ↔ (cards ≡ 0) }
 {
@@ -61,11 +89,9 @@ pub fn next_card(cards: CardSet, trick: &Trick, leads: &Leads) -> Option<Card>
         return Some(lowest);
     }
     let Some(led) = trick.led() else {
-        return Some(next_lead(cards, lowest, leads));
+        return Some(next_lead(cards, lowest, seen));
     };
-    if !trick.partner_wins()
-        && let Some(card) = trick.winners(cards).lowest()
-    {
+    if let Some(card) = lowest_winner(cards, trick, seen.next) {
         return Some(card);
     }
     if lowest.suit() == led.suit() {
@@ -75,17 +101,34 @@ pub fn next_card(cards: CardSet, trick: &Trick, leads: &Leads) -> Option<Card>
     }
 }
 
+/// The lowest card that wins so far and that the next hand cannot beat, otherwise the lowest that wins so far; none where
+/// the partner wins already and the next hand cannot beat it, or no card stops that.
+fn lowest_winner(cards: CardSet, trick: &Trick, next: Option<Card>) -> Option<Card>
+    ensures { IfSome result (λ card. IsCard card × IsTrue (has_card cards card)) }
+{
+    if let Some(next) = next
+        && let Some(card) = trick.winners(cards, next).lowest()
+    {
+        return Some(card);
+    }
+    if trick.partner_wins() {
+        None
+    } else {
+        trick.winners(cards, trick.winning_card()).lowest()
+    }
+}
+
 /// The highest card of a suit of which the side has the highest, otherwise the lowest that no opponent ruffs, otherwise
 /// the highest; the other card is one of them.
-fn next_lead(cards: CardSet, other: Card, leads: &Leads) -> Card
+fn next_lead(cards: CardSet, other: Card, seen: &Seen) -> Card
     requires { IsCard other × IsTrue (has_card cards other) }
     ensures { IsCard result × IsTrue (has_card cards result) }
 {
-    let high = cards.intersection(leads.high);
+    let high = cards.intersection(seen.high);
     if let Some(card) = high.lowest() {
         return highest_rank(high, card);
     }
-    let safe = cards.intersection(leads.safe);
+    let safe = cards.intersection(seen.safe);
     match safe.lowest() {
         Some(card) => lowest_rank(safe, card),
         None => highest_rank(cards, other),

@@ -23,17 +23,18 @@ impl Search {
         if tricks < 2 {
             return self.reaches(left, &Trick::new(self.trump(), leader), tricks, need);
         }
-        let known = self.bounds(left, leader, tricks);
-        if need <= known.least || need > known.most {
-            return need <= known.least;
-        }
         if need == settled_by_one(leader, tricks) && self.sure_card(left, leader).is_some() {
             return is_sought(leader);
+        }
+        let hands = self.lowered(left);
+        let known = self.bounds(&hands, leader, tricks);
+        if need <= known.least || need > known.most {
+            return need <= known.least;
         }
         let answer = self.reaches(left, &Trick::new(self.trump(), leader), tricks, need);
         let bounds = narrowed(known, need, answer);
         self.note(Found {
-            left,
+            hands,
             leader,
             tricks,
             bounds,
@@ -60,9 +61,9 @@ impl Search {
             return need == 0;
         }
         let sought = is_sought(trick.turn());
-        let leads = self.leads(left, trick);
+        let seen = self.seen(left, trick);
         let mut rest = legal;
-        while let Some(card) = next_card(rest, trick, &leads) {
+        while let Some(card) = next_card(rest, trick, &seen) {
             rest = rest.without(card).difference(self.equals(card));
             if self.reaches_with(left, trick, card, tricks, need) == sought {
                 return sought;

@@ -3,10 +3,11 @@ ghost use Rattle.std.specs.Prelude.{◌≡◌, ℕ, ◌+◌, ◌-◌, ◌*◌, �
 ghost use Rattle.bridge_cards.specs.Card.{IsCard, card_suit};
 ghost use Rattle.bridge_cards.specs.CardSet.{IsCardSet, has_card};
 ghost use Rattle.bridge_cards.specs.Seat.{clockwise_from};
-ghost use Rattle.bridge_endings.specs.Worth.{may_play, worth_with};
+ghost use Rattle.bridge_endings.specs.Worth.{dealt, may_play, worth_with};
 ghost use Rattle.bridge_endings.specs.Ending.{IsEnding};
 ghost use Rattle.bridge_endings.specs.Left.{left_to};
 ghost use Rattle.bridge_endings.specs.Equal.{IsEqualTo};
+ghost use Rattle.bridge_endings.specs.Lowered.{AreWorthTheSame};
 ghost use Rattle.bridge_endings.specs.Between.{IsBetween};
 ghost use Rattle.bridge_endings.specs.SearchValue.{GoesOn, IsFound};
 
@@ -14,12 +15,13 @@ use crate::bounds::Bounds;
 use crate::ending::Ending;
 use crate::equal::equal_cards;
 use crate::found::{Found, SLOTS, empty_table, slot};
+use crate::lowered::lowered;
 use crate::trick::Trick;
 use bridge_cards::{Card, CardSet, DECK, Seat, Suit};
 use std::marker::Model;
 
-/// A search of an ending, and how many cards it has tried. Its table has bounds of what was left at the start of a trick;
-/// a later entry replaces the one in its slot.
+/// A search of an ending, and how many cards it has tried. Its table has bounds of hands at the start of a trick; a later
+/// entry replaces the one in its slot.
 #[derive(Drop)]
 pub struct Search {
     hands: [CardSet; 4],
@@ -80,12 +82,19 @@ impl Search {
         self.tried = self.tried.saturating_add(1);
     }
 
-    /// Bounds of what is left at the start of a trick, of which so many tricks are left.
-    pub fn bounds(&self, left: CardSet, leader: Seat, tricks: u8) -> Bounds
-        ensures { IsBetween (worth_with self.now.trump (4 * tricks) (left_to self.now.hands left) leader []) result }
+    /// The hands with the cards left, lowered.
+    pub fn lowered(&self, left: CardSet) -> [CardSet; 4]
+        ensures { AreWorthTheSame (dealt result) (left_to self.now.hands left) }
     {
-        let found = self.table[slot(left, leader)];
-        if found.left == left && found.leader == leader && found.tricks == tricks {
+        lowered(&self.hands, left)
+    }
+
+    /// Bounds of what those hands win, of which so many tricks are left.
+    pub fn bounds(&self, hands: &[CardSet; 4], leader: Seat, tricks: u8) -> Bounds
+        ensures { IsBetween (worth_with self.now.trump (4 * tricks) (dealt hands.now) leader []) result }
+    {
+        let found = self.table[slot(hands, leader)];
+        if found.hands == *hands && found.leader == leader && found.tricks == tricks {
             found.bounds
         } else {
             Bounds {
@@ -97,10 +106,10 @@ impl Search {
 
     /// Puts bounds into the table.
     pub fn note(&mut self, found: Found)
-        requires { IsFound self.old.hands self.old.trump found }
+        requires { IsFound self.old.trump found }
         ensures { self.new ≡ self.old }
     {
-        self.table[slot(found.left, found.leader)] = found;
+        self.table[slot(&found.hands, found.leader)] = found;
     }
 
     /// How many cards were tried, with those before; at `u64::MAX` it stays.

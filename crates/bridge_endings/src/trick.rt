@@ -137,12 +137,20 @@ impl Trick {
         self.played >= 2 && self.winning.index == self.played - 2
     }
 
-    /// Those of the cards that would beat the one that wins so far: the higher ones of its suit, and trumps where it is
-    /// none.
-    pub fn winners(&self, cards: CardSet) -> CardSet
+    /// The card that wins so far, if one is played.
+    pub fn winning_card(&self) -> Card {
+        self.winning.card
+    }
+
+    /// Whether the card would win so far.
+    pub fn is_beaten_by(&self, card: Card) -> bool {
+        beats(self.trump, self.cards[0], card, self.winning.card)
+    }
+
+    /// Those of the cards that would beat that one of the trick: the higher ones of its suit, and trumps where it is none.
+    pub fn winners(&self, cards: CardSet, best: Card) -> CardSet
         ensures { (card : ℕ) → has_card result card ≡ true → has_card cards card ≡ true }
     {
-        let best = self.winning.card;
         let higher = above(cards.of_suit(best.suit()), best);
         match self.trump {
             Some(trump) if trump != best.suit() => higher.union(cards.of_suit(trump)),
