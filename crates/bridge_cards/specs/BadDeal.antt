@@ -1,5 +1,5 @@
 -- Four hands, or a text of them, as a deal or as what is first wrong with them. The cases exclude one another: hands with a
--- card twice are neither uneven nor a deal, nor are uneven hands one, and a text spells at most one four of hands.
+-- card twice are neither uneven nor a deal, uneven hands are no deal, and a text states four hands in one way at most.
 use Rattle.std.specs.Prelude.{ℕ, ◌≡◌, List, Result, Ok, Err}
 use Rattle.bridge_cards.specs.declared.deal.BadDeal.{BadDeal}
 use Rattle.bridge_cards.specs.declared.deal.BadDeal.TheVariants.{Form, Twice, NotThirteen}
