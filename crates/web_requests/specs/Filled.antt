@@ -6,7 +6,7 @@ use Rattle.http_server.specs.Response.{IsResponse}
 use Rattle.web_requests.specs.declared.kind.Kind.{Kind}
 use Rattle.web_requests.specs.declared.kind.Kind.TheVariants.{Page, Script, Style, Lines}
 use Rattle.web_requests.specs.declared.route.Refusal.{Refusal}
-use Rattle.web_requests.specs.declared.route.Refusal.TheVariants.{Misdirected, NotFound, OnlyRead, OnlyPosted, WrongType}
+use Rattle.web_requests.specs.declared.route.Refusal.TheVariants.{Misdirected, NotFound, OnlyRead, OnlyPosted, WrongType, TooLong}
 use Rattle.web_requests.specs.Route.{lines_type}
 
 -- the content type of a text
@@ -45,6 +45,7 @@ status_of NotFound = 404
 status_of OnlyRead = 405
 status_of OnlyPosted = 405
 status_of WrongType = 415
+status_of TooLong = 413
 
 -- which methods are allowed, where another was used
 abbrev pub allow_fields : Refusal → List Header
@@ -53,6 +54,7 @@ allow_fields NotFound = []
 allow_fields OnlyRead = (codes "allow", codes "GET, HEAD") ∷ []
 allow_fields OnlyPosted = (codes "allow", codes "POST") ∷ []
 allow_fields WrongType = []
+allow_fields TooLong = []
 
 -- a refusal, without a body
 abbrev pub IsRefusal : Refusal → Response → Type 0

@@ -109,5 +109,6 @@ fn status_code(refusal: Refusal) -> StatusCode
         Refusal::NotFound => StatusCode::NOT_FOUND,
         Refusal::OnlyRead | Refusal::OnlyPosted => StatusCode::METHOD_NOT_ALLOWED,
         Refusal::WrongType => StatusCode::UNSUPPORTED_MEDIA_TYPE,
+        Refusal::TooLong => StatusCode::PAYLOAD_TOO_LARGE,
     }
 }

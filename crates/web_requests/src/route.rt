@@ -35,6 +35,8 @@ pub enum Refusal {
     OnlyPosted,
     /// 415: its body is of another type than lines. A form of another site, and a fetch that asks nobody, cannot have that type.
     WrongType,
+    /// 413: its body is longer than is read at once.
+    TooLong,
 }
 
 /// The type of a body that is lines of the protocol.
