@@ -1,0 +1,54 @@
+-- Lines that came in one request, answered over a store.
+use Rattle.std.proofs.Common.{◌≡◌, ℕ, ◌<◌, Bool, true, false, List, [], ◌∷◌, ◌++◌, length, take, IfSome, Option, Some, refl, sym, ap, ◌∙◌, subst, subst₂, arith, append-nil}
+use Rattle.std.proofs.lemmas.Bool.{true≢false, lt-leb}
+use Rattle.std.proofs.lemmas.List.{take_all}
+use Rattle.std.specs.Prelude.{nat_le}
+use Rattle.std.specs.Io.KnownBytes.{Appends}
+use Rattle.sector_disk.specs.Disk.{Disk}
+use Rattle.session_store.specs.Value.{StoreValue}
+use Rattle.session_rules.specs.declared.action.Action.{Action}
+use Rattle.session_rules.specs.State.{SessionValue}
+use Rattle.line_text.specs.Lines.{complete_lines}
+use Rattle.line_text.specs.Streams.{Stream}
+use Rattle.table_server.specs.Answered.{AskAll}
+use Rattle.table_server.specs.Served.{IsServed}
+use Rattle.table_server.specs.declared.fault.ServeFault.{ServeFault}
+use Rattle.table_server.specs.declared.served.Served.{Served}
+use Rattle.table_server.specs.Replies.{limit_notice}
+use Rattle.table_server.specs.ServedStreams.{HasServed, StopsServing}
+use Rattle.table_pages.specs.Answered.{IsAnswered, IsCutOff, is_settled}
+
+-- a settled store that works has nothing pending
+pub settled_to : {A : Type 0} (failed : Bool) (pending : List A) → is_settled failed pending ≡ true → failed ≡ false → pending ≡ []
+settled_to true pending settled works = absurd (true≢false works)
+settled_to false [] settled works = refl
+settled_to false (action ∷ pending) settled works = absurd (true≢false (sym settled))
+
+-- and one that has nothing pending where it works is settled
+pub settled_from : {A : Type 0} (failed : Bool) (pending : List A) → (failed ≡ false → pending ≡ []) → is_settled failed pending ≡ true
+settled_from true pending none = refl
+settled_from false pending none = ap (is_settled false) (none refl)
+
+-- the replies to a whole body are all that is written
+pub is_answered : {D : Type 0} (disk : Disk D) (start store : StoreValue D SessionValue Action) (body text : List ℕ) (reader writer : Stream) (served : Served)
+    → length body < 65536 → HasServed disk start store reader writer served
+    → reader.old ≡ Some body → writer.old ≡ Some [] → writer.new ≡ Some text → IsAnswered disk start body text store
+is_answered disk start store body text reader writer served few x whole empty full =
+    let begun = subst (λ (r : Option (List ℕ)). IfSome r (λ input. x.bytes ≡ take 65536 input)) whole x.whole in
+    let same : x.bytes ≡ body = begun ∙ take_all 65536 body (omega arith) in
+    let short : length x.bytes < 65536 = subst (λ (b : List ℕ). length b < 65536) (sym same) few in
+    let notice = limit_notice (nat_le 65536 (length x.bytes)) in
+    let wrote = subst₂ (λ (old new : Option (List ℕ)). Appends old new (x.text ++ notice)) empty full x.wrote in
+    let says : text ≡ x.text = wrote ∙ ap (λ (late : Bool). x.text ++ limit_notice late) (lt-leb 65536 (length x.bytes) short) ∙ append-nil x.text in
+    record {
+      asked = x.asked;
+      asks = subst (λ (b : List ℕ). AskAll (complete_lines b) x.asked) same x.asks;
+      actions = served.accepted;
+      served = subst (λ (t : List ℕ). IsServed disk start x.asked store t served.accepted) (sym says) x.served;
+    }
+
+-- and a text for which memory was refused was cut off
+pub is_cut_off : {D : Type 0} (disk : Disk D) (start store : StoreValue D SessionValue Action) (body : List ℕ) (reader writer : Stream) (fault : ServeFault)
+    → StopsServing disk start store reader writer fault → reader.old ≡ Some body → writer.old ≡ Some [] → IsCutOff disk start body store
+is_cut_off disk start store body reader writer fault stops whole empty =
+    record { reader = reader; whole = whole; writer = writer; empty = empty; fault = fault; stops = stops }

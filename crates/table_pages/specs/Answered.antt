@@ -1,0 +1,46 @@
+-- Lines that came in one request, answered over a store.
+use Rattle.std.specs.Prelude.{◌≡◌, ℕ, Bool, true, false, List, [], ◌∷◌, Option, Some, None}
+use Rattle.sector_disk.specs.Disk.{Disk}
+use Rattle.session_store.specs.Value.{StoreValue}
+use Rattle.session_rules.specs.declared.action.Action.{Action}
+use Rattle.session_rules.specs.State.{SessionValue}
+use Rattle.line_text.specs.Lines.{complete_lines}
+use Rattle.line_text.specs.Streams.{Stream}
+use Rattle.table_server.specs.declared.asked.Asked.{Asked}
+use Rattle.table_server.specs.declared.fault.ServeFault.{ServeFault}
+use Rattle.table_server.specs.Answered.{AskAll}
+use Rattle.table_server.specs.Faulted.{FailsWithDisk}
+use Rattle.table_server.specs.Served.{IsServed}
+use Rattle.table_server.specs.ServedStreams.{StopsServing}
+
+-- nothing is pending, or the store has failed
+abbrev pub is_settled : {A : Type 0} → Bool → List A → Bool
+is_settled true pending = true
+is_settled false [] = true
+is_settled false (action ∷ pending) = false
+
+module _ {D : Type 0} (disk : Disk D) where
+  -- All complete lines of a body were served over a store, and the text is the replies to them.
+  pub record IsAnswered (start : StoreValue D SessionValue Action) (body text : List ℕ) (store : StoreValue D SessionValue Action) : Type 0 where
+    pub asked : List Asked
+    pub asks : AskAll (complete_lines body) asked
+    pub actions : ℕ
+    pub served : IsServed disk start asked store text actions
+
+  -- Memory was refused for the text, at which serving stopped.
+  pub record IsCutOff (start : StoreValue D SessionValue Action) (body : List ℕ) (store : StoreValue D SessionValue Action) : Type 0 where
+    pub reader : Stream
+    pub whole : reader.old ≡ Some body
+    pub writer : Stream
+    pub empty : writer.old ≡ Some []
+    pub fault : ServeFault
+    pub stops : StopsServing disk start store reader writer fault
+
+  -- a body was answered by a text, or memory was refused for it
+  abbrev pub AnswersBody : StoreValue D SessionValue Action → List ℕ → Option (List ℕ) → StoreValue D SessionValue Action → Type 0
+  AnswersBody start body (Some text) store = IsAnswered start body text store
+  AnswersBody start body None store = IsCutOff start body store
+
+  -- and the store failed exactly where a call of its disk did
+  abbrev pub AnswersLines : StoreValue D SessionValue Action → List ℕ → Option (List ℕ) → StoreValue D SessionValue Action → Type 0
+  AnswersLines start body text store = AnswersBody start body text store × FailsWithDisk disk start store

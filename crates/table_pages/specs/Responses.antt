@@ -1,0 +1,41 @@
+-- What the pages answer.
+use Rattle.std.specs.Prelude.{◌≡◌, ◌⊎◌, ℕ, Bool, true, false, nat_lt, List, length, Option, Some, None}
+use Rattle.http.specs.declared.request.Request.{Request}
+use Rattle.http.specs.Request.{head_of, body_of}
+use Rattle.http_server.specs.declared.response.Response.{Response}
+use Rattle.web_requests.specs.declared.kind.Kind.TheVariants as kind
+use Rattle.web_requests.specs.declared.route.Route.{Route}
+use Rattle.web_requests.specs.declared.route.Route.TheVariants.{Page, Script, Style, Lines, Place, Refused}
+use Rattle.web_requests.specs.declared.route.Refusal.TheVariants.{TooLong}
+use Rattle.web_requests.specs.Route.{route_for}
+use Rattle.web_requests.specs.Filled.{IsText, IsRefusal, IsUnavailable}
+use Rattle.table_pages.specs.declared.texts.TheConstants.{PAGE, SCRIPT, STYLE}
+
+-- over a server of lines: from one state, a body is answered by a text or by none, and leaves another state
+module _ {T : Type 0} (answers : T → List ℕ → Option (List ℕ) → T → Type 0) where
+  -- Lines were answered, and the response is the text of the replies; or memory was refused, and it says nothing.
+  abbrev pub TellsLines : T → List ℕ → Response → T → Type 0
+  TellsLines old body response new =
+      ((text : List ℕ) × answers old body (Some text) new × IsText kind.Lines text response)
+      ⊎ (((text : Option (List ℕ)) × answers old body text new) × IsUnavailable response)
+
+  -- a body of 65,536 bytes or more is refused
+  abbrev pub TellsShort : Bool → T → List ℕ → Response → T → Type 0
+  TellsShort true old body response new = TellsLines old body response new
+  TellsShort false old body response new = IsRefusal TooLong response × (new ≡ old)
+
+  module _ (places : T → List ℕ → List ℕ) where
+    -- the response to a request on this route: the same to everybody, the replies to its lines, or the place of
+    -- the player whose key it has
+    abbrev pub Responds : Route → T → List ℕ → Response → T → Type 0
+    Responds Page old body response new = IsText kind.Page PAGE.now response × (new ≡ old)
+    Responds Script old body response new = IsText kind.Script SCRIPT.now response × (new ≡ old)
+    Responds Style old body response new = IsText kind.Style STYLE.now response × (new ≡ old)
+    Responds Lines old body response new = TellsShort (nat_lt (length body) 65536) old body response new
+    Responds Place old body response new = IsText kind.Lines (places old body) response × (new ≡ old)
+    Responds (Refused why) old body response new = IsRefusal why response × (new ≡ old)
+
+    -- the response to a request at a server of these two names
+    abbrev pub Answering : List ℕ → List ℕ → T → Request (List ℕ) → Response → T → Type 0
+    Answering host alias old request response new =
+        Responds (route_for host alias (head_of request)) old (body_of request) response new

@@ -1,0 +1,59 @@
+//! Lines that came in one request, answered over a store.
+ghost use Rattle.std.specs.Prelude.{◌≡◌, ◌<◌, [], false, length, option_map};
+ghost use Rattle.table_server.specs.Faulted.{FailsWithDisk};
+ghost use Rattle.player_place.specs.Place.{place_text};
+ghost use Rattle.table_pages.specs.Answered.{AnswersBody, AnswersLines, is_settled};
+
+use crate::line_server::LineServer;
+use bridge_endings::Cache;
+use bridge_session::Session;
+use player_place::push_place;
+use sector_disk::SectorDisk;
+use session_store::Store;
+use std::alloc::Global;
+use table_server::{ReplyText, serve};
+
+/// Answers the lines of a body of fewer than 65,536 bytes by what `serve` writes for them: what was accepted is confirmed
+/// on the disk before its reply stands in the text, and nothing is left pending in a store that works. `None` where memory
+/// was refused for the text.
+pub fn answer_lines<D: SectorDisk + Drop>(
+    store: &mut Store<D, Session>,
+    alloc: Global,
+    cache: &mut Cache,
+    body: &[u8],
+) -> Option<Vec<u8>>
+    requires settled { store.old.failed ≡ false → store.old.pending ≡ [] }
+    requires short { length body.now < 65536 }
+    ensures answered { AnswersBody D.disk store.old body.now (option_map (λ text. text.items) result) store.new }
+    ensures settled { store.new.failed ≡ false → store.new.pending ≡ [] }
+    ensures faults { FailsWithDisk D.disk store.old store.new }
+{
+    let mut unread = body;
+    let mut text = Vec::new(alloc);
+    match serve(store, Some(cache), &mut unread, &mut text) {
+        Ok(_) => Some(text),
+        Err(_) => None,
+    }
+}
+
+impl<D: SectorDisk + Drop> LineServer for Store<D, Session> {
+    ghost is_ready = { λ store. is_settled store.failed store.pending };
+
+    ghost failed = { λ store. store.failed };
+
+    ghost answers = { λ old body text new. AnswersLines D.disk old body text new };
+
+    ghost places = { λ store key. place_text store.state key };
+
+    fn answer(&mut self, alloc: Global, cache: &mut Cache, body: &[u8]) -> Option<Vec<u8>> {
+        answer_lines(self, alloc, cache, body)
+    }
+
+    fn place(&self, key: &[u8], text: &mut ReplyText) {
+        push_place(text, self.state(), key);
+    }
+
+    fn has_failed(&self) -> bool {
+        Store::has_failed(self)
+    }
+}

@@ -1,0 +1,19 @@
+//! Tables in a browser: the pages, and the lines that they post, answered over the session of a store.
+//!
+//! ```rust
+//! let mut pages = TablePages::new(rt.alloc(), 4000, store, cache)?;
+//! show_minutes(&rt, rt.alloc(), RandomState::new(&rt)?, &listener, &mut pages, 180)?;
+//! ```
+#![tactic(auto)]
+
+mod answering;
+mod line_server;
+mod pages;
+mod showing;
+mod texts;
+
+pub use answering::answer_lines;
+pub use line_server::LineServer;
+pub use pages::TablePages;
+pub use showing::{show_minutes, show_rounds};
+pub use texts::{PAGE, SCRIPT, STYLE};

@@ -1,0 +1,38 @@
+//! What answers lines.
+ghost use Rattle.std.specs.Prelude.{◌≡◌, ◌<◌, ℕ, Bool, true, List, [], Option, length, option_map};
+
+use bridge_endings::Cache;
+use std::alloc::Global;
+use table_server::ReplyText;
+
+/// What answers the lines of the protocol, as a store of a session does.
+pub trait LineServer: Drop {
+    // it can take lines, as it can between two requests
+    ghost is_ready: { Self → Bool };
+
+    // it has failed
+    ghost failed: { Self → Bool };
+
+    // from the first state, these bytes were answered by the text, or memory for the text was refused, and left the second state
+    ghost answers: { Self → List ℕ → Option (List ℕ) → Self → Type 0 };
+
+    // what is told to the player whose key these bytes are
+    ghost places: { Self → List ℕ → List ℕ };
+
+    /// Answers the lines of a body of fewer than 65,536 bytes. `None` where memory was refused for the text; lines may have
+    /// been taken then.
+    fn answer(&mut self, alloc: Global, cache: &mut Cache, body: &[u8]) -> Option<Vec<u8>>
+        requires ready { is_ready self.old ≡ true }
+        requires short { length body.now < 65536 }
+        ensures answers { answers self.old body.now (option_map (λ text. text.items) result) self.new }
+        ensures ready { is_ready self.new ≡ true };
+
+    /// Adds what is told to the player whose key these bytes are, of his place.
+    fn place(&self, key: &[u8], text: &mut ReplyText)
+        requires { text.old.bytes ≡ [] }
+        ensures { text.new.bytes ≡ places self.now key.now };
+
+    /// Whether it has failed, and answers each line with an error from then on.
+    fn has_failed(&self) -> bool
+        ensures { result ≡ failed self.now };
+}

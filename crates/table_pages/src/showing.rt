@@ -1,0 +1,65 @@
+//! Pages shown to browsers.
+ghost use Rattle.std.specs.Prelude.{◌≡◌, string_bytes};
+ghost use Rattle.web_loop.specs.Turns.{LeadsTo};
+ghost use Rattle.table_pages.specs.Responses.{Answering};
+
+use crate::line_server::LineServer;
+use crate::pages::TablePages;
+use http_server::Config;
+use http1::Limits;
+use std::alloc::Global;
+use std::hash::RandomState;
+use std::io;
+use std::net::Net;
+use std::time::Clock;
+use web_loop::{Clients, serve_minutes, serve_rounds};
+
+/// The most bytes of the head of a request; a longer one is refused.
+const MOST_HEAD_BYTES: usize = 8192;
+
+/// The most bytes of the body of a request; a longer one is refused.
+const MOST_BODY_BYTES: usize = 65_535;
+
+/// The limits of a connection.
+fn limits() -> Config {
+    Config {
+        limits: Limits {
+            max_head_len: MOST_HEAD_BYTES,
+            ..Limits::default()
+        },
+        max_body_len: MOST_BODY_BYTES,
+        ..Config::default()
+    }
+}
+
+/// Shows pages to the clients of a listener that does not block for so many rounds, in each of which each client has its turn,
+/// or until the server of lines has failed; then what is pending is sent. Names that clients choose are looked up by `keys`,
+/// which are secret. The error is that the clock cannot be read.
+pub fn show_rounds<N: Net + Clock, T: LineServer>(
+    rt: &N,
+    alloc: Global,
+    keys: RandomState,
+    listener: &N::Listener,
+    pages: &mut TablePages<T>,
+    rounds: u64,
+) -> io::Result<()>
+    ensures { LeadsTo (Answering T.answers T.places (string_bytes pages.old.host) (string_bytes pages.old.alias)) pages.old.server pages.new.server }
+{
+    let mut clients = Clients::new(alloc, keys, limits());
+    serve_rounds(rt, listener, &mut clients, pages, rounds)
+}
+
+/// The same for so many minutes.
+pub fn show_minutes<N: Net + Clock, T: LineServer>(
+    rt: &N,
+    alloc: Global,
+    keys: RandomState,
+    listener: &N::Listener,
+    pages: &mut TablePages<T>,
+    minutes: u16,
+) -> io::Result<()>
+    ensures { LeadsTo (Answering T.answers T.places (string_bytes pages.old.host) (string_bytes pages.old.alias)) pages.old.server pages.new.server }
+{
+    let mut clients = Clients::new(alloc, keys, limits());
+    serve_minutes(rt, listener, &mut clients, pages, minutes)
+}

@@ -1,0 +1,561 @@
+//! The page, its script and its style.
+
+/// The page, of which the script makes what each player sees.
+pub const PAGE: &str = r##"<!doctype html>
+<html lang="en">
+<head>
+<meta charset="utf-8">
+<meta name="viewport" content="width=device-width, initial-scale=1">
+<title>Bridge table</title>
+<link rel="icon" href="data:,">
+<link rel="stylesheet" href="/table.css">
+<script src="/table.js" defer></script>
+</head>
+<body>
+<header>
+<h1 id="title">Bridge table</h1>
+<button id="leave" type="button" hidden>Leave</button>
+</header>
+<p id="notice" role="alert"></p>
+<p id="status" role="status"></p>
+<main id="main"><noscript>This page needs JavaScript.</noscript></main>
+</body>
+</html>
+"##;
+
+/// Its script: it judges nothing, greys what would be refused, and shows what the server tells.
+pub const SCRIPT: &str = r##""use strict";
+// The players' page. It judges nothing: it greys what would be refused, and shows what the server tells.
+
+const SEATS = ["N", "E", "S", "W"];
+const SEAT_NAMES = { N: "North", E: "East", S: "South", W: "West" };
+const SUITS = ["S", "H", "D", "C"];
+const SIGNS = { S: "\u2660", H: "\u2665", D: "\u2666", C: "\u2663" };
+const SUIT_NAMES = { S: "spades", H: "hearts", D: "diamonds", C: "clubs" };
+const RANK_NAMES = { A: "ace", K: "king", Q: "queen", J: "jack", T: "10" };
+const STRAINS = ["C", "D", "H", "S", "NT"];
+const LATE = 8000;
+const SENTENCES = {
+  NoKey: "Nobody has this key.",
+  NotAllowed: "That is not yours to do.",
+  Closed: "The session is closed.",
+  SitsOut: "You sit out in this round.",
+  NotCurrent: "That board is not being played at your table now.",
+  NotDealt: "The board is not dealt yet.",
+  WrongPhase: "That is not possible now.",
+  Stale: "Something else came first. Look again.",
+  NoClaim: "No claim stands.",
+  ClaimStands: "A claim stands and has to be answered first.",
+  NotAsked: "This claim does not ask you, or you have answered.",
+  NotYourTurn: "It is not your turn.",
+  MidTrick: "Claims are made between tricks.",
+  TooManyTricks: "There are not so many tricks left.",
+  InsufficientBid: "That bid is not sufficient.",
+  InadmissibleDouble: "There is nothing that you may double.",
+  InadmissibleRedouble: "There is nothing that you may redouble.",
+  NotHeld: "That card is not in the hand.",
+  MustFollow: "The hand has to follow suit.",
+  ClaimsSpent: "No more claims can be made on this board.",
+  Disk: "The server's disk has failed. Call the director.",
+  EpochsSpent: "The server's disk is used up. Call the director.",
+};
+
+const at = (id) => document.getElementById(id);
+let key = sessionStorage.getItem("key");
+let busy = false;
+let shown = "";
+let timer = 0;
+
+function make(tag, properties, ...children) {
+  const node = document.createElement(tag);
+  for (const [name, value] of Object.entries(properties || {})) {
+    if (name.startsWith("aria") || name === "role" || name === "for" || name === "scope") node.setAttribute(name.replace("aria_", "aria-"), value);
+    else node[name] = value;
+  }
+  node.append(...children);
+  return node;
+}
+
+function button(label, name, id, enabled, act) {
+  const node = make("button", { type: "button", id, disabled: busy || !enabled, onclick: act }, label);
+  if (name) node.setAttribute("aria-label", name);
+  return node;
+}
+
+function say(id, text) {
+  if (at(id).textContent !== text) at(id).textContent = text;
+}
+
+async function ask(path, body) {
+  const stop = new AbortController();
+  const late = setTimeout(() => stop.abort(), LATE);
+  try {
+    const response = await fetch(path, {
+      method: "POST",
+      headers: { "content-type": "application/x-table-lines" },
+      body,
+      signal: stop.signal,
+    });
+    return response.ok ? await response.text() : null;
+  } catch (_error) {
+    return null;
+  } finally {
+    clearTimeout(late);
+  }
+}
+
+// The first refusal of a reply, or an empty text.
+function refusal(reply) {
+  const words = reply.split("\n")[0].split(" ");
+  return words[0] === "ERR" ? words[2] : "";
+}
+
+// The lines of a reply of several lines, by their first words.
+function fields(reply) {
+  const found = {};
+  for (const line of reply.split("\n")) {
+    const words = line.split(" ");
+    if (words.length > 1) found[words[0]] = words.slice(1);
+  }
+  return found;
+}
+
+function readPlace(reply) {
+  const f = fields(reply);
+  const some = (words, value) => (words[0] === "-" ? null : value(words));
+  return {
+    round: Number(f.ROUND[0]),
+    rounds: Number(f.ROUND[1]),
+    pair: Number(f.PLAYER[0]),
+    name: f.PLAYER[1],
+    table: some(f.TABLE, (w) => ({ number: w[0], seat: w[1], first: w[2], last: w[3] })),
+    names: some(f.NAMES, (w) => ({ N: w[0], E: w[1], S: w[2], W: w[3] })),
+    contract: some(f.CONTRACT, (w) => ({ bid: w[0], declarer: w[1] })),
+    answer: f.ANSWER[0] === "DUE",
+    next: some(f.NEXT, (w) => ({ number: w[0], seat: w[1] })),
+  };
+}
+
+function readHand(text) {
+  const suits = text.split(".");
+  return Object.fromEntries(SUITS.map((suit, i) => [suit, suits[i]]));
+}
+
+function readTrick(words) {
+  if (words[0] === "-") return [];
+  const leader = SEATS.indexOf(words[0]);
+  return words.slice(1).map((card, i) => ({ seat: SEATS[(leader + i) % 4], card }));
+}
+
+function readView(reply) {
+  const f = fields(reply);
+  const none = (words) => words[0] === "-";
+  return {
+    board: f.PLAY[3],
+    seat: f.SEAT[0],
+    dealer: f.DEALER[0],
+    vulnerable: f.DEALER[2],
+    playing: f.PHASE[0] === "PLAY",
+    turn: f.TURN[0],
+    calls: f.CALLS || [],
+    made: { calls: f.AT[0], cards: f.AT[1], claims: f.AT[2] },
+    hand: readHand(f.HAND[0]),
+    dummy: none(f.DUMMY) ? null : readHand(f.DUMMY[0]),
+    trick: readTrick(f.TRICK),
+    last: readTrick(f.LAST),
+    tricks: { NS: f.TRICKS[0], EW: f.TRICKS[1] },
+    claim: none(f.CLAIM) ? null : { seat: f.CLAIM[0], tricks: f.CLAIM[1] },
+  };
+}
+
+const partner = (seat) => SEATS[(SEATS.indexOf(seat) + 2) % 4];
+const rankName = (rank) => RANK_NAMES[rank] || rank;
+const cardName = (card) => rankName(card[1]) + " of " + SUIT_NAMES[card[0]];
+const rankText = (rank) => (rank === "T" ? "10" : rank);
+
+function suitSign(suit) {
+  return make("span", { className: suit === "H" || suit === "D" ? "red" : "", title: SUIT_NAMES[suit] }, SIGNS[suit]);
+}
+
+function cardNodes(card) {
+  return [suitSign(card[0]), rankText(card[1])];
+}
+
+// A call as text nodes; doubles stand behind the bid in a contract.
+function callNodes(call) {
+  if (call === "PASS") return ["pass"];
+  if (call === "X") return ["double"];
+  if (call === "XX") return ["redouble"];
+  const strain = call.slice(1).replace(/X+$/, "");
+  const doubles = call.slice(1 + strain.length);
+  return [call[0], SIGNS[strain] ? suitSign(strain) : strain, doubles];
+}
+
+function seatName(place, seat) {
+  return SEAT_NAMES[seat] + (place.names ? " (" + place.names[seat] + ")" : "");
+}
+
+function vulnerableText(words) {
+  return { None: "nobody vulnerable", NS: "North and South vulnerable", EW: "East and West vulnerable", All: "all vulnerable" }[words] || words;
+}
+
+// Whose call was the last that was no pass: [call, seat], or null.
+function lastCall(view, among) {
+  for (let i = view.calls.length - 1; i >= 0; i -= 1) {
+    if (among(view.calls[i])) return { call: view.calls[i], seat: SEATS[(SEATS.indexOf(view.dealer) + i) % 4] };
+  }
+  return null;
+}
+
+const isBid = (call) => call !== "PASS" && call !== "X" && call !== "XX";
+const isOther = (view, seat) => seat !== view.seat && seat !== partner(view.seat);
+const height = (bid) => Number(bid[0]) * 5 + STRAINS.indexOf(bid.slice(1));
+
+function allowedCall(view, call) {
+  if (call === "PASS") return true;
+  const last = lastCall(view, (made) => made !== "PASS");
+  if (call === "X") return last !== null && isBid(last.call) && isOther(view, last.seat);
+  if (call === "XX") return last !== null && last.call === "X" && isOther(view, last.seat);
+  const bid = lastCall(view, isBid);
+  return bid === null || height(call) > height(bid.call);
+}
+
+function biddingBox(view) {
+  const call = (word, label, name) =>
+    button(label, name, "call-" + word, allowedCall(view, word), () => act("CALL " + key + " " + view.board + " " + view.made.calls + " " + word));
+  const bids = make("div", { className: "bids" });
+  for (let level = 1; level <= 7; level += 1) {
+    for (const strain of STRAINS) {
+      const word = level + strain;
+      const label = make("span", null, ...callNodes(word));
+      bids.append(call(word, label, level + " " + (SUIT_NAMES[strain] || "no trump")));
+    }
+  }
+  return make("section", { aria_label: "Bidding box" },
+    make("div", { className: "row" }, call("PASS", "Pass"), call("X", "Double"), call("XX", "Redouble")), bids);
+}
+
+function auctionTable(view) {
+  const columns = ["W", "N", "E", "S"];
+  const head = make("tr", null, ...columns.map((seat) => make("th", { scope: "col" }, SEAT_NAMES[seat])));
+  const cells = Array(columns.indexOf(view.dealer)).fill(null).concat(view.calls);
+  const rows = [];
+  for (let i = 0; i < cells.length; i += 4) {
+    const row = [0, 1, 2, 3].map((j) => make("td", null, ...(cells[i + j] ? callNodes(cells[i + j]) : [""])));
+    rows.push(make("tr", null, ...row));
+  }
+  return make("table", { aria_label: "Auction" }, make("thead", null, head), make("tbody", null, ...rows));
+}
+
+// A hand; its cards can be clicked where they may be played.
+function handNode(view, hand, label, mine) {
+  const led = view.trick.length > 0 && view.trick.length < 4 ? view.trick[0].card[0] : null;
+  const follows = led !== null && hand[led] !== "";
+  const node = make("section", { aria_label: label }, make("h2", null, label));
+  for (const suit of SUITS) {
+    const cards = [...hand[suit]].map((rank) => {
+      const card = suit + rank;
+      const may = mine && view.claim === null && (!follows || suit === led);
+      return button(rankText(rank), cardName(card), "card-" + card, may, () => act("CARD " + key + " " + view.board + " " + view.made.cards + " " + card));
+    });
+    node.append(make("div", { className: "suit" }, suitSign(suit), ...cards));
+  }
+  return node;
+}
+
+function tableNode(place, view) {
+  const own = SEATS.indexOf(view.seat);
+  const where = (seat) => ["bottom", "left", "top", "right"][(SEATS.indexOf(seat) - own + 4) % 4];
+  const node = make("section", { className: "table", aria_label: "Table" });
+  for (const seat of SEATS) {
+    const turn = view.claim === null && view.turn === seat;
+    const text = [SEAT_NAMES[seat], make("br"), place.names ? place.names[seat] : ""];
+    node.append(make("div", { className: "seat " + where(seat) + (turn ? " turn" : "") }, ...text));
+  }
+  const trick = make("div", { className: "trick", role: "group", aria_label: "Trick" });
+  for (const { seat, card } of view.trick) {
+    trick.append(make("span", { className: "played " + where(seat), role: "img", aria_label: SEAT_NAMES[seat] + ": " + cardName(card) }, ...cardNodes(card)));
+  }
+  node.append(trick);
+  return node;
+}
+
+function contractNode(place, view) {
+  const node = make("p", null);
+  if (place.contract) {
+    node.append("Contract ", ...callNodes(place.contract.bid), " by " + seatName(place, place.contract.declarer) + ". ");
+  }
+  node.append("Tricks: North and South " + view.tricks.NS + ", East and West " + view.tricks.EW + ".");
+  return node;
+}
+
+function lastNode(view) {
+  const node = make("p", { className: "small" }, "Last trick: ");
+  view.last.forEach(({ seat, card }, i) => node.append(i ? ", " : "", SEAT_NAMES[seat] + " ", ...cardNodes(card)));
+  return node;
+}
+
+function claimNode(place, view) {
+  const line = (word, rest) => word + " " + key + " " + view.board + " " + view.made.claims + rest;
+  if (view.claim) {
+    const box = make("div", { className: "row" });
+    if (place.answer) {
+      box.append(button("Agree", "", "agree", true, () => act(line("AGREE", ""))), button("Refuse", "", "refuse", true, () => act(line("REFUSE", ""))));
+    }
+    return box;
+  }
+  const left = 13 - Number(view.tricks.NS) - Number(view.tricks.EW);
+  const dummy = place.contract && partner(place.contract.declarer) === view.seat;
+  const between = view.trick.length === 0;
+  const count = make("input", { id: "claim", type: "number", min: 0, max: left, value: left });
+  const open = make("details", { id: "claiming" }, make("summary", null, "Claim or concede"),
+    make("div", { className: "row" }, make("label", { for: "claim" }, "My side wins of the tricks left"), count,
+      button("Claim", "", "claim-button", between && !dummy, () => act(line("CLAIM", " " + Math.trunc(Number(count.value)))))));
+  open.hidden = dummy === true;
+  return open;
+}
+
+// What is waited for, in a sentence.
+function waiting(place, view) {
+  const who = (seat) => (seat === view.seat ? "You are" : seatName(place, seat) + " is");
+  if (view.claim) {
+    const claims = (view.claim.seat === view.seat ? "You claim " : seatName(place, view.claim.seat) + " claims ") + view.claim.tricks + " of the tricks left. ";
+    return claims + (place.answer ? "Do you agree?" : "An answer is waited for.");
+  }
+  if (!view.playing) return who(view.turn) + " to call.";
+  if (!place.contract) return who(view.turn) + " to play.";
+  const declarer = place.contract.declarer;
+  const dummy = partner(declarer);
+  if (view.turn === dummy) return (declarer === view.seat ? "You are" : seatName(place, declarer) + " is") + " to play from dummy.";
+  return who(view.turn) + " to play" + (view.made.cards === "0" ? " the opening lead." : ".");
+}
+
+function playNodes(place, view) {
+  const contract = place.contract;
+  const dummySeat = contract ? partner(contract.declarer) : null;
+  const mine = view.playing && contract && view.turn === view.seat && view.seat !== dummySeat;
+  const forDummy = view.playing && contract && view.turn === dummySeat && view.seat === contract.declarer;
+  const nodes = [make("p", null, "Board " + view.board + ", dealer " + SEAT_NAMES[view.dealer] + ", " + vulnerableText(view.vulnerable) + "."), tableNode(place, view)];
+  if (view.playing) {
+    nodes.push(contractNode(place, view));
+    if (view.last.length) nodes.push(lastNode(view));
+  } else {
+    nodes.push(auctionTable(view));
+  }
+  if (view.dummy && view.seat !== dummySeat) nodes.push(handNode(view, view.dummy, "Dummy", forDummy));
+  nodes.push(handNode(view, view.hand, view.seat === dummySeat && view.playing ? "Your hand, which is dummy" : "Your hand", mine));
+  if (!view.playing && view.turn === view.seat) nodes.push(biddingBox(view));
+  if (view.playing) {
+    nodes.push(claimNode(place, view), make("details", { id: "calls" }, make("summary", null, "Auction"), auctionTable(view)));
+  }
+  return nodes;
+}
+
+function placeText(place) {
+  const table = place.table;
+  if (!table) return "You sit out in this round.";
+  const boards = table.first === table.last ? "Board " + table.first + "." : "Boards " + table.first + " to " + table.last + ".";
+  const mate = place.names ? ", with " + place.names[partner(table.seat)] : "";
+  return "Table " + table.number + ", " + SEAT_NAMES[table.seat] + mate + ". " + boards;
+}
+
+function nextText(place) {
+  if (place.round >= place.rounds) return "";
+  if (!place.next) return "You sit out in the next round.";
+  return "Next round: table " + place.next.number + ", " + SEAT_NAMES[place.next.seat] + ".";
+}
+
+function headText(place) {
+  return place.name + ", pair " + place.pair;
+}
+
+// Shows these nodes, where what they are made of is new; the focus and what is open stay.
+function show(made, status, nodes) {
+  say("status", status);
+  const mark = made + (busy ? " busy" : "");
+  if (mark === shown) return;
+  shown = mark;
+  const main = at("main");
+  const focus = document.activeElement && main.contains(document.activeElement) ? document.activeElement.id : "";
+  const open = [...main.querySelectorAll("details[open]")].map((node) => node.id);
+  const value = at("claim") ? at("claim").value : "";
+  main.replaceChildren(...nodes());
+  for (const id of open) if (at(id)) at(id).open = true;
+  if (value !== "" && open.includes("claiming") && at("claim") && Number(value) <= Number(at("claim").max)) at("claim").value = value;
+  if (focus && at(focus) && !at(focus).disabled) at(focus).focus();
+}
+
+function showView(placeReply, reply) {
+  const place = readPlace(placeReply);
+  at("title").textContent = headText(place);
+  const head = () => [make("p", null, "Round " + place.round + " of " + place.rounds + ". " + placeText(place))];
+  const refused = refusal(reply);
+  const made = placeReply + reply;
+  if (!refused) {
+    const view = readView(reply);
+    show(made, waiting(place, view), () => head().concat(playNodes(place, view)));
+  } else if (refused === "NotDealt") {
+    show(made, "The next board is not dealt yet.", head);
+  } else if (refused === "NotCurrent") {
+    show(made, "Your boards of this round are done. " + nextText(place), head);
+  } else if (refused === "SitsOut") {
+    show(made, "You sit out in this round. " + nextText(place), head);
+  } else {
+    show(made, SENTENCES[refused] || reply, head);
+  }
+}
+
+function rankingNode(field, reply) {
+  const lines = reply.split("\n").filter((line) => /^\d/.test(line)).map((line) => line.split(" "));
+  const titles = ["Place", "Pair", "Score", "Per cent"].slice(0, lines.length ? lines[0].length : 0);
+  const head = make("tr", null, ...titles.map((title) => make("th", { scope: "col" }, title)));
+  const rows = lines.map((words) => make("tr", null, ...words.map((word) => make("td", null, word))));
+  return [make("h2", null, "Ranking, field " + field), make("table", { aria_label: "Ranking of field " + field }, make("thead", null, head), make("tbody", null, ...rows))];
+}
+
+async function showClosed(placeReply) {
+  const place = readPlace(placeReply);
+  at("title").textContent = headText(place);
+  const first = await ask("/lines", "RANK " + key + " 1\n");
+  const second = await ask("/lines", "RANK " + key + " 2\n");
+  if (first === null || second === null) return;
+  const both = [[1, first], [2, second]].filter((one) => !refusal(one[1]));
+  show(placeReply + first + second, "The session is closed.", () => both.flatMap((one) => rankingNode(one[0], one[1])));
+}
+
+function showDirector() {
+  at("title").textContent = "Director";
+  show("director", "", () => {
+    const box = make("textarea", { id: "box", spellcheck: false });
+    const reply = make("pre", { id: "replies", role: "log", aria_label: "Replies" });
+    const send = async () => {
+      const lines = box.value.split("\n").filter((line) => line.trim() !== "");
+      const body = lines.map((line) => line.trim().replace(/^(\S+)\s*/, (_all, word) => (word === "SYNC" ? word : word + " " + key + " ")).trim() + "\n").join("");
+      const text = await ask("/lines", body);
+      reply.textContent = text === null ? "No answer came. The lines may or may not have been taken." : text;
+    };
+    return [make("label", { for: "box" }, "Lines of the protocol, without the key"), box, button("Send", "", "send", true, send), reply];
+  });
+}
+
+function showLogin() {
+  at("title").textContent = "Bridge table";
+  at("leave").hidden = true;
+  show("login", "", () => {
+    const field = make("input", { id: "key", type: "text", inputMode: "numeric", autocomplete: "off", pattern: "[0-9]+", required: true });
+    const enter = (event) => {
+      event.preventDefault();
+      key = field.value.trim();
+      say("notice", "");
+      look();
+    };
+    const form = make("form", { onsubmit: enter }, make("label", { for: "key" }, "Your key"), " ", field, " ", make("button", { type: "submit" }, "Sit down"));
+    return [form];
+  });
+}
+
+function leave() {
+  key = null;
+  sessionStorage.removeItem("key");
+  say("notice", "");
+  showLogin();
+}
+
+function unreachable() {
+  say("status", "The server does not answer. Trying again.");
+}
+
+// Looks once, and again after a second.
+async function look() {
+  clearTimeout(timer);
+  const asked = key;
+  if (asked === null) return showLogin();
+  if (!busy) await lookOnce(asked);
+  clearTimeout(timer);
+  if (key !== null) timer = setTimeout(look, document.hidden ? 5000 : 1000);
+}
+
+async function lookOnce(asked) {
+  const place = await ask("/place", asked);
+  if (key !== asked || busy) return;
+  if (place === null) return unreachable();
+  const refused = refusal(place);
+  if (refused === "NotAllowed") {
+    enter(asked);
+    return showDirector();
+  }
+  if (refused) {
+    leave();
+    return say("notice", SENTENCES[refused] || "That is no key.");
+  }
+  enter(asked);
+  const where = readPlace(place);
+  if (where.round > where.rounds) return showClosed(place);
+  const view = await ask("/lines", "SEE " + asked + "\n");
+  if (key !== asked || busy) return;
+  if (view === null) return unreachable();
+  showView(place, view);
+}
+
+function enter(asked) {
+  sessionStorage.setItem("key", asked);
+  at("leave").hidden = false;
+}
+
+// Sends one line, and shows what has become of it.
+async function act(line) {
+  if (busy) return;
+  busy = true;
+  say("notice", "");
+  for (const node of at("main").querySelectorAll("button")) node.disabled = true;
+  const reply = await ask("/lines", line + "\n");
+  busy = false;
+  shown = "";
+  if (reply === null) say("notice", "No answer came. It may or may not have been taken; what you see next tells.");
+  else if (refusal(reply)) say("notice", SENTENCES[refusal(reply)] || reply);
+  look();
+}
+
+at("leave").onclick = leave;
+document.addEventListener("visibilitychange", () => { if (!document.hidden) look(); });
+look();
+"##;
+
+/// Its style.
+pub const STYLE: &str = r##":root { color-scheme: light; --felt: #e3efe6; --line: #51635a; --ink: #16211b; --red: #a3001e; --turn: #ffd84d; }
+* { box-sizing: border-box; }
+[hidden] { display: none !important; }
+body { margin: 0 auto; max-width: 60rem; padding: 0 .6rem 2rem; font: 1.05rem/1.4 system-ui, sans-serif; color: var(--ink); background: #fff; }
+header { display: flex; justify-content: space-between; align-items: center; gap: 1rem; }
+h1 { font-size: 1.3rem; margin: .5rem 0; }
+h2 { font-size: 1.1rem; margin: .8rem 0 .3rem; }
+p { margin: .35rem 0; }
+#notice:empty, #status:empty { display: none; }
+#notice { background: #fff1d6; border: 2px solid #8a5a00; padding: .4rem .6rem; }
+#status { font-weight: bold; }
+button, input, textarea { font: inherit; color: inherit; }
+button { min-height: 2.75rem; min-width: 2.75rem; padding: .2rem .6rem; background: #fff; border: 1px solid var(--line); border-radius: .4rem; cursor: pointer; }
+button:focus-visible, input:focus-visible, textarea:focus-visible { outline: 3px solid #0b57d0; outline-offset: 2px; }
+button:disabled { color: #5c655f; background: #ececec; border-style: dashed; cursor: default; }
+input, textarea { padding: .4rem; border: 1px solid var(--line); border-radius: .4rem; }
+input { min-height: 2.75rem; width: 12rem; max-width: 100%; }
+textarea { width: 100%; min-height: 8rem; font-family: ui-monospace, monospace; }
+pre { background: #f4f4f4; padding: .5rem; overflow-x: auto; }
+.red { color: var(--red); }
+.table { display: grid; grid-template-columns: 1fr minmax(9rem, 1.4fr) 1fr; gap: .3rem; background: var(--felt); border: 1px solid var(--line); border-radius: .6rem; padding: .4rem; }
+.seat { text-align: center; padding: .2rem; border-radius: .4rem; overflow-wrap: anywhere; border: 3px solid transparent; }
+.seat.turn { border-color: var(--line); background: var(--turn); }
+.top { grid-area: 1 / 2; } .left { grid-area: 2 / 1; align-self: center; } .right { grid-area: 2 / 3; align-self: center; } .bottom { grid-area: 3 / 2; }
+.trick { grid-area: 2 / 2; display: grid; grid-template-columns: repeat(3, 1fr); grid-template-rows: repeat(3, 2.6rem); align-items: center; justify-items: center; }
+.trick .top { grid-area: 1 / 2; } .trick .left { grid-area: 2 / 1; } .trick .right { grid-area: 2 / 3; } .trick .bottom { grid-area: 3 / 2; }
+.played { background: #fff; border: 1px solid var(--line); border-radius: .4rem; padding: .2rem .45rem; font-weight: bold; }
+.small { font-size: .9rem; }
+.suit { display: flex; flex-wrap: wrap; gap: .3rem; align-items: center; margin: .25rem 0; }
+.suit > span:first-child { width: 1.4rem; font-size: 1.3rem; text-align: center; }
+.suit button { font-weight: bold; border-width: 2px; }
+.suit button:disabled { color: var(--ink); background: #fff; border: 1px solid #aab5af; font-weight: normal; }
+.bids { display: grid; grid-template-columns: repeat(5, minmax(2.75rem, 5rem)); gap: .3rem; margin: .4rem 0; }
+.row { display: flex; flex-wrap: wrap; gap: .4rem; align-items: center; margin: .4rem 0; }
+table { border-collapse: collapse; }
+th, td { border: 1px solid #9aa59f; padding: .2rem .6rem; text-align: center; }
+"##;

@@ -1,0 +1,113 @@
+//! The clients of the server.
+ghost use Rattle.std.specs.Prelude.{◌≡◌};
+ghost use Rattle.web_loop.specs.Turns.{LeadsTo};
+
+use crate::client::Client;
+use crate::turn::Turn;
+use http_server::{Config, Connection, Service};
+use slab::Slab;
+use std::alloc::Global;
+use std::hash::RandomState;
+use std::io;
+use std::io::{Read, Write};
+use std::net::OpenStream;
+use std::time::Instant;
+
+/// The most clients at once.
+pub const MOST_CLIENTS: usize = 128;
+
+/// The clients that are connected, at most 128.
+#[derive(Drop)]
+pub struct Clients<T> {
+    alloc: Global,
+    keys: RandomState,
+    config: Config,
+    connected: Slab<Client<T>>,
+}
+
+impl<T: Read + Write + OpenStream + Drop> Clients<T> {
+    /// No client. The limits of each connection are those of `config`, and the names of headers, which a peer chooses, are
+    /// looked up by secret keys.
+    pub fn new(alloc: Global, keys: RandomState, config: Config) -> Clients<T> {
+        Clients {
+            alloc,
+            keys,
+            config,
+            connected: Slab::new(alloc),
+        }
+    }
+
+    /// Takes a new client, in place of the one that has been silent the longest where there are 128. The error is the socket's,
+    /// or that memory was refused, and then it is closed.
+    pub fn admit(&mut self, stream: T, now: Instant) -> io::Result<()> {
+        stream.set_nonblocking(true)?;
+        let _ = stream.set_nodelay(true);
+        let writer = stream.try_clone()?;
+        if self.connected.len() >= MOST_CLIENTS {
+            self.drop_longest_silent();
+        }
+        let connection = Connection::new(self.alloc, self.keys, self.config);
+        let client = Client::new(connection, stream, writer, now);
+        match self.connected.insert(client) {
+            Ok(_) => Ok(()),
+            Err(_) => Err(io::ErrorKind::OutOfMemory.into()),
+        }
+    }
+
+    /// Closes the connection that has been silent the longest.
+    fn drop_longest_silent(&mut self) {
+        let mut longest: Option<(usize, Instant)> = None;
+        for key in 0..self.connected.capacity() {
+            if let Some(client) = self.connected.get(key) {
+                let heard = client.heard();
+                match longest {
+                    Some((_, other)) if other <= heard => {}
+                    _ => longest = Some((key, heard)),
+                }
+            }
+        }
+        if let Some((key, _)) = longest {
+            self.connected.try_remove(key);
+        }
+    }
+
+    /// A turn of each client, and whether any of them read or wrote.
+    pub fn take_turns<S: Service>(&mut self, service: &mut S, now: Instant) -> bool
+        ensures { LeadsTo S.answers service.old service.new }
+    {
+        let mut moved = false;
+        for key in 0..self.connected.capacity() {
+            moved |= self.take_turn_at(key, service, now);
+        }
+        moved
+    }
+
+    /// The turn of the client under a key, if there is one, and whether it read or wrote. It goes where it closes.
+    fn take_turn_at<S: Service>(&mut self, key: usize, service: &mut S, now: Instant) -> bool
+        ensures { LeadsTo S.answers service.old service.new }
+    {
+        match turn_at(&mut self.connected, key, service, now) {
+            Turn::Waits { moved } => moved,
+            Turn::GoesOn => true,
+            Turn::Closes => {
+                self.connected.try_remove(key);
+                false
+            }
+        }
+    }
+}
+
+/// The turn of the client under a key, if there is one.
+fn turn_at<T: Read + Write + Drop, S: Service>(
+    connected: &mut Slab<Client<T>>,
+    key: usize,
+    service: &mut S,
+    now: Instant,
+) -> Turn
+    ensures { LeadsTo S.answers service.old service.new }
+{
+    match connected.get_mut(key) {
+        Some(client) => client.take_turn(service, now),
+        None => Turn::Waits { moved: false },
+    }
+}

@@ -1,0 +1,20 @@
+//! A web server in one thread: connections that do not block, each asked in turn, so that none that is silent, slow or
+//! does not read holds the others up.
+//!
+//! ```rust
+//! let mut clients = Clients::new(rt.alloc(), RandomState::new(&rt)?, Config::default());
+//! serve_minutes(&rt, &listener, &mut clients, &mut service, 180)?;
+//! ```
+#![tactic(auto)]
+
+mod client;
+mod clients;
+mod service;
+mod serving;
+mod turn;
+
+pub use client::Client;
+pub use clients::{Clients, MOST_CLIENTS};
+pub use service::LastingService;
+pub use serving::{serve_minutes, serve_rounds};
+pub use turn::{Turn, take_turn};

@@ -1,0 +1,118 @@
+//! One turn of one connection.
+ghost use Rattle.std.specs.Prelude.{◌≡◌};
+ghost use Rattle.http_server.specs.Connection.{history};
+ghost use Rattle.http_server.specs.Exchange.{Calls};
+ghost use Rattle.web_loop.specs.Turns.{Receives, Sends};
+
+use http_server::{Connection, Service};
+use std::io::{ErrorKind, Read, Write};
+
+/// The most reads and writes of one turn.
+const MOST_STEPS: usize = 64;
+
+/// How a turn of a connection ended.
+#[derive(Clone, Copy, Debug, PartialEq, Eq)]
+pub enum Turn {
+    /// The peer gives no more for now, or takes no more.
+    Waits {
+        /// Whether bytes were read or written before.
+        moved: bool,
+    },
+    /// It took as many steps as a turn may, and has more to do.
+    GoesOn,
+    /// It is done, or its peer is gone.
+    Closes,
+}
+
+/// What one step of a connection did.
+#[derive(Clone, Copy, Debug, PartialEq, Eq)]
+enum Step {
+    /// It read or wrote, or was interrupted.
+    Moved,
+    /// The peer gives or takes nothing now.
+    Blocked,
+    /// It is done, or its peer is gone.
+    Closed,
+}
+
+impl Step {
+    /// What a step did that failed so.
+    fn failed(kind: ErrorKind) -> Step {
+        match kind {
+            ErrorKind::WouldBlock => Step::Blocked,
+            ErrorKind::Interrupted => Step::Moved,
+            _ => Step::Closed,
+        }
+    }
+}
+
+/// Writes once of what is pending.
+fn write_once<W: Write>(connection: &mut Connection, writer: &mut W) -> Step
+    ensures written { Sends (history connection.old) (history connection.new) (W.contents writer.old) (W.contents writer.new) }
+    ensures received { (history connection.new).received ≡ (history connection.old).received }
+    ensures calls { (history connection.new).calls ≡ (history connection.old).calls }
+{
+    match connection.write_to(writer) {
+        Ok(0) => Step::Closed,
+        Ok(_) => Step::Moved,
+        Err(error) => Step::failed(error.kind()),
+    }
+}
+
+/// Reads once.
+fn read_once<R: Read>(connection: &mut Connection, reader: &mut R) -> Step
+    ensures read { Receives (history connection.old) (history connection.new) (R.remaining reader.old) (R.remaining reader.new) }
+    ensures sent { (history connection.new).sent ≡ (history connection.old).sent }
+    ensures calls { (history connection.new).calls ≡ (history connection.old).calls }
+{
+    match connection.read_from(reader) {
+        Ok(_) => Step::Moved,
+        Err(error) => Step::failed(error.kind()),
+    }
+}
+
+/// Answers what was received, and then writes once if something is pending, or else reads once.
+fn take_step<S: Service, R: Read, W: Write>(
+    connection: &mut Connection,
+    service: &mut S,
+    reader: &mut R,
+    writer: &mut W,
+) -> Step
+    ensures read { Receives (history connection.old) (history connection.new) (R.remaining reader.old) (R.remaining reader.new) }
+    ensures written { Sends (history connection.old) (history connection.new) (W.contents writer.old) (W.contents writer.new) }
+    ensures calls { Calls S.answers service.old service.new (history connection.old).calls (history connection.new).calls }
+{
+    connection.advance(service);
+    if connection.is_done() {
+        Step::Closed
+    } else if connection.wants_write() {
+        write_once(connection, writer)
+    } else {
+        read_once(connection, reader)
+    }
+}
+
+/// Reads, answers and writes, until the connection waits for its peer, is done, or had its share of this turn. Nothing is read
+/// while something is pending.
+///
+/// It waits where the reader or the writer would block, and closes where it is done, at any other error than an interruption,
+/// and where the writer takes nothing.
+pub fn take_turn<S: Service, R: Read, W: Write>(
+    connection: &mut Connection,
+    service: &mut S,
+    reader: &mut R,
+    writer: &mut W,
+) -> Turn
+    ensures read { Receives (history connection.old) (history connection.new) (R.remaining reader.old) (R.remaining reader.new) }
+    ensures written { Sends (history connection.old) (history connection.new) (W.contents writer.old) (W.contents writer.new) }
+    ensures calls { Calls S.answers service.old service.new (history connection.old).calls (history connection.new).calls }
+{
+    for steps in 0..MOST_STEPS {
+        match take_step(connection, service, reader, writer) {
+            Step::Moved => {}
+            Step::Blocked => return Turn::Waits { moved: steps > 0 },
+            Step::Closed => return Turn::Closes,
+        }
+    }
+    Turn::GoesOn
+}

@@ -1,0 +1,55 @@
+-- Where a request goes.
+use Rattle.std.specs.Prelude.{ℕ, Bool, false, ◌||◌, List, Option, Some, None, bytes_eq, codes, if◌then◌else◌}
+use Rattle.http.specs.declared.request.Parts.{Parts}
+use Rattle.http_header.specs.FieldValue.{FieldValue}
+use Rattle.http_header.specs.HeaderMap.{get}
+use Rattle.http_uri.specs.Uri.{uri_authority, uri_path}
+use Rattle.web_requests.specs.declared.route.Route.{Route}
+use Rattle.web_requests.specs.declared.route.Route.TheVariants.{Page, Script, Style, Lines, Place, Refused}
+use Rattle.web_requests.specs.declared.route.Refusal.TheVariants.{Misdirected, NotFound, OnlyRead, OnlyPosted, WrongType}
+
+-- there is a value, and it is this text
+abbrev pub is_value : List ℕ → Option FieldValue → Bool
+is_value text None = false
+is_value text (Some value) = bytes_eq value.bytes text
+
+-- the host that a request names is one of two
+abbrev pub is_host : List ℕ → List ℕ → Option FieldValue → Bool
+is_host host alias value = is_value host value || is_value alias value
+
+-- A request names this server: its target has no host of its own, and the one that its header names is one of two.
+abbrev pub is_addressed : List ℕ → List ℕ → Option (List ℕ) → Option FieldValue → Bool
+is_addressed host alias (Some authority) value = false
+is_addressed host alias None value = is_host host alias value
+
+abbrev pub is_here : List ℕ → List ℕ → Parts → Bool
+is_here host alias head = is_addressed host alias (uri_authority head.uri) (get head.headers (codes "host"))
+
+-- the type of a body that is lines of the protocol
+abbrev pub lines_type : List ℕ
+lines_type = codes "application/x-table-lines"
+
+-- what is read alone
+abbrev pub reading : Route → List ℕ → Route
+reading route method =
+    if bytes_eq method (codes "GET") || bytes_eq method (codes "HEAD") then route else Refused OnlyRead
+
+-- what lines are posted to
+abbrev pub posting : Route → Parts → Route
+posting route head =
+    if bytes_eq head.method (codes "POST")
+    then (if is_value lines_type (get head.headers (codes "content-type")) then route else Refused WrongType)
+    else Refused OnlyPosted
+
+-- the paths that there are
+abbrev pub route_at : List ℕ → Parts → Route
+route_at path head =
+    if bytes_eq path (codes "/") then reading Page head.method else (
+    if bytes_eq path (codes "/table.js") then reading Script head.method else (
+    if bytes_eq path (codes "/table.css") then reading Style head.method else (
+    if bytes_eq path (codes "/lines") then posting Lines head else (
+    if bytes_eq path (codes "/place") then posting Place head else Refused NotFound))))
+
+-- where a request goes that came to a server of these two names
+abbrev pub route_for : List ℕ → List ℕ → Parts → Route
+route_for host alias head = if is_here host alias head then route_at (uri_path head.uri) head else Refused Misdirected

@@ -1,0 +1,103 @@
+//! Where a request goes.
+ghost use Rattle.std.specs.Prelude.{◌≡◌};
+ghost use Rattle.http.specs.Request.{head_of};
+ghost use Rattle.web_requests.specs.Route.{is_here, reading, posting, route_for};
+
+use bytes::Bytes;
+use http::Request;
+use http::header::{CONTENT_TYPE, HOST};
+
+/// What a request asks for.
+#[derive(Clone, Copy, Debug, PartialEq, Eq)]
+pub enum Route {
+    /// `GET /`: the page.
+    Page,
+    /// `GET /table.js`: its script.
+    Script,
+    /// `GET /table.css`: its style.
+    Style,
+    /// `POST /lines`: lines of the protocol are to be answered.
+    Lines,
+    /// `POST /place`: the place of the player whose key is its body is to be told.
+    Place,
+    /// Nothing that is here.
+    Refused(Refusal),
+}
+
+/// Why a request is refused, in the order in which it is judged.
+#[derive(Clone, Copy, Debug, PartialEq, Eq)]
+pub enum Refusal {
+    /// 421: the request names no host, or another than this one, as where a name of another site was bound to this address.
+    Misdirected,
+    /// 404: there is nothing at its path.
+    NotFound,
+    /// 405: what is there is read alone, by `GET` or `HEAD`.
+    OnlyRead,
+    /// 405: what is there is asked alone, by `POST`.
+    OnlyPosted,
+    /// 415: its body is of another type than lines. A form of another site, and a fetch that asks nobody, cannot have that type.
+    WrongType,
+    /// 413: its body is longer than is read at once.
+    TooLong,
+}
+
+/// The type of a body that is lines of the protocol.
+const LINES_TYPE: &[u8] = b"application/x-table-lines";
+
+/// Where a request goes that came to a server which goes by two names, each a host and its port.
+///
+/// A query after the path is ignored, and a target that names a host of its own is refused.
+pub fn route_of(host: &str, alias: &str, request: &Request<Bytes>) -> Route
+    ensures { result ≡ route_for host.now alias.now (head_of request.now) }
+{
+    if !is_here(host, alias, request) {
+        return Route::Refused(Refusal::Misdirected);
+    }
+    match request.uri().path() {
+        "/" => reading(request, Route::Page),
+        "/table.js" => reading(request, Route::Script),
+        "/table.css" => reading(request, Route::Style),
+        "/lines" => posting(request, Route::Lines),
+        "/place" => posting(request, Route::Place),
+        _ => Route::Refused(Refusal::NotFound),
+    }
+}
+
+/// Whether the request names this server, by either of its names.
+fn is_here(host: &str, alias: &str, request: &Request<Bytes>) -> bool
+    ensures { result ≡ is_here host.now alias.now (head_of request.now) }
+{
+    if request.uri().authority().is_some() {
+        return false;
+    }
+    match request.headers().get(HOST) {
+        Some(value) => {
+            let name = value.as_bytes();
+            name == host.as_bytes() || name == alias.as_bytes()
+        }
+        None => false,
+    }
+}
+
+/// The route of a path that is read, and of any other method.
+fn reading(request: &Request<Bytes>, route: Route) -> Route
+    ensures { result ≡ reading route (head_of request.now).method }
+{
+    match request.method().as_str() {
+        "GET" | "HEAD" => route,
+        _ => Route::Refused(Refusal::OnlyRead),
+    }
+}
+
+/// The route of a path to which lines are posted, and of any other method or type.
+fn posting(request: &Request<Bytes>, route: Route) -> Route
+    ensures { result ≡ posting route (head_of request.now) }
+{
+    if request.method().as_str() != "POST" {
+        return Route::Refused(Refusal::OnlyPosted);
+    }
+    match request.headers().get(CONTENT_TYPE) {
+        Some(value) if value.as_bytes() == LINES_TYPE => route,
+        _ => Route::Refused(Refusal::WrongType),
+    }
+}
