@@ -10,6 +10,7 @@ use Rattle.session_bytes.specs.ActionRange.{IsInRange}
 use Rattle.session_rules.proofs.Decided.{Decided, decided_both}
 use Rattle.session_bytes.specs.Parts.{parts_of}
 use Rattle.session_bytes.specs.PartsRead.{state_read}
+use Rattle.session_bytes.specs.Head.{HasHead}
 use Rattle.session_rules.proofs.SessionDecided.{decided_session, decided_parts}
 use Rattle.session_rules.specs.State.{SessionValue}
 use Rattle.session_rules.specs.StateRange.{IsSession}
@@ -44,6 +45,8 @@ session_keeping = record {
   IsAction = IsInRange;
   parts = parts_of Two;
   state_of = session_of;
+  -- they begin with those of a configuration and a round of it, and are as many as its sessions have
+  MayBe = λ format. HasHead;
   action_bytes = action_bytes;
   action_of = action_of;
   step = λ s action. step_by s action (step_answer s action);

@@ -13,6 +13,8 @@ pub record Keeping (S A R : Type 0) : Type 1 where
   -- the parts of a state, each at most 480 bytes; and the state of such parts of a format
   pub parts : S → List (List ℕ)
   pub state_of : DiskFormat → List (List ℕ) → Option S
+  -- parts of which some state may be made, so that memory is asked for
+  pub MayBe : DiskFormat → List (List ℕ) → Type 0
   -- the bytes of an action, at most 480; and the action of such bytes of a format
   pub action_bytes : A → List ℕ
   pub action_of : DiskFormat → List ℕ → Option A

@@ -31,14 +31,15 @@ pub trait Kept: Sized + Drop {
         ensures { part.new.items ≡ slice_index_or (kept.parts self.now) i [] };
 
     /// The state of these parts of a format. `Bad` where they are not exactly those of a state, `Memory` where it is out
-    /// of memory.
+    /// of memory, which is asked for only where they may be those of one.
     fn from_parts(
         alloc: Global,
         format: DiskFormat,
         parts: &[ArrayVec<u8, PAYLOAD_BYTES>],
     ) -> Result<Self, PartsFault>
         ensures state { IfOk result (λ s. kept.state_of format (map (λ part. part.items) parts.now) ≡ Some s) }
-        ensures bad { IsErrOf result PartsFault.Bad → kept.state_of format (map (λ part. part.items) parts.now) ≡ None };
+        ensures bad { IsErrOf result PartsFault.Bad → kept.state_of format (map (λ part. part.items) parts.now) ≡ None }
+        ensures memory { IsErrOf result PartsFault.Memory → kept.MayBe format (map (λ part. part.items) parts.now) };
 
     /// Clears `bytes`, and writes the action into it.
     fn write_action(action: &Self::Action, bytes: &mut ArrayVec<u8, PAYLOAD_BYTES>)

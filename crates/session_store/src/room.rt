@@ -1,6 +1,6 @@
 //! The memory that opening a store takes: room for the parts of a snapshot, and for two states. Only here can it be said
 //! that memory was refused; what reads a disk has no such error to give.
-ghost use Rattle.std.specs.Prelude.{◌≡◌, ◌≤◌, [], IfOk, IfSome, IfNone, None, Some, map, vec_capacity};
+ghost use Rattle.std.specs.Prelude.{◌≡◌, ◌≤◌, [], IfOk, OnErr, IfSome, IfNone, None, Some, map, vec_capacity};
 
 use crate::{DiskFormat, Kept, PAYLOAD_BYTES, PartsFault};
 use arrayvec::ArrayVec;
@@ -26,13 +26,14 @@ pub(crate) fn room_for_parts(
     }
 }
 
-/// The state of these parts of a format, if they have one.
+/// The state of these parts of a format, if they have one. Memory is asked for only where they may be those of one.
 fn make_state<K: Kept>(
     alloc: Global,
     format: DiskFormat,
     parts: &[ArrayVec<u8, PAYLOAD_BYTES>],
 ) -> Result<Option<K>, NoRoom>
-    ensures { IfOk result (λ state. K.kept.state_of format (map (λ part. part.items) parts.now) ≡ state) }
+    ensures memory { OnErr result (K.kept.MayBe format (map (λ part. part.items) parts.now)) }
+    ensures state { IfOk result (λ state. K.kept.state_of format (map (λ part. part.items) parts.now) ≡ state) }
 {
     match K::from_parts(alloc, format, parts) {
         Ok(state) => Ok(Some(state)),
@@ -41,12 +42,13 @@ fn make_state<K: Kept>(
     }
 }
 
-/// The state of these parts of a format twice, if they have one.
+/// The state of these parts of a format twice, if they have one. Memory is asked for only where they may be those of one.
 pub(crate) fn make_states<K: Kept>(
     alloc: Global,
     format: DiskFormat,
     parts: &[ArrayVec<u8, PAYLOAD_BYTES>],
 ) -> Result<Option<(K, K)>, NoRoom>
+    ensures memory { OnErr result (K.kept.MayBe format (map (λ part. part.items) parts.now)) }
     ensures state { IfOk result (λ made. IfSome made (λ both.
         K.kept.state_of format (map (λ part. part.items) parts.now) ≡ Some both.1)) }
     ensures same { IfOk result (λ made. IfSome made (λ both. both.0 ≡ both.1)) }

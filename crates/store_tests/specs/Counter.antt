@@ -1,6 +1,6 @@
 -- The counter that the tests keep: a number of parts, and a total. Each part holds the total's two bytes: in the first format
 -- the low one first, in the second the high one. An action's bytes differ too, so that no format is read as the other.
-use Rattle.std.specs.Prelude.{◌<◌, ◌≤◌, ◌+◌, ◌*◌, ◌/◌, ◌%◌, ◌==◌, ◌&&◌, nat_lt, ℕ, List, [], ◌∷◌, length, replicate, if◌then◌else◌, Option, Some, None, Result, Ok, Err, refl}
+use Rattle.std.specs.Prelude.{◌<◌, ◌≤◌, ◌+◌, ◌*◌, ◌/◌, ◌%◌, ◌==◌, ◌&&◌, nat_lt, ℕ, List, [], ◌∷◌, length, replicate, if◌then◌else◌, Option, Some, None, IsSome, Result, Ok, Err, refl}
 use Rattle.std.specs.Coded.{Coded, code_by, coded×, coded_ℕ}
 use Rattle.std.specs.List.{list_all}
 use Rattle.std.specs.Str.{bytes_eq}
@@ -78,6 +78,7 @@ counting = record {
   IsAction = λ n. n < 256;
   parts = λ c. replicate c.parts (total_bytes c.total);
   state_of = count_in;
+  MayBe = λ format parts. IsSome (count_in format parts);
   action_bytes = add_bytes;
   action_of = add_in;
   step = add;

@@ -116,13 +116,13 @@ impl Kept for Counter {
         format: DiskFormat,
         parts: &[ArrayVec<u8, 480>],
     ) -> Result<Counter, PartsFault> {
+        let Some(counter) = read_counter(format, parts) else {
+            return Err(PartsFault::Bad);
+        };
         let memory: Result<Vec<u8>, _> = Vec::with_capacity(alloc, 1);
-        if memory.is_err() {
-            return Err(PartsFault::Memory);
-        }
-        match read_counter(format, parts) {
-            None => Err(PartsFault::Bad),
-            Some(counter) => Ok(counter),
+        match memory {
+            Ok(_) => Ok(counter),
+            Err(_) => Err(PartsFault::Memory),
         }
     }
 

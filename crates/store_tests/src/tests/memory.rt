@@ -85,3 +85,20 @@ fn actions_whose_memory_may_be_refused(rt: HostRuntime) {
         }
     }
 }
+
+/// What both of these do, all of it; `None` where some of it was not done.
+fn all_done(alloc: Global) -> Option<()> {
+    let mut store = Store::<MemoryDisk, Counter>::open(alloc, ready_disk(alloc)?).ok()?;
+    for n in 1..40 {
+        store.submit(&n).ok()?;
+    }
+    store.confirm().ok()?;
+    opened(alloc, store.into_disk()).1.ok()?;
+    Some(())
+}
+
+// Where no memory is refused all is done: once this test passes, N is above the last allocation.
+#[test]
+fn no_memory_is_refused(rt: HostRuntime) {
+    expect_eq(&rt, all_done(rt.alloc()).is_some(), true, "refused");
+}
