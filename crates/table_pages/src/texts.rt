@@ -522,7 +522,8 @@ look();
 "##;
 
 /// Its style.
-pub const STYLE: &str = r##":root { color-scheme: light; --felt: #e3efe6; --line: #51635a; --ink: #16211b; --red: #a3001e; --turn: #ffd84d; }
+pub const STYLE: &str =
+    r##":root { color-scheme: light; --felt: #e3efe6; --line: #51635a; --ink: #16211b; --red: #a3001e; --turn: #ffd84d; }
 * { box-sizing: border-box; }
 [hidden] { display: none !important; }
 body { margin: 0 auto; max-width: 60rem; padding: 0 .6rem 2rem; font: 1.05rem/1.4 system-ui, sans-serif; color: var(--ink); background: #fff; }
