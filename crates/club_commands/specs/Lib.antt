@@ -7,4 +7,5 @@ pub mod Results
 pub mod Scripted
 pub mod Connections
 pub mod OnFile
+pub mod Web
 pub mod Run

@@ -6,7 +6,7 @@ use Rattle.table_server.specs.declared.fault.ServeFault.TheVariants.{Read}
 use Rattle.table_server.specs.Heard.{StopsAt}
 use Rattle.table_server.specs.Replies.{auction_output, byte_limit}
 use Rattle.command_line.specs.declared.command.Command.{Command}
-use Rattle.command_line.specs.declared.command.Command.TheVariants.{Auction, Format, Script, Serve, Rank, Pbn}
+use Rattle.command_line.specs.declared.command.Command.TheVariants.{Auction, Format, Script, Serve, Web, Rank, Pbn}
 use Rattle.command_line.specs.declared.command.WordsFault.{WordsFault}
 use Rattle.command_line.specs.declared.command.WordsFault.TheVariants.{Usage, Memory}
 use Rattle.club_commands.specs.declared.fault.RunFault.{RunFault}
@@ -15,6 +15,7 @@ use Rattle.session_store.specs.declared.fault.StoreFault.TheVariants.{NoMemory}
 use Rattle.club_commands.specs.Faults.{store_line, stream_line, fault_line, fault_status}
 use Rattle.club_commands.specs.Formatted.{HasFormatted, StopsFormatting}
 use Rattle.club_commands.specs.OnFile.{HasResults, StopsResults, HasScripted, StopsScripting, HasServedConnections, StopsServingConnections}
+use Rattle.club_commands.specs.Web.{HasShownPages, StopsShowingPages}
 use Rattle.club_commands.specs.Results.{IsRankingText, IsPbnText}
 
 -- the output of a board's auction is written for what was read of the input
@@ -34,6 +35,7 @@ DoesCommand (Auction board) input output = HasAuction board input output
 DoesCommand (Format disk config) input output = HasFormatted output × IsUntouched input
 DoesCommand (Script disk) input output = HasScripted input output
 DoesCommand (Serve disk port count) input output = HasServedConnections count × IsUntouched output × IsUntouched input
+DoesCommand (Web disk port minutes) input output = HasShownPages port output × IsUntouched input
 DoesCommand (Rank disk) input output = HasResults IsRankingText output × IsUntouched input
 DoesCommand (Pbn disk) input output = HasResults IsPbnText output × IsUntouched input
 
@@ -44,6 +46,7 @@ StopsBy (Format disk config) input output fault = StopsFormatting output fault �
 StopsBy (Script disk) input output fault = StopsScripting input output fault
 StopsBy (Serve disk port count) input output fault =
     StopsServingConnections count fault × IsUntouched output × IsUntouched input
+StopsBy (Web disk port minutes) input output fault = StopsShowingPages port output fault × IsUntouched input
 StopsBy (Rank disk) input output fault = StopsResults IsRankingText output fault × IsUntouched input
 StopsBy (Pbn disk) input output fault = StopsResults IsPbnText output fault × IsUntouched input
 

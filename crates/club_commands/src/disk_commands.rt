@@ -26,10 +26,10 @@ use std::rt::Files;
 use table_server::ServeFault;
 
 /// How many endings are kept for the answers to `SOLVE`.
-const CACHED_ENDINGS: usize = 4096;
+pub(crate) const CACHED_ENDINGS: usize = 4096;
 
 /// The store that the disk in a file holds.
-fn open_store<S: Files<File = File>>(
+pub(crate) fn open_store<S: Files<File = File>>(
     rt: &S,
     alloc: Global,
     disk: &str,

@@ -21,6 +21,7 @@ mod run;
 mod script;
 mod serving;
 mod stored_session;
+mod web;
 
 pub use config_file::read_session;
 pub use disk_lock::lock;
@@ -29,3 +30,4 @@ pub use run::{refuse, run_words, status_of};
 pub use script::serve_store;
 pub use serving::serve_connections;
 pub use stored_session::open_session;
+pub use web::show_pages;

@@ -12,6 +12,7 @@ use crate::fault::RunFault;
 use crate::fault_line::{fault_line, fault_status};
 use crate::formatting::run_format;
 use crate::printable::Printable;
+use crate::web::run_web;
 use bridge_cards::BoardNumber;
 use command_line::{Command, WordsFault, read_words};
 use line_text::write_text;
@@ -21,7 +22,9 @@ use std::fmt::Write as _;
 use std::fs::File;
 use std::io::{ErrorKind, Read, Write};
 use std::net::{Net, TcpListener, TcpStream};
+use std::random::RandomSource;
 use std::rt::Files;
+use std::time::Clock;
 use table_server::{ServeFault, run_auction};
 
 /// The command was done.
@@ -39,7 +42,7 @@ const NOT_TEXT: &str = "a word of the command line is not UTF-8\n";
 /// that text. At 3 and 4 `errors` takes the line that names the fault, or a prefix of it where it fails itself. 3: `cannot read input`, `cannot write output`, `config line N: Name`, `disk fault`, `epochs spent` or
 /// `no memory`. 4: the disk holds no session, being `disk too small`, `not formatted` or `damaged sector N`.
 pub fn run_words<
-    S: Files<File = File> + Net<Listener = TcpListener, Stream = TcpStream>,
+    S: Files<File = File> + Net<Listener = TcpListener, Stream = TcpStream> + Clock + RandomSource,
     R: Read,
     W: Write,
     E: Write,
@@ -81,7 +84,7 @@ pub fn refuse<E: Write>(fault: WordsFault, errors: &mut E) -> u8
 
 /// Runs a command, and where it stops names the fault on `errors`. The answer is the exit status.
 fn run_command<
-    S: Files<File = File> + Net<Listener = TcpListener, Stream = TcpStream>,
+    S: Files<File = File> + Net<Listener = TcpListener, Stream = TcpStream> + Clock + RandomSource,
     R: Read,
     W: Write,
     E: Write,
@@ -100,7 +103,7 @@ fn run_command<
 
 /// Runs a command.
 fn do_command<
-    S: Files<File = File> + Net<Listener = TcpListener, Stream = TcpStream>,
+    S: Files<File = File> + Net<Listener = TcpListener, Stream = TcpStream> + Clock + RandomSource,
     R: Read,
     W: Write,
 >(
@@ -120,6 +123,11 @@ fn do_command<
         Command::Format { disk, config } => run_format(rt, alloc, disk, config, output),
         Command::Script { disk } => run_script(rt, alloc, disk, input, output),
         Command::Serve { disk, port, count } => run_serve(rt, alloc, disk, port, count),
+        Command::Web {
+            disk,
+            port,
+            minutes,
+        } => run_web(rt, alloc, disk, port, minutes, output),
         Command::Rank { disk } => run_rank(rt, alloc, disk, output),
         Command::Pbn { disk } => run_pbn(rt, alloc, disk, output),
     }

@@ -15,8 +15,10 @@ use std::fs::File;
 use std::io::{Error, ErrorKind, Read, Write};
 use std::net::{Net, TcpListener, TcpStream};
 use std::process::Abort;
+use std::random::RandomSource;
 use std::rt::Files;
 use std::test::Fail;
+use std::time::Clock;
 
 /// The first lines of a configuration of two tables, one round and one board.
 pub const HEADING: &str = "EVENT Club-Night
@@ -51,13 +53,13 @@ fn expect_eq<T: PartialEq + Debug + Drop>(
 }
 
 /// Runs the words over an input, and fails where the status, the output or the errors are not those that are due.
-fn expect_run<T: Abort + Files<File = File> + Net<Listener = TcpListener, Stream = TcpStream>>(
-    rt: &T,
-    alloc: Global,
-    words: &[&str],
-    input: &str,
-    due: (u8, &str, &str),
-) {
+fn expect_run<
+    T: Abort
+        + Files<File = File>
+        + Net<Listener = TcpListener, Stream = TcpStream>
+        + Clock
+        + RandomSource,
+>(rt: &T, alloc: Global, words: &[&str], input: &str, due: (u8, &str, &str)) {
     let mut reader = input.as_bytes();
     let mut output = Vec::new(alloc);
     let mut errors = Vec::new(alloc);
@@ -89,7 +91,11 @@ fn write_config<T: Files<File = File>>(
 
 /// Formats a disk with a configuration of this movement.
 fn expect_formatted<
-    T: Abort + Files<File = File> + Net<Listener = TcpListener, Stream = TcpStream>,
+    T: Abort
+        + Files<File = File>
+        + Net<Listener = TcpListener, Stream = TcpStream>
+        + Clock
+        + RandomSource,
 >(rt: &T, alloc: Global, disk: &str, config: &str, movement: &str) -> Result<(), Fail> {
     write_config(rt, alloc, config, movement)?;
     let words = ["format", disk, config];
@@ -145,11 +151,25 @@ fn ports_and_counts_are_read(rt: HostRuntime) -> Result<(), Fail> {
             Err(_) => return Err(Fail::from("a command")),
         }
     }
+    let words = ["web", disk, "65535", "1440"];
+    match read_words(rt.alloc(), words.as_slice()) {
+        Ok(command) => expect_eq(
+            &rt,
+            command,
+            Command::Web {
+                disk,
+                port: 65_535,
+                minutes: 1440,
+            },
+            "web",
+        ),
+        Err(_) => return Err(Fail::from("a command")),
+    }
     Ok(())
 }
 
 /// Words, and behind `: ` how what is written of them begins.
-const OTHER_WORDS: [&str; 17] = [
+const OTHER_WORDS: [&str; 20] = [
     "format club.disk: error: the following required arguments were not provided:\n  <CONFIG>\n",
     "rank: error: the following required arguments were not provided:\n  <DISK>\n",
     "auction: error: the following required arguments were not provided:\n  <BOARD>\n",
@@ -161,6 +181,9 @@ const OTHER_WORDS: [&str; 17] = [
     "serve club.disk 65536 1: error: invalid value '65536' for '<PORT>': 65536 is not in 1..=65535\n",
     "serve club.disk 4000 0: error: invalid value '0' for '<COUNT>': 0 is not in 1..=1000\n",
     "serve club.disk 4000 1001: error: invalid value '1001' for '<COUNT>': 1001 is not in 1..=1000\n",
+    "web club.disk 65536 1: error: invalid value '65536' for '<PORT>': 65536 is not in 1..=65535\n",
+    "web club.disk 4000 0: error: invalid value '0' for '<MINUTES>': 0 is not in 1..=1440\n",
+    "web club.disk 4000 1441: error: invalid value '1441' for '<MINUTES>': 1441 is not in 1..=1440\n",
     "auction 0: error: invalid value '0' for '<BOARD>': 0 is not in 1..=36\n",
     "auction 37: error: invalid value '37' for '<BOARD>': 37 is not in 1..=36\n",
     "auctions 1: error: unrecognized subcommand 'auctions'\n",

@@ -5,7 +5,7 @@ use Rattle.std.specs.declared.num.ParseIntError.{ParseIntError}
 use Rattle.clap.specs.Words.{App, Row, Rule, Text, new_app, new_rule, with_rule, with_subcommand, subcommand_of, one_of, first_of, fault_of}
 use Rattle.clap.specs.declared.builder.value_parser.ValueParser.TheVariants as parser
 use Rattle.command_line.specs.declared.command.Command.{Command}
-use Rattle.command_line.specs.declared.command.Command.TheVariants.{Auction, Format, Script, Serve, Rank, Pbn}
+use Rattle.command_line.specs.declared.command.Command.TheVariants.{Auction, Format, Script, Serve, Web, Rank, Pbn}
 use Rattle.command_line.specs.declared.command.WordsFault.{WordsFault}
 use Rattle.command_line.specs.declared.command.WordsFault.TheVariants.{Usage, Memory}
 
@@ -49,6 +49,14 @@ count_rule = record (new_rule (codes "COUNT")) { required = true; parser = Some 
 abbrev pub serve_app : App
 serve_app = with_rule (with_rule (disk_app (codes "serve")) port_rule) count_rule
 
+-- the argument MINUTES, which is required: a number from 1 to 1440
+abbrev pub minutes_rule : Rule
+minutes_rule = record (new_rule (codes "MINUTES")) { required = true; parser = Some (parser.Signed (pos 1) (pos 1440)) }
+
+-- the command `web DISK PORT MINUTES`
+abbrev pub web_app : App
+web_app = with_rule (with_rule (disk_app (codes "web")) port_rule) minutes_rule
+
 -- the command `rank DISK`
 abbrev pub rank_app : App
 rank_app = disk_app (codes "rank")
@@ -81,9 +89,13 @@ app_with_script = with_subcommand app_with_format script_app.top
 abbrev pub app_with_serve : App
 app_with_serve = with_subcommand app_with_script serve_app.top
 
+-- and with `web`
+abbrev pub app_with_web : App
+app_with_web = with_subcommand app_with_serve web_app.top
+
 -- and with `rank`
 abbrev pub app_with_rank : App
-app_with_rank = with_subcommand app_with_serve rank_app.top
+app_with_rank = with_subcommand app_with_web rank_app.top
 
 -- the program: words without its own name, and one of its commands
 abbrev pub club_app : App
@@ -105,6 +117,8 @@ HasWords rows (Format disk config) = HasText rows (codes "DISK") disk.now × Has
 HasWords rows (Script disk) = HasText rows (codes "DISK") disk.now
 HasWords rows (Serve disk port count) = HasText rows (codes "DISK") disk.now
     × HasNumber 16 rows (codes "PORT") port × HasNumber 16 rows (codes "COUNT") count
+HasWords rows (Web disk port minutes) = HasText rows (codes "DISK") disk.now
+    × HasNumber 16 rows (codes "PORT") port × HasNumber 16 rows (codes "MINUTES") minutes
 HasWords rows (Rank disk) = HasText rows (codes "DISK") disk.now
 HasWords rows (Pbn disk) = HasText rows (codes "DISK") disk.now
 
@@ -114,6 +128,7 @@ name_of (Auction board) = codes "auction"
 name_of (Format disk config) = codes "format"
 name_of (Script disk) = codes "script"
 name_of (Serve disk port count) = codes "serve"
+name_of (Web disk port minutes) = codes "web"
 name_of (Rank disk) = codes "rank"
 name_of (Pbn disk) = codes "pbn"
 

@@ -22,6 +22,12 @@ pub enum Command<'a> {
         port: u16,
         count: u16,
     },
+    /// `web DISK PORT MINUTES`: pages for browsers at a port, for so many minutes, over the session that a disk holds.
+    Web {
+        disk: &'a str,
+        port: u16,
+        minutes: u16,
+    },
     /// `rank DISK`: the ranking of each field of the session that a disk holds.
     Rank {
         disk: &'a str,

@@ -2,7 +2,7 @@
 ghost use Rattle.std.specs.Prelude.{◌≡◌, IfOk, IfErr, IfSome, codes, false, map};
 ghost use Rattle.clap.specs.Words.{app_of, shape_of, rule_of, rows_of, found_of, subcommand_rows_of};
 ghost use Rattle.clap.specs.declared.builder.command.Command.TheViews.{out-Command as fields_of};
-ghost use Rattle.command_line.specs.Words.{board_rule, disk_rule, config_rule, port_rule, count_rule, auction_app, format_app, script_app, serve_app, rank_app, pbn_app, bare_app, app_with_auction, app_with_format, app_with_script, app_with_serve, app_with_rank, club_app, HasNumber, IsCommand, IsNamed, AsksCommand, IsRefusedBy};
+ghost use Rattle.command_line.specs.Words.{board_rule, disk_rule, config_rule, port_rule, count_rule, minutes_rule, auction_app, format_app, script_app, serve_app, web_app, rank_app, pbn_app, bare_app, app_with_auction, app_with_format, app_with_script, app_with_serve, app_with_web, app_with_rank, club_app, HasNumber, IsCommand, IsNamed, AsksCommand, IsRefusedBy};
 
 use crate::command::{Command, WordsFault};
 use bridge_cards::BoardNumber;
@@ -43,6 +43,7 @@ fn asked<'a>(matches: &ArgMatches<'a>) -> Option<Command<'a>>
         ("format", found) => format_of(found),
         ("script", found) => script_of(found),
         ("serve", found) => serve_of(found),
+        ("web", found) => web_of(found),
         ("rank", found) => rank_of(found),
         ("pbn", found) => pbn_of(found),
         // clap's checks leave no other name. The contract allows the answer of memory refused alone here.
@@ -85,6 +86,20 @@ fn serve_of<'a>(found: &ArgMatches<'a>) -> Option<Command<'a>>
     Some(Command::Serve { disk, port, count })
 }
 
+/// The command `web` with its disk and its numbers.
+fn web_of<'a>(found: &ArgMatches<'a>) -> Option<Command<'a>>
+    ensures { IfSome result (IsNamed (codes "web") (rows_of (found_of found.now))) }
+{
+    let disk = found.get_str("DISK")?;
+    let port = number_of(found, "PORT")?;
+    let minutes = number_of(found, "MINUTES")?;
+    Some(Command::Web {
+        disk,
+        port,
+        minutes,
+    })
+}
+
 /// The number that an argument is.
 fn number_of(found: &ArgMatches<'_>, name: &str) -> Option<u16>
     ensures { IfSome result (HasNumber 16 (rows_of (found_of found.now)) name.now) }
@@ -120,7 +135,14 @@ fn club_command<'a>(alloc: Global) -> Result<clap::Command<'a>, AllocError>
 fn with_rank<'a>(alloc: Global) -> Result<clap::Command<'a>, AllocError>
     ensures { IfOk result (λ command. app_of command ≡ app_with_rank) }
 {
-    with_serve(alloc)?.subcommand(rank_command(alloc)?)
+    with_web(alloc)?.subcommand(rank_command(alloc)?)
+}
+
+/// The command line with the commands up to `web`.
+fn with_web<'a>(alloc: Global) -> Result<clap::Command<'a>, AllocError>
+    ensures { IfOk result (λ command. app_of command ≡ app_with_web) }
+{
+    with_serve(alloc)?.subcommand(web_command(alloc)?)
 }
 
 /// The command line with the commands up to `serve`.
@@ -205,6 +227,18 @@ fn serve_command<'a>(alloc: Global) -> Result<clap::Command<'a>, AllocError>
         .arg(count_argument(alloc))
 }
 
+/// The command `web DISK PORT MINUTES`.
+fn web_command<'a>(alloc: Global) -> Result<clap::Command<'a>, AllocError>
+    ensures shape { IfOk result (λ command. shape_of command ≡ web_app.top) }
+    ensures local { IfOk result (λ command. (fields_of command).has_globals ≡ false) }
+{
+    clap::Command::new(alloc, "web")
+        .about("Shows tables to browsers at a port of 127.0.0.1, for so many minutes")
+        .arg(disk_argument(alloc))?
+        .arg(port_argument(alloc))?
+        .arg(minutes_argument(alloc))
+}
+
 /// The command `rank DISK`.
 fn rank_command<'a>(alloc: Global) -> Result<clap::Command<'a>, AllocError>
     ensures shape { IfOk result (λ command. shape_of command ≡ rank_app.top) }
@@ -265,6 +299,17 @@ fn count_argument<'a>(alloc: Global) -> Arg<'a>
         .help("How many connections are served, 1 to 1000")
         .required(true)
         .value_parser(clap::value_parser!(u16).range(1..=1000))
+}
+
+/// The argument MINUTES.
+fn minutes_argument<'a>(alloc: Global) -> Arg<'a>
+    ensures rule { rule_of result ≡ minutes_rule }
+    ensures local { result.global ≡ false }
+{
+    Arg::new(alloc, "MINUTES")
+        .help("How many minutes pages are shown, 1 to 1440")
+        .required(true)
+        .value_parser(clap::value_parser!(u16).range(1..=1440))
 }
 
 /// The argument BOARD.

@@ -9,8 +9,10 @@ use std::fs::File;
 use std::io::Write;
 use std::net::{Ipv4Addr, Net, Shutdown, SocketAddr, TcpListener, TcpStream};
 use std::process::Abort;
+use std::random::RandomSource;
 use std::rt::Files;
 use std::test::Fail;
+use std::time::Clock;
 use std::{fs, io};
 
 /// A listener at a port that is free.
@@ -107,14 +109,17 @@ fn a_connection_uses_the_cache(rt: HostRuntime) -> Result<(), Fail> {
 }
 
 /// Serves at a port that is taken.
-fn expect_taken<T: Abort + Files<File = File> + Net<Listener = TcpListener, Stream = TcpStream>>(
-    rt: &T,
-    alloc: Global,
-    disk: &str,
-    port: &str,
-) {
+fn expect_taken<
+    T: Abort
+        + Files<File = File>
+        + Net<Listener = TcpListener, Stream = TcpStream>
+        + Clock
+        + RandomSource,
+>(rt: &T, alloc: Global, disk: &str, port: &str) {
     let due = (3, "", "cannot read input\n");
-    expect_run(rt, alloc, &["serve", disk, port, "1"], "", due);
+    for command in ["serve", "web"] {
+        expect_run(rt, alloc, &[command, disk, port, "1"], "", due);
+    }
 }
 
 #[test]

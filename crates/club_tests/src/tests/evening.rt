@@ -6,8 +6,10 @@ use std::fs;
 use std::fs::File;
 use std::net::{Net, TcpListener, TcpStream};
 use std::process::Abort;
+use std::random::RandomSource;
 use std::rt::Files;
 use std::test::Fail;
+use std::time::Clock;
 
 /// A board is played at both tables: 7S made, and passed out.
 const LINES: &str =
@@ -36,12 +38,13 @@ FIELD 2
 ";
 
 /// What a run over this disk writes.
-fn written<T: Abort + Files<File = File> + Net<Listener = TcpListener, Stream = TcpStream>>(
-    rt: &T,
-    alloc: Global,
-    words: &[&str],
-    input: &str,
-) -> Vec<u8> {
+fn written<
+    T: Abort
+        + Files<File = File>
+        + Net<Listener = TcpListener, Stream = TcpStream>
+        + Clock
+        + RandomSource,
+>(rt: &T, alloc: Global, words: &[&str], input: &str) -> Vec<u8> {
     let mut reader = input.as_bytes();
     let mut output = Vec::new(alloc);
     let mut errors = Vec::new(alloc);

@@ -6,8 +6,10 @@ use std::fs;
 use std::fs::File;
 use std::net::{Net, TcpListener, TcpStream};
 use std::process::Abort;
+use std::random::RandomSource;
 use std::rt::Files;
 use std::test::Fail;
+use std::time::Clock;
 
 // The disk is neither made nor touched where the configuration is refused.
 #[test]
@@ -69,18 +71,20 @@ fn a_bad_configuration_leaves_the_disk(rt: HostRuntime) -> Result<(), Fail> {
 }
 
 /// Runs each of the commands over this disk, and expects the status and the line.
-fn expect_refused<T: Abort + Files<File = File> + Net<Listener = TcpListener, Stream = TcpStream>>(
-    rt: &T,
-    alloc: Global,
-    disk: &str,
-    status: u8,
-    line: &str,
-) {
+fn expect_refused<
+    T: Abort
+        + Files<File = File>
+        + Net<Listener = TcpListener, Stream = TcpStream>
+        + Clock
+        + RandomSource,
+>(rt: &T, alloc: Global, disk: &str, status: u8, line: &str) {
     for command in ["rank", "pbn", "script"] {
         expect_run(rt, alloc, &[command, disk], "SYNC\n", (status, "", line));
     }
-    let words = ["serve", disk, "4000", "1"];
-    expect_run(rt, alloc, &words, "SYNC\n", (status, "", line));
+    for command in ["serve", "web"] {
+        let words = [command, disk, "4000", "1"];
+        expect_run(rt, alloc, &words, "SYNC\n", (status, "", line));
+    }
 }
 
 #[test]
