@@ -11,11 +11,11 @@ use bridge_cards::seat_text;
 use bridge_config::ConfigFields;
 use session_rules::{Player, Refused, Seating, Stage};
 use table_server::ReplyText;
-use table_server::reply_text::{TEXT_BYTES, push_number, push_word};
+use table_server::reply_text::{REPLY_BYTES, push_number, push_word};
 
 /// Adds the round and how many there are.
 pub fn push_round_line(text: &mut ReplyText, fields: &ConfigFields, round: u8)
-    requires { array_string_len text.old + 28 ≤ TEXT_BYTES }
+    requires { array_string_len text.old + 28 ≤ REPLY_BYTES }
     ensures line { text.new.bytes ≡ text.old.bytes ++ (round_line (configuration_of fields.now) round ++ 10 ∷ []) }
     ensures room { array_string_len text.new ≤ array_string_len text.old + 28 }
 {
@@ -27,7 +27,7 @@ pub fn push_round_line(text: &mut ReplyText, fields: &ConfigFields, round: u8)
 
 /// Adds the pair's number and the player's name.
 pub fn push_player_line(text: &mut ReplyText, fields: &ConfigFields, player: Player)
-    requires { array_string_len text.old + 43 ≤ TEXT_BYTES }
+    requires { array_string_len text.old + 43 ≤ REPLY_BYTES }
     ensures line { text.new.bytes ≡ text.old.bytes ++ (player_line (configuration_of fields.now) player ++ 10 ∷ []) }
     ensures room { array_string_len text.new ≤ array_string_len text.old + 43 }
 {
@@ -39,7 +39,7 @@ pub fn push_player_line(text: &mut ReplyText, fields: &ConfigFields, player: Pla
 
 /// Adds the table, the seat, and the first and last board of the table's set, or `-`.
 fn push_seating(text: &mut ReplyText, boards: u8, seating: Result<Seating, Refused>)
-    requires { array_string_len text.old + 35 ≤ TEXT_BYTES }
+    requires { array_string_len text.old + 35 ≤ REPLY_BYTES }
     ensures text { text.new.bytes ≡ text.old.bytes ++ each_spaced (table_words boards seating) }
     ensures room { array_string_len text.new ≤ array_string_len text.old + 35 }
 {
@@ -63,7 +63,7 @@ pub fn push_seat_line(
     seating: Result<Seating, Refused>,
 )
     requires first { length first.now ≤ 5 }
-    requires room { array_string_len text.old + 41 ≤ TEXT_BYTES }
+    requires room { array_string_len text.old + 41 ≤ REPLY_BYTES }
     ensures line { text.new.bytes ≡ text.old.bytes ++ (spaced_line first.now (table_words boards seating) ++ 10 ∷ []) }
     ensures room { array_string_len text.new ≤ array_string_len text.old + 41 }
 {
@@ -74,7 +74,7 @@ pub fn push_seat_line(
 
 /// Adds the names at the table where the player sits, or `-`.
 fn push_table_names(text: &mut ReplyText, fields: &ConfigFields, seating: Result<Seating, Refused>)
-    requires { array_string_len text.old + 100 ≤ TEXT_BYTES }
+    requires { array_string_len text.old + 100 ≤ REPLY_BYTES }
     ensures text { text.new.bytes ≡ text.old.bytes ++ each_spaced (names_words (configuration_of fields.now) seating) }
     ensures room { array_string_len text.new ≤ array_string_len text.old + 100 }
 {
@@ -93,7 +93,7 @@ pub fn push_names_line(
     fields: &ConfigFields,
     seating: Result<Seating, Refused>,
 )
-    requires { array_string_len text.old + 106 ≤ TEXT_BYTES }
+    requires { array_string_len text.old + 106 ≤ REPLY_BYTES }
     ensures line { text.new.bytes ≡ text.old.bytes ++ (spaced_line (codes "NAMES") (names_words (configuration_of fields.now) seating) ++ 10 ∷ []) }
     ensures room { array_string_len text.new ≤ array_string_len text.old + 106 }
 {
@@ -104,7 +104,7 @@ pub fn push_names_line(
 
 /// Adds the bid with its doubling, and declarer.
 fn push_contract(text: &mut ReplyText, contract: Contract)
-    requires { array_string_len text.old + 8 ≤ TEXT_BYTES }
+    requires { array_string_len text.old + 8 ≤ REPLY_BYTES }
     ensures text { text.new.bytes ≡ text.old.bytes ++ each_spaced (contract_words (Some contract)) }
     ensures room { array_string_len text.new ≤ array_string_len text.old + 8 }
 {
@@ -116,7 +116,7 @@ fn push_contract(text: &mut ReplyText, contract: Contract)
 
 /// Adds the contract, or `-`.
 fn push_contract_if(text: &mut ReplyText, contract: Option<Contract>)
-    requires { array_string_len text.old + 8 ≤ TEXT_BYTES }
+    requires { array_string_len text.old + 8 ≤ REPLY_BYTES }
     ensures text { text.new.bytes ≡ text.old.bytes ++ each_spaced (contract_words contract) }
     ensures room { array_string_len text.new ≤ array_string_len text.old + 8 }
 {
@@ -128,7 +128,7 @@ fn push_contract_if(text: &mut ReplyText, contract: Option<Contract>)
 
 /// Adds the line of the contract.
 pub fn push_contract_line(text: &mut ReplyText, stage: Result<Stage, Refused>)
-    requires { array_string_len text.old + 17 ≤ TEXT_BYTES }
+    requires { array_string_len text.old + 17 ≤ REPLY_BYTES }
     ensures line { text.new.bytes ≡ text.old.bytes ++ (spaced_line (codes "CONTRACT") (contract_words (contract_seen stage)) ++ 10 ∷ []) }
     ensures room { array_string_len text.new ≤ array_string_len text.old + 17 }
 {
@@ -152,7 +152,7 @@ fn answer_text(stage: Result<Stage, Refused>) -> &'static str
 
 /// Adds the line that says whether an answer to a claim is due.
 pub fn push_answer_line(text: &mut ReplyText, stage: Result<Stage, Refused>)
-    requires { array_string_len text.old + 11 ≤ TEXT_BYTES }
+    requires { array_string_len text.old + 11 ≤ REPLY_BYTES }
     ensures line { text.new.bytes ≡ text.old.bytes ++ (spaced_line (codes "ANSWER") (answer_words (answer_seen stage)) ++ 10 ∷ []) }
     ensures room { array_string_len text.new ≤ array_string_len text.old + 11 }
 {

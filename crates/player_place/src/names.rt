@@ -8,7 +8,7 @@ ghost use Rattle.player_place.specs.Place.{name_in, names_at};
 use bridge_config::{ConfigFields, NAME_BYTES};
 use bridge_movement::Row;
 use table_server::ReplyText;
-use table_server::reply_text::{TEXT_BYTES, push_word};
+use table_server::reply_text::{REPLY_BYTES, push_word};
 
 /// The name of a pair's first or second player; none where there is no such pair.
 pub fn name_of(fields: &ConfigFields, pair: u8, first: bool) -> &str
@@ -24,7 +24,7 @@ pub fn name_of(fields: &ConfigFields, pair: u8, first: bool) -> &str
 
 /// Adds the names of the players in North, East, South and West at the table of a row.
 pub fn push_names(text: &mut ReplyText, fields: &ConfigFields, row: Row)
-    requires { array_string_len text.old + 100 ≤ TEXT_BYTES }
+    requires { array_string_len text.old + 100 ≤ REPLY_BYTES }
     ensures text { text.new.bytes ≡ text.old.bytes ++ each_spaced (names_at (configuration_of fields.now).pairs row) }
     ensures room { array_string_len text.new ≤ array_string_len text.old + 100 }
 {
