@@ -10,7 +10,7 @@ use bridge_movement::Row;
 use table_server::ReplyText;
 use table_server::reply_text::{REPLY_BYTES, push_word};
 
-/// The name of a pair's first or second player; none where there is no such pair.
+/// The name of the first or second player of a pair, from 1; none above the last pair.
 pub fn name_of(fields: &ConfigFields, pair: u8, first: bool) -> &str
     ensures name { result.now ≡ name_in (configuration_of fields.now).pairs pair first }
     ensures short { length result.now ≤ NAME_BYTES }
