@@ -1,4 +1,4 @@
--- How far the current play of a table is, for a player there: it is made of what the player may be shown, and of nothing else.
+-- How far the current play of a table is, for a player there: it is made of what the player is shown, and of nothing else.
 use Rattle.std.specs.Prelude.{ℕ, false, List, Option, None, Some, Result, Ok}
 use Rattle.bridge_cards.specs.declared.seat.Seat.{Seat}
 use Rattle.bridge_cards.specs.Board.{dealer_of}
