@@ -6,6 +6,7 @@ use Rattle.session_rules.specs.declared.action.Action.{Action}
 use Rattle.session_rules.specs.State.{SessionValue}
 use Rattle.line_text.specs.Lines.{complete_lines}
 use Rattle.line_text.specs.Streams.{Stream}
+use Rattle.player_place.specs.Place.{place_text}
 use Rattle.table_server.specs.declared.asked.Asked.{Asked}
 use Rattle.table_server.specs.declared.fault.ServeFault.{ServeFault}
 use Rattle.table_server.specs.Answered.{AskAll}
@@ -18,6 +19,10 @@ abbrev pub is_settled : {A : Type 0} → Bool → List A → Bool
 is_settled true pending = true
 is_settled false [] = true
 is_settled false (action ∷ pending) = false
+
+-- over the session of a store: what is told to the player whose key these bytes are, of his place
+abbrev pub place_told : {D : Type 0} → StoreValue D SessionValue Action → List ℕ → List ℕ
+place_told store key = place_text store.state key
 
 module _ {D : Type 0} (disk : Disk D) where
   -- All complete lines of a body were served over a store, and the text is the replies to them.

@@ -1,8 +1,7 @@
 //! Lines that came in one request, answered over a store.
 ghost use Rattle.std.specs.Prelude.{◌≡◌, ◌<◌, [], false, length, option_map};
 ghost use Rattle.table_server.specs.Faulted.{FailsWithDisk};
-ghost use Rattle.player_place.specs.Place.{place_text};
-ghost use Rattle.table_pages.specs.Answered.{AnswersBody, AnswersLines, is_settled};
+ghost use Rattle.table_pages.specs.Answered.{AnswersBody, AnswersLines, is_settled, place_told};
 
 use crate::line_server::LineServer;
 use bridge_endings::Cache;
@@ -43,7 +42,7 @@ impl<D: SectorDisk + Drop> LineServer for Store<D, Session> {
 
     ghost answers = { λ old body text new. AnswersLines D.disk old body text new };
 
-    ghost places = { λ store key. place_text store.state key };
+    ghost places = { λ store key. place_told store key };
 
     fn answer(&mut self, alloc: Global, cache: &mut Cache, body: &[u8]) -> Option<Vec<u8>> {
         answer_lines(self, alloc, cache, body)
