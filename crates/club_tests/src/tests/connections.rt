@@ -117,9 +117,8 @@ fn expect_taken<
         + RandomSource,
 >(rt: &T, alloc: Global, disk: &str, port: &str) {
     let due = (3, "", "cannot read input\n");
-    for command in ["serve", "web"] {
-        expect_run(rt, alloc, &[command, disk, port, "1"], "", due);
-    }
+    expect_run(rt, alloc, &["serve", disk, port, "1"], "", due);
+    expect_run(rt, alloc, &["web", disk, port, "1"], "", due);
 }
 
 #[test]
