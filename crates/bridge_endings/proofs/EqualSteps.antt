@@ -8,22 +8,22 @@ use Rattle.bridge_cards.specs.Seat.{clockwise_from}
 use Rattle.bridge_cards.specs.CardSet.{has_card, card_count, deck}
 use Rattle.bridge_cards.proofs.CardCounts.{card_count-without}
 use Rattle.bridge_endings.specs.Ending.{IsEnding}
-use Rattle.bridge_endings.specs.Worth.{dealt, may_play}
+use Rattle.bridge_endings.specs.Worth.{dealt, may_be_played}
 use Rattle.bridge_endings.specs.Left.{left_to, EachDealt}
 use Rattle.bridge_endings.specs.Equal.{IsEqualTo}
 use Rattle.bridge_endings.proofs.WorthSteps.{worth_of_card}
 use Rattle.bridge_endings.proofs.Answered.{IsAnswered, answered_step, answered_equals}
-use Rattle.bridge_endings.proofs.SwappedWorth.{may_play-held}
+use Rattle.bridge_endings.proofs.SwappedWorth.{may_be_played-held}
 use Rattle.bridge_endings.proofs.EqualWorth.{equal_worth}
 
 -- ---- who was dealt the cards of a trick
 
 -- ---- a card and its equals
 
-pub legal_held : (hand : ℕ → Bool) (trick : List ℕ) (legal : ℕ) → ((card : ℕ) → has_card legal card ≡ may_play hand trick card) → (card : ℕ) → has_card legal card ≡ true → hand card ≡ true
-legal_held hand trick legal may card has = may_play-held hand trick card (sym (may card) ∙ has)
+pub legal_held : (hand : ℕ → Bool) (trick : List ℕ) (legal : ℕ) → ((card : ℕ) → has_card legal card ≡ may_be_played hand trick card) → (card : ℕ) → has_card legal card ≡ true → hand card ≡ true
+legal_held hand trick legal may card has = may_be_played-held hand trick card (sym (may card) ∙ has)
 
-module _ (hands : List ℕ) (ending : IsEnding hands) (trump : Option Suit) (cards need left : ℕ) (leader : Seat) (trick : List ℕ) (part : length trick < 4) (each : EachDealt hands leader trick) (legal : ℕ) (may : (card : ℕ) → has_card legal card ≡ may_play (left_to hands left (clockwise_from leader (length trick))) trick card) where
+module _ (hands : List ℕ) (ending : IsEnding hands) (trump : Option Suit) (cards need left : ℕ) (leader : Seat) (trick : List ℕ) (part : length trick < 4) (each : EachDealt hands leader trick) (legal : ℕ) (may : (card : ℕ) → has_card legal card ≡ may_be_played (left_to hands left (clockwise_from leader (length trick))) trick card) where
   abbrev answer_of : ℕ → Bool
   answer_of card = nat_le need (worth_of_card trump cards (left_to hands left) leader trick card)
 

@@ -16,7 +16,7 @@ use Rattle.bridge_endings.specs.EndingValue.{EndingValue}
 use Rattle.bridge_endings.specs.Ending.{IsEnding}
 use Rattle.bridge_endings.specs.Worth.{worth_of}
 use Rattle.bridge_endings.specs.CacheValue.{trump_number, key_of, EachIsTrue, AreKept}
-use Rattle.bridge_endings.specs.Between.{IsBetween}
+use Rattle.bridge_endings.specs.Between.{IsBounded}
 use Rattle.bridge_endings.proofs.Seats.{seat_at-number}
 
 -- ---- a key stands for one ending
@@ -56,7 +56,7 @@ same_worth one other is is_other same =
 
 -- ---- what is found
 
-pub found_true : (entries : List (List ℕ × Bounds)) (ending : EndingValue) (found : Option Bounds) → EachIsTrue entries → IsEnding ending.hands → lookup (pointwise nat_eq (key_of ending)) entries ≡ found → IfSome found (IsBetween (worth_of ending))
+pub found_true : (entries : List (List ℕ × Bounds)) (ending : EndingValue) (found : Option Bounds) → EachIsTrue entries → IsEnding ending.hands → lookup (pointwise nat_eq (key_of ending)) entries ≡ found → IfSome found (IsBounded (worth_of ending))
 found_true entries ending None each is look = tt
 found_true entries ending (Some bounds) each is look =
     let at = Contains-lookup (pointwise nat_eq (key_of ending)) entries bounds look in
@@ -96,7 +96,7 @@ module _ (old new : LruCache (List ℕ) Bounds) (key : List ℕ) (bounds : Bound
   abbrev Puts : Type 0
   Puts = new ≡ lru_cache (put_entries (pointwise nat_eq) old key bounds) old.cap
 
-  put_true : Puts → EachIsTrue old.entries → IsEnding ending.hands → IsBetween (worth_of ending) bounds → EachIsTrue new.entries
+  put_true : Puts → EachIsTrue old.entries → IsEnding ending.hands → IsBounded (worth_of ending) bounds → EachIsTrue new.entries
   put_true puts each is between k b on other is_other other_key =
       elim (Contains-put_entries (pointwise nat_eq) old key bounds (k, b) (subst (λ es. Contains es (k, b)) (ap (λ c. c.entries) puts) on)) [
         | inl before ↦ each k b before other is_other other_key
@@ -106,10 +106,10 @@ module _ (old new : LruCache (List ℕ) Bounds) (key : List ℕ) (bounds : Bound
               | inr there ↦ same_text key k (sym there.2)
             ]) in
             let worths : worth_of other ≡ worth_of ending = same_worth other ending is_other is (other_key ∙ sym stands ∙ key_is) in
-            subst (λ w. IsBetween w b) (sym worths) (subst (IsBetween (worth_of ending)) (sym put.0) between)
+            subst (λ w. IsBounded w b) (sym worths) (subst (IsBounded (worth_of ending)) (sym put.0) between)
       ]
 
-  pub kept_true : {A E : Type 0} (answer : Result A E) → OnOk answer Puts → OnErr answer (new ≡ old) → EachIsTrue old.entries → IsEnding ending.hands → IsBetween (worth_of ending) bounds → EachIsTrue new.entries
+  pub kept_true : {A E : Type 0} (answer : Result A E) → OnOk answer Puts → OnErr answer (new ≡ old) → EachIsTrue old.entries → IsEnding ending.hands → IsBounded (worth_of ending) bounds → EachIsTrue new.entries
   kept_true answer ok err each is between =
       either Puts (new ≡ old) (EachIsTrue new.entries) answer ok err
       (λ puts. put_true puts each is between)
@@ -143,7 +143,7 @@ module _ (old new : LruCache (List ℕ) Bounds) (key : List ℕ) (bounds : Bound
 
   -- what holds of every cache holds of this one
   pub still_kept : {A E : Type 0} (answer : Result A E) → OnOk answer Puts → OnErr answer (new ≡ old) → AreKept old.entries old.cap
-      → IsEnding ending.hands → IsBetween (worth_of ending) bounds → AreKept new.entries new.cap
+      → IsEnding ending.hands → IsBounded (worth_of ending) bounds → AreKept new.entries new.cap
   still_kept answer ok err before is between = record {
     each_true = kept_true answer ok err before.each_true is between;
     some = omega (arith, before.some, same_capacity answer ok err);

@@ -4,10 +4,10 @@ use Rattle.bridge_cards.specs.Card.{same_suit, card_suit}
 use Rattle.bridge_cards.specs.CardSet.{has_card, is_of_suit}
 use Rattle.bridge_cards.specs.Trick.{has_suit}
 use Rattle.bridge_cards.proofs.SuitHeld as held_of
-use Rattle.bridge_endings.specs.Worth.{may_play}
+use Rattle.bridge_endings.specs.Worth.{may_be_played}
 
 -- the others follow suit where they can
-pub may_follow : (hand : ℕ → Bool) (cards : List ℕ) (led card : ℕ) → slice_get cards 0 ≡ Some led → may_play hand cards card ≡ (hand card && (same_suit card led || not (has_suit hand led)))
+pub may_follow : (hand : ℕ → Bool) (cards : List ℕ) (led card : ℕ) → slice_get cards 0 ≡ Some led → may_be_played hand cards card ≡ (hand card && (same_suit card led || not (has_suit hand led)))
 may_follow hand [] led card some = cc
 may_follow hand (first ∷ others) led card some =
     let same : first ≡ led = cc in ap (λ l. hand card && (same_suit card l || not (has_suit hand l))) same
@@ -27,7 +27,7 @@ module _ (hand : ℕ → Bool) (cards : List ℕ) (led held suited : ℕ) (first
   in_suit = held_of.in_suit hand led held suited inside holds suits
 
   -- a hand without a card of the suit led
-  pub legal_void : ((card : ℕ) → has_card suited card ≡ false) → (card : ℕ) → has_card held card ≡ may_play hand cards card
+  pub legal_void : ((card : ℕ) → has_card suited card ≡ false) → (card : ℕ) → has_card held card ≡ may_be_played hand cards card
   legal_void none card =
       holds card
       ∙ sym (all_or_none (hand card) (same_suit card led))
@@ -35,7 +35,7 @@ module _ (hand : ℕ → Bool) (cards : List ℕ) (led held suited : ℕ) (first
       ∙ sym (may_follow hand cards led card first)
 
   -- a hand with one
-  pub legal_suited : (card : ℕ) × IsTrue (has_card suited card) → (card : ℕ) → has_card suited card ≡ may_play hand cards card
+  pub legal_suited : (card : ℕ) × IsTrue (has_card suited card) → (card : ℕ) → has_card suited card ≡ may_be_played hand cards card
   legal_suited some card =
       in_suit card
       ∙ sym (in_suit_alone (hand card) (same_suit card led))

@@ -9,8 +9,8 @@ use Rattle.bridge_cards.specs.Seat.{clockwise_from, side_of}
 use Rattle.bridge_cards.specs.CardSet.{IsCardSet, has_card}
 use Rattle.bridge_cards.specs.Trick.{next_leader}
 use Rattle.bridge_cards.proofs.CardSetLaws.{has_card-zero, has_card-beyond}
-use Rattle.bridge_endings.specs.Worth.{may_play, legal_cards, after_playing, best, trick_for, worth_after, worth_with}
-use Rattle.bridge_endings.specs.Left.{left_to, is_sought, IsSettled}
+use Rattle.bridge_endings.specs.Worth.{may_be_played, legal_cards, after_playing, best, trick_for, worth_after, worth_with}
+use Rattle.bridge_endings.specs.Left.{left_to, is_sought, IsForegone}
 use Rattle.bridge_endings.proofs.Minimax.{best_found, best_none, best_empty}
 use Rattle.bridge_endings.proofs.WorthSteps.{worth_of_card, worth_with-suc, none_needed, too_many, after_playing-left_to}
 
@@ -23,14 +23,14 @@ inside_deck cards card set has = at (cases_lt card 52)
     at (inr beyond) = let lacks = has_card-beyond cards card set beyond in absurd (cc)
 
 -- a trick begins, and nothing need be searched
-pub settled : (trump : Option Suit) (tricks need : ℕ) (held : Seat → ℕ → Bool) (leader : Seat) (trick : List ℕ) → IsSettled (length trick) tricks need → (need == 0) ≡ nat_le need (worth_with trump (4 * tricks - length trick) held leader trick)
+pub settled : (trump : Option Suit) (tricks need : ℕ) (held : Seat → ℕ → Bool) (leader : Seat) (trick : List ℕ) → IsForegone (length trick) tricks need → (need == 0) ≡ nat_le need (worth_with trump (4 * tricks - length trick) held leader trick)
 settled trump tricks need held leader trick (empty, inl none) = none_needed need (worth_with trump (4 * tricks - length trick) held leader trick) none
 settled trump tricks need held leader trick (empty, inr more) = too_many trump tricks need held leader trick empty more
 
 zero_worth : (need worth : ℕ) → worth ≡ 0 → (need == 0) ≡ nat_le need worth
 zero_worth need worth e = grind (arith, nat_tests)
 
-module _ (trump : Option Suit) (tricks need : ℕ) (held : Seat → ℕ → Bool) (leader : Seat) (trick : List ℕ) (legal : ℕ) (more : length trick < 4 * tricks) (may : (card : ℕ) → has_card legal card ≡ may_play (held (clockwise_from leader (length trick))) trick card) where
+module _ (trump : Option Suit) (tricks need : ℕ) (held : Seat → ℕ → Bool) (leader : Seat) (trick : List ℕ) (legal : ℕ) (more : length trick < 4 * tricks) (may : (card : ℕ) → has_card legal card ≡ may_be_played (held (clockwise_from leader (length trick))) trick card) where
   abbrev side : Side
   side = side_of (clockwise_from leader (length trick))
 
@@ -46,18 +46,18 @@ module _ (trump : Option Suit) (tricks need : ℕ) (held : Seat → ℕ → Bool
   pub none_legal : legal ≡ 0 → (need == 0) ≡ nat_le need (worth_with trump (4 * tricks - length trick) held leader trick)
   none_legal empty =
       let none = λ (card : ℕ). sym (may card) ∙ ap (λ cards. has_card cards card) empty ∙ has_card-zero card in
-      zero_worth need (worth_with trump (4 * tricks - length trick) held leader trick) (worth_here ∙ best_empty need after (may_play (held (clockwise_from leader (length trick))) trick) side none)
+      zero_worth need (worth_with trump (4 * tricks - length trick) held leader trick) (worth_here ∙ best_empty need after (may_be_played (held (clockwise_from leader (length trick))) trick) side none)
 
   -- a card gives the answer that the side in turn wants
   pub found : (card : ℕ) (sought answer : Bool) → card < 52 → has_card legal card ≡ true → sought ≡ is_sought side → answer ≡ nat_le need (after card) → answer ≡ sought → sought ≡ nat_le need (worth_with trump (4 * tricks - length trick) held leader trick)
   found card sought answer inside has is told same =
-      let best = best_found need after (may_play (held (clockwise_from leader (length trick))) trick) side card inside (sym (may card) ∙ has) (sym told ∙ same ∙ is) in
+      let best = best_found need after (may_be_played (held (clockwise_from leader (length trick))) trick) side card inside (sym (may card) ∙ has) (sym told ∙ same ∙ is) in
       is ∙ sym best ∙ ap (nat_le need) (sym worth_here)
 
   -- none does
   pub none_found : (sought : Bool) → IsCardSet legal → (card : ℕ) × IsTrue (has_card legal card) → sought ≡ is_sought side → ((card : ℕ) → has_card legal card ≡ true → nat_le need (after card) ≡ not sought) → not sought ≡ nat_le need (worth_with trump (4 * tricks - length trick) held leader trick)
   none_found sought set some is all =
-      let best = best_none need after (may_play (held (clockwise_from leader (length trick))) trick) side some.0 (inside_deck legal some.0 set some.1) (sym (may some.0) ∙ some.1) (λ other legal_other. all other (may other ∙ legal_other) ∙ ap not is) in
+      let best = best_none need after (may_be_played (held (clockwise_from leader (length trick))) trick) side some.0 (inside_deck legal some.0 set some.1) (sym (may some.0) ∙ some.1) (λ other legal_other. all other (may other ∙ legal_other) ∙ ap not is) in
       ap not is ∙ sym best ∙ ap (nat_le need) (sym worth_here)
 
 -- ---- after a card

@@ -9,7 +9,7 @@ use Rattle.bridge_cards.specs.declared.seat.Seat.{Seat}
 use Rattle.bridge_cards.specs.Seat.{clockwise_from, side_of, same_seat}
 use Rattle.bridge_cards.specs.Card.{same_suit, suit_number_of}
 use Rattle.bridge_cards.specs.Trick.{has_suit, follows_suit, next_leader}
-use Rattle.bridge_endings.specs.Worth.{may_play, legal_cards, after_playing, best, trick_for, worth_after, worth_with}
+use Rattle.bridge_endings.specs.Worth.{may_be_played, legal_cards, after_playing, best, trick_for, worth_after, worth_with}
 use Rattle.bridge_endings.specs.Lowered.{swap}
 use Rattle.bridge_endings.specs.Equal.{IsApart}
 use Rattle.bridge_endings.proofs.WorthSteps.{worth_of_card, worth_zero, worth_with-suc}
@@ -19,8 +19,8 @@ use Rattle.bridge_endings.proofs.SameBest.{best_same, any_same}
 use Rattle.bridge_endings.proofs.SwappedTrick.{IsApartTrick, next_leader_swapped}
 
 -- a hand may play what it holds
-pub may_play-held : (hand : ℕ → Bool) (trick : List ℕ) (card : ℕ) → may_play hand trick card ≡ true → hand card ≡ true
-may_play-held hand trick card may = (and_parts (hand card) (follows_suit hand trick card) may).0
+pub may_be_played-held : (hand : ℕ → Bool) (trick : List ℕ) (card : ℕ) → may_be_played hand trick card ≡ true → hand card ≡ true
+may_be_played-held hand trick card may = (and_parts (hand card) (follows_suit hand trick card) may).0
 
 module _ (c d : ℕ) (suit : suit_number_of c ≡ suit_number_of d) (seat : Seat) where
   abbrev t : ℕ → ℕ
@@ -68,7 +68,7 @@ module _ (c d : ℕ) (suit : suit_number_of c ≡ suit_number_of d) (seat : Seat
       (λ x. ap (λ y. hand y && same_suit (t x) (t led)) (swap_back c d x)
       ∙ ap (λ b. hand x && b) (ap (λ n. n == suit_number_of (t led)) (swap_suit c d suit x) ∙ ap (λ n. suit_number_of x == n) (swap_suit c d suit led)))
 
-  may_play_swapped : (hand : ℕ → Bool) (trick : List ℕ) → ((card : ℕ) → hand card ≡ true → card < 52) → ((card : ℕ) → hand (t card) ≡ true → card < 52) → (card : ℕ) → may_play (λ x. hand (t x)) (map t trick) (t card) ≡ may_play hand trick card
+  may_play_swapped : (hand : ℕ → Bool) (trick : List ℕ) → ((card : ℕ) → hand card ≡ true → card < 52) → ((card : ℕ) → hand (t card) ≡ true → card < 52) → (card : ℕ) → may_be_played (λ x. hand (t x)) (map t trick) (t card) ≡ may_be_played hand trick card
   may_play_swapped hand [] inside carried card = ap (λ x. hand x && true) (swap_back c d card)
   may_play_swapped hand (led ∷ others) inside carried card =
       ap (λ x. hand x && (same_suit (t card) (t led) || not (has_suit (λ y. hand (t y)) (t led)))) (swap_back c d card)
@@ -112,18 +112,18 @@ module _ (c d : ℕ) (suit : suit_number_of c ≡ suit_number_of d) (seat : Seat
       abbrev after_there : ℕ → ℕ
       after_there = worth_of_card trump cards (swapped held) leader (map t trick)
 
-      one : (card : ℕ) → may_play (held turn) trick card ≡ true → after_there (t card) ≡ after card
-      one card may = card_swapped held leader trick is part card (may_play-held (held turn) trick card may)
+      one : (card : ℕ) → may_be_played (held turn) trick card ≡ true → after_there (t card) ≡ after card
+      one card may = card_swapped held leader trick is part card (may_be_played-held (held turn) trick card may)
 
-      may_too : (x : ℕ) → may_play (swapped held turn) (map t trick) x ≡ true → may_play (held turn) trick (t x) ≡ true
+      may_too : (x : ℕ) → may_be_played (swapped held turn) (map t trick) x ≡ true → may_be_played (held turn) trick (t x) ≡ true
       may_too x may =
-          sym (may_play_swapped (held turn) trick (is.inside turn) (is.carried turn) (t x)) ∙ ap (may_play (swapped held turn) (map t trick)) (swap_back c d x) ∙ may
+          sym (may_play_swapped (held turn) trick (is.inside turn) (is.carried turn) (t x)) ∙ ap (may_be_played (swapped held turn) (map t trick)) (swap_back c d x) ∙ may
 
       best_swapped : best (side_of turn) (map after_there (legal_cards (swapped held turn) (map t trick))) ≡ best (side_of turn) (map after (legal_cards (held turn) trick))
       best_swapped =
-          best_same (side_of turn) after_there after (may_play (swapped held turn) (map t trick)) (may_play (held turn) trick) t
-          (λ x may. is.carried turn x (may_play-held (swapped held turn) (map t trick) x may))
-          (λ x may. is.inside turn x (may_play-held (held turn) trick x may))
+          best_same (side_of turn) after_there after (may_be_played (swapped held turn) (map t trick)) (may_be_played (held turn) trick) t
+          (λ x may. is.carried turn x (may_be_played-held (swapped held turn) (map t trick) x may))
+          (λ x may. is.inside turn x (may_be_played-held (held turn) trick x may))
           (λ x may. (may_too x may, sym (one (t x) (may_too x may)) ∙ ap after_there (swap_back c d x)))
           (λ y may. (may_play_swapped (held turn) trick (is.inside turn) (is.carried turn) y ∙ may, one y may))
 

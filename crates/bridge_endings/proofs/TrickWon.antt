@@ -11,13 +11,13 @@ use Rattle.bridge_cards.specs.Card.{same_suit}
 use Rattle.bridge_cards.specs.CardSet.{deck}
 use Rattle.bridge_cards.specs.Trick.{has_suit, beats, next_leader}
 use Rattle.bridge_endings.specs.TrickValue.{IsWinning}
-use Rattle.bridge_endings.specs.Worth.{may_play, legal_cards, after_playing, best, trick_for, worth_after, worth_with}
+use Rattle.bridge_endings.specs.Worth.{may_be_played, legal_cards, after_playing, best, trick_for, worth_after, worth_with}
 use Rattle.bridge_endings.specs.Left.{is_sought}
 use Rattle.bridge_endings.proofs.Minimax.{best_found, best_none}
 use Rattle.bridge_endings.proofs.Answered.{same_answer, other_answer}
 use Rattle.bridge_endings.proofs.SameBest.{some_such}
 use Rattle.bridge_endings.proofs.Seats.{other_place}
-use Rattle.bridge_endings.proofs.SwappedWorth.{may_play-held}
+use Rattle.bridge_endings.proofs.SwappedWorth.{may_be_played-held}
 use Rattle.bridge_endings.proofs.Winning.{winning_is, winning_kept}
 use Rattle.bridge_endings.proofs.WorthSteps.{worth_of_card, worth_with-suc}
 use Rattle.bridge_endings.proofs.SearchSteps.{worth_after-part, worth_after-whole}
@@ -47,11 +47,11 @@ not_in_suit true false true is none = cc
 not_in_suit true false false is none = refl
 not_in_suit false same some is none = cc
 
-pub some_legal : (hand : ℕ → Bool) (trick : List ℕ) (card : ℕ) → hand card ≡ true → (legal : ℕ) × (may_play hand trick legal ≡ true)
+pub some_legal : (hand : ℕ → Bool) (trick : List ℕ) (card : ℕ) → hand card ≡ true → (legal : ℕ) × (may_be_played hand trick legal ≡ true)
 some_legal hand [] card has = (card, ap (λ b. b && true) has)
 some_legal hand (led ∷ others) card has = at (has_suit hand led) refl
   where
-    at : (is : Bool) → has_suit hand led ≡ is → (legal : ℕ) × (may_play hand (led ∷ others) legal ≡ true)
+    at : (is : Bool) → has_suit hand led ≡ is → (legal : ℕ) × (may_be_played hand (led ∷ others) legal ≡ true)
     at true is =
         let such = some_such (λ c. hand c && same_suit c led) is in
         (such.0, in_suit (hand such.0) (same_suit such.0 led) (not (has_suit hand led)) such.1)
@@ -111,16 +111,16 @@ module _ (trump : Option Suit) (cards need : ℕ) (held : Seat → ℕ → Bool)
   worth_here : worth_after trump (worth_with trump (suc cards)) held leader trick ≡ best (side_of turn) (map after (legal_cards (held turn) trick))
   worth_here = worth_after-part trump (worth_with trump (suc cards)) held leader trick part ∙ worth_with-suc trump cards held leader trick
 
-  pub by_one : (card : ℕ) → card < 52 → may_play (held turn) trick card ≡ true → answer ≡ is_sought (side_of turn) → nat_le need (after card) ≡ answer → nat_le need (worth_after trump (worth_with trump (suc cards)) held leader trick) ≡ answer
+  pub by_one : (card : ℕ) → card < 52 → may_be_played (held turn) trick card ≡ true → answer ≡ is_sought (side_of turn) → nat_le need (after card) ≡ answer → nat_le need (worth_after trump (worth_with trump (suc cards)) held leader trick) ≡ answer
   by_one card inside may wanted told =
-      ap (nat_le need) worth_here ∙ best_found need after (may_play (held turn) trick) (side_of turn) card inside may (told ∙ wanted) ∙ sym wanted
+      ap (nat_le need) worth_here ∙ best_found need after (may_be_played (held turn) trick) (side_of turn) card inside may (told ∙ wanted) ∙ sym wanted
 
   pub by_all : IsDealtOut held → (card : ℕ) → held turn card ≡ true → ((other : ℕ) → held turn other ≡ true → nat_le need (after other) ≡ answer) → nat_le need (worth_after trump (worth_with trump (suc cards)) held leader trick) ≡ answer
   by_all out card has all =
       let legal = some_legal (held turn) trick card has in
       ap (nat_le need) worth_here
-      ∙ best_all need after (may_play (held turn) trick) (side_of turn) answer legal.0 (out.inside turn legal.0 (may_play-held (held turn) trick legal.0 legal.1)) legal.1
-      (λ other may. all other (may_play-held (held turn) trick other may))
+      ∙ best_all need after (may_be_played (held turn) trick) (side_of turn) answer legal.0 (out.inside turn legal.0 (may_be_played-held (held turn) trick legal.0 legal.1)) legal.1
+      (λ other may. all other (may_be_played-held (held turn) trick other may))
 
 -- A trick that the card at that index wins so far. The hands still to play have cards, and none that beats it.
 module _ (trump : Option Suit) (leader : Seat) (led winner index : ℕ) where

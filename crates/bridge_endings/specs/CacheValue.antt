@@ -13,8 +13,9 @@ use Rattle.bridge_endings.specs.declared.bounds.Bounds.{Bounds}
 use Rattle.bridge_endings.specs.EndingValue.{EndingValue}
 use Rattle.bridge_endings.specs.Ending.{IsEnding}
 use Rattle.bridge_endings.specs.Worth.{worth_of}
-use Rattle.bridge_endings.specs.Between.{IsBetween}
+use Rattle.bridge_endings.specs.Between.{IsBounded}
 
+-- the entries, how many there may be, and the cards tried so far
 pub record CacheValue : Type 0 where
   pub entries : List (List ℕ × Bounds)
   pub capacity : ℕ
@@ -32,7 +33,7 @@ key_of ending = ending.hands ++ trump_number ending.trump ∷ seat_number ending
 -- each entry's bounds are true of its ending
 abbrev pub EachIsTrue : List (List ℕ × Bounds) → Type 0
 EachIsTrue entries = (key : List ℕ) (bounds : Bounds) → Contains entries (key, bounds)
-    → (ending : EndingValue) → IsEnding ending.hands → key_of ending ≡ key → IsBetween (worth_of ending) bounds
+    → (ending : EndingValue) → IsEnding ending.hands → key_of ending ≡ key → IsBounded (worth_of ending) bounds
 
 -- what holds of the entries of every cache
 pub record AreKept (entries : List (List ℕ × Bounds)) (capacity : ℕ) : Type 0 where
@@ -45,8 +46,8 @@ abbrev pub bounds_of : CacheValue → EndingValue → Option Bounds
 bounds_of cache ending = lookup (pointwise nat_eq (key_of ending)) cache.entries
 
 -- the ending is kept with that number as both bounds
-abbrev pub Keeps : CacheValue → EndingValue → ℕ → Type 0
-Keeps cache ending worth = bounds_of cache ending ≡ Some (record { least = worth; most = worth })
+abbrev pub KeepsWorth : CacheValue → EndingValue → ℕ → Type 0
+KeepsWorth cache ending worth = bounds_of cache ending ≡ Some (record { least = worth; most = worth })
 
 -- The entries once the ending is kept with that number as both bounds: it stands first. Where it was not there and the
 -- cache is full, the ending that was used least recently gives way.
@@ -55,9 +56,9 @@ entries_with cache ending worth =
     put_entries (pointwise nat_eq) (lru_cache cache.entries cache.capacity) (key_of ending) (record { least = worth; most = worth })
 
 -- what the keeping of an ending that comes to that worth does to a cache
-pub record Keeping (ending : EndingValue) (worth : ℕ) (old new : CacheValue) : Type 0 where
+pub record KeepingWorth (ending : EndingValue) (worth : ℕ) (old new : CacheValue) : Type 0 where
   -- both bounds are the worth, unless memory was refused
-  pub kept : Keeps new ending worth ⊎ (new.entries ≡ old.entries)
+  pub kept : KeepsWorth new ending worth ⊎ (new.entries ≡ old.entries)
   -- the others are kept too, as many as may be, and an ending that was kept becomes the one used last
   pub others : (new.entries ≡ entries_with old ending worth) ⊎ (new.entries ≡ old.entries)
   pub again : IsSome (bounds_of old ending) → new.entries ≡ entries_with old ending worth
@@ -67,10 +68,10 @@ pub record Keeping (ending : EndingValue) (worth : ℕ) (old new : CacheValue) :
 
 -- what the solving of an ending that comes to that worth does to a cache
 pub record Solving (ending : EndingValue) (worth : ℕ) (old new : CacheValue) : Type 0 where
-  pub keeping : Keeping ending worth old new
+  pub keeping : KeepingWorth ending worth old new
   -- the cards tried are counted, none for an ending that was kept with its worth
   pub tried : old.tried ≤ new.tried
-  pub known : (kept : ℕ) → Keeps old ending kept → new.tried ≡ old.tried
+  pub known : (kept : ℕ) → KeepsWorth old ending kept → new.tried ≡ old.tried
 
 -- what holds of a cache that is lent, before and after
 abbrev pub OfCache : Option (MutBor CacheValue) → Unit {0} ⊎ ((MutBor CacheValue × Unit {0}) ⊎ ⊥) → (CacheValue → CacheValue → Type 0) → Type 0

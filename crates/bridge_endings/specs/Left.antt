@@ -18,8 +18,8 @@ is_sought NorthSouth = true
 is_sought EastWest = false
 
 -- at the start of a trick, no tricks are needed, or more than are left
-abbrev pub IsSettled : ℕ → ℕ → ℕ → Type 0
-IsSettled played tricks need = (played ≡ 0) × ((need ≡ 0) ⊎ (tricks < need))
+abbrev pub IsForegone : ℕ → ℕ → ℕ → Type 0
+IsForegone played tricks need = (played ≡ 0) × ((need ≡ 0) ⊎ (tricks < need))
 
 -- each card of the trick was dealt to the seat that played it
 abbrev pub EachDealt : List ℕ → Seat → List ℕ → Type 0

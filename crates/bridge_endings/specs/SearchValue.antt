@@ -5,7 +5,7 @@ use Rattle.bridge_endings.specs.declared.found.Found.{Found}
 use Rattle.bridge_endings.specs.Ending.{IsEnding}
 use Rattle.bridge_endings.specs.Worth.{dealt, worth_with}
 use Rattle.bridge_endings.specs.Equal.{EachIsEqualTo}
-use Rattle.bridge_endings.specs.Between.{IsBetween}
+use Rattle.bridge_endings.specs.Between.{IsBounded}
 
 -- the hands and the trump suit of the ending, and how many cards were tried
 pub record SearchValue : Type 0 where
@@ -21,8 +21,9 @@ pub record GoesOn (old new : SearchValue) : Type 0 where
 
 -- the bounds are true of the hands and their leader
 abbrev pub IsFound : Option Suit → Found → Type 0
-IsFound trump found = IsBetween (worth_with trump (4 * found.tricks) (dealt found.hands) found.leader []) found.bounds
+IsFound trump found = IsBounded (worth_with trump (4 * found.tricks) (dealt found.hands) found.leader []) found.bounds
 
+-- the bounds of each entry of a table are true
 abbrev pub EachIsFound : Option Suit → List Found → Type 0
 EachIsFound trump table = All (IsFound trump) table
 

@@ -4,6 +4,7 @@ use Rattle.bridge_cards.specs.declared.suit.Suit.{Suit}
 use Rattle.bridge_cards.specs.declared.seat.Seat.{Seat}
 use Rattle.bridge_cards.specs.Trick.{wins}
 
+-- a trick so far, by the seat that led to it
 pub record TrickValue : Type 0 where
   pub trump : Option Suit
   pub leader : Seat

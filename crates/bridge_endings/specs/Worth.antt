@@ -15,11 +15,12 @@ use Rattle.bridge_endings.specs.Ending.{tricks_in}
 -- ---- the cards that may be played (Law 44)
 
 -- whether the hand may play the card: it has it, and leads, or follows suit, or has none of the suit led
-abbrev pub may_play : (ℕ → Bool) → List ℕ → ℕ → Bool
-may_play hand trick card = hand card && follows_suit hand trick card
+abbrev pub may_be_played : (ℕ → Bool) → List ℕ → ℕ → Bool
+may_be_played hand trick card = hand card && follows_suit hand trick card
 
+-- the cards that the hand may play to the trick, in the order of the deck
 abbrev pub legal_cards : (ℕ → Bool) → List ℕ → List ℕ
-legal_cards hand trick = filter (may_play hand trick) deck
+legal_cards hand trick = filter (may_be_played hand trick) deck
 
 -- what the seats hold once that card is played
 abbrev pub after_playing : ℕ → (Seat → ℕ → Bool) → Seat → ℕ → Bool

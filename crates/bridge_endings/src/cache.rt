@@ -2,8 +2,8 @@
 ghost use Rattle.std.specs.Prelude.{◌≡◌, ℕ, ◌≤◌, [], IfOk, IfSome, IsSome};
 ghost use Rattle.bridge_endings.specs.Ending.{IsEnding};
 ghost use Rattle.bridge_endings.specs.Worth.{worth_of};
-ghost use Rattle.bridge_endings.specs.CacheValue.{bounds_of, Keeping, Keeps, key_of};
-ghost use Rattle.bridge_endings.specs.Between.{IsBetween};
+ghost use Rattle.bridge_endings.specs.CacheValue.{bounds_of, KeepingWorth, KeepsWorth, key_of};
+ghost use Rattle.bridge_endings.specs.Between.{IsBounded};
 
 use crate::bounds::Bounds;
 use crate::ending::Ending;
@@ -62,7 +62,7 @@ impl Cache {
     /// The worth of the ending, where it is kept with equal bounds.
     pub(crate) fn worth(&self, ending: &Ending) -> Option<u8>
         ensures worth { IfSome result (λ worth. worth ≡ worth_of ending.now) }
-        ensures known { (worth : ℕ) → Keeps self.now ending.now worth → IsSome result }
+        ensures known { (worth : ℕ) → KeepsWorth self.now ending.now worth → IsSome result }
         ensures ending { IsEnding ending.now.hands }
     {
         let bounds = self.bounds(ending)?;
@@ -76,17 +76,17 @@ impl Cache {
     /// What is known of the ending.
     fn bounds(&self, ending: &Ending) -> Option<Bounds>
         ensures known { result ≡ bounds_of self.now ending.now }
-        ensures between { IfSome result (IsBetween (worth_of ending.now)) }
+        ensures between { IfSome result (IsBounded (worth_of ending.now)) }
         ensures ending { IsEnding ending.now.hands }
     {
         self.known.peek(&key(ending)).copied()
     }
 
-    /// Keeps the worth of the ending as both its bounds, where memory is not refused; for an ending that was kept already
+    /// KeepsWorth the worth of the ending as both its bounds, where memory is not refused; for an ending that was kept already
     /// none is asked for. So many cards were tried by now.
     pub(crate) fn keep(&mut self, ending: &Ending, worth: u8, tried: u64)
         requires { worth ≡ worth_of ending.now }
-        ensures keeping { Keeping ending.now worth self.old self.new }
+        ensures keeping { KeepingWorth ending.now worth self.old self.new }
         ensures tried { self.new.tried ≡ tried }
     {
         self.tried = tried;

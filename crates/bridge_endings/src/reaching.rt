@@ -2,7 +2,7 @@
 ghost use Rattle.std.specs.Prelude.{◌≡◌, ℕ, ◌-◌, ◌*◌, ◌<◌, ◌≤◌, nat_le, true, length, MatchBool, ◌++◌, ◌∷◌, []};
 ghost use Rattle.bridge_cards.specs.Seat.{clockwise_from, side_of};
 ghost use Rattle.bridge_endings.specs.Worth.{after_playing, trick_for, worth_with, worth_after};
-ghost use Rattle.bridge_endings.specs.Left.{left_to, is_sought, IsSettled, EachDealt};
+ghost use Rattle.bridge_endings.specs.Left.{left_to, is_sought, IsForegone, EachDealt};
 ghost use Rattle.bridge_endings.specs.SearchValue.{GoesOn};
 
 use crate::bounds::narrowed;
@@ -107,7 +107,7 @@ impl Search {
 fn is_settled(trick: &Trick, tricks: u8, need: u8) -> bool
     requires part { length trick.now.cards < 4 }
     requires enough { length trick.now.cards ≤ 4 * tricks }
-    ensures { MatchBool result (IsSettled (length trick.now.cards) tricks need) (length trick.now.cards < 4 * tricks) }
+    ensures { MatchBool result (IsForegone (length trick.now.cards) tricks need) (length trick.now.cards < 4 * tricks) }
 {
     trick.len() == 0 && (need == 0 || need > tricks)
 }

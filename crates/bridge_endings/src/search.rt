@@ -3,12 +3,12 @@ ghost use Rattle.std.specs.Prelude.{◌≡◌, ℕ, ◌+◌, ◌-◌, ◌*◌, �
 ghost use Rattle.bridge_cards.specs.Card.{IsCard, card_suit};
 ghost use Rattle.bridge_cards.specs.CardSet.{IsCardSet, has_card};
 ghost use Rattle.bridge_cards.specs.Seat.{clockwise_from};
-ghost use Rattle.bridge_endings.specs.Worth.{dealt, may_play, worth_with};
+ghost use Rattle.bridge_endings.specs.Worth.{dealt, may_be_played, worth_with};
 ghost use Rattle.bridge_endings.specs.Ending.{IsEnding};
 ghost use Rattle.bridge_endings.specs.Left.{left_to};
 ghost use Rattle.bridge_endings.specs.Equal.{IsEqualTo};
 ghost use Rattle.bridge_endings.specs.Lowered.{AreWorthTheSame};
-ghost use Rattle.bridge_endings.specs.Between.{IsBetween};
+ghost use Rattle.bridge_endings.specs.Between.{IsBounded};
 ghost use Rattle.bridge_endings.specs.SearchValue.{GoesOn, IsFound};
 
 use crate::bounds::Bounds;
@@ -91,7 +91,7 @@ impl Search {
 
     /// Bounds of what those hands win, of which so many tricks are left.
     pub fn bounds(&self, hands: &[CardSet; 4], leader: Seat, tricks: u8) -> Bounds
-        ensures { IsBetween (worth_with self.now.trump (4 * tricks) (dealt hands.now) leader []) result }
+        ensures { IsBounded (worth_with self.now.trump (4 * tricks) (dealt hands.now) leader []) result }
     {
         let found = self.table[slot(hands, leader)];
         if found.hands == *hands && found.leader == leader && found.tricks == tricks {
@@ -131,7 +131,7 @@ impl Search {
     pub fn legal_cards(&self, left: CardSet, trick: &Trick) -> CardSet
         ensures deck { IsCardSet result }
         ensures legal { (card : ℕ) → has_card result card
-            ≡ may_play (left_to self.now.hands left (clockwise_from trick.now.leader (length trick.now.cards))) trick.now.cards card }
+            ≡ may_be_played (left_to self.now.hands left (clockwise_from trick.now.leader (length trick.now.cards))) trick.now.cards card }
     {
         let held = self.held(left, trick.turn());
         let Some(led) = trick.led() else {

@@ -14,7 +14,6 @@ use Rattle.session_rules.specs.Average.{average_of}
 use Rattle.bridge_ranking.specs.declared.field.Field.{Field}
 use Rattle.bridge_ranking.specs.declared.field.Field.TheVariants.{First, Second}
 
--- what follows where a word was read, and otherwise nothing
 infixl 10 ◌>>=◌
 -- what follows where a word was read, and otherwise nothing
 abbrev pub ◌>>=◌ : {A B : Type 0} → Option A → (A → Option B) → Option B

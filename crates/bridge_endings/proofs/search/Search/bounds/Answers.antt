@@ -4,7 +4,7 @@ use Rattle.std.proofs.lemmas.List.Elements.{All-get_or}
 use Rattle.bridge_cards.specs.declared.suit.Suit.{Suit}
 use Rattle.bridge_cards.specs.declared.seat.Seat.{Seat}
 use Rattle.bridge_endings.specs.declared.found.Found.{Found}
-use Rattle.bridge_endings.specs.Between.{IsBetween}
+use Rattle.bridge_endings.specs.Between.{IsBounded}
 use Rattle.bridge_endings.specs.Worth.{dealt, worth_with}
 use Rattle.bridge_endings.specs.SearchValue.{IsFound}
 use Rattle.bridge_endings.proofs.WorthSteps.{worth_with_le}
@@ -18,7 +18,7 @@ returns-else-eq c =
 -- what was found of these hands, this leader and so many tricks bounds their worth
 found_of : (trump : Option Suit) (found : Found) (hands : List ℕ) (tricks : ℕ) (leader : Seat) → IsFound trump found
     → found.hands ≡ hands → found.leader ≡ leader → found.tricks ≡ tricks
-    → IsBetween (worth_with trump (4 * tricks) (dealt hands) leader []) found.bounds
+    → IsBounded (worth_with trump (4 * tricks) (dealt hands) leader []) found.bounds
 found_of trump found hands tricks leader is same_hands same_leader same_tricks =
     rw (← same_hands, ← same_leader, ← same_tricks) is
 
