@@ -39,6 +39,7 @@ seen_words None = codes "-" ∷ []
 seen_words (Some trick) = seat_word trick.leader ∷ map card_text trick.cards
 
 words_seen : (trick : Option Trick) → trick_words trick ≡ seen_words (option_map plain_seen trick)
+unfolding seen_words
 words_seen None = refl
 words_seen (Some trick) = refl
 
@@ -78,40 +79,40 @@ same_view_text one other same =
 
 one_refusal : {A : Type 0} (answer : Result A SessionRefused) (one other : List ℕ) → TellsRefusal (λ refused. answer ≡ Err refused) one → TellsRefusal (λ refused. answer ≡ Err refused) other → one ≡ other
 one_refusal answer one other a b =
-    let same : a.0 ≡ b.0 = (let first = a.1.0 in let second = b.1.0 in cc) in
-    a.1.1 ∙ ap (λ refused. short_text (Refused refused)) same ∙ sym b.1.1
+    let same : a.0 ≡ b.0 = (let first = a.1 in let second = b.1 in cc) in
+    a.2 ∙ ap (λ refused. short_text (Refused refused)) same ∙ sym b.2
 
 -- what is answered is not refused
 not_both : {A : Type 0} (answer : Result A SessionRefused) (value : A) (text : List ℕ) → answer ≡ Ok value → TellsRefusal (λ refused. answer ≡ Err refused) text → ⊥
-not_both answer value text ok refused = let err = refused.1.0 in cc
+not_both answer value text ok refused = let err = refused.1 in cc
 
 one_see : (s : SessionValue) (key : ℕ) (one other : List ℕ) → TellsView s key one ⊎ TellsRefusal (λ refused. shown_to s key ≡ Err refused) one
     → TellsView s key other ⊎ TellsRefusal (λ refused. shown_to s key ≡ Err refused) other → one ≡ other
 one_see s key one other (inl a) (inl b) =
-    a.1.1 ∙ same_view_text a.0 b.0 (one_view s key a.0 b.0 a.1.0 b.1.0) ∙ sym b.1.1
-one_see s key one other (inl a) (inr b) = absurd (not_both (shown_to s key) a.1.0.shown other a.1.0.allowed b)
-one_see s key one other (inr a) (inl b) = absurd (not_both (shown_to s key) b.1.0.shown one b.1.0.allowed a)
+    a.2 ∙ same_view_text a.0 b.0 (one_view s key a.0 b.0 a.1 b.1) ∙ sym b.2
+one_see s key one other (inl a) (inr b) = absurd (not_both (shown_to s key) a.1.shown other a.1.allowed b)
+one_see s key one other (inr a) (inl b) = absurd (not_both (shown_to s key) b.1.shown one b.1.allowed a)
 one_see s key one other (inr a) (inr b) = one_refusal (shown_to s key) one other a b
 
 one_rank : (s : SessionValue) (key : ℕ) (field : Field) (one other : List ℕ) → TellsRanking s key field one ⊎ TellsRefusal (λ refused. ranking_answer s key field ≡ Err refused) one
     → TellsRanking s key field other ⊎ TellsRefusal (λ refused. ranking_answer s key field ≡ Err refused) other → one ≡ other
 one_rank s key field one other (inl a) (inl b) =
-    a.1.1 ∙ ap (ranking_text s.configuration.scoring) (one_ranking s key key field a.0 b.0 a.1.0 b.1.0) ∙ sym b.1.1
-one_rank s key field one other (inl a) (inr b) = absurd (not_both (ranking_answer s key field) tt other a.1.0.allowed b)
-one_rank s key field one other (inr a) (inl b) = absurd (not_both (ranking_answer s key field) tt one b.1.0.allowed a)
+    a.2 ∙ ap (ranking_text s.configuration.scoring) (one_ranking s key key field a.0 b.0 a.1 b.1) ∙ sym b.2
+one_rank s key field one other (inl a) (inr b) = absurd (not_both (ranking_answer s key field) tt other a.1.allowed b)
+one_rank s key field one other (inr a) (inl b) = absurd (not_both (ranking_answer s key field) tt one b.1.allowed a)
 one_rank s key field one other (inr a) (inr b) = one_refusal (ranking_answer s key field) one other a b
 
 -- the tricks of an ending
-tricks_text : EndingValue → List ℕ
+abbrev tricks_text : EndingValue → List ℕ
 tricks_text ending = solved_text (worth_of ending) (tricks_in ending.hands - worth_of ending)
 
 one_solve : (s : SessionValue) (key : ℕ) (play : PlayId) (cards : ℕ) (one other : List ℕ) → TellsWorth s key play cards one ⊎ TellsRefusal (λ refused. ending_answer s key play cards ≡ Err refused) one
     → TellsWorth s key play cards other ⊎ TellsRefusal (λ refused. ending_answer s key play cards ≡ Err refused) other → one ≡ other
 one_solve s key play cards one other (inl a) (inl b) =
-    let seen : plain_ending a.0 ≡ plain_ending b.0 = (let first = a.1.1.0 in let second = b.1.1.0 in cc) in
-    a.1.1.1 ∙ ap tricks_text (same_endings a.0 b.0 a.1.0 b.1.0 seen) ∙ sym b.1.1.1
-one_solve s key play cards one other (inl a) (inr b) = absurd (not_both (ending_answer s key play cards) (plain_ending a.0) other a.1.1.0 b)
-one_solve s key play cards one other (inr a) (inl b) = absurd (not_both (ending_answer s key play cards) (plain_ending b.0) one b.1.1.0 a)
+    let seen : plain_ending a.0 ≡ plain_ending b.0 = (let first = a.2 in let second = b.2 in cc) in
+    a.3 ∙ ap tricks_text (same_endings a.0 b.0 a.1 b.1 seen) ∙ sym b.3
+one_solve s key play cards one other (inl a) (inr b) = absurd (not_both (ending_answer s key play cards) (plain_ending a.0) other a.2 b)
+one_solve s key play cards one other (inr a) (inl b) = absurd (not_both (ending_answer s key play cards) (plain_ending b.0) one b.2 a)
 one_solve s key play cards one other (inr a) (inr b) = one_refusal (ending_answer s key play cards) one other a b
 
 one_pbn : (s : SessionValue) (answer : Result (Unit {0}) SessionRefused) (text one other : List ℕ) → ((answer ≡ Ok tt) × (one ≡ text)) ⊎ TellsRefusal (λ refused. answer ≡ Err refused) one
@@ -137,6 +138,6 @@ one_reply standing LongLine one other a b = a ∙ sym b
 pub one_text : (standing : Standing) (asked : List Asked) (one other : List ℕ) → AreReplies standing asked one → AreReplies standing asked other → one ≡ other
 one_text standing [] one other a b = a ∙ sym b
 one_text standing (first ∷ more) one other a b =
-    a.1.1.1.1
-    ∙ ap₂ (λ (x y : List ℕ). x ++ y) (one_reply standing first a.0 b.0 a.1.1.0 b.1.1.0) (one_text (after_asked standing first) more a.1.0 b.1.0 a.1.1.1.0 b.1.1.1.0)
-    ∙ sym b.1.1.1.1
+    a.4
+    ∙ ap₂ (λ (x y : List ℕ). x ++ y) (one_reply standing first a.0 b.0 a.2 b.2) (one_text (after_asked standing first) more a.1 b.1 a.3 b.3)
+    ∙ sym b.4

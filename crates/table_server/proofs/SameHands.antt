@@ -25,33 +25,37 @@ use Rattle.bridge_session.specs.Ending.{PlainEnding, plain_ending}
 count_passed : (p : ℕ → Bool) (n : ℕ) (xs : List ℕ) → count_by (λ x. x == n) (filter p xs) ≡ cond (p n) (count_by (λ x. x == n) xs) 0
 count_passed p n [] = none (p n)
   where
-    none : (b : Bool) → 0 ≡ cond b 0 0
+    none : (b : Bool) → ◌≡◌ {A = ℕ} 0 (cond b 0 0)
     none true = refl
     none false = refl
-count_passed p n (x ∷ xs) = at (p x) refl (cases_eq x n)
+count_passed p n (x ∷ xs) = at (count_passed p n xs) (p x) refl (cases_eq x n)
   where
-    at : (b : Bool) → p x ≡ b → (x ≡ n) ⊎ (x ≡ n → ⊥) → count_by (λ y. y == n) (cond (p x) (x ∷ filter p xs) (filter p xs)) ≡ cond (p n) (count_by (λ y. y == n) (x ∷ xs)) 0
-    at true passes (inl same) =
+    uncounted : (x ≡ n → ⊥) → (ys : List ℕ) → count_by (λ y. y == n) (x ∷ ys) ≡ count_by (λ y. y == n) ys
+    uncounted other ys =
+        let none : ◌≡◌ {A = ℕ} (cond (x == n) 1 0) 0 = ap (λ b. cond b 1 0) (ne_eqb x n other) in
+        omega (arith, sum_by-cons (λ y. cond (y == n) 1 0) x ys, none)
+
+    at : (count_by (λ y. y == n) (filter p xs) ≡ cond (p n) (count_by (λ y. y == n) xs) 0) → (b : Bool) → p x ≡ b → (x ≡ n) ⊎ (x ≡ n → ⊥) → count_by (λ y. y == n) (cond (p x) (x ∷ filter p xs) (filter p xs)) ≡ cond (p n) (count_by (λ y. y == n) (x ∷ xs)) 0
+    at later true passes (inl same) =
         ap (λ b. count_by (λ y. y == n) (cond b (x ∷ filter p xs) (filter p xs))) passes
         ∙ sum_by-cons (λ y. cond (y == n) 1 0) x (filter p xs)
-        ∙ ap (λ k. cond (x == n) 1 0 + k) (count_passed p n xs ∙ ap (λ b. cond b (count_by (λ y. y == n) xs) 0) (ap p (sym same) ∙ passes))
+        ∙ ap (λ k. cond (x == n) 1 0 + k) (later ∙ ap (λ b. cond b (count_by (λ y. y == n) xs) 0) (ap p (sym same) ∙ passes))
         ∙ sym (ap (λ b. cond b (count_by (λ y. y == n) (x ∷ xs)) 0) (ap p (sym same) ∙ passes) ∙ sum_by-cons (λ y. cond (y == n) 1 0) x xs)
-    at true passes (inr other) =
+    at later true passes (inr other) =
         ap (λ b. count_by (λ y. y == n) (cond b (x ∷ filter p xs) (filter p xs))) passes
-        ∙ sum_by-cons (λ y. cond (y == n) 1 0) x (filter p xs)
-        ∙ ap (λ b. cond b 1 0 + count_by (λ y. y == n) (filter p xs)) (ne_eqb x n other)
-        ∙ count_passed p n xs
-        ∙ sym (ap (λ k. cond (p n) k 0) (sum_by-cons (λ y. cond (y == n) 1 0) x xs ∙ ap (λ b. cond b 1 0 + count_by (λ y. y == n) xs) (ne_eqb x n other)))
-    at false fails (inl same) =
+        ∙ uncounted other (filter p xs)
+        ∙ later
+        ∙ sym (ap (λ k. cond (p n) k 0) (uncounted other xs))
+    at later false fails (inl same) =
         let fails_too : p n ≡ false = ap p (sym same) ∙ fails in
         ap (λ b. count_by (λ y. y == n) (cond b (x ∷ filter p xs) (filter p xs))) fails
-        ∙ count_passed p n xs
+        ∙ later
         ∙ ap (λ b. cond b (count_by (λ y. y == n) xs) 0) fails_too
         ∙ sym (ap (λ b. cond b (count_by (λ y. y == n) (x ∷ xs)) 0) fails_too)
-    at false fails (inr other) =
+    at later false fails (inr other) =
         ap (λ b. count_by (λ y. y == n) (cond b (x ∷ filter p xs) (filter p xs))) fails
-        ∙ count_passed p n xs
-        ∙ sym (ap (λ k. cond (p n) k 0) (sum_by-cons (λ y. cond (y == n) 1 0) x xs ∙ ap (λ b. cond b 1 0 + count_by (λ y. y == n) xs) (ne_eqb x n other)))
+        ∙ later
+        ∙ sym (ap (λ k. cond (p n) k 0) (uncounted other xs))
 
 -- a card of the deck stands once in the list of a hand that has it
 count_held : (hand card : ℕ) → card < 52 → count_by (λ x. x == card) (cards_of hand) ≡ cond (has_card hand card) 1 0
