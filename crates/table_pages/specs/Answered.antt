@@ -7,6 +7,7 @@ use Rattle.session_rules.specs.State.{SessionValue}
 use Rattle.line_text.specs.Lines.{complete_lines}
 use Rattle.line_text.specs.Streams.{Stream}
 use Rattle.player_place.specs.Place.{place_text}
+use Rattle.table_list.specs.Tables.{tables_text}
 use Rattle.table_server.specs.declared.asked.Asked.{Asked}
 use Rattle.table_server.specs.declared.fault.ServeFault.{ServeFault}
 use Rattle.table_server.specs.Answered.{AskAll}
@@ -23,6 +24,10 @@ is_settled false (action ∷ pending) = false
 -- over the session of a store: what is told to the player whose key these bytes are, of his place
 abbrev pub place_told : {D : Type 0} → StoreValue D SessionValue Action → List ℕ → List ℕ
 place_told store key = place_text store.state key
+
+-- over the session of a store: what is told of all tables to the director, whose key these bytes are
+abbrev pub tables_told : {D : Type 0} → StoreValue D SessionValue Action → List ℕ → List ℕ
+tables_told store key = tables_text store.state key
 
 module _ {D : Type 0} (disk : Disk D) where
   -- All complete lines of a body were served over a store, and the text is the replies to them.

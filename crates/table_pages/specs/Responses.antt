@@ -5,11 +5,14 @@ use Rattle.http.specs.Request.{head_of, body_of}
 use Rattle.http_server.specs.declared.response.Response.{Response}
 use Rattle.web_requests.specs.declared.kind.Kind.TheVariants as kind
 use Rattle.web_requests.specs.declared.route.Route.{Route}
-use Rattle.web_requests.specs.declared.route.Route.TheVariants.{Page, Script, Style, Lines, Place, Refused}
+use Rattle.web_requests.specs.declared.route.Route.TheVariants.{Page, Script, DirectorScript, Style, Lines, Place, Tables, Refused}
 use Rattle.web_requests.specs.declared.route.Refusal.TheVariants.{TooLong}
 use Rattle.web_requests.specs.Route.{route_for}
 use Rattle.web_requests.specs.Filled.{IsText, IsRefusal, IsUnavailable}
-use Rattle.table_pages.specs.declared.texts.TheConstants.{PAGE, SCRIPT, STYLE}
+use Rattle.table_pages.specs.declared.director_script.TheConstants.{DIRECTOR_SCRIPT}
+use Rattle.table_pages.specs.declared.page.TheConstants.{PAGE}
+use Rattle.table_pages.specs.declared.script.TheConstants.{SCRIPT}
+use Rattle.table_pages.specs.declared.style.TheConstants.{STYLE}
 
 -- over a server of lines: from one state, a body is answered by a text or by none, and leaves another state
 module _ {T : Type 0} (answers : T → List ℕ → Option (List ℕ) → T → Type 0) where
@@ -24,15 +27,17 @@ module _ {T : Type 0} (answers : T → List ℕ → Option (List ℕ) → T → 
   TellsShort true old body response new = TellsLines old body response new
   TellsShort false old body response new = IsRefusal TooLong response × (new ≡ old)
 
-  module _ (places : T → List ℕ → List ℕ) where
-    -- the response to a request on this route: the same to everybody, the replies to its lines, or the place of
-    -- the player whose key it has
+  module _ (places tables : T → List ℕ → List ℕ) where
+    -- the response to a request on this route: the same to everybody, the replies to its lines, or what is told to the holder
+    -- of the key that it has
     abbrev pub Responds : Route → T → List ℕ → Response → T → Type 0
     Responds Page old body response new = IsText kind.Page PAGE.now response × (new ≡ old)
     Responds Script old body response new = IsText kind.Script SCRIPT.now response × (new ≡ old)
+    Responds DirectorScript old body response new = IsText kind.Script DIRECTOR_SCRIPT.now response × (new ≡ old)
     Responds Style old body response new = IsText kind.Style STYLE.now response × (new ≡ old)
     Responds Lines old body response new = TellsShort (nat_lt (length body) 65536) old body response new
     Responds Place old body response new = IsText kind.Lines (places old body) response × (new ≡ old)
+    Responds Tables old body response new = IsText kind.Lines (tables old body) response × (new ≡ old)
     Responds (Refused why) old body response new = IsRefusal why response × (new ≡ old)
 
     -- the response to a request at a server of these two names

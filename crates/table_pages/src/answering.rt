@@ -1,7 +1,7 @@
 //! Lines that came in one request, answered over a store.
 ghost use Rattle.std.specs.Prelude.{◌≡◌, ◌<◌, [], false, length, option_map};
 ghost use Rattle.table_server.specs.Faulted.{FailsWithDisk};
-ghost use Rattle.table_pages.specs.Answered.{AnswersBody, AnswersLines, is_settled, place_told};
+ghost use Rattle.table_pages.specs.Answered.{AnswersBody, AnswersLines, is_settled, place_told, tables_told};
 
 use crate::line_server::LineServer;
 use bridge_endings::Cache;
@@ -10,6 +10,7 @@ use player_place::push_place;
 use sector_disk::SectorDisk;
 use session_store::Store;
 use std::alloc::Global;
+use table_list::push_tables;
 use table_server::{ReplyText, serve};
 
 /// Answers the lines of a body of fewer than 65,536 bytes by what `serve` writes for them: what was accepted is confirmed
@@ -44,12 +45,18 @@ impl<D: SectorDisk + Drop> LineServer for Store<D, Session> {
 
     ghost places = { λ store key. place_told store key };
 
+    ghost tables = { λ store key. tables_told store key };
+
     fn answer(&mut self, alloc: Global, cache: &mut Cache, body: &[u8]) -> Option<Vec<u8>> {
         answer_lines(self, alloc, cache, body)
     }
 
     fn place(&self, key: &[u8], text: &mut ReplyText) {
         push_place(text, self.state(), key);
+    }
+
+    fn tables(&self, key: &[u8], text: &mut ReplyText) {
+        push_tables(text, self.state(), key);
     }
 
     fn has_failed(&self) -> bool {

@@ -7,13 +7,19 @@
 #![tactic(auto)]
 
 mod answering;
+mod director_script;
 mod line_server;
+mod page;
 mod pages;
+mod script;
 mod showing;
-mod texts;
+mod style;
 
 pub use answering::answer_lines;
 pub use line_server::LineServer;
+pub use director_script::DIRECTOR_SCRIPT;
+pub use page::PAGE;
 pub use pages::TablePages;
+pub use script::SCRIPT;
 pub use showing::{show_minutes, show_rounds};
-pub use texts::{PAGE, SCRIPT, STYLE};
+pub use style::STYLE;

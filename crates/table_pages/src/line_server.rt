@@ -19,6 +19,9 @@ pub trait LineServer: Drop {
     // what is told to the player whose key these bytes are
     ghost places: { Self → List ℕ → List ℕ };
 
+    // what is told of all tables to the director, whose key these bytes are
+    ghost tables: { Self → List ℕ → List ℕ };
+
     /// Answers the lines of a body of fewer than 65,536 bytes. `None` where memory was refused for the text; lines may have
     /// been taken then.
     fn answer(&mut self, alloc: Global, cache: &mut Cache, body: &[u8]) -> Option<Vec<u8>>
@@ -31,6 +34,11 @@ pub trait LineServer: Drop {
     fn place(&self, key: &[u8], text: &mut ReplyText)
         requires { text.old.bytes ≡ [] }
         ensures { text.new.bytes ≡ places self.now key.now };
+
+    /// Adds what is told of all tables to the director, whose key these bytes are.
+    fn tables(&self, key: &[u8], text: &mut ReplyText)
+        requires { text.old.bytes ≡ [] }
+        ensures { text.new.bytes ≡ tables self.now key.now };
 
     /// Whether it has failed, and answers each line with an error from then on.
     fn has_failed(&self) -> bool

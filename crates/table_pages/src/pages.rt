@@ -6,7 +6,10 @@ ghost use Rattle.web_requests.specs.Filled.{IsText, IsUnavailable};
 ghost use Rattle.web_requests.specs.Route.{route_for};
 
 use crate::line_server::LineServer;
-use crate::texts::{PAGE, SCRIPT, STYLE};
+use crate::director_script::DIRECTOR_SCRIPT;
+use crate::page::PAGE;
+use crate::script::SCRIPT;
+use crate::style::STYLE;
 use bridge_endings::Cache;
 use bytes::Bytes;
 use http::Request;
@@ -109,6 +112,16 @@ impl<T: LineServer> TablePages<T> {
         put_text(response, Kind::Lines, text.as_str().as_bytes())
     }
 
+    /// Answers the director's key with what is told of all tables.
+    fn put_tables(&self, key: &[u8], response: &mut Response) -> Result<(), AllocError>
+        requires { IsBlank response.old }
+        ensures { OnOk result (IsText Kind.Lines (T.tables self.now.server key.now) response.new) }
+    {
+        let mut text = ReplyText::new();
+        self.server.tables(key, &mut text);
+        put_text(response, Kind::Lines, text.as_str().as_bytes())
+    }
+
     /// Answers posted lines. Where memory is refused once they were taken, the response says nothing.
     fn put_lines(&mut self, body: &[u8], response: &mut Response)
         requires blank { IsBlank response.old }
@@ -139,7 +152,7 @@ impl<T: LineServer> Service for TablePages<T> {
     ghost use Rattle.table_pages.specs.Responses.{Answering};
 
     ghost answers = { λ old request response new.
-        Answering T.answers T.places (string_bytes old.host) (string_bytes old.alias) old.server request response new.server
+        Answering T.answers T.places T.tables (string_bytes old.host) (string_bytes old.alias) old.server request response new.server
         × (new.host ≡ old.host) × (new.alias ≡ old.alias) };
 
     fn call(
@@ -150,9 +163,11 @@ impl<T: LineServer> Service for TablePages<T> {
         match self.route(request) {
             Route::Page => put_static(response, Kind::Page, PAGE),
             Route::Script => put_static(response, Kind::Script, SCRIPT),
+            Route::DirectorScript => put_static(response, Kind::Script, DIRECTOR_SCRIPT),
             Route::Style => put_static(response, Kind::Style, STYLE),
             Route::Lines => self.call_lines(request.body().as_slice(), response),
             Route::Place => self.put_place(request.body().as_slice(), response),
+            Route::Tables => self.put_tables(request.body().as_slice(), response),
             Route::Refused(refusal) => put_refusal(response, refusal),
         }
     }

@@ -16,3 +16,5 @@ pub mod StreamLemmas
 pub mod FailureLemmas
 pub mod AcceptingLemmas
 pub mod FaultLemmas
+mod SameHands
+mod OneAnswer

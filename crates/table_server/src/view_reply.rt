@@ -13,7 +13,8 @@ use bridge_auction::{Call, print_bid};
 use bridge_cards::{Card, CardSet, Seat, print_hand, seat_text, vulnerability_text};
 use bridge_session::{Trick, View};
 
-fn phase_text(in_play: bool) -> &'static str
+/// `PLAY` once there is a contract, and before `AUCTION`.
+pub fn phase_text(in_play: bool) -> &'static str
     ensures text { result.now ≡ phase_text in_play }
     ensures short { length result.now ≤ 7 }
 {

@@ -5,7 +5,7 @@ use Rattle.http_header.specs.FieldValue.{FieldValue}
 use Rattle.http_header.specs.HeaderMap.{get}
 use Rattle.http_uri.specs.Uri.{uri_authority, uri_path}
 use Rattle.web_requests.specs.declared.route.Route.{Route}
-use Rattle.web_requests.specs.declared.route.Route.TheVariants.{Page, Script, Style, Lines, Place, Refused}
+use Rattle.web_requests.specs.declared.route.Route.TheVariants.{Page, Script, DirectorScript, Style, Lines, Place, Tables, Refused}
 use Rattle.web_requests.specs.declared.route.Refusal.TheVariants.{Misdirected, NotFound, OnlyRead, OnlyPosted, WrongType}
 
 -- there is a value, and it is this text
@@ -22,6 +22,7 @@ abbrev pub is_addressed : List ℕ → List ℕ → Option (List ℕ) → Option
 is_addressed host alias (Some authority) value = false
 is_addressed host alias None value = is_host host alias value
 
+-- what a request's line and fields say of where it goes
 abbrev pub is_here : List ℕ → List ℕ → Parts → Bool
 is_here host alias head = is_addressed host alias (uri_authority head.uri) (get head.headers (codes "host"))
 
@@ -46,9 +47,11 @@ abbrev pub route_at : List ℕ → Parts → Route
 route_at path head =
     if bytes_eq path (codes "/") then reading Page head.method else (
     if bytes_eq path (codes "/table.js") then reading Script head.method else (
+    if bytes_eq path (codes "/director.js") then reading DirectorScript head.method else (
     if bytes_eq path (codes "/table.css") then reading Style head.method else (
     if bytes_eq path (codes "/lines") then posting Lines head else (
-    if bytes_eq path (codes "/place") then posting Place head else Refused NotFound))))
+    if bytes_eq path (codes "/place") then posting Place head else (
+    if bytes_eq path (codes "/tables") then posting Tables head else Refused NotFound))))))
 
 -- where a request goes that came to a server of these two names
 abbrev pub route_for : List ℕ → List ℕ → Parts → Route

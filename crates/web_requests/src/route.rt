@@ -14,12 +14,16 @@ pub enum Route {
     Page,
     /// `GET /table.js`: its script.
     Script,
+    /// `GET /director.js`: the part of the script that only a director needs.
+    DirectorScript,
     /// `GET /table.css`: its style.
     Style,
     /// `POST /lines`: lines of the protocol are to be answered.
     Lines,
     /// `POST /place`: the place of the player whose key is its body is to be told.
     Place,
+    /// `POST /tables`: all tables are to be told to the director whose key is its body.
+    Tables,
     /// Nothing that is here.
     Refused(Refusal),
 }
@@ -56,9 +60,11 @@ pub fn route_of(host: &str, alias: &str, request: &Request<Bytes>) -> Route
     match request.uri().path() {
         "/" => reading(request, Route::Page),
         "/table.js" => reading(request, Route::Script),
+        "/director.js" => reading(request, Route::DirectorScript),
         "/table.css" => reading(request, Route::Style),
         "/lines" => posting(request, Route::Lines),
         "/place" => posting(request, Route::Place),
+        "/tables" => posting(request, Route::Tables),
         _ => Route::Refused(Refusal::NotFound),
     }
 }

@@ -1,29 +1,6 @@
-//! The page, its script and its style.
+//! The script of the page.
 
-/// The page, of which the script makes what each player sees.
-pub const PAGE: &str = r##"<!doctype html>
-<html lang="en">
-<head>
-<meta charset="utf-8">
-<meta name="viewport" content="width=device-width, initial-scale=1">
-<title>Bridge table</title>
-<link rel="icon" href="data:,">
-<link rel="stylesheet" href="/table.css">
-<script src="/table.js" defer></script>
-</head>
-<body>
-<header>
-<h1 id="title">Bridge table</h1>
-<button id="leave" type="button" hidden>Leave</button>
-</header>
-<p id="notice" role="alert"></p>
-<p id="status" role="status"></p>
-<main id="main"><noscript>This page needs JavaScript.</noscript></main>
-</body>
-</html>
-"##;
-
-/// Its script: it judges nothing, greys what would be refused, and shows what the server tells.
+/// The script: it judges nothing, greys what would be refused, and shows what the server tells.
 pub const SCRIPT: &str = r##""use strict";
 // The players' page. It judges nothing: it greys what would be refused, and shows what the server tells.
 
@@ -423,21 +400,6 @@ async function showClosed(placeReply) {
   show(placeReply + first + second, "The session is closed.", () => both.flatMap((one) => rankingNode(one[0], one[1])));
 }
 
-function showDirector() {
-  at("title").textContent = "Director";
-  show("director", "", () => {
-    const box = make("textarea", { id: "box", spellcheck: false });
-    const reply = make("pre", { id: "replies", role: "log", aria_label: "Replies" });
-    const send = async () => {
-      const lines = box.value.split("\n").filter((line) => line.trim() !== "");
-      const body = lines.map((line) => line.trim().replace(/^(\S+)\s*/, (_all, word) => (word === "SYNC" ? word : word + " " + key + " ")).trim() + "\n").join("");
-      const text = await ask("/lines", body);
-      reply.textContent = text === null ? "No answer came. The lines may or may not have been taken." : text;
-    };
-    return [make("label", { for: "box" }, "Lines of the protocol, without the key"), box, button("Send", "", "send", true, send), reply];
-  });
-}
-
 function showLogin() {
   at("title").textContent = "Bridge table";
   at("leave").hidden = true;
@@ -482,7 +444,7 @@ async function lookOnce(asked) {
   const refused = refusal(place);
   if (refused === "NotAllowed") {
     enter(asked);
-    return showDirector();
+    return showDirector(asked);
   }
   if (refused) {
     leave();
@@ -519,44 +481,4 @@ async function act(line) {
 at("leave").onclick = leave;
 document.addEventListener("visibilitychange", () => { if (!document.hidden) look(); });
 look();
-"##;
-
-/// Its style.
-pub const STYLE: &str =
-    r##":root { color-scheme: light; --felt: #e3efe6; --line: #51635a; --ink: #16211b; --red: #a3001e; --turn: #ffd84d; }
-* { box-sizing: border-box; }
-[hidden] { display: none !important; }
-body { margin: 0 auto; max-width: 60rem; padding: 0 .6rem 2rem; font: 1.05rem/1.4 system-ui, sans-serif; color: var(--ink); background: #fff; }
-header { display: flex; justify-content: space-between; align-items: center; gap: 1rem; }
-h1 { font-size: 1.3rem; margin: .5rem 0; }
-h2 { font-size: 1.1rem; margin: .8rem 0 .3rem; }
-p { margin: .35rem 0; }
-#notice:empty, #status:empty { display: none; }
-#notice { background: #fff1d6; border: 2px solid #8a5a00; padding: .4rem .6rem; }
-#status { font-weight: bold; }
-button, input, textarea { font: inherit; color: inherit; }
-button { min-height: 2.75rem; min-width: 2.75rem; padding: .2rem .6rem; background: #fff; border: 1px solid var(--line); border-radius: .4rem; cursor: pointer; }
-button:focus-visible, input:focus-visible, textarea:focus-visible { outline: 3px solid #0b57d0; outline-offset: 2px; }
-button:disabled { color: #5c655f; background: #ececec; border-style: dashed; cursor: default; }
-input, textarea { padding: .4rem; border: 1px solid var(--line); border-radius: .4rem; }
-input { min-height: 2.75rem; width: 12rem; max-width: 100%; }
-textarea { width: 100%; min-height: 8rem; font-family: ui-monospace, monospace; }
-pre { background: #f4f4f4; padding: .5rem; overflow-x: auto; }
-.red { color: var(--red); }
-.table { display: grid; grid-template-columns: 1fr minmax(9rem, 1.4fr) 1fr; gap: .3rem; background: var(--felt); border: 1px solid var(--line); border-radius: .6rem; padding: .4rem; }
-.seat { text-align: center; padding: .2rem; border-radius: .4rem; overflow-wrap: anywhere; border: 3px solid transparent; }
-.seat.turn { border-color: var(--line); background: var(--turn); }
-.top { grid-area: 1 / 2; } .left { grid-area: 2 / 1; align-self: center; } .right { grid-area: 2 / 3; align-self: center; } .bottom { grid-area: 3 / 2; }
-.trick { grid-area: 2 / 2; display: grid; grid-template-columns: repeat(3, 1fr); grid-template-rows: repeat(3, 2.6rem); align-items: center; justify-items: center; }
-.trick .top { grid-area: 1 / 2; } .trick .left { grid-area: 2 / 1; } .trick .right { grid-area: 2 / 3; } .trick .bottom { grid-area: 3 / 2; }
-.played { background: #fff; border: 1px solid var(--line); border-radius: .4rem; padding: .2rem .45rem; font-weight: bold; }
-.small { font-size: .9rem; }
-.suit { display: flex; flex-wrap: wrap; gap: .3rem; align-items: center; margin: .25rem 0; }
-.suit > span:first-child { width: 1.4rem; font-size: 1.3rem; text-align: center; }
-.suit button { font-weight: bold; border-width: 2px; }
-.suit button:disabled { color: var(--ink); background: #fff; border: 1px solid #aab5af; font-weight: normal; }
-.bids { display: grid; grid-template-columns: repeat(5, minmax(2.75rem, 5rem)); gap: .3rem; margin: .4rem 0; }
-.row { display: flex; flex-wrap: wrap; gap: .4rem; align-items: center; margin: .4rem 0; }
-table { border-collapse: collapse; }
-th, td { border: 1px solid #9aa59f; padding: .2rem .6rem; text-align: center; }
 "##;

@@ -1,0 +1,2 @@
+mod ToldViews
+mod MoreTables

@@ -1,0 +1,2 @@
+-- All tables as a text.
+pub mod Tables

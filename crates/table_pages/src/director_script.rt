@@ -1,0 +1,289 @@
+//! The part of the script that only a director needs.
+
+/// The director's script: it asks by lines of the protocol, and shows what the server tells.
+pub const DIRECTOR_SCRIPT: &str = r##""use strict";
+// The director's page: tables, rounds, deals, rulings, endings, rankings and results. It asks by lines of the protocol, and
+// judges nothing.
+
+const DIRECTOR_SENTENCES = {
+  AlreadyDealt: "already dealt",
+  BadDeal: "these are not four hands of thirteen cards",
+  BadLine: "that cannot be read",
+  NoSuchPlay: "there is no such play",
+  NotYet: "that round has not begun",
+  RoundOpen: "a table is still at play",
+  NoContract: "there is no contract",
+  NotFinished: "the play is not over",
+  NotAnEnding: "at most six whole tricks may be left, and so many must have been played",
+  NotMatchPoints: "averages are for matchpoints alone",
+  WrongPhase: "that is not possible now",
+  Closed: "the session is closed",
+  Disk: "the server's disk has failed",
+};
+
+// When each table's line was first seen as it is.
+const since = new Map();
+let boardsOfSet = 1;
+
+// A reply of one line in words.
+function outcome(reply) {
+  const refused = refusal(reply);
+  return refused ? DIRECTOR_SENTENCES[refused] || refused : "done";
+}
+
+function tell(text) {
+  say("told", text);
+}
+
+// Asks before it acts; the question stands where it was raised.
+function confirmFirst(box, question, act) {
+  const close = () => box.replaceChildren();
+  box.replaceChildren(make("p", null, question),
+    make("div", { className: "row" },
+      button("Yes", question, "yes", true, () => { close(); act(); }), button("No", "", "no", true, close)));
+  at("yes").focus();
+}
+
+// Sends lines without the key, each of a keyword and words; gives the replies, or null.
+async function order(lines) {
+  const body = lines.map((line) => line.replace(/^(\S+)\s*/, (_all, word) => (word === "SYNC" ? word : word + " " + key + " ")).trim() + "\n").join("");
+  const reply = await ask("/lines", body);
+  if (reply === null) tell("No answer came. It may or may not have been done; what you see next tells.");
+  return reply;
+}
+
+async function doOne(line, what) {
+  const reply = await order([line]);
+  if (reply !== null) tell(what + ": " + outcome(reply) + ".");
+  look();
+}
+
+// ---- tables
+
+function readTables(reply) {
+  const lines = reply.split("\n").map((line) => line.split(" "));
+  const found = (word) => lines.find((words) => words[0] === word);
+  const round = found("ROUND");
+  const boards = found("BOARDS");
+  return {
+    round: Number(round[1]),
+    rounds: Number(round[2]),
+    boards: Number(boards[1]),
+    all: Number(boards[2]),
+    tables: lines.filter((words) => words[0] === "TABLE").map((words) => ({
+      line: words.join(" "), number: words[1], ns: words[2], ew: words[3],
+      idle: words[4] === "-" ? words[5] : "", board: words[4], phase: words[5], turn: words[6], calls: words[7], cards: words[8],
+    })),
+  };
+}
+
+const IDLE = { NotDealt: "waits for its deal", NotCurrent: "has done its boards", SitsOut: "nobody plays here", Closed: "closed" };
+
+function progressText(table) {
+  if (table.idle) return IDLE[table.idle] || table.idle;
+  const made = table.phase === "PLAY" ? table.cards + " cards" : table.calls + " calls";
+  return (table.phase === "PLAY" ? "play, " : "auction, ") + made + ", " + SEAT_NAMES[table.turn] + " in turn";
+}
+
+function minutesText(table, now) {
+  const known = since.get(table.number);
+  if (!known || known.line !== table.line) since.set(table.number, { line: table.line, at: now });
+  return String(Math.floor((now - since.get(table.number).at) / 60000));
+}
+
+function tablesTable(state) {
+  const titles = ["Table", "N-S", "E-W", "Board", "What goes on", "Min."];
+  const now = Date.now();
+  const rows = state.tables.map((table) => make("tr", null,
+    ...[table.number, table.ns, table.ew, table.idle ? "" : table.board, progressText(table), minutesText(table, now)].map((word) => make("td", null, word))));
+  return make("table", { id: "tables", className: "tables", aria_label: "Tables" },
+    make("thead", null, make("tr", null, ...titles.map((title) => make("th", { scope: "col" }, title)))), make("tbody", null, ...rows));
+}
+
+// The tables that are still at play, by their numbers.
+function stillPlaying(state) {
+  return state.tables.filter((table) => table.idle !== "NotCurrent" && table.idle !== "SitsOut").map((table) => table.number);
+}
+
+function roundText(state) {
+  if (state.round > state.rounds) return "The session is closed.";
+  const open = stillPlaying(state);
+  const still = open.length === 0 ? "All tables have done their boards." : (open.length === 1 ? "Still at play: table " : "Still at play: tables ") + open.join(", ") + ".";
+  return "Round " + state.round + " of " + state.rounds + ". " + still;
+}
+
+function showTables(state) {
+  boardsOfSet = state.boards;
+  say("status", roundText(state));
+  const old = at("tables");
+  if (old) old.replaceWith(tablesTable(state));
+  const end = at("end-round");
+  if (!end) return;
+  end.disabled = state.round > state.rounds || stillPlaying(state).length > 0;
+  const label = state.round > state.rounds ? "All rounds are ended" : "End round " + state.round + (state.round === state.rounds ? ", and close the session" : "");
+  if (end.textContent !== label) end.textContent = label;
+  end.onclick = () => confirmFirst(at("end-question"), "End round " + state.round + "?", () => doOne("NEXT " + state.round, "End of round " + state.round));
+  for (const id of ["shuffle-last"]) if (at(id) && at(id).value === "") at(id).value = state.all;
+}
+
+// ---- deals
+
+function drawSeed() {
+  return [...crypto.getRandomValues(new Uint8Array(32))].map((byte) => byte.toString(16).padStart(2, "0")).join("");
+}
+
+// The deals of a text: DEAL lines, a number and a deal, or the tag pairs of a PBN file.
+function dealsIn(text) {
+  const found = [];
+  let board = null;
+  for (const line of text.split(/\r?\n/)) {
+    const tag = /^\s*\[(Board|Deal)\s+"([^"]*)"\]/.exec(line);
+    const plain = /^\s*(?:DEAL\s+)?(\d+)\s+([NESW]:.+?)\s*$/.exec(line);
+    if (tag && tag[1] === "Board") board = tag[2];
+    else if (tag && board !== null) found.push([board, tag[2]]);
+    else if (plain) found.push([plain[1], plain[2]]);
+  }
+  return found;
+}
+
+async function dealAll(lines, boards) {
+  const reply = await order(lines);
+  if (reply === null) return;
+  const words = reply.split("\n").slice(0, boards.length);
+  const dealt = boards.filter((_board, i) => words[i] === "OK");
+  const others = boards.map((board, i) => [board, words[i]]).filter((one) => one[1] !== "OK");
+  tell((dealt.length ? "Dealt: " + dealt.join(", ") + ". " : "No board was dealt. ") + others.map((one) => "Board " + one[0] + ": " + outcome(one[1]) + ".").join(" "));
+  look();
+}
+
+function shuffleBoards() {
+  const first = Number(at("shuffle-first").value);
+  const last = Number(at("shuffle-last").value);
+  const boards = [];
+  for (let board = first; board <= last && boards.length < 36; board += 1) boards.push(board);
+  const seed = drawSeed();
+  if (boards.length) dealAll(boards.map((board) => "SHUFFLE " + board + " " + seed), boards);
+}
+
+function dealText(text) {
+  const deals = dealsIn(text);
+  if (deals.length === 0) return tell("No deal was found in this text.");
+  const few = deals.slice(0, 36);
+  return dealAll(few.map((deal) => "DEAL " + deal[0] + " " + deal[1]), few.map((deal) => deal[0]));
+}
+
+// ---- a form of a few fields
+
+function numberField(id, label, low, high, value) {
+  return make("span", { className: "field" }, make("label", { for: id }, label), make("input", { id, type: "number", min: low, max: high, value }));
+}
+
+function choice(id, label, options) {
+  return make("span", { className: "field" }, make("label", { for: id }, label),
+    make("select", { id }, ...options.map((option) => make("option", { value: option[0] }, option[1]))));
+}
+
+const numberAt = (id) => Math.trunc(Number(at(id).value));
+
+// The words of a play: round, table, and the board's place in its set.
+function playWords(prefix) {
+  const index = ((numberAt(prefix + "-board") - 1) % boardsOfSet) + 1;
+  return numberAt(prefix + "-round") + " " + numberAt(prefix + "-table") + " " + index;
+}
+
+function playName(prefix) {
+  return "round " + numberAt(prefix + "-round") + ", table " + numberAt(prefix + "-table") + ", board " + numberAt(prefix + "-board");
+}
+
+function playFields(prefix) {
+  return make("div", { className: "row" }, numberField(prefix + "-round", "Round", 1, 12, 1), numberField(prefix + "-table", "Table", 1, 12, 1), numberField(prefix + "-board", "Board", 1, 36, 1));
+}
+
+function rule(what, line) {
+  confirmFirst(at("rule-question"), what + ", " + playName("rule") + "?", () => doOne(line, what + ", " + playName("rule")));
+}
+
+function rulingNodes() {
+  const per = [["60", "60: in no way at fault"], ["50", "50: partly at fault"], ["40", "40: directly at fault"]];
+  return [playFields("rule"),
+    make("div", { className: "row" }, numberField("rule-tricks", "Declarer's tricks", 0, 13, 7),
+      button("Set the tricks", "", "rule-set", true, () => rule("Set declarer's tricks to " + numberAt("rule-tricks"), "TRICKS " + playWords("rule") + " " + numberAt("rule-tricks")))),
+    make("div", { className: "row" }, choice("rule-ns", "North and South, per cent", per), choice("rule-ew", "East and West, per cent", per),
+      button("Award averages", "", "rule-average", true, () => rule("Award " + at("rule-ns").value + " and " + at("rule-ew").value + " per cent",
+        "ADJUST " + playWords("rule") + " " + at("rule-ns").value + " " + at("rule-ew").value))),
+    make("div", { className: "row" }, button("Take the play out", "", "rule-void", true, () => rule("Take the play out", "VOID " + playWords("rule"))),
+      button("Take a ruling back", "", "rule-restore", true, () => rule("Take the ruling back", "RESTORE " + playWords("rule")))),
+    make("div", { id: "rule-question" })];
+}
+
+async function solve() {
+  const reply = await order(["SOLVE " + playWords("solve") + " " + 4 * numberAt("solve-tricks")]);
+  if (reply === null) return;
+  const words = reply.split("\n")[0].split(" ");
+  say("solved", words[0] === "OK" ? "Of the tricks left North and South can win " + words[1] + ", and East and West " + words[2] + "." : "No answer: " + outcome(reply) + ".");
+}
+
+async function showRankings() {
+  const replies = [await ask("/lines", "RANK " + key + " 1\n"), await ask("/lines", "RANK " + key + " 2\n")];
+  if (replies.includes(null)) return tell("No answer came.");
+  return at("rankings").replaceChildren(...replies.flatMap((reply, i) => (refusal(reply) ? [] : rankingNode(i + 1, reply))));
+}
+
+async function showResults() {
+  const text = await ask("/results", key);
+  at("results").textContent = text === null ? "No answer came." : text;
+}
+
+function section(id, title, ...nodes) {
+  return make("details", { id }, make("summary", null, title), ...nodes);
+}
+
+function linesNodes() {
+  const box = make("textarea", { id: "box", spellcheck: false });
+  const replies = make("pre", { id: "replies", role: "log", aria_label: "Replies" });
+  const send = async () => {
+    const reply = await order(box.value.split("\n").map((line) => line.trim()).filter((line) => line !== ""));
+    replies.textContent = reply === null ? "No answer came. The lines may or may not have been taken." : reply;
+  };
+  return [make("label", { for: "box" }, "Lines of the protocol, without the key"), box, button("Send", "", "send", true, send), replies];
+}
+
+function dealNodes() {
+  const file = make("input", { id: "deal-file", type: "file", onchange: async () => { at("deal-text").value = await file.files[0].text(); } });
+  return [
+    make("div", { className: "row" }, numberField("shuffle-first", "Shuffle boards", 1, 36, 1), numberField("shuffle-last", "to", 1, 36, ""), button("Shuffle", "", "shuffle", true, shuffleBoards)),
+    make("div", { className: "row" }, make("label", { for: "deal-file" }, "Or a file of deals (PBN)"), file),
+    make("label", { for: "deal-text" }, "Or their text: PBN, or lines such as 1 N:AKQJ.T98.765.432 ..."),
+    make("textarea", { id: "deal-text", spellcheck: false }),
+    button("Deal these", "", "deal", true, () => dealText(at("deal-text").value))];
+}
+
+function directorNodes() {
+  return [
+    make("p", { id: "told", role: "status" }),
+    make("table", { id: "tables" }),
+    make("div", { className: "row" }, button("End the round", "", "end-round", false, () => {})),
+    make("div", { id: "end-question" }),
+    section("dealing", "Deal boards", ...dealNodes()),
+    section("ruling", "Rulings", ...rulingNodes()),
+    section("solving", "What can still be won", playFields("solve"),
+      make("div", { className: "row" }, numberField("solve-tricks", "After so many tricks", 7, 13, 7), button("Solve", "", "solve", true, solve)), make("p", { id: "solved", role: "status" })),
+    section("ranking", "Ranking", button("Show the ranking", "", "rank", true, showRankings), make("div", { id: "rankings" })),
+    section("publishing", "Results", make("div", { className: "row" }, button("Show the results", "", "show-results", true, showResults), button("Print", "", "print", true, () => window.print())), make("pre", { id: "results" })),
+    section("lines", "Lines", ...linesNodes())];
+}
+
+// Shows the director's page, built once, with its tables as they are now.
+async function showDirector(asked) {
+  const reply = await ask("/tables", asked);
+  if (key !== asked) return;
+  if (reply === null) return unreachable();
+  if (refusal(reply)) return leave();
+  at("title").textContent = "Director";
+  if (!at("tables")) {
+    shown = "director";
+    at("main").replaceChildren(...directorNodes());
+  }
+  showTables(readTables(reply));
+}
+"##;
