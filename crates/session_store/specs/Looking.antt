@@ -9,7 +9,7 @@ use Rattle.session_store.specs.declared.reading.Entry.TheVariants.{Missing, Hold
 use Rattle.session_store.specs.declared.fault.StoreFault.{StoreFault}
 use Rattle.session_store.specs.declared.fault.StoreFault.TheVariants.{NoMemory}
 use Rattle.session_store.specs.Form.{entry_in, place}
-use Rattle.session_store.specs.Stands.{header_at, header_in, after_header}
+use Rattle.session_store.specs.Stands.{header_at, after_header}
 use Rattle.session_store.specs.Opening.{IsCause}
 
 -- of two headers the one with the lower epoch

@@ -2,7 +2,6 @@ use Rattle.std.proofs.Common.{Ok, Err, refl, sym, ap, subst, ◌∙◌, map}
 use Rattle.std.proofs.lemmas.Result.{err_from_is_err_and}
 use Rattle.sector_disk.specs.Disk.{Image}
 use Rattle.sector_disk.proofs.ImageLaws.{image_is}
-use Rattle.session_store.specs.ReadFaults.{store_fault}
 use Rattle.session_store.specs.Looking.{CountsRecords}
 use Rattle.session_store.specs.Stands.{replay}
 use Rattle.session_store.specs.declared.fault.StoreFault.TheVariants.{Damaged}
