@@ -3,7 +3,10 @@ pub mod Faults
 pub mod Opening
 pub mod Formatted
 pub mod Stored
+pub mod Readings
 pub mod Results
+pub mod Counts
+pub mod Checked
 pub mod Scripted
 pub mod Connections
 pub mod OnFile

@@ -27,33 +27,6 @@ IsOnFile store = (d : FileDisk (SystemFile File)) × OpensSession file_disk d st
 abbrev pub RefusesFile : StoreFault → Type 0
 RefusesFile fault = (fault ≡ DiskFault) ⊎ ((d : FileDisk (SystemFile File)) × RefusesDisk file_disk d fault)
 
-module _ (IsText : SessionValue → List ℕ → Type 0) where
-  -- a session was opened, and the text of its results is written
-  abbrev pub TellsOpened : {D : Type 0} → Result (StoreValue D SessionValue Action) StoreFault → Stream → Type 0
-  TellsOpened opened output =
-      MatchResult opened (λ store. (text : List ℕ) × IsText store.state text × Takes output text) (λ _. ⊥)
-
-  -- it was opened, and a write failed; or it was not, and the fault is the cause
-  abbrev pub StopsTelling : {D : Type 0} → Result (StoreValue D SessionValue Action) StoreFault → Stream → RunFault → Type 0
-  StopsTelling opened output fault = MatchResult opened
-      (λ store. (fault ≡ StreamFault Write) × ((text : List ℕ) × IsText store.state text × TakesPrefix output text))
-      (λ cause. (fault ≡ Store cause) × IsUntouched output)
-
-  -- this is the text of the results of a session that was opened on a disk in a file
-  pub record TellsOnFile (text : List ℕ) : Type 0 where
-    pub store : StoreValue (FileDisk (SystemFile File)) SessionValue Action
-    pub opened : IsOnFile store
-    pub says : IsText store.state text
-
-  -- the text of the results is written
-  abbrev pub HasResults : Stream → Type 0
-  HasResults output = (text : List ℕ) × TellsOnFile text × Takes output text
-
-  -- there is no session, and nothing is written; or a write failed
-  abbrev pub StopsResults : Stream → RunFault → Type 0
-  StopsResults output fault = ((cause : StoreFault) × (fault ≡ Store cause) × RefusesFile cause × IsUntouched output)
-      ⊎ ((fault ≡ StreamFault Write) × ((text : List ℕ) × TellsOnFile text × TakesPrefix output text))
-
 -- all lines of the input were served over a session that was opened on a disk in a file
 pub record HasScripted (input output : Stream) : Type 0 where
   pub start : StoreValue (FileDisk (SystemFile File)) SessionValue Action

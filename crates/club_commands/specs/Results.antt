@@ -1,5 +1,11 @@
 -- What the commands `rank` and `pbn` write.
-use Rattle.std.specs.Prelude.{◌≡◌, ◌++◌, [], ℕ, List, map, codes, MatchBool}
+use Rattle.std.specs.Prelude.{◌≡◌, ◌⊎◌, ◌++◌, [], ℕ, List, map, codes, MatchBool, Result, MatchResult}
+use Rattle.session_store.specs.declared.fault.StoreFault.{StoreFault}
+use Rattle.table_server.specs.declared.fault.ServeFault.TheVariants.{Write}
+use Rattle.line_text.specs.Streams.{Stream, Takes, TakesPrefix, IsUntouched}
+use Rattle.club_commands.specs.declared.fault.RunFault.{RunFault}
+use Rattle.club_commands.specs.declared.fault.RunFault.TheVariants.{Stream as StreamFault, Store}
+use Rattle.club_commands.specs.Readings.{IsReadOnFile, IsUnreadOnFile}
 use Rattle.bridge_score.specs.declared.ranking.Ranked.{Ranked}
 use Rattle.bridge_ranking.specs.declared.field.Field.{Field}
 use Rattle.bridge_ranking.specs.declared.field.Field.TheVariants.{First, Second}
@@ -34,3 +40,30 @@ IsRankingText s text =
 -- the results in Portable Bridge Notation
 abbrev pub IsPbnText : SessionValue → List ℕ → Type 0
 IsPbnText s text = text ≡ session_text s
+
+module _ (IsText : SessionValue → List ℕ → Type 0) where
+  -- a session was read, and the text of its results is written
+  abbrev pub TellsRead : Result SessionValue StoreFault → Stream → Type 0
+  TellsRead read output =
+      MatchResult read (λ session. (text : List ℕ) × IsText session text × Takes output text) (λ _. ⊥)
+
+  -- it was read, and a write failed; or it was not, and the fault is the cause
+  abbrev pub StopsTelling : Result SessionValue StoreFault → Stream → RunFault → Type 0
+  StopsTelling read output fault = MatchResult read
+      (λ session. (fault ≡ StreamFault Write) × ((text : List ℕ) × IsText session text × TakesPrefix output text))
+      (λ cause. (fault ≡ Store cause) × IsUntouched output)
+
+  -- this is the text of the results of a session that was read of a disk in a file
+  pub record TellsOnFile (text : List ℕ) : Type 0 where
+    pub session : SessionValue
+    pub read : IsReadOnFile session
+    pub says : IsText session text
+
+  -- the text of the results is written
+  abbrev pub HasResults : Stream → Type 0
+  HasResults output = (text : List ℕ) × TellsOnFile text × Takes output text
+
+  -- there is no session, and nothing is written; or a write failed
+  abbrev pub StopsResults : Stream → RunFault → Type 0
+  StopsResults output fault = ((cause : StoreFault) × (fault ≡ Store cause) × IsUnreadOnFile cause × IsUntouched output)
+      ⊎ ((fault ≡ StreamFault Write) × ((text : List ℕ) × TellsOnFile text × TakesPrefix output text))

@@ -1,16 +1,14 @@
-//! The commands over the session that a disk in a file holds. Each locks the file for as long as it runs, which no clause
+//! The commands that serve the session that a disk in a file holds. Each locks the file for as long as it runs, which no clause
 //! can say and tests show.
 ghost use Rattle.std.specs.Prelude.{◌≡◌, [], false, OnOk, IfOk, IfErr};
 ghost use Rattle.line_text.specs.Streams.{stream};
 ghost use Rattle.sector_disk.specs.File.{file_disk};
 ghost use Rattle.club_commands.specs.Connections.{ServesAllConnections};
-ghost use Rattle.club_commands.specs.Results.{IsRankingText, IsPbnText};
 ghost use Rattle.club_commands.specs.Scripted.{ServesOpened, StopsOpened};
-ghost use Rattle.club_commands.specs.OnFile.{IsOnFile, RefusesFile, TellsOpened, StopsTelling, HasResults, StopsResults, HasScripted, StopsScripting, unknown, HasServedConnections, ServesHeard, StopsHearing, StopsListening, ServesConnectionsOpened, StopsConnectionsOpened, StopsServingConnections};
+ghost use Rattle.club_commands.specs.OnFile.{IsOnFile, RefusesFile, HasScripted, StopsScripting, unknown, HasServedConnections, ServesHeard, StopsHearing, StopsListening, ServesConnectionsOpened, StopsConnectionsOpened, StopsServingConnections};
 
 use crate::disk_lock::lock;
 use crate::fault::RunFault;
-use crate::results::{write_games, write_ranking};
 use crate::script::serve_store;
 use crate::serving::serve_connections;
 use crate::stored_session::open_found;
@@ -39,62 +37,6 @@ pub(crate) fn open_store<S: Files<File = File>>(
     ensures fault { IfErr result RefusesFile }
 {
     open_found(alloc, FileDisk::open(rt, disk))
-}
-
-/// Writes the ranking of each field of a session, where it was opened.
-fn rank_opened<D: SectorDisk + Drop, W: Write>(
-    opened: Result<Store<D, Session>, StoreFault>,
-    output: &mut W,
-) -> Result<(), RunFault>
-    ensures done { OnOk result (TellsOpened IsRankingText opened (stream W.contents output.old output.new)) }
-    ensures fault { IfErr result (StopsTelling IsRankingText opened (stream W.contents output.old output.new)) }
-{
-    match opened {
-        Ok(store) => write_ranking(store.state(), output),
-        Err(cause) => Err(RunFault::Store(cause)),
-    }
-}
-
-/// Writes the results of a session, where it was opened.
-fn pbn_opened<D: SectorDisk + Drop, W: Write>(
-    opened: Result<Store<D, Session>, StoreFault>,
-    output: &mut W,
-) -> Result<(), RunFault>
-    ensures done { OnOk result (TellsOpened IsPbnText opened (stream W.contents output.old output.new)) }
-    ensures fault { IfErr result (StopsTelling IsPbnText opened (stream W.contents output.old output.new)) }
-{
-    match opened {
-        Ok(store) => write_games(store.state(), output),
-        Err(cause) => Err(RunFault::Store(cause)),
-    }
-}
-
-/// Writes the ranking of each field of the session that the disk in a file holds.
-pub fn run_rank<S: Files<File = File>, W: Write>(
-    rt: &S,
-    alloc: Global,
-    disk: &str,
-    output: &mut W,
-) -> Result<(), RunFault>
-    ensures done { OnOk result (HasResults IsRankingText (stream W.contents output.old output.new)) }
-    ensures fault { IfErr result (StopsResults IsRankingText (stream W.contents output.old output.new)) }
-{
-    let _lock = lock(rt, disk)?;
-    rank_opened(open_store(rt, alloc, disk), output)
-}
-
-/// Writes the results of the session that the disk in a file holds, in Portable Bridge Notation.
-pub fn run_pbn<S: Files<File = File>, W: Write>(
-    rt: &S,
-    alloc: Global,
-    disk: &str,
-    output: &mut W,
-) -> Result<(), RunFault>
-    ensures done { OnOk result (HasResults IsPbnText (stream W.contents output.old output.new)) }
-    ensures fault { IfErr result (StopsResults IsPbnText (stream W.contents output.old output.new)) }
-{
-    let _lock = lock(rt, disk)?;
-    pbn_opened(open_store(rt, alloc, disk), output)
 }
 
 /// Serves the lines of the input over a session, where it was opened and there was memory for a cache.

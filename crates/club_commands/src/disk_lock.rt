@@ -1,4 +1,4 @@
-//! The lock of a disk's file, which at most one run of the program has at a time.
+//! The lock of a disk's file, which at a time one run of the program has that writes it, or any number that read it.
 ghost use Rattle.std.specs.Prelude.{◌≡◌, IfErr};
 
 use crate::fault::RunFault;
@@ -35,6 +35,33 @@ pub fn lock<S: Files<File = File>>(rt: &S, disk: &str) -> Result<File, RunFault>
     let mut options = OpenOptions::new();
     options.read(true).write(true);
     locked(rt, disk, &options)
+}
+
+/// Whether it is a folder, which can be opened for reading too.
+fn is_folder(file: &File) -> bool {
+    match file.metadata() {
+        Ok(metadata) => metadata.is_dir(),
+        Err(_) => true,
+    }
+}
+
+/// Opens the file of a disk for reading alone, and keeps runs that write it from it. The fault is `Disk`, as where there is no
+/// file, it is a folder, or another run writes it; several runs may read it at a time.
+pub fn lock_to_read<S: Files<File = File>>(rt: &S, disk: &str) -> Result<File, RunFault>
+    ensures fault { IfErr result (λ fault. fault ≡ RunFault.Store StoreFault.Disk) }
+{
+    let mut options = OpenOptions::new();
+    options.read(true);
+    let Ok(file) = options.open(rt, disk) else {
+        return Err(RunFault::Store(StoreFault::Disk));
+    };
+    if is_folder(&file) {
+        return Err(RunFault::Store(StoreFault::Disk));
+    }
+    match file.try_lock_shared() {
+        Ok(()) => Ok(file),
+        Err(_) => Err(RunFault::Store(StoreFault::Disk)),
+    }
 }
 
 /// Locks a file in which a disk is to be made. One that is not there is made, empty, for its owner alone.

@@ -7,7 +7,9 @@
 //! ```
 #![tactic(auto)]
 
+mod check;
 mod config_file;
+mod counts;
 mod disk_commands;
 mod disk_lock;
 mod fault;
@@ -16,6 +18,7 @@ mod formatting;
 mod moving_aside;
 mod output;
 mod printable;
+mod reading_commands;
 mod results;
 mod run;
 mod script;
@@ -23,11 +26,12 @@ mod serving;
 mod stored_session;
 mod web;
 
+pub use check::check_disk;
 pub use config_file::read_session;
-pub use disk_lock::lock;
+pub use disk_lock::{lock, lock_to_read};
 pub use fault::RunFault;
 pub use run::{refuse, run_words, status_of};
 pub use script::serve_store;
 pub use serving::serve_connections;
-pub use stored_session::open_session;
+pub use stored_session::{open_session, read_found};
 pub use web::show_pages;

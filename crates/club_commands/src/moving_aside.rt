@@ -19,11 +19,11 @@ fn holds_an_opening<D: SectorDisk>(alloc: Global, disk: &mut D) -> bool
     let Ok(first) = read_state::<D, Session>(alloc, disk) else {
         return false;
     };
-    let Ok(opening) = Session::new(alloc, first.into_config()) else {
+    let Ok(opening) = Session::new(alloc, first.state.into_config()) else {
         return false;
     };
     match read_state::<D, Session>(alloc, disk) {
-        Ok(held) => is_same_state(&held, &opening),
+        Ok(held) => is_same_state(&held.state, &opening),
         Err(_) => false,
     }
 }

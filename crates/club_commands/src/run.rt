@@ -7,11 +7,12 @@ ghost use Rattle.club_commands.specs.Faults.{fault_line, fault_status};
 ghost use Rattle.club_commands.specs.Run.{HasAuction, StopsAuction, DoesCommand, StopsBy, IsDone, IsCommandStopped, IsWithoutMemory, RefusesWords, memory_line, text_line, files_line};
 ghost use Rattle.command_line.specs.declared.command.Command.{Command};
 
-use crate::disk_commands::{run_pbn, run_rank, run_script, run_serve};
+use crate::disk_commands::{run_script, run_serve};
 use crate::fault::RunFault;
 use crate::fault_line::{fault_line, fault_status};
 use crate::formatting::run_format;
 use crate::printable::Printable;
+use crate::reading_commands::{run_check, run_pbn, run_rank};
 use crate::web::run_web;
 use bridge_cards::BoardNumber;
 use command_line::{Command, WordsFault, read_words};
@@ -130,6 +131,7 @@ fn do_command<
         } => run_web(rt, alloc, disk, port, minutes, output),
         Command::Rank { disk } => run_rank(rt, alloc, disk, output),
         Command::Pbn { disk } => run_pbn(rt, alloc, disk, output),
+        Command::Check { disk } => run_check(rt, alloc, disk, output),
     }
 }
 

@@ -1,10 +1,12 @@
 //! The session that a disk holds.
 ghost use Rattle.std.specs.Prelude.{◌≡◌, [], false, IfOk, IfErr};
+ghost use Rattle.session_store.specs.Stands.{header_in};
+ghost use Rattle.club_commands.specs.Readings.{ReadsSession, RefusesReading, ReadsFound, RefusesFoundReading};
 ghost use Rattle.club_commands.specs.Stored.{OpensSession, RefusesDisk, OpensFound, RefusesFound};
 
 use bridge_session::Session;
 use sector_disk::{DiskFault, SectorDisk};
-use session_store::{Store, StoreFault};
+use session_store::{Reading, Store, StoreFault, read_state};
 use std::alloc::Global;
 
 /// Opens the session that a disk holds, which begins a new epoch of its store.
@@ -33,6 +35,34 @@ pub fn open_found<D: SectorDisk + Drop>(
 {
     match found {
         Ok(disk) => open_session(alloc, disk),
+        Err(_) => Err(StoreFault::Disk),
+    }
+}
+
+/// The session that a disk holds, read of it; nothing is written.
+fn read_disk<D: SectorDisk>(alloc: Global, disk: &mut D) -> Result<Session, StoreFault>
+    ensures read { IfOk result (ReadsSession D.disk disk.old) }
+    ensures fault { IfErr result (RefusesReading D.disk header_in disk.old) }
+{
+    match read_state::<D, Session>(alloc, disk) {
+        Ok(found) => {
+            let Reading { state, .. } = found;
+            Ok(state)
+        }
+        Err(fault) => Err(fault),
+    }
+}
+
+/// The session that a disk holds, read of it where the disk was found.
+pub fn read_found<D: SectorDisk + Drop>(
+    alloc: Global,
+    found: Result<D, DiskFault>,
+) -> Result<Session, StoreFault>
+    ensures read { IfOk result (ReadsFound D.disk found) }
+    ensures fault { IfErr result (RefusesFoundReading D.disk found) }
+{
+    match found {
+        Ok(mut disk) => read_disk(alloc, &mut disk),
         Err(_) => Err(StoreFault::Disk),
     }
 }

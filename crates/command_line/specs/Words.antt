@@ -5,7 +5,7 @@ use Rattle.std.specs.declared.num.ParseIntError.{ParseIntError}
 use Rattle.clap.specs.Words.{App, Row, Rule, Text, new_app, new_rule, with_rule, with_subcommand, subcommand_of, one_of, first_of, fault_of}
 use Rattle.clap.specs.declared.builder.value_parser.ValueParser.TheVariants as parser
 use Rattle.command_line.specs.declared.command.Command.{Command}
-use Rattle.command_line.specs.declared.command.Command.TheVariants.{Auction, Format, Script, Serve, Web, Rank, Pbn}
+use Rattle.command_line.specs.declared.command.Command.TheVariants.{Auction, Format, Script, Serve, Web, Rank, Pbn, Check}
 use Rattle.command_line.specs.declared.command.WordsFault.{WordsFault}
 use Rattle.command_line.specs.declared.command.WordsFault.TheVariants.{Usage, Memory}
 
@@ -65,6 +65,10 @@ rank_app = disk_app (codes "rank")
 abbrev pub pbn_app : App
 pbn_app = disk_app (codes "pbn")
 
+-- the command `check DISK`
+abbrev pub check_app : App
+check_app = disk_app (codes "check")
+
 -- the program's name alone
 abbrev pub named_app : App
 named_app = new_app (codes "bridge_club")
@@ -97,9 +101,13 @@ app_with_web = with_subcommand app_with_serve web_app.top
 abbrev pub app_with_rank : App
 app_with_rank = with_subcommand app_with_web rank_app.top
 
+-- and with `pbn`
+abbrev pub app_with_pbn : App
+app_with_pbn = with_subcommand app_with_rank pbn_app.top
+
 -- the program: words without its own name, and one of its commands
 abbrev pub club_app : App
-club_app = with_subcommand app_with_rank pbn_app.top
+club_app = with_subcommand app_with_pbn check_app.top
 
 -- the argument of that name is this number of so many bits, in decimal digits
 abbrev pub HasNumber : ℕ → List Row → Text → ℕ → Type 0
@@ -121,6 +129,7 @@ HasWords rows (Web disk port minutes) = HasText rows (codes "DISK") disk.now
     × HasNumber 16 rows (codes "PORT") port × HasNumber 16 rows (codes "MINUTES") minutes
 HasWords rows (Rank disk) = HasText rows (codes "DISK") disk.now
 HasWords rows (Pbn disk) = HasText rows (codes "DISK") disk.now
+HasWords rows (Check disk) = HasText rows (codes "DISK") disk.now
 
 -- the name of a command
 abbrev pub name_of : Command → Text
@@ -131,6 +140,7 @@ name_of (Serve disk port count) = codes "serve"
 name_of (Web disk port minutes) = codes "web"
 name_of (Rank disk) = codes "rank"
 name_of (Pbn disk) = codes "pbn"
+name_of (Check disk) = codes "check"
 
 -- the command of that name, with these arguments
 abbrev pub IsNamed : Text → List Row → Command → Type 0

@@ -36,6 +36,10 @@ pub enum Command<'a> {
     Pbn {
         disk: &'a str,
     },
+    /// `check DISK`: what a disk holds, in words, or where it is damaged and what its older snapshot holds.
+    Check {
+        disk: &'a str,
+    },
 }
 
 /// Why the words ask for no command.

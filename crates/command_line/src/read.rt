@@ -2,7 +2,7 @@
 ghost use Rattle.std.specs.Prelude.{◌≡◌, IfOk, IfErr, IfSome, codes, false, map};
 ghost use Rattle.clap.specs.Words.{app_of, shape_of, rule_of, rows_of, found_of, subcommand_rows_of};
 ghost use Rattle.clap.specs.declared.builder.command.Command.TheViews.{out-Command as fields_of};
-ghost use Rattle.command_line.specs.Words.{board_rule, disk_rule, config_rule, port_rule, count_rule, minutes_rule, auction_app, format_app, script_app, serve_app, web_app, rank_app, pbn_app, bare_app, app_with_auction, app_with_format, app_with_script, app_with_serve, app_with_web, app_with_rank, club_app, HasNumber, IsCommand, IsNamed, AsksCommand, IsRefusedBy};
+ghost use Rattle.command_line.specs.Words.{board_rule, disk_rule, config_rule, port_rule, count_rule, minutes_rule, auction_app, format_app, script_app, serve_app, web_app, rank_app, pbn_app, check_app, bare_app, app_with_auction, app_with_format, app_with_script, app_with_serve, app_with_web, app_with_rank, app_with_pbn, club_app, HasNumber, IsCommand, IsNamed, AsksCommand, IsRefusedBy};
 
 use crate::command::{Command, WordsFault};
 use bridge_cards::BoardNumber;
@@ -46,6 +46,7 @@ fn asked<'a>(matches: &ArgMatches<'a>) -> Option<Command<'a>>
         ("web", found) => web_of(found),
         ("rank", found) => rank_of(found),
         ("pbn", found) => pbn_of(found),
+        ("check", found) => check_of(found),
         // clap's checks leave no other name. The contract allows the answer of memory refused alone here.
         _ => None,
     }
@@ -124,9 +125,24 @@ fn pbn_of<'a>(found: &ArgMatches<'a>) -> Option<Command<'a>>
     Some(Command::Pbn { disk })
 }
 
+/// The command `check` with its disk.
+fn check_of<'a>(found: &ArgMatches<'a>) -> Option<Command<'a>>
+    ensures { IfSome result (IsNamed (codes "check") (rows_of (found_of found.now))) }
+{
+    let disk = found.get_str("DISK")?;
+    Some(Command::Check { disk })
+}
+
 /// The program's command line.
 fn club_command<'a>(alloc: Global) -> Result<clap::Command<'a>, AllocError>
     ensures { IfOk result (λ command. app_of command ≡ club_app) }
+{
+    with_pbn(alloc)?.subcommand(check_command(alloc)?)
+}
+
+/// The command line with the commands up to `pbn`.
+fn with_pbn<'a>(alloc: Global) -> Result<clap::Command<'a>, AllocError>
+    ensures { IfOk result (λ command. app_of command ≡ app_with_pbn) }
 {
     with_rank(alloc)?.subcommand(pbn_command(alloc)?)
 }
@@ -256,6 +272,16 @@ fn pbn_command<'a>(alloc: Global) -> Result<clap::Command<'a>, AllocError>
 {
     clap::Command::new(alloc, "pbn")
         .about("Prints the results of the session on a disk in Portable Bridge Notation")
+        .arg(disk_argument(alloc))
+}
+
+/// The command `check DISK`.
+fn check_command<'a>(alloc: Global) -> Result<clap::Command<'a>, AllocError>
+    ensures shape { IfOk result (λ command. shape_of command ≡ check_app.top) }
+    ensures local { IfOk result (λ command. (fields_of command).has_globals ≡ false) }
+{
+    clap::Command::new(alloc, "check")
+        .about("Says what a disk holds, or where it is damaged; nothing is written to it")
         .arg(disk_argument(alloc))
 }
 

@@ -65,6 +65,25 @@ impl<F: OpenFile + FileExt + Drop> FileDisk<SystemFile<F>> {
         };
         FileDisk::found(SystemFile { file })
     }
+
+    /// Opens a file for reading alone, as one that may not be written; a write of the disk fails. Its sectors, and the fault,
+    /// are those of `open`.
+    pub fn open_read_only<R: Files<File = F>>(
+        rt: &R,
+        path: &str,
+    ) -> Result<FileDisk<SystemFile<F>>, DiskFault>
+        ensures count { IfOk result (λ disk. file_disk.honest disk
+            → file_disk.count disk ≡ min (system_blocks.length (file_of disk) / 512) (2 ^ 32 - 1)) }
+        ensures faults { IfOk result (λ disk. file_disk.faults disk ≡ 0) }
+        ensures fault { IfErr result (λ fault. fault ≡ DiskFault.Read) }
+    {
+        let mut options = OpenOptions::new();
+        options.read(true);
+        let Ok(file) = options.open(rt, path) else {
+            return Err(DiskFault::Read);
+        };
+        FileDisk::found(SystemFile { file })
+    }
 }
 
 impl<F: BlockFile + Drop> FileDisk<F> {

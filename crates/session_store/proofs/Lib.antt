@@ -14,5 +14,6 @@ pub mod PartsLemmas
 pub mod ReplayLemmas
 pub mod OpeningLemmas
 pub mod OpenLemmas
+pub mod LookingLemmas
 pub mod CrashLemmas
 pub mod FormerLemmas

@@ -52,13 +52,11 @@ header_in-range image h is = elim (newer_cases _ _ h is) [
   | inr second ↦ header_of-range (image 512) h (placed_is 512 _ h second).0
 ]
 
-pub newer-range : (first second : List ℕ) (o : Option Header) → o ≡ newer (header_at 0 first) (header_at 512 second)
+-- so is what a sector states as a header at its place
+pub header_at-range : (at : ℕ) (bytes : List ℕ) (o : Option Header) → o ≡ header_at at bytes
     → IfSome o (λ h. (1 ≤ h.epoch) × (h.parts ≤ 494))
-newer-range first second None is = tt
-newer-range first second (Some h) is = elim (newer_cases _ _ h (sym is)) [
-  | inl here ↦ let range = header_of-range first h (placed_is 0 _ h here).0 in (range.0, range.2)
-  | inr there ↦ let range = header_of-range second h (placed_is 512 _ h there).0 in (range.0, range.2)
-]
+header_at-range at bytes None is = tt
+header_at-range at bytes (Some h) is = let range = header_of-range bytes h (placed_is at _ h (sym is)).0 in (range.0, range.2)
 
 -- an image of this epoch has nothing of a later one
 pub nothing_later : (image : Image) (h : Header) → header_in image ≡ Some h → NoneLater h.epoch image → NothingLater h.epoch image

@@ -11,6 +11,7 @@ pub mod Value
 pub mod Store
 pub mod Answers
 pub mod Opening
+pub mod Looking
 pub mod Run
 pub mod ReadFaults
 pub mod Formatted

@@ -34,5 +34,5 @@ pub use fault::{CheckpointFault, ConfirmFault, PartsFault, StoreFault, SubmitFau
 pub use formatting::format;
 pub use kept::{Kept, PAYLOAD_BYTES};
 pub use laws::{crash_law, former_law, frame_law};
-pub use looking::{is_same_state, read_state};
+pub use looking::{Reading, is_same_state, read_older_state, read_state};
 pub use store::{MOST_PENDING, Store};

@@ -1,6 +1,7 @@
 //! Opening a store.
 ghost use Rattle.std.specs.Prelude.{◌≡◌, ◌≢◌, ◌<◌, ◌≤◌, Err, IfErr, IfOk, OnOk};
 ghost use Rattle.sector_disk.specs.Runs.{Quiet};
+ghost use Rattle.session_store.specs.Layout.{sector_count};
 ghost use Rattle.session_store.specs.Opening.{IsOnly, IsRead, IsUnread, Opens, Refuses};
 ghost use Rattle.session_store.specs.ReadFaults.{store_fault};
 
@@ -17,7 +18,7 @@ fn recover_behind_barrier<D: SectorDisk, K: Kept>(
     alloc: Global,
     disk: &mut D,
 ) -> Result<Recovered<K>, ReadFault>
-    requires { 2048 ≤ D.disk.count disk.old }
+    requires { sector_count ≤ D.disk.count disk.old }
     ensures quiet { Quiet D.disk disk.old disk.new }
     ensures read { IfOk result (λ found. IsRead K.kept D.disk disk.old disk.new found.epoch found.base found.state) }
     ensures settled { D.disk.honest disk.old → OnOk result (IsOnly (D.disk.may_leave disk.new) (D.disk.reads disk.old)) }
@@ -38,9 +39,9 @@ impl<D: SectorDisk + Drop, K: Kept> Store<D, K> {
     /// has a header of an epoch before the last. On each of these but `Disk` nothing was written, and on each but `Disk` and
     /// `TooSmall` a power cut leaves what was read.
     pub fn open(alloc: Global, mut disk: D) -> Result<Store<D, K>, (D, StoreFault)>
-        ensures too_small { D.disk.count disk < 2048 → result ≡ Err (disk, StoreFault.TooSmall) }
+        ensures too_small { D.disk.count disk < sector_count → result ≡ Err (disk, StoreFault.TooSmall) }
         ensures opens { IfOk result (Opens K.kept D.disk disk) }
-        ensures refuses { 2048 ≤ D.disk.count disk → IfErr result (λ e. Refuses K.kept D.disk disk e.0 e.1) }
+        ensures refuses { sector_count ≤ D.disk.count disk → IfErr result (λ e. Refuses K.kept D.disk disk e.0 e.1) }
     {
         if disk.count() < SECTORS {
             return Err((disk, StoreFault::TooSmall));

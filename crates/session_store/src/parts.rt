@@ -3,6 +3,7 @@ ghost use Rattle.std.specs.Prelude.{◌≡◌, ◌⊎◌, ◌<◌, ◌≤◌, �
 ghost use Rattle.sector_disk.specs.Disk.{Rose};
 ghost use Rattle.sector_disk.specs.Runs.{Quiet};
 ghost use Rattle.session_store.specs.Form.{part_mark, payload_in, place};
+ghost use Rattle.session_store.specs.Layout.{part_limit, sector_count};
 ghost use Rattle.session_store.specs.Opening.{IsCause};
 ghost use Rattle.session_store.specs.ReadFaults.{store_fault};
 ghost use Rattle.session_store.specs.Stands.{parts_from};
@@ -21,8 +22,8 @@ fn read_part<D: SectorDisk>(
     epoch: u64,
     i: u32,
 ) -> Result<ArrayVec<u8, PAYLOAD_BYTES>, ReadFault>
-    requires sectors { 2048 ≤ D.disk.count disk.old }
-    requires few { i < 494 }
+    requires sectors { sector_count ≤ D.disk.count disk.old }
+    requires few { i < part_limit }
     ensures quiet { Quiet D.disk disk.old disk.new }
     ensures no_fault { OnOk result (D.disk.faults disk.new ≡ D.disk.faults disk.old) }
     ensures part { D.disk.honest disk.old → IfOk result (λ part.
@@ -51,8 +52,8 @@ pub(crate) fn read_parts<D: SectorDisk>(
     header: Header,
     room: Vec<ArrayVec<u8, PAYLOAD_BYTES>>,
 ) -> Result<Vec<ArrayVec<u8, PAYLOAD_BYTES>>, ReadFault>
-    requires sectors { 2048 ≤ D.disk.count disk.old }
-    requires few { header.parts ≤ 494 }
+    requires sectors { sector_count ≤ D.disk.count disk.old }
+    requires few { header.parts ≤ part_limit }
     requires empty { room.items ≡ [] }
     requires room { header.parts ≤ vec_capacity room }
     ensures quiet { Quiet D.disk disk.old disk.new }

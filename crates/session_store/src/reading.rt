@@ -2,6 +2,7 @@
 ghost use Rattle.std.specs.Prelude.{◌≡◌, ◌<◌, ◌≤◌, ◌^◌, IfSome, length};
 ghost use Rattle.std.specs.Option.{option_copied};
 ghost use Rattle.session_store.specs.Form.{epoch_field, number_field, payload_in, header_as, header_of};
+ghost use Rattle.session_store.specs.Layout.{payload_limit};
 
 use crate::sectors::{HEAD_BYTES, make_sector};
 use crate::snapshot::MOST_PARTS;
@@ -55,7 +56,7 @@ pub(crate) fn read_payload<'a>(
     bytes: &'a [u8; SECTOR_BYTES],
 ) -> Option<&'a [u8]>
     ensures payload { option_copied result ≡ payload_in mark.now epoch number bytes.now }
-    ensures fits { IfSome result (λ payload. length payload.now ≤ 480) }
+    ensures fits { IfSome result (λ payload. length payload.now ≤ payload_limit) }
 {
     let len = u16::from_be_bytes([bytes[16], bytes[17]]) as usize;
     if len > PAYLOAD_BYTES {

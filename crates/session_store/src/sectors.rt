@@ -1,6 +1,7 @@
 //! Making the bytes of a sector.
 ghost use Rattle.std.specs.Prelude.{◌≡◌, ◌≤◌, ◌+◌, ◌-◌, ◌++◌, ℕ, List, length, replicate};
 ghost use Rattle.session_store.specs.Form.{sector};
+ghost use Rattle.session_store.specs.Layout.{payload_limit};
 
 use sector_disk::SECTOR_BYTES;
 
@@ -27,7 +28,7 @@ pub(crate) fn make_sector(
     number: u32,
     payload: &[u8],
 ) -> [u8; SECTOR_BYTES]
-    requires { length payload.now ≤ 480 }
+    requires { length payload.now ≤ payload_limit }
     ensures { result ≡ sector mark.now epoch number payload.now }
 {
     let mut bytes = [0; SECTOR_BYTES];

@@ -5,6 +5,7 @@ ghost use Rattle.sector_disk.specs.Calls.{WriteCall};
 ghost use Rattle.sector_disk.specs.Runs.{EveryMoment, Remains};
 ghost use Rattle.session_store.specs.declared.disk_format.DiskFormat.TheVariants.{Two};
 ghost use Rattle.session_store.specs.Form.{sector, part_mark, place};
+ghost use Rattle.session_store.specs.Layout.{part_limit, sector_count};
 ghost use Rattle.session_store.specs.Snapshot.{ButForParts, HasParts, header_sector, WritesSnapshot};
 
 use crate::sectors::make_sector;
@@ -40,8 +41,8 @@ fn write_part<D: SectorDisk, K: Kept>(
     state: &K,
     i: u32,
 ) -> Result<(), DiskFault>
-    requires sectors { 2048 ≤ D.disk.count disk.old }
-    requires few { i < 494 }
+    requires sectors { sector_count ≤ D.disk.count disk.old }
+    requires few { i < part_limit }
     requires part { i < length (K.kept.parts state.now) }
     ensures { WriteCall D.disk disk.old disk.new (place epoch + 1 + i)
         (sector (part_mark Two) epoch i (slice_index_or (K.kept.parts state.now) i [])) result }
@@ -58,7 +59,7 @@ fn write_header<D: SectorDisk, K: Kept>(
     epoch: u64,
     state: &K,
 ) -> Result<(), DiskFault>
-    requires { 2048 ≤ D.disk.count disk.old }
+    requires { sector_count ≤ D.disk.count disk.old }
     ensures { WriteCall D.disk disk.old disk.new (place epoch) (header_sector K.kept epoch state.now) result }
 {
     let bytes = make_sector(&DiskFormat::Two.header_mark(), epoch, state.parts(), &[]);
@@ -67,7 +68,7 @@ fn write_header<D: SectorDisk, K: Kept>(
 
 /// Writes all parts of the state into this epoch's snapshot.
 fn write_parts<D: SectorDisk, K: Kept>(disk: &mut D, epoch: u64, state: &K) -> Result<(), DiskFault>
-    requires { 2048 ≤ D.disk.count disk.old }
+    requires { sector_count ≤ D.disk.count disk.old }
     ensures remains { Remains D.disk disk.old disk.new }
     ensures fault { OnErr result (Rose (D.disk.faults disk.old) (D.disk.faults disk.new)) }
     ensures no_fault { OnOk result (D.disk.faults disk.new ≡ D.disk.faults disk.old) }
@@ -89,7 +90,7 @@ pub(crate) fn write_snapshot<D: SectorDisk, K: Kept>(
     epoch: u64,
     state: &K,
 ) -> Result<(), DiskFault>
-    requires { 2048 ≤ D.disk.count disk.old }
+    requires { sector_count ≤ D.disk.count disk.old }
     ensures { WritesSnapshot K.kept D.disk disk.old disk.new epoch state.now result }
 {
     write_parts(disk, epoch, state)?;

@@ -1,6 +1,7 @@
 //! The store, and what it answers at any time.
 ghost use Rattle.std.specs.Prelude.{◌≡◌, ◌<◌, ◌≤◌, ◌^◌, Some, length};
 ghost use Rattle.session_store.specs.Keeping.{fold};
+ghost use Rattle.session_store.specs.Layout.{sector_count};
 ghost use Rattle.session_store.specs.Sound.{IsSoundDisk};
 ghost use Rattle.session_store.specs.Store.{IsSoundStore};
 
@@ -90,7 +91,7 @@ impl<D: SectorDisk + Drop, K: Kept> Store<D, K> {
     pub fn into_disk(self) -> D
         ensures disk { result ≡ self.disk }
         ensures sound { IsSoundStore K.kept D.disk self → IsSoundDisk K.kept D.disk result }
-        ensures large { 2048 ≤ D.disk.count result }
+        ensures large { sector_count ≤ D.disk.count result }
     {
         let Store { disk, .. } = self;
         disk

@@ -3,6 +3,7 @@ ghost use Rattle.std.specs.Prelude.{◌≡◌, ◌<◌, ◌≤◌, ◌+◌, ◌-
 ghost use Rattle.sector_disk.specs.Calls.{WriteCall};
 ghost use Rattle.session_store.specs.Form.{record_sector};
 ghost use Rattle.session_store.specs.Answers.{Submits, accepted_by};
+ghost use Rattle.session_store.specs.Layout.{journal_place, record_limit, sector_count};
 ghost use Rattle.session_store.specs.Sound.{StandsOnlyFor};
 ghost use Rattle.session_store.specs.Store.{Continues, IsSoundStore};
 
@@ -24,9 +25,9 @@ fn write_record<D: SectorDisk, K: Kept>(
     number: u32,
     action: &K::Action,
 ) -> Result<(), DiskFault>
-    requires sectors { 2048 ≤ D.disk.count disk.old }
-    requires room { number < 1024 }
-    ensures call { WriteCall D.disk disk.old disk.new (1024 + number) (record_sector K.kept epoch number action.now) result }
+    requires sectors { sector_count ≤ D.disk.count disk.old }
+    requires room { number < record_limit }
+    ensures call { WriteCall D.disk disk.old disk.new (journal_place + number) (record_sector K.kept epoch number action.now) result }
     ensures action { K.kept.IsAction action.now }
 {
     let mut bytes = ArrayVec::new();
@@ -45,7 +46,7 @@ impl<D: SectorDisk + Drop, K: Kept> Store<D, K> {
     fn submit_record(&mut self, action: &K::Action) -> Result<(), SubmitFault<K::Refusal>>
         requires works { self.old.failed ≡ false }
         requires batch { length self.old.pending < 64 }
-        requires room { self.old.records < 1024 }
+        requires room { self.old.records < record_limit }
         ensures answer { Submits K.kept D.disk self.old action.now self.new result }
         ensures continues { Continues K.kept D.disk self.old (accepted_by action.now result) self.new }
         ensures no_fault { OnOk result (D.disk.faults self.new.disk ≡ D.disk.faults self.old.disk) }
@@ -71,7 +72,7 @@ impl<D: SectorDisk + Drop, K: Kept> Store<D, K> {
     fn submit_snapshot(&mut self, action: &K::Action) -> Result<(), SubmitFault<K::Refusal>>
         requires works { self.old.failed ≡ false }
         requires batch { length self.old.pending < 64 }
-        requires full { self.old.records ≡ 1024 }
+        requires full { self.old.records ≡ record_limit }
         requires room { self.old.epoch < 2 ^ 64 - 1 }
         ensures answer { Submits K.kept D.disk self.old action.now self.new result }
         ensures continues { Continues K.kept D.disk self.old (accepted_by action.now result) self.new }
@@ -100,7 +101,7 @@ impl<D: SectorDisk + Drop, K: Kept> Store<D, K> {
         ensures answer { Submits K.kept D.disk self.old action.now self.new result }
         ensures continues { Continues K.kept D.disk self.old (accepted_by action.now result) self.new }
         ensures no_fault { OnOk result (D.disk.faults self.new.disk ≡ D.disk.faults self.old.disk) }
-        ensures checkpointed { IsSoundStore K.kept D.disk self.old → self.old.records ≡ 1024
+        ensures checkpointed { IsSoundStore K.kept D.disk self.old → self.old.records ≡ record_limit
             → OnOk result (StandsOnlyFor K.kept D.disk self.new.state self.new.disk) }
     {
         if self.failed {

@@ -37,6 +37,30 @@ FIELD 2
 2 3 0.0/2.0 0.00
 ";
 
+/// What `check` says after the lines: one action for each is recorded.
+const CHECKED: &str = "format 2
+epoch 2
+snapshot in sector 512
+records 12
+event Club-Night
+date 2026.03.14
+round 1 of 1
+boards dealt 1
+plays finished or ruled on 2
+";
+
+/// And after the round's end, in the run after the next.
+const CLOSED: &str = "format 2
+epoch 4
+snapshot in sector 512
+records 1
+event Club-Night
+date 2026.03.14
+session closed
+boards dealt 1
+plays finished or ruled on 2
+";
+
 /// What a run over this disk writes.
 fn written<
     T: Abort
@@ -61,6 +85,7 @@ fn an_evening_is_kept_between_runs(rt: HostRuntime) -> Result<(), Fail> {
     expect_formatted(&rt, alloc, disk, config, MOVEMENT)?;
     expect_run(&rt, alloc, &["pbn", disk], "", (0, "% PBN 2.1\n", ""));
     expect_run(&rt, alloc, &["script", disk], LINES, (0, REPLIES, ""));
+    expect_run(&rt, alloc, &["check", disk], "", (0, CHECKED, ""));
     expect_run(&rt, alloc, &["rank", disk], "", (0, RANKING, ""));
     let results = written(&rt, alloc, &["pbn", disk], "");
     let reply = written(&rt, alloc, &["script", disk], "PBN 100\n");
@@ -78,9 +103,10 @@ fn an_evening_is_kept_between_runs(rt: HostRuntime) -> Result<(), Fail> {
     );
     let due = (0, "OK\nERR 3 Closed\n", "");
     expect_run(&rt, alloc, &["script", disk], "NEXT 100 1\nSEE 11\n", due);
-    // `format` began the first epoch and each of the six commands one more: the last byte of the epoch in each header.
+    expect_run(&rt, alloc, &["check", disk], "", (0, CLOSED, ""));
+    // `format` began the first epoch and each of the three scripts one more: the last byte of the epoch in each header.
     let bytes = fs::read(&rt, disk)?;
-    for (sector, epoch) in [(0, 7), (512, 6)] {
+    for (sector, epoch) in [(0, 3), (512, 4)] {
         let found = bytes.get(sector * 512 + 11).copied();
         expect_eq(&rt, found, Some(epoch), sector);
     }

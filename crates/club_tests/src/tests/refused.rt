@@ -1,6 +1,6 @@
 //! Disks and configurations that are refused, and streams that fail.
 use super::{Broken, MOVEMENT, club_with, expect_eq, expect_formatted, expect_run, write_config};
-use club_commands::{lock, run_words};
+use club_commands::{lock, lock_to_read, run_words};
 use std::alloc::Global;
 use std::fs;
 use std::fs::File;
@@ -70,7 +70,7 @@ fn a_bad_configuration_leaves_the_disk(rt: HostRuntime) -> Result<(), Fail> {
     Ok(())
 }
 
-/// Runs each of the commands over this disk, and expects the status and the line.
+/// Runs each of the commands but `check` over this disk, and expects the status and the line.
 fn expect_refused<
     T: Abort
         + Files<File = File>
@@ -78,9 +78,21 @@ fn expect_refused<
         + Clock
         + RandomSource,
 >(rt: &T, alloc: Global, disk: &str, status: u8, line: &str) {
-    for command in ["rank", "pbn", "script"] {
-        expect_run(rt, alloc, &[command, disk], "SYNC\n", (status, "", line));
+    for command in ["rank", "pbn"] {
+        expect_run(rt, alloc, &[command, disk], "", (status, "", line));
     }
+    expect_not_served(rt, alloc, disk, status, line);
+}
+
+/// The same of the commands that write a disk.
+fn expect_not_served<
+    T: Abort
+        + Files<File = File>
+        + Net<Listener = TcpListener, Stream = TcpStream>
+        + Clock
+        + RandomSource,
+>(rt: &T, alloc: Global, disk: &str, status: u8, line: &str) {
+    expect_run(rt, alloc, &["script", disk], "SYNC\n", (status, "", line));
     for command in ["serve", "web"] {
         let words = [command, disk, "4000", "1"];
         expect_run(rt, alloc, &words, "SYNC\n", (status, "", line));
@@ -106,12 +118,16 @@ fn a_disk_without_a_session_is_refused(rt: HostRuntime) -> Result<(), Fail> {
     }
     fs::write(&rt, disk, bytes.as_slice())?;
     expect_refused(&rt, rt.alloc(), disk, 4, "damaged sector 4\n");
+    let due = (4, "no older snapshot\n", "damaged sector 4\n");
+    expect_run(&rt, rt.alloc(), &["check", disk], "", due);
     // The epoch of the header, in sector 0.
     for byte in bytes.iter_mut().skip(4).take(8) {
         *byte = 0xff;
     }
     fs::write(&rt, disk, bytes.as_slice())?;
-    expect_refused(&rt, rt.alloc(), disk, 3, "epochs spent\n");
+    expect_not_served(&rt, rt.alloc(), disk, 3, "epochs spent\n");
+    let due = (4, "", "damaged sector 1\n");
+    expect_run(&rt, rt.alloc(), &["rank", disk], "", due);
     let missing = "missing_folder/bridge_club.disk";
     expect_run(
         &rt,
@@ -125,7 +141,7 @@ fn a_disk_without_a_session_is_refused(rt: HostRuntime) -> Result<(), Fail> {
     Ok(())
 }
 
-// While one run has a disk, each command over it is refused and leaves it as it is.
+// While one run has a disk, each command over it is refused and leaves it as it is; while one reads it, others read it.
 #[test]
 fn a_locked_disk_is_left(rt: HostRuntime) -> Result<(), Fail> {
     let (disk, config) = ("bridge_club_locked.disk", "bridge_club_locked.txt");
@@ -140,13 +156,32 @@ fn a_locked_disk_is_left(rt: HostRuntime) -> Result<(), Fail> {
         let words = ["format", disk, config];
         expect_run(&rt, alloc, &words, "", (3, "", "disk fault\n"));
     }
+    {
+        let Ok(_held) = lock_to_read(&rt, disk) else {
+            return Err(Fail::from("a lock for reading"));
+        };
+        expect_not_served(&rt, alloc, disk, 3, "disk fault\n");
+        expect_run(&rt, alloc, &["pbn", disk], "", (0, "% PBN 2.1\n", ""));
+    }
     let same = fs::read(&rt, disk)?.as_slice() == bytes.as_slice();
     expect_eq(&rt, same, true, "the disk");
-    expect_run(&rt, alloc, &["pbn", disk], "", (0, "% PBN 2.1\n", ""));
     fs::remove_file(&rt, disk)?;
     fs::remove_file(&rt, config)?;
     Ok(())
 }
+
+/// What `check` says of the snapshot that `format` made, once the next one has a record in place of its own.
+const OLDER: &str = "older snapshot
+format 2
+epoch 1
+snapshot in sector 0
+records 0
+event Club-Night
+date 2026.03.14
+round 1 of 1
+boards dealt 0
+plays finished or ruled on 0
+";
 
 // The record of a confirmed action, in sector 1024, whose payload begins with a byte that no action has; and a disk of a
 // session that is made anew.
@@ -163,6 +198,8 @@ fn a_damaged_record_is_named(rt: HostRuntime) -> Result<(), Fail> {
     }
     fs::write(&rt, disk, bytes)?;
     expect_refused(&rt, alloc, disk, 4, "damaged sector 1024\n");
+    let due = (4, OLDER, "damaged sector 1024\n");
+    expect_run(&rt, alloc, &["check", disk], "", due);
     expect_formatted(&rt, alloc, disk, config, MOVEMENT)?;
     let due = (0, "ERR 8 NotDealt\n", "");
     expect_run(&rt, alloc, &["script", disk], "SEE 11\n", due);
@@ -175,9 +212,10 @@ fn a_damaged_record_is_named(rt: HostRuntime) -> Result<(), Fail> {
 fn streams_that_fail_are_named(rt: HostRuntime) -> Result<(), Fail> {
     let (disk, config) = ("bridge_club_output.disk", "bridge_club_output.txt");
     write_config(&rt, rt.alloc(), config, MOVEMENT)?;
-    let rows: [&[&str]; 5] = [
+    let rows: [&[&str]; 6] = [
         &["auction", "1"],
         &["format", disk, config],
+        &["check", disk],
         &["rank", disk],
         &["pbn", disk],
         &["script", disk],

@@ -26,6 +26,17 @@ fn a_file_keeps_sectors_at_their_places(rt: HostRuntime) -> Result<(), Fail> {
     write_if(&mut disk, 2047, 5)?;
     drop(disk);
 
+    let mut disk = FileDisk::open_read_only(&rt, name)?;
+    read_if(&mut disk, 2047)?;
+    let refused = write_if(&mut disk, 2047, 7).err();
+    expect_eq(
+        &rt,
+        refused,
+        Some(DiskFault::Write),
+        "a write where a file is open for reading alone",
+    );
+    drop(disk);
+
     let bytes = fs::read(&rt, name)?;
     expect_eq(&rt, bytes.len(), 1_048_576, "bytes of the file");
     for (index, byte) in bytes.iter().enumerate() {

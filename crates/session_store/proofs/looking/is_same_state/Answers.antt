@@ -1,4 +1,4 @@
-use Rattle.std.proofs.Common.{◌≡◌, ◌<◌, ◌∙◌, [], length, Some, None, refl, sym, ap, arith}
+use Rattle.std.proofs.Common.{◌≡◌, ◌∙◌, [], Some, None, refl, sym, ap, arith}
 use Rattle.std.proofs.lemmas.List.{ext_get_or}
 use Rattle.session_store.specs.declared.disk_format.DiskFormat.TheVariants.{Two}
 use Rattle.session_store.proofs.looking.is_same_state.Goals as goal

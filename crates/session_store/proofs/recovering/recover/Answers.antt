@@ -2,7 +2,6 @@ use Rattle.std.proofs.Common.{sym, ap, ◌∙◌, arith}
 use Rattle.std.proofs.lemmas.Result.{err_from_is_err_and}
 use Rattle.sector_disk.proofs.ImageLaws.{image_is}
 use Rattle.session_store.specs.Stands.{after_parts, parts_from}
-use Rattle.session_store.specs.ReadFaults.{store_fault}
 use Rattle.session_store.proofs.OpeningLemmas.{cause-from, found-not_formatted, found-spent, reading-none, reading-spent, reading-some, not_memory, spent_not_memory}
 use Rattle.session_store.proofs.recovering.recover.Goals as goal
 

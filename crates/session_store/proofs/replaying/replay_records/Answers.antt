@@ -1,7 +1,9 @@
-use Rattle.std.proofs.Common.{◌+◌, inl, refl, sym, ◌∙◌, arith}
+use Rattle.std.proofs.Common.{◌+◌, inl, refl, sym, ap, ◌∙◌, arith}
 use Rattle.std.proofs.lemmas.Result.{err_from_is_err_and}
 use Rattle.sector_disk.proofs.RunLaws.{quiet_joins}
 use Rattle.session_store.proofs.ReplayLemmas.{record-missing, record-damaged, record-refused, record-taken, records-end}
+use Rattle.session_store.specs.Form.{entry_in}
+use Rattle.session_store.proofs.LookingLemmas.{holds-more}
 use Rattle.session_store.proofs.OpeningLemmas.{found-damaged}
 use Rattle.session_store.proofs.replaying.replay_records.Goals as goal
 
@@ -56,6 +58,11 @@ loop-number-preserved g c =
       quiet = quiet_joins g.D.SectorDisk.disk _ _ _ so_far.quiet c.read_record.ensures.quiet;
       no_fault = c.in_ok-read_record.ensures.no_fault ∙ so_far.no_fault;
       same = c.in-Ok.ensures.same;
+      held = λ honest.
+          let reads = (so_far.quiet.only_read honest).reads (1024 + c.loop-number.number) in
+          let entry = sym c.in-Holds.is ∙ c.in_ok-read_record.ensures.entry (so_far.quiet.remains.stays_honest honest) in
+          holds-more g.K.Kept.kept (g.D.SectorDisk.disk.reads c.args.disk.now) c.args.format c.args.epoch c.loop-number.number (so_far.held honest)
+          (c.in-Holds.action, ap (entry_in g.K.Kept.kept c.args.format c.args.epoch c.loop-number.number) (sym reads) ∙ sym entry);
       replayed = λ honest.
           let reads = (so_far.quiet.only_read honest).reads (1024 + c.loop-number.number) in
           let entry = sym c.in-Holds.is ∙ c.in_ok-read_record.ensures.entry (so_far.quiet.remains.stays_honest honest) in
@@ -72,3 +79,21 @@ returns-clause-replayed g c = λ honest.
 
 pub returns-in-Err-clause-quiet : goal.returns-in-Err-clause-quiet
 returns-in-Err-clause-quiet g c = quiet_joins g.D.SectorDisk.disk _ _ _ c.loop-number.invariant.quiet c.read_record.ensures.quiet
+
+pub returns-in-Missing-clause-counted : goal.returns-in-Missing-clause-counted
+returns-in-Missing-clause-counted g c = λ honest.
+    let so_far = c.loop-number.invariant in
+    let reads = (so_far.quiet.only_read honest).reads (1024 + c.loop-number.number) in
+    let entry = sym c.in-Missing.is ∙ c.in_ok-read_record.ensures.entry (so_far.quiet.remains.stays_honest honest) in
+    record {
+      few = omega (arith, c.loop-number-test.true);
+      held = so_far.held honest;
+      ends = λ room. ap (entry_in g.K.Kept.kept c.args.format c.args.epoch c.loop-number.number) (sym reads) ∙ sym entry;
+    }
+
+pub returns-clause-counted : goal.returns-clause-counted
+returns-clause-counted g c = λ honest. record {
+  few = omega arith;
+  held = λ k below. c.loop-number.invariant.held honest k (omega (arith, below, c.loop-number-test.false));
+  ends = λ room. absurd (omega (arith, room));
+}

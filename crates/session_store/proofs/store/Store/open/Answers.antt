@@ -1,4 +1,4 @@
-use Rattle.std.proofs.Common.{ap, subst, arith}
+use Rattle.std.proofs.Common.{ap, arith}
 use Rattle.session_store.specs.ReadFaults.{store_fault}
 use Rattle.session_store.proofs.OpenLemmas.{opens-from, refuses-unread, refuses-unwritten}
 use Rattle.session_store.proofs.store.Store.open.Goals as goal

@@ -1,0 +1,99 @@
+//! The commands that read the session that a disk in a file holds. Each opens the file for reading alone, and keeps runs that
+//! write it from it for as long as it runs, which no clause can say and tests show.
+ghost use Rattle.std.specs.Prelude.{OnOk, IfOk, IfErr};
+ghost use Rattle.line_text.specs.Streams.{stream};
+ghost use Rattle.club_commands.specs.Checked.{HasChecked, StopsCheckingFile};
+ghost use Rattle.club_commands.specs.Readings.{IsReadOnFile, IsUnreadOnFile};
+ghost use Rattle.club_commands.specs.Results.{IsRankingText, IsPbnText, TellsRead, StopsTelling, HasResults, StopsResults};
+
+use crate::check::check_disk;
+use crate::disk_lock::lock_to_read;
+use crate::fault::RunFault;
+use crate::results::{write_games, write_ranking};
+use crate::stored_session::read_found;
+use bridge_session::Session;
+use sector_disk::FileDisk;
+use session_store::StoreFault;
+use std::alloc::Global;
+use std::fs::File;
+use std::io::Write;
+use std::rt::Files;
+
+/// The session that the disk in a file holds, read of it.
+fn read_session_on<S: Files<File = File>>(
+    rt: &S,
+    alloc: Global,
+    disk: &str,
+) -> Result<Session, StoreFault>
+    ensures read { IfOk result IsReadOnFile }
+    ensures fault { IfErr result IsUnreadOnFile }
+{
+    read_found(alloc, FileDisk::open_read_only(rt, disk))
+}
+
+/// Writes the ranking of each field of a session, where it was read.
+fn rank_read<W: Write>(read: Result<Session, StoreFault>, output: &mut W) -> Result<(), RunFault>
+    ensures done { OnOk result (TellsRead IsRankingText read (stream W.contents output.old output.new)) }
+    ensures fault { IfErr result (StopsTelling IsRankingText read (stream W.contents output.old output.new)) }
+{
+    match read {
+        Ok(session) => write_ranking(&session, output),
+        Err(cause) => Err(RunFault::Store(cause)),
+    }
+}
+
+/// Writes the results of a session, where it was read.
+fn pbn_read<W: Write>(read: Result<Session, StoreFault>, output: &mut W) -> Result<(), RunFault>
+    ensures done { OnOk result (TellsRead IsPbnText read (stream W.contents output.old output.new)) }
+    ensures fault { IfErr result (StopsTelling IsPbnText read (stream W.contents output.old output.new)) }
+{
+    match read {
+        Ok(session) => write_games(&session, output),
+        Err(cause) => Err(RunFault::Store(cause)),
+    }
+}
+
+/// Writes the ranking of each field of the session that the disk in a file holds.
+pub fn run_rank<S: Files<File = File>, W: Write>(
+    rt: &S,
+    alloc: Global,
+    disk: &str,
+    output: &mut W,
+) -> Result<(), RunFault>
+    ensures done { OnOk result (HasResults IsRankingText (stream W.contents output.old output.new)) }
+    ensures fault { IfErr result (StopsResults IsRankingText (stream W.contents output.old output.new)) }
+{
+    let _lock = lock_to_read(rt, disk)?;
+    rank_read(read_session_on(rt, alloc, disk), output)
+}
+
+/// Writes the results of the session that the disk in a file holds, in Portable Bridge Notation.
+pub fn run_pbn<S: Files<File = File>, W: Write>(
+    rt: &S,
+    alloc: Global,
+    disk: &str,
+    output: &mut W,
+) -> Result<(), RunFault>
+    ensures done { OnOk result (HasResults IsPbnText (stream W.contents output.old output.new)) }
+    ensures fault { IfErr result (StopsResults IsPbnText (stream W.contents output.old output.new)) }
+{
+    let _lock = lock_to_read(rt, disk)?;
+    pbn_read(read_session_on(rt, alloc, disk), output)
+}
+
+/// Says what the disk in a file holds. At a damaged sector, which is the fault then, it says what the older snapshot holds.
+pub fn run_check<S: Files<File = File>, W: Write>(
+    rt: &S,
+    alloc: Global,
+    disk: &str,
+    output: &mut W,
+) -> Result<(), RunFault>
+    ensures done { OnOk result (HasChecked (stream W.contents output.old output.new)) }
+    ensures fault { IfErr result (StopsCheckingFile (stream W.contents output.old output.new)) }
+{
+    let _lock = lock_to_read(rt, disk)?;
+    match FileDisk::open_read_only(rt, disk) {
+        Ok(mut found) => check_disk(alloc, &mut found, output),
+        Err(_) => Err(RunFault::Store(StoreFault::Disk)),
+    }
+}

@@ -1,0 +1,5 @@
+use Rattle.session_store.proofs.LookingLemmas.{older-has}
+use Rattle.session_store.proofs.headers.find_older_header.Goals as goal
+
+pub returns-clause-range : goal.returns-clause-range
+returns-clause-range g c = rw c.older_header.ensures (older-has _ _ _ c.in_ok-first.ensures.first_range c.in_ok-first.ensures.second_range)
