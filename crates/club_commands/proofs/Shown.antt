@@ -19,8 +19,9 @@ use Rattle.table_server.proofs.FaultLemmas.{same_store, fails_on, met_none, met_
 use Rattle.web_loop.specs.Turns.{LeadsTo}
 use Rattle.web_requests.specs.Route.{route_for}
 use Rattle.web_requests.specs.declared.route.Route.{Route}
-use Rattle.web_requests.specs.declared.route.Route.TheVariants.{Page, Script, DirectorScript, Style, Lines, Place, Tables, Refused}
+use Rattle.web_requests.specs.declared.route.Route.TheVariants.{Page, Script, DirectorScript, Style, Lines, Place, Tables, Results, Refused}
 use Rattle.table_pages.specs.Answered.{AnswersLines, place_told, tables_told}
+use Rattle.table_pages.specs.ToldResults.{results_told}
 use Rattle.table_pages.specs.Responses.{TellsShort, Responds, Answering}
 use Rattle.club_commands.specs.declared.fault.RunFault.{RunFault}
 use Rattle.club_commands.specs.OnFile.{IsOnFile, RefusesFile}
@@ -36,7 +37,7 @@ module _ {D : Type 0} (disk : Disk D) where
 
   -- over one request
   one : (route : Route) (old : StoreValue D SessionValue Action) (body : List ℕ) (response : Response) (new : StoreValue D SessionValue Action)
-      → Responds (AnswersLines disk) place_told tables_told route old body response new → FailsWithDisk disk old new
+      → Responds (AnswersLines disk) place_told tables_told results_told route old body response new → FailsWithDisk disk old new
   one Page old body response new x = same_store disk old new x.1
   one Script old body response new x = same_store disk old new x.1
   one DirectorScript old body response new x = same_store disk old new x.1
@@ -44,18 +45,19 @@ module _ {D : Type 0} (disk : Disk D) where
   one Lines old body response new x = lines (nat_lt (length body) 65536) old body response new x
   one Place old body response new x = same_store disk old new x.1
   one Tables old body response new x = same_store disk old new x.1
+  one Results old body response new x = same_store disk old new x.1
   one (Refused why) old body response new x = same_store disk old new x.1
 
   module _ (host alias : List ℕ) where
     -- over requests, one after another
     all : (calls : List Call) (old new : StoreValue D SessionValue Action)
-        → Chain (Answering (AnswersLines disk) place_told tables_told host alias) old calls new → FailsWithDisk disk old new
+        → Chain (Answering (AnswersLines disk) place_told tables_told results_told host alias) old calls new → FailsWithDisk disk old new
     all [] old new same = same_store disk old new same
     all (c ∷ calls) old new x =
         fails_on disk old x.0 new (one (route_for host alias (head_of c.0)) old (body_of c.0) c.1 x.0 x.1) (all calls x.0 new x.2)
 
     -- where the store works, no call of its disk failed
-    pub shows_pages : (start store : StoreValue D SessionValue Action) → LeadsTo (Answering (AnswersLines disk) place_told tables_told host alias) start store
+    pub shows_pages : (start store : StoreValue D SessionValue Action) → LeadsTo (Answering (AnswersLines disk) place_told tables_told results_told host alias) start store
         → store.failed ≡ false → ShowsPages disk host alias start store
     shows_pages start store requests works = record {
       requests = requests;
@@ -64,7 +66,7 @@ module _ {D : Type 0} (disk : Disk D) where
     }
 
     -- and where it failed, one did
-    pub fails_pages : (start store : StoreValue D SessionValue Action) → LeadsTo (Answering (AnswersLines disk) place_told tables_told host alias) start store
+    pub fails_pages : (start store : StoreValue D SessionValue Action) → LeadsTo (Answering (AnswersLines disk) place_told tables_told results_told host alias) start store
         → start.failed ≡ false → store.failed ≡ true → FailsPages disk host alias start store
     fails_pages start store requests worked failed = record {
       requests = requests;

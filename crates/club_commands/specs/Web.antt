@@ -14,6 +14,7 @@ use Rattle.session_rules.specs.State.{SessionValue}
 use Rattle.table_server.specs.declared.fault.ServeFault.TheVariants.{Write, Accept}
 use Rattle.web_loop.specs.Turns.{LeadsTo}
 use Rattle.table_pages.specs.Answered.{AnswersLines, place_told, tables_told}
+use Rattle.table_pages.specs.ToldResults.{results_told}
 use Rattle.table_pages.specs.Responses.{Answering}
 use Rattle.club_commands.specs.declared.fault.RunFault.{RunFault}
 use Rattle.club_commands.specs.declared.fault.RunFault.TheVariants.{Stream as StreamFault, Store}
@@ -33,13 +34,13 @@ listening_line port = (codes "listening at http://127.0.0.1:" ++ decimal port) +
 module _ {D : Type 0} (disk : Disk D) (host alias : List ℕ) where
   -- Requests were answered over a store, one after another, and no call of its disk failed.
   pub record ShowsPages (start store : StoreValue D SessionValue Action) : Type 0 where
-    pub requests : LeadsTo (Answering (AnswersLines disk) place_told tables_told host alias) start store
+    pub requests : LeadsTo (Answering (AnswersLines disk) place_told tables_told results_told host alias) start store
     pub works : store.failed ≡ false
     pub no_fault : disk.faults store.disk ≡ disk.faults start.disk
 
   -- Requests were answered over a store, in the last of which that changed it a call of its disk failed, and with it the store.
   pub record FailsPages (start store : StoreValue D SessionValue Action) : Type 0 where
-    pub requests : LeadsTo (Answering (AnswersLines disk) place_told tables_told host alias) start store
+    pub requests : LeadsTo (Answering (AnswersLines disk) place_told tables_told results_told host alias) start store
     pub failed : store.failed ≡ true
     pub faults : Rose (disk.faults start.disk) (disk.faults store.disk)
 

@@ -5,7 +5,7 @@ use Rattle.http.specs.Request.{head_of, body_of}
 use Rattle.http_server.specs.declared.response.Response.{Response}
 use Rattle.web_requests.specs.declared.kind.Kind.TheVariants as kind
 use Rattle.web_requests.specs.declared.route.Route.{Route}
-use Rattle.web_requests.specs.declared.route.Route.TheVariants.{Page, Script, DirectorScript, Style, Lines, Place, Tables, Refused}
+use Rattle.web_requests.specs.declared.route.Route.TheVariants.{Page, Script, DirectorScript, Style, Lines, Place, Tables, Results, Refused}
 use Rattle.web_requests.specs.declared.route.Refusal.TheVariants.{TooLong}
 use Rattle.web_requests.specs.Route.{route_for}
 use Rattle.web_requests.specs.Filled.{IsText, IsRefusal, IsUnavailable}
@@ -27,7 +27,7 @@ module _ {T : Type 0} (answers : T → List ℕ → Option (List ℕ) → T → 
   TellsShort true old body response new = TellsLines old body response new
   TellsShort false old body response new = IsRefusal TooLong response × (new ≡ old)
 
-  module _ (places tables : T → List ℕ → List ℕ) where
+  module _ (places tables : T → List ℕ → List ℕ) (results : T → List ℕ → List ℕ → Type 0) where
     -- the response to a request on this route: the same to everybody, the replies to its lines, or what is told to the holder
     -- of the key that it has
     abbrev pub Responds : Route → T → List ℕ → Response → T → Type 0
@@ -38,6 +38,7 @@ module _ {T : Type 0} (answers : T → List ℕ → Option (List ℕ) → T → 
     Responds Lines old body response new = TellsShort (nat_lt (length body) 65536) old body response new
     Responds Place old body response new = IsText kind.Lines (places old body) response × (new ≡ old)
     Responds Tables old body response new = IsText kind.Lines (tables old body) response × (new ≡ old)
+    Responds Results old body response new = ((text : List ℕ) × results old body text × IsText kind.Lines text response) × (new ≡ old)
     Responds (Refused why) old body response new = IsRefusal why response × (new ≡ old)
 
     -- the response to a request at a server of these two names

@@ -2,8 +2,10 @@
 ghost use Rattle.std.specs.Prelude.{◌≡◌, ◌<◌, [], false, length, option_map};
 ghost use Rattle.table_server.specs.Faulted.{FailsWithDisk};
 ghost use Rattle.table_pages.specs.Answered.{AnswersBody, AnswersLines, is_settled, place_told, tables_told};
+ghost use Rattle.table_pages.specs.ToldResults.{results_told};
 
 use crate::line_server::LineServer;
+use crate::told_results::told_results;
 use bridge_endings::Cache;
 use bridge_session::Session;
 use player_place::push_place;
@@ -47,6 +49,8 @@ impl<D: SectorDisk + Drop> LineServer for Store<D, Session> {
 
     ghost tables = { λ store key. tables_told store key };
 
+    ghost results = { λ store key text. results_told store key text };
+
     fn answer(&mut self, alloc: Global, cache: &mut Cache, body: &[u8]) -> Option<Vec<u8>> {
         answer_lines(self, alloc, cache, body)
     }
@@ -57,6 +61,10 @@ impl<D: SectorDisk + Drop> LineServer for Store<D, Session> {
 
     fn tables(&self, key: &[u8], text: &mut ReplyText) {
         push_tables(text, self.state(), key);
+    }
+
+    fn results(&self, alloc: Global, key: &[u8]) -> Option<Vec<u8>> {
+        told_results(self.state(), alloc, key)
     }
 
     fn has_failed(&self) -> bool {

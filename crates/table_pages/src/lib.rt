@@ -14,6 +14,7 @@ mod pages;
 mod script;
 mod showing;
 mod style;
+mod told_results;
 
 pub use answering::answer_lines;
 pub use line_server::LineServer;
@@ -23,3 +24,4 @@ pub use pages::TablePages;
 pub use script::SCRIPT;
 pub use showing::{show_minutes, show_rounds};
 pub use style::STYLE;
+pub use told_results::told_results;

@@ -1,5 +1,5 @@
 //! What answers lines.
-ghost use Rattle.std.specs.Prelude.{◌≡◌, ◌<◌, ℕ, Bool, true, List, [], Option, length, option_map};
+ghost use Rattle.std.specs.Prelude.{◌≡◌, ◌<◌, ℕ, Bool, true, List, [], Option, IfSome, length, option_map};
 
 use bridge_endings::Cache;
 use std::alloc::Global;
@@ -22,6 +22,9 @@ pub trait LineServer: Drop {
     // what is told of all tables to the director, whose key these bytes are
     ghost tables: { Self → List ℕ → List ℕ };
 
+    // the text is what is told of the results to the holder of the key that these bytes are
+    ghost results: { Self → List ℕ → List ℕ → Type 0 };
+
     /// Answers the lines of a body of fewer than 65,536 bytes. `None` where memory was refused for the text; lines may have
     /// been taken then.
     fn answer(&mut self, alloc: Global, cache: &mut Cache, body: &[u8]) -> Option<Vec<u8>>
@@ -39,6 +42,10 @@ pub trait LineServer: Drop {
     fn tables(&self, key: &[u8], text: &mut ReplyText)
         requires { text.old.bytes ≡ [] }
         ensures { text.new.bytes ≡ tables self.now key.now };
+
+    /// What is told of the results to the holder of the key that these bytes are. `None` where memory was refused for it.
+    fn results(&self, alloc: Global, key: &[u8]) -> Option<Vec<u8>>
+        ensures { IfSome result (λ text. results self.now key.now text.items) };
 
     /// Whether it has failed, and answers each line with an error from then on.
     fn has_failed(&self) -> bool

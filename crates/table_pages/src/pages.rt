@@ -1,5 +1,5 @@
 //! The pages, and the lines that they post.
-ghost use Rattle.std.specs.Prelude.{◌≡◌, ◌<◌, ◌++◌, ◌⊎◌, true, not, codes, decimal, length, nat_lt, string_bytes, IfOk, OnOk, OnErr};
+ghost use Rattle.std.specs.Prelude.{◌≡◌, ◌<◌, ◌++◌, ◌⊎◌, ℕ, List, true, not, codes, decimal, length, nat_lt, string_bytes, IfOk, OnOk, OnErr};
 ghost use Rattle.http_server.specs.Response.{IsBlank};
 ghost use Rattle.http.specs.Request.{head_of};
 ghost use Rattle.web_requests.specs.Filled.{IsText, IsUnavailable};
@@ -122,6 +122,17 @@ impl<T: LineServer> TablePages<T> {
         put_text(response, Kind::Lines, text.as_str().as_bytes())
     }
 
+    /// Answers a key with what its holder is told of the results.
+    fn put_results(&self, key: &[u8], response: &mut Response) -> Result<(), AllocError>
+        requires { IsBlank response.old }
+        ensures { OnOk result ((text : List ℕ) × T.results self.now.server key.now text × IsText Kind.Lines text response.new) }
+    {
+        match self.server.results(self.alloc, key) {
+            Some(text) => put_text(response, Kind::Lines, text.as_slice()),
+            None => Err(AllocError),
+        }
+    }
+
     /// Answers posted lines. Where memory is refused once they were taken, the response says nothing.
     fn put_lines(&mut self, body: &[u8], response: &mut Response)
         requires blank { IsBlank response.old }
@@ -152,7 +163,7 @@ impl<T: LineServer> Service for TablePages<T> {
     ghost use Rattle.table_pages.specs.Responses.{Answering};
 
     ghost answers = { λ old request response new.
-        Answering T.answers T.places T.tables (string_bytes old.host) (string_bytes old.alias) old.server request response new.server
+        Answering T.answers T.places T.tables T.results (string_bytes old.host) (string_bytes old.alias) old.server request response new.server
         × (new.host ≡ old.host) × (new.alias ≡ old.alias) };
 
     fn call(
@@ -168,6 +179,7 @@ impl<T: LineServer> Service for TablePages<T> {
             Route::Lines => self.call_lines(request.body().as_slice(), response),
             Route::Place => self.put_place(request.body().as_slice(), response),
             Route::Tables => self.put_tables(request.body().as_slice(), response),
+            Route::Results => self.put_results(request.body().as_slice(), response),
             Route::Refused(refusal) => put_refusal(response, refusal),
         }
     }

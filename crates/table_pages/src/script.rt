@@ -42,6 +42,7 @@ let key = sessionStorage.getItem("key");
 let busy = false;
 let shown = "";
 let timer = 0;
+let results = { made: "", text: "" };
 
 function make(tag, properties, ...children) {
   const node = document.createElement(tag);
@@ -396,8 +397,15 @@ async function showClosed(placeReply) {
   const first = await ask("/lines", "RANK " + key + " 1\n");
   const second = await ask("/lines", "RANK " + key + " 2\n");
   if (first === null || second === null) return;
+  const made = placeReply + first + second;
+  // The results are long, and are asked for again only where a ranking has changed.
+  if (results.made !== made) {
+    const text = await ask("/results", key);
+    if (text === null) return;
+    results = { made, text };
+  }
   const both = [[1, first], [2, second]].filter((one) => !refusal(one[1]));
-  show(placeReply + first + second, "The session is closed.", () => both.flatMap((one) => rankingNode(one[0], one[1])));
+  show(made, "The session is closed.", () => [...both.flatMap((one) => rankingNode(one[0], one[1])), make("h2", null, "Results"), make("pre", { id: "results" }, results.text)]);
 }
 
 function showLogin() {

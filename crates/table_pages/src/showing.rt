@@ -43,7 +43,7 @@ pub fn show_rounds<N: Net + Clock, T: LineServer>(
     pages: &mut TablePages<T>,
     rounds: u64,
 ) -> io::Result<()>
-    ensures { LeadsTo (Answering T.answers T.places T.tables (string_bytes pages.old.host) (string_bytes pages.old.alias)) pages.old.server pages.new.server }
+    ensures { LeadsTo (Answering T.answers T.places T.tables T.results (string_bytes pages.old.host) (string_bytes pages.old.alias)) pages.old.server pages.new.server }
 {
     let mut clients = Clients::new(alloc, keys, limits());
     serve_rounds(rt, listener, &mut clients, pages, rounds)
@@ -58,7 +58,7 @@ pub fn show_minutes<N: Net + Clock, T: LineServer>(
     pages: &mut TablePages<T>,
     minutes: u16,
 ) -> io::Result<()>
-    ensures { LeadsTo (Answering T.answers T.places T.tables (string_bytes pages.old.host) (string_bytes pages.old.alias)) pages.old.server pages.new.server }
+    ensures { LeadsTo (Answering T.answers T.places T.tables T.results (string_bytes pages.old.host) (string_bytes pages.old.alias)) pages.old.server pages.new.server }
 {
     let mut clients = Clients::new(alloc, keys, limits());
     serve_minutes(rt, listener, &mut clients, pages, minutes)

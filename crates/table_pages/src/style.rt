@@ -20,7 +20,7 @@ button:disabled { color: #5c655f; background: #ececec; border-style: dashed; cur
 input, textarea { padding: .4rem; border: 1px solid var(--line); border-radius: .4rem; }
 input { min-height: 2.75rem; width: 12rem; max-width: 100%; }
 textarea { width: 100%; min-height: 8rem; font-family: ui-monospace, monospace; }
-pre { background: #f4f4f4; padding: .5rem; overflow-x: auto; }
+pre { background: #f4f4f4; padding: .5rem; overflow-x: auto; font-size: .8rem; }
 .red { color: var(--red); }
 .table { display: grid; grid-template-columns: 1fr minmax(9rem, 1.4fr) 1fr; gap: .3rem; background: var(--felt); border: 1px solid var(--line); border-radius: .6rem; padding: .4rem; }
 .seat { text-align: center; padding: .2rem; border-radius: .4rem; overflow-wrap: anywhere; border: 3px solid transparent; }

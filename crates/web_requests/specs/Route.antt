@@ -5,7 +5,7 @@ use Rattle.http_header.specs.FieldValue.{FieldValue}
 use Rattle.http_header.specs.HeaderMap.{get}
 use Rattle.http_uri.specs.Uri.{uri_authority, uri_path}
 use Rattle.web_requests.specs.declared.route.Route.{Route}
-use Rattle.web_requests.specs.declared.route.Route.TheVariants.{Page, Script, DirectorScript, Style, Lines, Place, Tables, Refused}
+use Rattle.web_requests.specs.declared.route.Route.TheVariants.{Page, Script, DirectorScript, Style, Lines, Place, Tables, Results, Refused}
 use Rattle.web_requests.specs.declared.route.Refusal.TheVariants.{Misdirected, NotFound, OnlyRead, OnlyPosted, WrongType}
 
 -- there is a value, and it is this text
@@ -51,7 +51,8 @@ route_at path head =
     if bytes_eq path (codes "/table.css") then reading Style head.method else (
     if bytes_eq path (codes "/lines") then posting Lines head else (
     if bytes_eq path (codes "/place") then posting Place head else (
-    if bytes_eq path (codes "/tables") then posting Tables head else Refused NotFound))))))
+    if bytes_eq path (codes "/tables") then posting Tables head else (
+    if bytes_eq path (codes "/results") then posting Results head else Refused NotFound)))))))
 
 -- where a request goes that came to a server of these two names
 abbrev pub route_for : List ℕ → List ℕ → Parts → Route

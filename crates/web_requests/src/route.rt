@@ -24,6 +24,8 @@ pub enum Route {
     Place,
     /// `POST /tables`: all tables are to be told to the director whose key is its body.
     Tables,
+    /// `POST /results`: the results are to be told to the holder of the key that is its body.
+    Results,
     /// Nothing that is here.
     Refused(Refusal),
 }
@@ -65,6 +67,7 @@ pub fn route_of(host: &str, alias: &str, request: &Request<Bytes>) -> Route
         "/lines" => posting(request, Route::Lines),
         "/place" => posting(request, Route::Place),
         "/tables" => posting(request, Route::Tables),
+        "/results" => posting(request, Route::Results),
         _ => Route::Refused(Refusal::NotFound),
     }
 }
