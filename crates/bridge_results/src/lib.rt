@@ -12,6 +12,7 @@ pub mod card;
 pub mod compare;
 pub mod frequency;
 mod gain;
+pub mod pages;
 pub mod play;
 pub mod results;
 mod session_plays;
