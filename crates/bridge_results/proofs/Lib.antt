@@ -1,1 +1,8 @@
+pub mod Plays
+pub mod Counts
+pub mod Cards
+pub mod Order
+pub mod Counted
+pub mod Added
 pub mod Walked
+pub mod WrittenRows

@@ -1,7 +1,7 @@
 use Rattle.std.proofs.Common.{map}
 use Rattle.bridge_config.specs.ConfigValue.{pair_of}
 use Rattle.bridge_results.specs.RankingText.{ranked_row}
-use Rattle.bridge_results.proofs.Walked.{element_taken, element_failed}
+use Rattle.bridge_results.proofs.WrittenRows.{element_taken, element_failed}
 use Rattle.bridge_results.proofs.pages.ranking.write_rows.Goals as goal
 
 pub returns-in_err-write_row : goal.returns-in_err-write_row
