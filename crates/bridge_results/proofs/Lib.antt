@@ -6,3 +6,5 @@ pub mod Counted
 pub mod Added
 pub mod Walked
 pub mod WrittenRows
+pub mod SuitLetters
+pub mod FourSuits

@@ -85,9 +85,12 @@ abbrev pub frequencies_text : Format → Scoring → List Frequency → List ℕ
 frequencies_text format scoring frequencies =
     frequency_titles format ++ (flat_map (frequency_row format scoring) frequencies ++ table_end format)
 
+-- the traveller and the frequencies of a board
+abbrev pub tables_text : Format → Scoring → List BoardLine → List ℕ
+tables_text format scoring lines =
+    lines_text format scoring lines ++ (frequencies_text format scoring (frequencies_of lines) ++ section_end format)
+
 -- A board with the lines of its traveller: dealer, vulnerability, hands, traveller and frequencies.
 abbrev pub board_text : Format → Scoring → ℕ → Option (List ℕ) → List BoardLine → List ℕ
 board_text format scoring board hands lines =
-    board_head format board
-    ++ (hands_text format hands
-    ++ (lines_text format scoring lines ++ (frequencies_text format scoring (frequencies_of lines) ++ section_end format)))
+    board_head format board ++ (hands_text format hands ++ tables_text format scoring lines)

@@ -5,7 +5,7 @@ ghost use Rattle.line_text.specs.Streams.{stream, Written};
 ghost use Rattle.page_layout.specs.Page.{section_end};
 ghost use Rattle.page_layout.specs.Table.{table_end};
 ghost use Rattle.bridge_results.specs.Frequencies.{frequencies_of};
-ghost use Rattle.bridge_results.specs.BoardText.{board_words, deal_words, board_head, side_gain, line_row, line_titles, lines_text, frequency_row, frequency_titles, frequencies_text, hands_text, board_text};
+ghost use Rattle.bridge_results.specs.BoardText.{board_words, deal_words, board_head, side_gain, line_row, line_titles, lines_text, frequency_row, frequency_titles, frequencies_text, hands_text, tables_text, board_text};
 
 use crate::compare::Comparison;
 use crate::frequency::{Frequency, frequencies};
@@ -50,9 +50,9 @@ fn deal_words(board: BoardNumber) -> ArrayString<40>
     text
 }
 
-/// Writes what stands above the hands of a board.
-fn write_head<W: Write>(format: Format, board: BoardNumber, writer: &mut W) -> Result<(), Error>
-    ensures { Written (stream W.contents writer.old writer.new) (board_head format board) result }
+/// What stands above the hands of a board.
+fn board_head(format: Format, board: BoardNumber) -> PageText
+    ensures { result.items ≡ board_head format board }
 {
     let heading = board_words(board);
     let words = deal_words(board);
@@ -60,6 +60,14 @@ fn write_head<W: Write>(format: Format, board: BoardNumber, writer: &mut W) -> R
     push_section_start(&mut text, format, Section::Traveller);
     push_heading(&mut text, format, Level::Part, heading.as_str().as_bytes());
     push_paragraph(&mut text, format, words.as_str().as_bytes());
+    text
+}
+
+/// Writes what stands above the hands of a board.
+fn write_head<W: Write>(format: Format, board: BoardNumber, writer: &mut W) -> Result<(), Error>
+    ensures { Written (stream W.contents writer.old writer.new) (board_head format board) result }
+{
+    let text = board_head(format, board);
     write_text(writer, text.as_slice())
 }
 
@@ -277,6 +285,22 @@ fn write_frequencies_of<W: Write>(
     write_frequencies(format, scoring, made.as_slice(), writer)
 }
 
+/// Writes the traveller and the frequencies of a board.
+#[tactic(auto, using(page_layout::proofs::Walk::then_written, page_layout::proofs::Walk::failed_before))]
+fn write_tables<W: Write>(
+    format: Format,
+    scoring: Scoring,
+    lines: &[BoardLine],
+    writer: &mut W,
+) -> Result<(), Error>
+    requires { length lines.now ≤ 144 }
+    ensures { Written (stream W.contents writer.old writer.new) (tables_text format scoring lines.now) result }
+{
+    write_lines(format, scoring, lines, writer)?;
+    write_frequencies_of(format, scoring, lines, writer)?;
+    write_end(format, writer)
+}
+
 /// Writes a board with the lines of its traveller.
 #[tactic(auto, using(page_layout::proofs::Walk::then_written, page_layout::proofs::Walk::failed_before))]
 pub fn write_board<W: Write>(
@@ -292,7 +316,5 @@ pub fn write_board<W: Write>(
 {
     write_head(format, board, writer)?;
     write_hands(format, deal, writer)?;
-    write_lines(format, scoring, lines, writer)?;
-    write_frequencies_of(format, scoring, lines, writer)?;
-    write_end(format, writer)
+    write_tables(format, scoring, lines, writer)
 }

@@ -6,7 +6,7 @@ ghost use Rattle.line_text.specs.Streams.{stream, Written};
 ghost use Rattle.bridge_score.specs.declared.ranking.Ranked.{Ranked};
 ghost use Rattle.bridge_ranking.specs.declared.field.Field.TheVariants.{First, Second};
 ghost use Rattle.page_layout.specs.Page.{page_end, section_end};
-ghost use Rattle.bridge_results.specs.ResultsText.{ranked_text, sheet_head, played_text, board_on, boards_text, card_on, cards_text, page_text, IsFieldRanking};
+ghost use Rattle.bridge_results.specs.ResultsText.{ranked_text, sheet_head, played_text, board_on, boards_text, card_on, cards_text, rankings_text, front_text, sheets_text, page_text, IsFieldRanking};
 
 use crate::pages::board::write_board;
 use crate::pages::event::event_text;
@@ -215,6 +215,52 @@ fn write_card_sheet<W: Write>(
     write_sheet_end(format, writer)
 }
 
+/// Writes the rankings of the fields.
+#[tactic(auto, using(page_layout::proofs::Walk::then_written, page_layout::proofs::Walk::failed_before))]
+fn write_rankings<W: Write>(
+    format: Format,
+    config: &Config,
+    first: &Option<Ranking>,
+    second: &Option<Ranking>,
+    writer: &mut W,
+) -> Result<(), Error>
+    ensures { Written (stream W.contents writer.old writer.new) (rankings_text format config.now (option_map (λ ranked. ranked.items) first.now) (option_map (λ ranked. ranked.items) second.now)) result }
+{
+    write_ranked(format, config, Field::First, first, writer)?;
+    write_ranked(format, config, Field::Second, second, writer)
+}
+
+/// Writes the boards and the score cards, and the end of the page.
+#[tactic(auto, using(page_layout::proofs::Walk::then_written, page_layout::proofs::Walk::failed_before))]
+fn write_sheets<W: Write>(
+    format: Format,
+    session: &Session,
+    results: &Results<'_>,
+    writer: &mut W,
+) -> Result<(), Error>
+    requires { results.now ≡ session.now }
+    ensures { Written (stream W.contents writer.old writer.new) (sheets_text format session.now) result }
+{
+    write_board_sheet(format, session, results, writer)?;
+    write_card_sheet(format, session, results, writer)?;
+    write_page_end(format, writer)
+}
+
+/// Writes the event and the rankings.
+#[tactic(auto, using(page_layout::proofs::Walk::then_written, page_layout::proofs::Walk::failed_before))]
+fn write_front<W: Write>(
+    format: Format,
+    config: &Config,
+    first: &Option<Ranking>,
+    second: &Option<Ranking>,
+    writer: &mut W,
+) -> Result<(), Error>
+    ensures { Written (stream W.contents writer.old writer.new) (front_text format config.now (option_map (λ ranked. ranked.items) first.now) (option_map (λ ranked. ranked.items) second.now)) result }
+{
+    write_event(format, config, writer)?;
+    write_rankings(format, config, first, second, writer)
+}
+
 /// Writes the page with these rankings.
 #[tactic(auto, using(page_layout::proofs::Walk::then_written, page_layout::proofs::Walk::failed_before))]
 fn write_page<W: Write>(
@@ -228,13 +274,8 @@ fn write_page<W: Write>(
     requires { results.now ≡ session.now }
     ensures { Written (stream W.contents writer.old writer.new) (page_text format session.now (option_map (λ ranked. ranked.items) first.now) (option_map (λ ranked. ranked.items) second.now)) result }
 {
-    let config = session.config();
-    write_event(format, config, writer)?;
-    write_ranked(format, config, Field::First, first, writer)?;
-    write_ranked(format, config, Field::Second, second, writer)?;
-    write_board_sheet(format, session, results, writer)?;
-    write_card_sheet(format, session, results, writer)?;
-    write_page_end(format, writer)
+    write_front(format, session.config(), first, second, writer)?;
+    write_sheets(format, session, results, writer)
 }
 
 /// Writes the results of the session as a page: the event, the ranking of each field, each board that was played with its
