@@ -151,11 +151,7 @@ fn available_sum(lines: &[CardLine]) -> u64
     requires { length lines.now ≤ 36 }
     ensures { result ≡ sum_by (λ line. line.available) lines.now }
 {
-    let mut sum = 0u64;
-    for line in lines {
-        sum += u64::from(line.available);
-    }
-    sum
+    lines.iter().map(|line| u64::from(line.available)).sum()
 }
 
 /// What the pair gained in all, and by matchpoints of how many.
