@@ -8,3 +8,4 @@ pub mod Walked
 pub mod WrittenRows
 pub mod SuitLetters
 pub mod FourSuits
+pub mod PageParts

@@ -44,20 +44,25 @@ played_text format s board (line ∷ lines) =
 abbrev pub board_on : Format → SessionValue → ℕ → List ℕ
 board_on format s board = played_text format s board (traveller s board)
 
--- the sheet of the boards that were played, of boards 1 to 36
+-- the boards that were played, of boards 1 to 36
+unfoldable pub all_boards : Format → SessionValue → List ℕ
+all_boards format s = flat_map (board_on format s) (range_with_len 1 36)
+
+-- the sheet of the boards
 abbrev pub boards_text : Format → SessionValue → List ℕ
-boards_text format s =
-    sheet_head format (codes "Boards") ++ (flat_map (board_on format s) (range_with_len 1 36) ++ section_end format)
+boards_text format s = sheet_head format (codes "Boards") ++ (all_boards format s ++ section_end format)
 
 -- the card of a pair
 abbrev pub card_on : Format → SessionValue → ℕ → List ℕ
 card_on format s pair = card_text format s.configuration.scoring s.configuration.pairs pair (card_of s pair)
 
+-- the cards of all pairs
+unfoldable pub all_cards : Format → SessionValue → List ℕ
+all_cards format s = flat_map (card_on format s) (range_with_len 1 s.configuration.movement.shape.pairs)
+
 -- the sheet of the score cards
 abbrev pub cards_text : Format → SessionValue → List ℕ
-cards_text format s =
-    sheet_head format (codes "Score cards")
-    ++ (flat_map (card_on format s) (range_with_len 1 s.configuration.movement.shape.pairs) ++ section_end format)
+cards_text format s = sheet_head format (codes "Score cards") ++ (all_cards format s ++ section_end format)
 
 -- the rankings of the fields
 abbrev pub rankings_text : Format → ConfigValue → Option (List Ranked) → Option (List Ranked) → List ℕ
@@ -65,12 +70,12 @@ rankings_text format configuration first second =
     ranked_text format configuration First first ++ ranked_text format configuration Second second
 
 -- the event and the rankings
-abbrev pub front_text : Format → ConfigValue → Option (List Ranked) → Option (List Ranked) → List ℕ
+unfoldable pub front_text : Format → ConfigValue → Option (List Ranked) → Option (List Ranked) → List ℕ
 front_text format configuration first second =
     event_text format configuration ++ rankings_text format configuration first second
 
 -- the boards and the score cards, and the end of the page
-abbrev pub sheets_text : Format → SessionValue → List ℕ
+unfoldable pub sheets_text : Format → SessionValue → List ℕ
 sheets_text format s = boards_text format s ++ (cards_text format s ++ page_end format)
 
 -- The page: the event, the rankings, the boards and the score cards.

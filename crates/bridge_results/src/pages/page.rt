@@ -6,16 +6,22 @@ ghost use Rattle.line_text.specs.Streams.{stream, Written};
 ghost use Rattle.bridge_score.specs.declared.ranking.Ranked.{Ranked};
 ghost use Rattle.bridge_ranking.specs.declared.field.Field.TheVariants.{First, Second};
 ghost use Rattle.page_layout.specs.Page.{page_end, section_end};
-ghost use Rattle.bridge_results.specs.ResultsText.{ranked_text, sheet_head, played_text, board_on, boards_text, card_on, cards_text, rankings_text, front_text, sheets_text, page_text, IsFieldRanking};
+ghost use Rattle.bridge_results.specs.EventText.{event_text};
+ghost use Rattle.bridge_results.specs.RankingText.{field_text};
+ghost use Rattle.bridge_results.specs.CardText.{card_text};
+ghost use Rattle.bridge_results.specs.ResultsText.{ranked_text, sheet_head, played_text, board_on, all_boards, boards_text, card_on, all_cards, cards_text, rankings_text, front_text, sheets_text, page_text, IsFieldRanking};
 
+use crate::card::CardLine;
 use crate::pages::board::write_board;
 use crate::pages::event::event_text;
 use crate::pages::pair_card::write_card;
 use crate::pages::ranking::write_field;
 use crate::results::Results;
+use crate::traveller::BoardLine;
 use bridge_cards::BoardNumber;
 use bridge_config::Config;
 use bridge_ranking::Field;
+use bridge_score::Ranked;
 use bridge_session::{Ranking, Session};
 use line_text::write_text;
 use page_layout::{
@@ -23,6 +29,21 @@ use page_layout::{
     push_section_start,
 };
 use std::io::{Error, Write};
+
+/// Writes the ranking of a field of a configuration's pairs.
+fn write_field_of<W: Write>(
+    format: Format,
+    config: &Config,
+    field: Field,
+    ranking: &[Ranked],
+    writer: &mut W,
+) -> Result<(), Error>
+    ensures { Written (stream W.contents writer.old writer.new) (field_text format config.now.scoring config.now.pairs field ranking.now) result }
+{
+    let fields = config.fields();
+    let pairs = fields.pairs.as_slice();
+    write_field(format, fields.scoring, pairs, field, ranking, writer)
+}
 
 /// Writes the ranking of a field, if there is such a field.
 fn write_ranked<W: Write>(
@@ -34,16 +55,8 @@ fn write_ranked<W: Write>(
 ) -> Result<(), Error>
     ensures { Written (stream W.contents writer.old writer.new) (ranked_text format config.now field (option_map (λ ranked. ranked.items) ranking.now)) result }
 {
-    let fields = config.fields();
     match ranking {
-        Some(ranking) => write_field(
-            format,
-            fields.scoring,
-            fields.pairs.as_slice(),
-            field,
-            ranking.as_slice(),
-            writer,
-        ),
+        Some(ranking) => write_field_of(format, config, field, ranking.as_slice(), writer),
         None => write_text(writer, b""),
     }
 }
@@ -85,8 +98,26 @@ fn write_page_end<W: Write>(format: Format, writer: &mut W) -> Result<(), Error>
     write_text(writer, text.as_slice())
 }
 
-/// Writes a board, if it was played.
+/// Writes a board with these lines, if it was played.
 fn write_played<W: Write>(
+    format: Format,
+    session: &Session,
+    board: BoardNumber,
+    lines: &[BoardLine],
+    writer: &mut W,
+) -> Result<(), Error>
+    requires { length lines.now ≤ 144 }
+    ensures { Written (stream W.contents writer.old writer.new) (played_text format session.now board lines.now) result }
+{
+    if lines.is_empty() {
+        return write_text(writer, b"");
+    }
+    let scoring = session.config().fields().scoring;
+    write_board(format, scoring, board, session.deal(board), lines, writer)
+}
+
+/// Writes a board, if it was played.
+fn write_board_of<W: Write>(
     format: Format,
     session: &Session,
     results: &Results<'_>,
@@ -97,18 +128,7 @@ fn write_played<W: Write>(
     ensures { Written (stream W.contents writer.old writer.new) (board_on format session.now board) result }
 {
     let lines = results.traveller(board);
-    if lines.is_empty() {
-        return write_text(writer, b"");
-    }
-    let scoring = session.config().fields().scoring;
-    write_board(
-        format,
-        scoring,
-        board,
-        session.deal(board),
-        lines.as_slice(),
-        writer,
-    )
+    write_played(format, session, board, lines.as_slice(), writer)
 }
 
 /// Writes the boards that were played, by number.
@@ -119,11 +139,11 @@ fn write_boards<W: Write>(
     writer: &mut W,
 ) -> Result<(), Error>
     requires { results.now ≡ session.now }
-    ensures { Written (stream W.contents writer.old writer.new) (flat_map (board_on format session.now) (range_with_len 1 36)) result }
+    ensures { Written (stream W.contents writer.old writer.new) (all_boards format session.now) result }
 {
     for number in 1..37 {
         let board = BoardNumber::new(number).unwrap();
-        write_played(format, session, results, board, writer)?;
+        write_board_of(format, session, results, board, writer)?;
     }
     Ok(())
 }
@@ -144,6 +164,22 @@ fn write_board_sheet<W: Write>(
     write_sheet_end(format, writer)
 }
 
+/// Writes the card of a pair with these lines.
+fn write_card_by<W: Write>(
+    format: Format,
+    config: &Config,
+    pair: u8,
+    lines: &[CardLine],
+    writer: &mut W,
+) -> Result<(), Error>
+    requires { length lines.now ≤ 36 }
+    ensures { Written (stream W.contents writer.old writer.new) (card_text format config.now.scoring config.now.pairs pair lines.now) result }
+{
+    let fields = config.fields();
+    let pairs = fields.pairs.as_slice();
+    write_card(format, fields.scoring, pairs, pair, lines, writer)
+}
+
 /// Writes the card of a pair.
 fn write_card_of<W: Write>(
     format: Format,
@@ -155,16 +191,8 @@ fn write_card_of<W: Write>(
     requires { results.now ≡ session.now }
     ensures { Written (stream W.contents writer.old writer.new) (card_on format session.now pair) result }
 {
-    let fields = session.config().fields();
     let card = results.score_card(pair);
-    write_card(
-        format,
-        fields.scoring,
-        fields.pairs.as_slice(),
-        pair,
-        card.as_slice(),
-        writer,
-    )
+    write_card_by(format, session.config(), pair, card.as_slice(), writer)
 }
 
 /// Writes the cards of the pairs, by number.
@@ -193,7 +221,7 @@ fn write_all_cards<W: Write>(
     writer: &mut W,
 ) -> Result<(), Error>
     requires { results.now ≡ session.now }
-    ensures { Written (stream W.contents writer.old writer.new) (flat_map (card_on format session.now) (range_with_len 1 session.now.configuration.movement.shape.pairs)) result }
+    ensures { Written (stream W.contents writer.old writer.new) (all_cards format session.now) result }
 {
     let pairs = session.config().fields().movement.shape().pairs;
     write_cards(format, session, results, pairs, writer)
