@@ -22,6 +22,7 @@ pub mod traveller;
 pub use card::{CardLine, MOST_CARD_LINES, ScoreCard};
 pub use compare::Comparison;
 pub use frequency::{Frequencies, Frequency, frequencies};
+pub use pages::write_results;
 pub use play::TablePlay;
 pub use results::Results;
 pub use sums::{a_score_card_adds_up_to_the_ranking, frequencies_count_the_scores};
