@@ -40,7 +40,7 @@ pub fn request(
     kind: &str,
     body: &str,
 ) -> Result<Vec<u8>, Fail> {
-    let length = format!(alloc; "{}", body.len())?;
+    let length = format!(in alloc; "{}", body.len())?;
     let mut bytes = Vec::new(alloc);
     for part in [
         first,
@@ -122,7 +122,7 @@ fn expect_limit<N: Abort + RandomSource>(
     for _ in 0..field {
         bytes.push(b'a')?;
     }
-    bytes.extend_from_slice(format!(alloc; "\r\nContent-Length: {body}\r\n\r\n")?.as_bytes())?;
+    bytes.extend_from_slice(format!(in alloc; "\r\nContent-Length: {body}\r\n\r\n")?.as_bytes())?;
     for _ in 0..body {
         bytes.push(b'\n')?;
     }
