@@ -1,4 +1,5 @@
 //! Worked results of three tables, three rounds and three boards, each worked out by hand from the Laws.
+mod pages;
 mod script;
 
 use crate::{BoardLine, CardLine, Frequency, Results, TablePlay, frequencies};

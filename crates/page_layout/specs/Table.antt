@@ -82,9 +82,9 @@ abbrev pub table_start : Format → List ℕ
 table_start Plain = []
 table_start Html = codes "<table>\n"
 
--- what ends a table
+-- what ends a table: in plain text an empty line
 abbrev pub table_end : Format → List ℕ
-table_end Plain = []
+table_end Plain = codes "\n"
 table_end Html = codes "</table>\n"
 
 -- the most bytes of a cell: one byte is written as 31 at most

@@ -111,14 +111,14 @@ pub fn push_table_start(text: &mut PageText, format: Format)
     }
 }
 
-/// Adds what ends a table.
+/// Adds what ends a table: in plain text an empty line.
 pub fn push_table_end(text: &mut PageText, format: Format)
     requires { array_vec_len text.old + 9 ≤ PAGE_BYTES }
     ensures text { text.new.items ≡ text.old.items ++ table_end format }
     ensures room { array_vec_len text.new ≤ array_vec_len text.old + 9 }
 {
     match format {
-        Format::Plain => {}
+        Format::Plain => push_bytes(text, b"\n"),
         Format::Html => push_bytes(text, b"</table>\n"),
     }
 }

@@ -41,7 +41,7 @@ fn card(format: Format) -> PageText {
 fn a_card_in_either_format(rt: HostRuntime) {
     let plain = card(Format::Plain);
     let wanted =
-        "\nTim & \"Ann\"\n  Score  Con   Side\n    -50  4HXX  D's <x>\n  1000000  3NT   \n";
+        "\nTim & \"Ann\"\n  Score  Con   Side\n    -50  4HXX  D's <x>\n  1000000  3NT   \n\n";
     assert!(&rt; plain.as_slice() == wanted.as_bytes());
 
     let html = card(Format::Html);

@@ -2,8 +2,15 @@
 use page_layout::{Align, Column, Content};
 
 /// A number of at most two digits.
+const SMALL: Column = Column {
+    width: 5,
+    align: Align::Right,
+    content: Content::Words,
+};
+
+/// A number of two digits under a longer title, or a percentage.
 const NUMBER: Column = Column {
-    width: 6,
+    width: 7,
     align: Align::Right,
     content: Content::Words,
 };
@@ -50,15 +57,22 @@ const SUIT: Column = Column {
     content: Content::Cards,
 };
 
+/// The cards of a hand in a suit, in the last column.
+const LAST_SUIT: Column = Column {
+    width: 0,
+    align: Align::Left,
+    content: Content::Cards,
+};
+
 /// Of a ranking by matchpoints: place, pair, names, matchpoints, those available, and the percentage.
-pub const SHARE_COLUMNS: [Column; 6] = [NUMBER, NUMBER, NAMES, VALUE, VALUE, NUMBER];
+pub const SHARE_COLUMNS: [Column; 6] = [SMALL, SMALL, NAMES, VALUE, VALUE, NUMBER];
 
 /// Of a ranking by IMPs: place, pair, names, and the sum.
-pub const SUM_COLUMNS: [Column; 4] = [NUMBER, NUMBER, NAMES, VALUE];
+pub const SUM_COLUMNS: [Column; 4] = [SMALL, SMALL, NAMES, VALUE];
 
 /// Of a traveller: round, table, the pairs, contract, declarer, lead, tricks, score, and what each side gained.
 pub const LINE_COLUMNS: [Column; 11] = [
-    NUMBER, NUMBER, NUMBER, NUMBER, CONTRACT, LETTERS, CARD, NUMBER, VALUE, VALUE, VALUE,
+    SMALL, SMALL, SMALL, SMALL, CONTRACT, LETTERS, CARD, NUMBER, VALUE, VALUE, VALUE,
 ];
 
 /// Of frequencies: the score, how often it was made, and what each side gains by it.
@@ -66,8 +80,8 @@ pub const FREQUENCY_COLUMNS: [Column; 4] = [VALUE, NUMBER, VALUE, VALUE];
 
 /// Of a score card: round, board, side, opponents, contract, declarer, tricks, score, and what the pair gained.
 pub const CARD_COLUMNS: [Column; 9] = [
-    NUMBER, NUMBER, LETTERS, NUMBER, CONTRACT, LETTERS, NUMBER, VALUE, VALUE,
+    SMALL, SMALL, LETTERS, NUMBER, CONTRACT, LETTERS, NUMBER, VALUE, VALUE,
 ];
 
 /// Of a diagram of hands: West, North and South, East.
-pub const HAND_COLUMNS: [Column; 3] = [SUIT, SUIT, SUIT];
+pub const HAND_COLUMNS: [Column; 3] = [SUIT, SUIT, LAST_SUIT];
