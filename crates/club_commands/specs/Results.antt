@@ -1,5 +1,5 @@
--- What the commands `rank`, `pbn` and `results` write.
-use Rattle.std.specs.Prelude.{◌≡◌, ◌⊎◌, ◌++◌, [], ℕ, Bool, true, false, Option, List, map, codes, MatchBool, Result, MatchResult}
+-- What the commands `rank` and `pbn` write.
+use Rattle.std.specs.Prelude.{◌≡◌, ◌⊎◌, ◌++◌, [], ℕ, List, map, codes, MatchBool, Result, MatchResult}
 use Rattle.session_store.specs.declared.fault.StoreFault.{StoreFault}
 use Rattle.table_server.specs.declared.fault.ServeFault.TheVariants.{Write}
 use Rattle.line_text.specs.Streams.{Stream, Takes, TakesPrefix, IsUntouched}
@@ -12,9 +12,6 @@ use Rattle.bridge_ranking.specs.declared.field.Field.TheVariants.{First, Second}
 use Rattle.bridge_ranking.specs.Ranking.{IsRankingTo, has_field}
 use Rattle.session_rules.specs.State.{SessionValue}
 use Rattle.bridge_pbn.specs.Games.{session_text}
-use Rattle.bridge_results.specs.ResultsText.{IsFieldRanking, page_text}
-use Rattle.page_layout.specs.declared.format.Format.{Format}
-use Rattle.page_layout.specs.declared.format.Format.TheVariants.{Plain, Html}
 use Rattle.line_text.specs.Lines.{lines_text}
 use Rattle.table_server.specs.ReplyTexts.{ranked_line}
 
@@ -43,16 +40,6 @@ IsRankingText s text =
 -- the results in Portable Bridge Notation
 abbrev pub IsPbnText : SessionValue → List ℕ → Type 0
 IsPbnText s text = text ≡ session_text s
-
--- the format that is asked for: a page of HTML, or plain text
-abbrev pub format_asked : Bool → Format
-format_asked true = Html
-format_asked false = Plain
-
--- the results as people read them, in that format
-abbrev pub IsPageText : Bool → SessionValue → List ℕ → Type 0
-IsPageText html s text = (first : Option (List Ranked)) × (second : Option (List Ranked)) × IsFieldRanking s First first
-    × IsFieldRanking s Second second × (text ≡ page_text (format_asked html) s first second)
 
 module _ (IsText : SessionValue → List ℕ → Type 0) where
   -- a session was read, and the text of its results is written

@@ -1,12 +1,11 @@
 -- The command line, in the words of clap.
-use Rattle.std.specs.Prelude.{◌≡◌, ◌≢◌, ℕ, List, [], Option, None, Some, Ok, pos, Bool, true, false, codes}
+use Rattle.std.specs.Prelude.{◌≡◌, ◌≢◌, ℕ, List, [], Option, None, Some, Ok, pos, true, codes}
 use Rattle.std.specs.Str.Parse.{ParsesUnsigned}
 use Rattle.std.specs.declared.num.ParseIntError.{ParseIntError}
 use Rattle.clap.specs.Words.{App, Row, Rule, Text, new_app, new_rule, with_rule, with_subcommand, subcommand_of, one_of, first_of, fault_of}
-use Rattle.clap.specs.declared.builder.action.ArgAction.TheVariants.{SetTrue}
 use Rattle.clap.specs.declared.builder.value_parser.ValueParser.TheVariants as parser
 use Rattle.command_line.specs.declared.command.Command.{Command}
-use Rattle.command_line.specs.declared.command.Command.TheVariants.{Auction, Format, Script, Serve, Web, Rank, Pbn, Check, Results}
+use Rattle.command_line.specs.declared.command.Command.TheVariants.{Auction, Format, Script, Serve, Web, Rank, Pbn, Check}
 use Rattle.command_line.specs.declared.command.WordsFault.{WordsFault}
 use Rattle.command_line.specs.declared.command.WordsFault.TheVariants.{Usage, Memory}
 
@@ -70,14 +69,6 @@ pbn_app = disk_app (codes "pbn")
 abbrev pub check_app : App
 check_app = disk_app (codes "check")
 
--- the flag `--html`
-abbrev pub html_rule : Rule
-html_rule = record (new_rule (codes "html")) { long = Some (codes "html"); action = Some SetTrue }
-
--- the command `results DISK`, which may have the flag
-abbrev pub results_app : App
-results_app = with_rule (disk_app (codes "results")) html_rule
-
 -- the program's name alone
 abbrev pub named_app : App
 named_app = new_app (codes "bridge_club")
@@ -114,13 +105,9 @@ app_with_rank = with_subcommand app_with_web rank_app.top
 abbrev pub app_with_pbn : App
 app_with_pbn = with_subcommand app_with_rank pbn_app.top
 
--- and with `check`
-abbrev pub app_with_check : App
-app_with_check = with_subcommand app_with_pbn check_app.top
-
 -- the program: words without its own name, and one of its commands
 abbrev pub club_app : App
-club_app = with_subcommand app_with_check results_app.top
+club_app = with_subcommand app_with_pbn check_app.top
 
 -- the argument of that name is this number of so many bits, in decimal digits
 abbrev pub HasNumber : ℕ → List Row → Text → ℕ → Type 0
@@ -130,12 +117,6 @@ HasNumber bits rows id number =
 -- the argument of that name is this text
 abbrev pub HasText : List Row → Text → Text → Type 0
 HasText rows id text = first_of id rows ≡ Some text
-
--- whether the flag of that name is given; clap writes `false` for one that is not
-pub record IsFlag (rows : List Row) (id : Text) (given : Bool) : Type 0 where
-  pub none : one_of id rows ≡ None → given ≡ false
-  pub there : one_of id rows ≡ Some (codes "true") → given ≡ true
-  pub absent : one_of id rows ≡ Some (codes "false") → given ≡ false
 
 -- the arguments are those of a command
 abbrev pub HasWords : List Row → Command → Type 0
@@ -149,7 +130,6 @@ HasWords rows (Web disk port minutes) = HasText rows (codes "DISK") disk.now
 HasWords rows (Rank disk) = HasText rows (codes "DISK") disk.now
 HasWords rows (Pbn disk) = HasText rows (codes "DISK") disk.now
 HasWords rows (Check disk) = HasText rows (codes "DISK") disk.now
-HasWords rows (Results disk html) = HasText rows (codes "DISK") disk.now × IsFlag rows (codes "html") html
 
 -- the name of a command
 abbrev pub name_of : Command → Text
@@ -161,7 +141,6 @@ name_of (Web disk port minutes) = codes "web"
 name_of (Rank disk) = codes "rank"
 name_of (Pbn disk) = codes "pbn"
 name_of (Check disk) = codes "check"
-name_of (Results disk html) = codes "results"
 
 -- the command of that name, with these arguments
 abbrev pub IsNamed : Text → List Row → Command → Type 0

@@ -40,12 +40,6 @@ pub enum Command<'a> {
     Check {
         disk: &'a str,
     },
-    /// `results DISK`: the results of the session that a disk holds as people read them, in plain text, or with `--html` as
-    /// one page for a browser or a printer.
-    Results {
-        disk: &'a str,
-        html: bool,
-    },
 }
 
 /// Why the words ask for no command.

@@ -2,12 +2,12 @@
 ghost use Rattle.std.specs.Prelude.{◌≡◌, IfOk, IfErr, IfSome, codes, false, map};
 ghost use Rattle.clap.specs.Words.{app_of, shape_of, rule_of, rows_of, found_of, subcommand_rows_of};
 ghost use Rattle.clap.specs.declared.builder.command.Command.TheViews.{out-Command as fields_of};
-ghost use Rattle.command_line.specs.Words.{board_rule, disk_rule, config_rule, port_rule, count_rule, minutes_rule, auction_app, format_app, script_app, serve_app, web_app, rank_app, pbn_app, check_app, html_rule, results_app, bare_app, app_with_auction, app_with_format, app_with_script, app_with_serve, app_with_web, app_with_rank, app_with_pbn, app_with_check, club_app, HasNumber, IsFlag, IsCommand, IsNamed, AsksCommand, IsRefusedBy};
+ghost use Rattle.command_line.specs.Words.{board_rule, disk_rule, config_rule, port_rule, count_rule, minutes_rule, auction_app, format_app, script_app, serve_app, web_app, rank_app, pbn_app, check_app, bare_app, app_with_auction, app_with_format, app_with_script, app_with_serve, app_with_web, app_with_rank, app_with_pbn, club_app, HasNumber, IsCommand, IsNamed, AsksCommand, IsRefusedBy};
 
 use crate::command::{Command, WordsFault};
 use bridge_cards::BoardNumber;
 use clap::error::ErrorKind;
-use clap::{Arg, ArgAction, ArgMatches};
+use clap::{Arg, ArgMatches};
 use std::alloc::{AllocError, Global};
 
 /// Reads a command from the words after the program's name.
@@ -47,7 +47,6 @@ fn asked<'a>(matches: &ArgMatches<'a>) -> Option<Command<'a>>
         ("rank", found) => rank_of(found),
         ("pbn", found) => pbn_of(found),
         ("check", found) => check_of(found),
-        ("results", found) => results_of(found),
         // clap's checks leave no other name. The contract allows the answer of memory refused alone here.
         _ => None,
     }
@@ -134,32 +133,9 @@ fn check_of<'a>(found: &ArgMatches<'a>) -> Option<Command<'a>>
     Some(Command::Check { disk })
 }
 
-/// The command `results` with its disk and its flag.
-fn results_of<'a>(found: &ArgMatches<'a>) -> Option<Command<'a>>
-    ensures { IfSome result (IsNamed (codes "results") (rows_of (found_of found.now))) }
-{
-    let disk = found.get_str("DISK")?;
-    let html = flag_of(found, "html");
-    Some(Command::Results { disk, html })
-}
-
-/// Whether a flag is given.
-fn flag_of(found: &ArgMatches<'_>, name: &str) -> bool
-    ensures { IsFlag (rows_of (found_of found.now)) name.now result }
-{
-    found.get_flag(name)
-}
-
 /// The program's command line.
 fn club_command<'a>(alloc: Global) -> Result<clap::Command<'a>, AllocError>
     ensures { IfOk result (λ command. app_of command ≡ club_app) }
-{
-    with_check(alloc)?.subcommand(results_command(alloc)?)
-}
-
-/// The command line with the commands up to `check`.
-fn with_check<'a>(alloc: Global) -> Result<clap::Command<'a>, AllocError>
-    ensures { IfOk result (λ command. app_of command ≡ app_with_check) }
 {
     with_pbn(alloc)?.subcommand(check_command(alloc)?)
 }
@@ -309,17 +285,6 @@ fn check_command<'a>(alloc: Global) -> Result<clap::Command<'a>, AllocError>
         .arg(disk_argument(alloc))
 }
 
-/// The command `results DISK [--html]`.
-fn results_command<'a>(alloc: Global) -> Result<clap::Command<'a>, AllocError>
-    ensures shape { IfOk result (λ command. shape_of command ≡ results_app.top) }
-    ensures local { IfOk result (λ command. (fields_of command).has_globals ≡ false) }
-{
-    clap::Command::new(alloc, "results")
-        .about("Prints the results of the session on a disk, to pin up or hand out")
-        .arg(disk_argument(alloc))?
-        .arg(html_argument(alloc))
-}
-
 /// The argument DISK.
 fn disk_argument<'a>(alloc: Global) -> Arg<'a>
     ensures rule { rule_of result ≡ disk_rule }
@@ -328,17 +293,6 @@ fn disk_argument<'a>(alloc: Global) -> Arg<'a>
     Arg::new(alloc, "DISK")
         .help("The file that is the disk")
         .required(true)
-}
-
-/// The flag `--html`.
-fn html_argument<'a>(alloc: Global) -> Arg<'a>
-    ensures rule { rule_of result ≡ html_rule }
-    ensures local { result.global ≡ false }
-{
-    Arg::new(alloc, "html")
-        .help("As one page for a browser or a printer, in place of plain text")
-        .long("html")
-        .action(ArgAction::SetTrue)
 }
 
 /// The argument CONFIG.
