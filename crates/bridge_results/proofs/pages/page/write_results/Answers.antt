@@ -1,4 +1,3 @@
-use Rattle.std.specs.Option.{option_map}
 use Rattle.bridge_results.proofs.PageParts.{mapped_match}
 use Rattle.bridge_results.proofs.pages.page.write_results.Goals as goal
 
