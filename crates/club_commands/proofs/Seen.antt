@@ -4,17 +4,19 @@ use Rattle.std.proofs.lemmas.Bool.{cases_lt}
 use Rattle.line_text.specs.Streams.{Stream, Written}
 use Rattle.sector_disk.specs.Disk.{Disk, Image}
 use Rattle.sector_disk.specs.Runs.{Quiet}
+use Rattle.session_store.specs.declared.disk_format.DiskFormat.{DiskFormat}
 use Rattle.session_store.specs.declared.reading.Header.{Header}
 use Rattle.session_store.specs.declared.fault.StoreFault.{StoreFault}
 use Rattle.session_store.specs.declared.fault.StoreFault.TheVariants.{TooSmall}
-use Rattle.session_store.specs.Looking.{IsUnseen}
+use Rattle.session_store.specs.Looking.{IsSeen, IsUnseen}
 use Rattle.session_store.specs.Stands.{header_in}
 use Rattle.bridge_session.specs.SessionKeeping.{session_keeping}
+use Rattle.session_rules.specs.State.{SessionValue}
 use Rattle.table_server.specs.declared.fault.ServeFault.TheVariants.{Write}
 use Rattle.club_commands.specs.declared.fault.RunFault.{RunFault}
 use Rattle.club_commands.specs.declared.fault.RunFault.TheVariants.{Stream as StreamFault}
 use Rattle.club_commands.specs.Readings.{RefusesReading}
-use Rattle.club_commands.specs.Checked.{SaysSeen, Checks, IsDueText, StopsChecking}
+use Rattle.club_commands.specs.Checked.{with_standing, with_state, SaysSeen, Checks, IsDueText, StopsChecking}
 
 module _ {D : Type 0} (disk : Disk D) where
   -- why reading a disk gave nothing
@@ -26,6 +28,23 @@ module _ {D : Type 0} (disk : Disk D) where
       at : (disk.count d < 2048) ⊎ (2048 ≤ disk.count d) → RefusesReading disk header d fault
       at (inl few) = inl (few, ap (λ (r : Result X StoreFault). elim r [ Ok _ ↦ fault | Err e ↦ e ]) (sym is ∙ small few))
       at (inr many) = inr (many, (left, quiet, unseen many))
+
+  -- what was seen under a header is a text
+  pub says_seen : (header : Image → Option Header) (heading : List ℕ) (d left : D) (state : SessionValue) (format : DiskFormat)
+      (epoch sector records : ℕ) (text : List ℕ) → Quiet disk d left
+      → IsSeen session_keeping disk header d left state format epoch sector records
+      → text ≡ with_state (with_standing heading format epoch sector records) state → SaysSeen disk header heading d text
+  says_seen header heading d left state format epoch sector records text quiet seen says = record {
+    left = left;
+    quiet = quiet;
+    state = state;
+    format = format;
+    epoch = epoch;
+    sector = sector;
+    records = records;
+    seen = seen;
+    says = says;
+  }
 
   module _ (d : D) (output : Stream) (text : List ℕ) where
     -- what was seen is written

@@ -1,5 +1,5 @@
--- What the commands `rank` and `pbn` write.
-use Rattle.std.specs.Prelude.{◌≡◌, ◌⊎◌, ◌++◌, [], ℕ, List, map, codes, MatchBool, Result, MatchResult}
+-- What the commands `rank`, `pbn` and `results` write.
+use Rattle.std.specs.Prelude.{◌≡◌, ◌⊎◌, ◌++◌, [], ℕ, Bool, true, false, List, map, codes, MatchBool, Option, Result, MatchResult}
 use Rattle.session_store.specs.declared.fault.StoreFault.{StoreFault}
 use Rattle.table_server.specs.declared.fault.ServeFault.TheVariants.{Write}
 use Rattle.line_text.specs.Streams.{Stream, Takes, TakesPrefix, IsUntouched}
@@ -12,6 +12,9 @@ use Rattle.bridge_ranking.specs.declared.field.Field.TheVariants.{First, Second}
 use Rattle.bridge_ranking.specs.Ranking.{IsRankingTo, has_field}
 use Rattle.session_rules.specs.State.{SessionValue}
 use Rattle.bridge_pbn.specs.Games.{session_text}
+use Rattle.page_layout.specs.declared.format.Format.{Format}
+use Rattle.page_layout.specs.declared.format.Format.TheVariants.{Plain, Html}
+use Rattle.bridge_results.specs.ResultsText.{IsFieldRanking, page_text}
 use Rattle.line_text.specs.Lines.{lines_text}
 use Rattle.table_server.specs.ReplyTexts.{ranked_line}
 
@@ -36,6 +39,16 @@ abbrev pub IsRankingText : SessionValue → List ℕ → Type 0
 IsRankingText s text =
     (first : List ℕ) × (second : List ℕ) × IsFieldText s First first × IsFieldText s Second second
     × (text ≡ first ++ second)
+
+-- the format that `--html` asks for, and that without it
+abbrev pub page_format : Bool → Format
+page_format true = Html
+page_format false = Plain
+
+-- the results as a page, with the ranking of each field
+abbrev pub IsPageText : Bool → SessionValue → List ℕ → Type 0
+IsPageText html s text = (first second : Option (List Ranked)) × IsFieldRanking s First first × IsFieldRanking s Second second
+    × (text ≡ page_text (page_format html) s first second)
 
 -- the results in Portable Bridge Notation
 abbrev pub IsPbnText : SessionValue → List ℕ → Type 0

@@ -6,7 +6,7 @@ use Rattle.table_server.specs.declared.fault.ServeFault.TheVariants.{Read}
 use Rattle.table_server.specs.Heard.{StopsAt}
 use Rattle.table_server.specs.Replies.{auction_output, byte_limit}
 use Rattle.command_line.specs.declared.command.Command.{Command}
-use Rattle.command_line.specs.declared.command.Command.TheVariants.{Auction, Format, Script, Serve, Web, Rank, Pbn, Check}
+use Rattle.command_line.specs.declared.command.Command.TheVariants.{Auction, Format, Script, Serve, Web, Rank, Pbn, Results, Check}
 use Rattle.command_line.specs.declared.command.WordsFault.{WordsFault}
 use Rattle.command_line.specs.declared.command.WordsFault.TheVariants.{Usage, Memory}
 use Rattle.club_commands.specs.declared.fault.RunFault.{RunFault}
@@ -16,7 +16,7 @@ use Rattle.club_commands.specs.Faults.{store_line, stream_line, fault_line, faul
 use Rattle.club_commands.specs.Formatted.{HasFormatted, StopsFormatting}
 use Rattle.club_commands.specs.OnFile.{HasScripted, StopsScripting, HasServedConnections, StopsServingConnections}
 use Rattle.club_commands.specs.Web.{HasShownPages, StopsShowingPages}
-use Rattle.club_commands.specs.Results.{IsRankingText, IsPbnText, HasResults, StopsResults}
+use Rattle.club_commands.specs.Results.{IsRankingText, IsPbnText, IsPageText, HasResults, StopsResults}
 use Rattle.club_commands.specs.Checked.{HasChecked, StopsCheckingFile}
 
 -- the output of a board's auction is written for what was read of the input
@@ -39,6 +39,7 @@ DoesCommand (Serve disk port count) input output = HasServedConnections count ×
 DoesCommand (Web disk port minutes) input output = HasShownPages port output × IsUntouched input
 DoesCommand (Rank disk) input output = HasResults IsRankingText output × IsUntouched input
 DoesCommand (Pbn disk) input output = HasResults IsPbnText output × IsUntouched input
+DoesCommand (Results disk html) input output = HasResults (IsPageText html) output × IsUntouched input
 DoesCommand (Check disk) input output = HasChecked output × IsUntouched input
 
 -- what a command leaves of standard input and on standard output where it stops at that fault
@@ -51,6 +52,7 @@ StopsBy (Serve disk port count) input output fault =
 StopsBy (Web disk port minutes) input output fault = StopsShowingPages port output fault × IsUntouched input
 StopsBy (Rank disk) input output fault = StopsResults IsRankingText output fault × IsUntouched input
 StopsBy (Pbn disk) input output fault = StopsResults IsPbnText output fault × IsUntouched input
+StopsBy (Results disk html) input output fault = StopsResults (IsPageText html) output fault × IsUntouched input
 StopsBy (Check disk) input output fault = StopsCheckingFile output fault × IsUntouched input
 
 -- a command was done, and nothing stands on standard error

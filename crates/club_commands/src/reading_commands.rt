@@ -4,12 +4,12 @@ ghost use Rattle.std.specs.Prelude.{OnOk, IfOk, IfErr};
 ghost use Rattle.line_text.specs.Streams.{stream};
 ghost use Rattle.club_commands.specs.Checked.{HasChecked, StopsCheckingFile};
 ghost use Rattle.club_commands.specs.Readings.{IsReadOnFile, IsUnreadOnFile};
-ghost use Rattle.club_commands.specs.Results.{IsRankingText, IsPbnText, TellsRead, StopsTelling, HasResults, StopsResults};
+ghost use Rattle.club_commands.specs.Results.{IsRankingText, IsPbnText, IsPageText, TellsRead, StopsTelling, HasResults, StopsResults};
 
 use crate::check::check_disk;
 use crate::disk_lock::lock_to_read;
 use crate::fault::RunFault;
-use crate::results::{write_games, write_ranking};
+use crate::results::{write_games, write_page, write_ranking};
 use crate::stored_session::read_found;
 use bridge_session::Session;
 use sector_disk::FileDisk;
@@ -53,6 +53,21 @@ fn pbn_read<W: Write>(read: Result<Session, StoreFault>, output: &mut W) -> Resu
     }
 }
 
+/// Writes the results of a session as a page, where it was read.
+fn page_read<W: Write>(
+    read: Result<Session, StoreFault>,
+    html: bool,
+    output: &mut W,
+) -> Result<(), RunFault>
+    ensures done { OnOk result (TellsRead (IsPageText html) read (stream W.contents output.old output.new)) }
+    ensures fault { IfErr result (StopsTelling (IsPageText html) read (stream W.contents output.old output.new)) }
+{
+    match read {
+        Ok(session) => write_page(&session, html, output),
+        Err(cause) => Err(RunFault::Store(cause)),
+    }
+}
+
 /// Writes the ranking of each field of the session that the disk in a file holds.
 pub fn run_rank<S: Files<File = File>, W: Write>(
     rt: &S,
@@ -79,6 +94,21 @@ pub fn run_pbn<S: Files<File = File>, W: Write>(
 {
     let _lock = lock_to_read(rt, disk)?;
     pbn_read(read_session_on(rt, alloc, disk), output)
+}
+
+/// Writes the results of the session that the disk in a file holds as a page, of HTML or of plain text.
+pub fn run_results<S: Files<File = File>, W: Write>(
+    rt: &S,
+    alloc: Global,
+    disk: &str,
+    html: bool,
+    output: &mut W,
+) -> Result<(), RunFault>
+    ensures done { OnOk result (HasResults (IsPageText html) (stream W.contents output.old output.new)) }
+    ensures fault { IfErr result (StopsResults (IsPageText html) (stream W.contents output.old output.new)) }
+{
+    let _lock = lock_to_read(rt, disk)?;
+    page_read(read_session_on(rt, alloc, disk), html, output)
 }
 
 /// Says what the disk in a file holds. At a damaged sector, which is the fault then, it says what the older snapshot holds.

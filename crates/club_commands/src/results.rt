@@ -1,14 +1,16 @@
-//! The results of a session, as the commands `rank` and `pbn` write them.
+//! The results of a session, as the commands `rank`, `pbn` and `results` write them.
 ghost use Rattle.std.specs.Prelude.{◌≡◌, ℕ, List, IfErr};
 ghost use Rattle.line_text.specs.Streams.{stream, Written};
 ghost use Rattle.bridge_pbn.specs.Games.{session_text};
 ghost use Rattle.table_server.specs.declared.fault.ServeFault.TheVariants.{Write as WriteFault};
-ghost use Rattle.club_commands.specs.Results.{field_heading, IsFieldText, IsRankingText};
+ghost use Rattle.club_commands.specs.Results.{field_heading, IsFieldText, IsRankingText, page_format, IsPageText};
 
 use crate::fault::RunFault;
 use crate::output::write_output;
 use bridge_pbn::write_pbn;
+use bridge_results::write_results;
 use bridge_session::{Field, Session};
+use page_layout::Format;
 use std::io::Write;
 use table_server::{ReplyText, ServeFault, push_pairs};
 
@@ -59,6 +61,25 @@ pub fn write_games<W: Write>(session: &Session, output: &mut W) -> Result<(), Ru
     ensures fault { IfErr result (λ fault. fault ≡ RunFault.Stream WriteFault) }
 {
     match write_pbn(session, output) {
+        Ok(()) => Ok(()),
+        Err(_) => Err(RunFault::Stream(ServeFault::Write)),
+    }
+}
+
+/// The format that `--html` asks for, and that without it.
+fn page_format(html: bool) -> Format
+    ensures { result ≡ page_format html }
+{
+    if html { Format::Html } else { Format::Plain }
+}
+
+/// Writes the results as a page.
+pub fn write_page<W: Write>(session: &Session, html: bool, output: &mut W) -> Result<(), RunFault>
+    ensures written { (text : List ℕ) × IsPageText html session.now text
+        × Written (stream W.contents output.old output.new) text result }
+    ensures fault { IfErr result (λ fault. fault ≡ RunFault.Stream WriteFault) }
+{
+    match write_results(session, page_format(html), output) {
         Ok(()) => Ok(()),
         Err(_) => Err(RunFault::Stream(ServeFault::Write)),
     }

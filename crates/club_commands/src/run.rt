@@ -12,7 +12,7 @@ use crate::fault::RunFault;
 use crate::fault_line::{fault_line, fault_status};
 use crate::formatting::run_format;
 use crate::printable::Printable;
-use crate::reading_commands::{run_check, run_pbn, run_rank};
+use crate::reading_commands::{run_check, run_pbn, run_rank, run_results};
 use crate::web::run_web;
 use bridge_cards::BoardNumber;
 use command_line::{Command, WordsFault, read_words};
@@ -131,6 +131,7 @@ fn do_command<
         } => run_web(rt, alloc, disk, port, minutes, output),
         Command::Rank { disk } => run_rank(rt, alloc, disk, output),
         Command::Pbn { disk } => run_pbn(rt, alloc, disk, output),
+        Command::Results { disk, html } => run_results(rt, alloc, disk, html, output),
         Command::Check { disk } => run_check(rt, alloc, disk, output),
     }
 }

@@ -1,11 +1,12 @@
 -- The command line, in the words of clap.
-use Rattle.std.specs.Prelude.{◌≡◌, ◌≢◌, ℕ, List, [], Option, None, Some, Ok, pos, true, codes}
+use Rattle.std.specs.Prelude.{◌≡◌, ◌≢◌, ℕ, Bool, List, [], Option, None, Some, Ok, pos, true, false, codes}
 use Rattle.std.specs.Str.Parse.{ParsesUnsigned}
 use Rattle.std.specs.declared.num.ParseIntError.{ParseIntError}
 use Rattle.clap.specs.Words.{App, Row, Rule, Text, new_app, new_rule, with_rule, with_subcommand, subcommand_of, one_of, first_of, fault_of}
+use Rattle.clap.specs.declared.builder.action.ArgAction.TheVariants.{SetTrue}
 use Rattle.clap.specs.declared.builder.value_parser.ValueParser.TheVariants as parser
 use Rattle.command_line.specs.declared.command.Command.{Command}
-use Rattle.command_line.specs.declared.command.Command.TheVariants.{Auction, Format, Script, Serve, Web, Rank, Pbn, Check}
+use Rattle.command_line.specs.declared.command.Command.TheVariants.{Auction, Format, Script, Serve, Web, Rank, Pbn, Results, Check}
 use Rattle.command_line.specs.declared.command.WordsFault.{WordsFault}
 use Rattle.command_line.specs.declared.command.WordsFault.TheVariants.{Usage, Memory}
 
@@ -65,6 +66,14 @@ rank_app = disk_app (codes "rank")
 abbrev pub pbn_app : App
 pbn_app = disk_app (codes "pbn")
 
+-- the flag `--html`
+abbrev pub html_rule : Rule
+html_rule = record (new_rule (codes "html")) { long = Some (codes "html"); action = Some SetTrue }
+
+-- the command `results DISK`, with that flag or without
+abbrev pub results_app : App
+results_app = with_rule (disk_app (codes "results")) html_rule
+
 -- the command `check DISK`
 abbrev pub check_app : App
 check_app = disk_app (codes "check")
@@ -105,9 +114,13 @@ app_with_rank = with_subcommand app_with_web rank_app.top
 abbrev pub app_with_pbn : App
 app_with_pbn = with_subcommand app_with_rank pbn_app.top
 
+-- and with `results`
+abbrev pub app_with_results : App
+app_with_results = with_subcommand app_with_pbn results_app.top
+
 -- the program: words without its own name, and one of its commands
 abbrev pub club_app : App
-club_app = with_subcommand app_with_pbn check_app.top
+club_app = with_subcommand app_with_results check_app.top
 
 -- the argument of that name is this number of so many bits, in decimal digits
 abbrev pub HasNumber : ℕ → List Row → Text → ℕ → Type 0
@@ -117,6 +130,11 @@ HasNumber bits rows id number =
 -- the argument of that name is this text
 abbrev pub HasText : List Row → Text → Text → Type 0
 HasText rows id text = first_of id rows ≡ Some text
+
+-- the flag of that name is given, or it is not
+abbrev pub HasFlag : List Row → Text → Bool → Type 0
+HasFlag rows id flag = (one_of id rows ≡ Some (codes "true") → flag ≡ true)
+    × (one_of id rows ≡ Some (codes "false") → flag ≡ false) × (one_of id rows ≡ None → flag ≡ false)
 
 -- the arguments are those of a command
 abbrev pub HasWords : List Row → Command → Type 0
@@ -129,6 +147,7 @@ HasWords rows (Web disk port minutes) = HasText rows (codes "DISK") disk.now
     × HasNumber 16 rows (codes "PORT") port × HasNumber 16 rows (codes "MINUTES") minutes
 HasWords rows (Rank disk) = HasText rows (codes "DISK") disk.now
 HasWords rows (Pbn disk) = HasText rows (codes "DISK") disk.now
+HasWords rows (Results disk html) = HasText rows (codes "DISK") disk.now × HasFlag rows (codes "html") html
 HasWords rows (Check disk) = HasText rows (codes "DISK") disk.now
 
 -- the name of a command
@@ -140,6 +159,7 @@ name_of (Serve disk port count) = codes "serve"
 name_of (Web disk port minutes) = codes "web"
 name_of (Rank disk) = codes "rank"
 name_of (Pbn disk) = codes "pbn"
+name_of (Results disk html) = codes "results"
 name_of (Check disk) = codes "check"
 
 -- the command of that name, with these arguments

@@ -36,6 +36,11 @@ pub enum Command<'a> {
     Pbn {
         disk: &'a str,
     },
+    /// `results DISK`: the results of the session that a disk holds, as a page of text, or with `--html` of HTML.
+    Results {
+        disk: &'a str,
+        html: bool,
+    },
     /// `check DISK`: what a disk holds, in words, or where it is damaged and what its older snapshot holds.
     Check {
         disk: &'a str,

@@ -2,12 +2,12 @@
 ghost use Rattle.std.specs.Prelude.{◌≡◌, IfOk, IfErr, IfSome, codes, false, map};
 ghost use Rattle.clap.specs.Words.{app_of, shape_of, rule_of, rows_of, found_of, subcommand_rows_of};
 ghost use Rattle.clap.specs.declared.builder.command.Command.TheViews.{out-Command as fields_of};
-ghost use Rattle.command_line.specs.Words.{board_rule, disk_rule, config_rule, port_rule, count_rule, minutes_rule, auction_app, format_app, script_app, serve_app, web_app, rank_app, pbn_app, check_app, bare_app, app_with_auction, app_with_format, app_with_script, app_with_serve, app_with_web, app_with_rank, app_with_pbn, club_app, HasNumber, IsCommand, IsNamed, AsksCommand, IsRefusedBy};
+ghost use Rattle.command_line.specs.Words.{board_rule, disk_rule, config_rule, port_rule, count_rule, minutes_rule, html_rule, auction_app, format_app, script_app, serve_app, web_app, rank_app, pbn_app, results_app, check_app, bare_app, app_with_auction, app_with_format, app_with_script, app_with_serve, app_with_web, app_with_rank, app_with_pbn, app_with_results, club_app, HasNumber, HasFlag, IsCommand, IsNamed, AsksCommand, IsRefusedBy};
 
 use crate::command::{Command, WordsFault};
 use bridge_cards::BoardNumber;
 use clap::error::ErrorKind;
-use clap::{Arg, ArgMatches};
+use clap::{Arg, ArgAction, ArgMatches};
 use std::alloc::{AllocError, Global};
 
 /// Reads a command from the words after the program's name.
@@ -46,6 +46,7 @@ fn asked<'a>(matches: &ArgMatches<'a>) -> Option<Command<'a>>
         ("web", found) => web_of(found),
         ("rank", found) => rank_of(found),
         ("pbn", found) => pbn_of(found),
+        ("results", found) => results_of(found),
         ("check", found) => check_of(found),
         // clap's checks leave no other name. The contract allows the answer of memory refused alone here.
         _ => None,
@@ -125,6 +126,22 @@ fn pbn_of<'a>(found: &ArgMatches<'a>) -> Option<Command<'a>>
     Some(Command::Pbn { disk })
 }
 
+/// The command `results` with its disk, and whether it asks for HTML.
+fn results_of<'a>(found: &ArgMatches<'a>) -> Option<Command<'a>>
+    ensures { IfSome result (IsNamed (codes "results") (rows_of (found_of found.now))) }
+{
+    let disk = found.get_str("DISK")?;
+    let html = has_flag(found, "html");
+    Some(Command::Results { disk, html })
+}
+
+/// Whether a flag is given.
+fn has_flag(found: &ArgMatches<'_>, name: &str) -> bool
+    ensures { HasFlag (rows_of (found_of found.now)) name.now result }
+{
+    found.get_flag(name)
+}
+
 /// The command `check` with its disk.
 fn check_of<'a>(found: &ArgMatches<'a>) -> Option<Command<'a>>
     ensures { IfSome result (IsNamed (codes "check") (rows_of (found_of found.now))) }
@@ -137,7 +154,14 @@ fn check_of<'a>(found: &ArgMatches<'a>) -> Option<Command<'a>>
 fn club_command<'a>(alloc: Global) -> Result<clap::Command<'a>, AllocError>
     ensures { IfOk result (λ command. app_of command ≡ club_app) }
 {
-    with_pbn(alloc)?.subcommand(check_command(alloc)?)
+    with_results(alloc)?.subcommand(check_command(alloc)?)
+}
+
+/// The command line with the commands up to `results`.
+fn with_results<'a>(alloc: Global) -> Result<clap::Command<'a>, AllocError>
+    ensures { IfOk result (λ command. app_of command ≡ app_with_results) }
+{
+    with_pbn(alloc)?.subcommand(results_command(alloc)?)
 }
 
 /// The command line with the commands up to `pbn`.
@@ -275,6 +299,17 @@ fn pbn_command<'a>(alloc: Global) -> Result<clap::Command<'a>, AllocError>
         .arg(disk_argument(alloc))
 }
 
+/// The command `results DISK`, or `results DISK --html`.
+fn results_command<'a>(alloc: Global) -> Result<clap::Command<'a>, AllocError>
+    ensures shape { IfOk result (λ command. shape_of command ≡ results_app.top) }
+    ensures local { IfOk result (λ command. (fields_of command).has_globals ≡ false) }
+{
+    clap::Command::new(alloc, "results")
+        .about("Prints the rankings, travellers and score cards of the session on a disk")
+        .arg(disk_argument(alloc))?
+        .arg(html_argument(alloc))
+}
+
 /// The command `check DISK`.
 fn check_command<'a>(alloc: Global) -> Result<clap::Command<'a>, AllocError>
     ensures shape { IfOk result (λ command. shape_of command ≡ check_app.top) }
@@ -293,6 +328,17 @@ fn disk_argument<'a>(alloc: Global) -> Arg<'a>
     Arg::new(alloc, "DISK")
         .help("The file that is the disk")
         .required(true)
+}
+
+/// The flag `--html`.
+fn html_argument<'a>(alloc: Global) -> Arg<'a>
+    ensures rule { rule_of result ≡ html_rule }
+    ensures local { result.global ≡ false }
+{
+    Arg::new(alloc, "html")
+        .long("html")
+        .help("As a page of HTML in place of plain text")
+        .action(ArgAction::SetTrue)
 }
 
 /// The argument CONFIG.

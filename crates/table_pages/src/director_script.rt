@@ -226,12 +226,12 @@ async function solve() {
 async function showRankings() {
   const replies = [await ask("/lines", "RANK " + key + " 1\n"), await ask("/lines", "RANK " + key + " 2\n")];
   if (replies.includes(null)) return tell("No answer came.");
-  return at("rankings").replaceChildren(...replies.flatMap((reply, i) => (refusal(reply) ? [] : rankingNode(i + 1, reply))));
+  if (at("rankings")) at("rankings").replaceChildren(...replies.flatMap((reply, i) => (refusal(reply) ? [] : rankingNode(i + 1, reply))));
 }
 
 async function showResults() {
   const text = await ask("/results", key);
-  at("results").textContent = text === null ? "No answer came." : text;
+  say("results", text === null ? "No answer came." : text);
 }
 
 function section(id, title, ...nodes) {

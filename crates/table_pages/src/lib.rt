@@ -22,6 +22,6 @@ pub use director_script::DIRECTOR_SCRIPT;
 pub use page::PAGE;
 pub use pages::TablePages;
 pub use script::SCRIPT;
-pub use showing::{show_minutes, show_rounds};
+pub use showing::{limits, show_minutes, show_rounds};
 pub use style::STYLE;
 pub use told_results::told_results;

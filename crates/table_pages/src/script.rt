@@ -61,7 +61,8 @@ function button(label, name, id, enabled, act) {
 }
 
 function say(id, text) {
-  if (at(id).textContent !== text) at(id).textContent = text;
+  const node = at(id);
+  if (node && node.textContent !== text) node.textContent = text;
 }
 
 async function ask(path, body) {

@@ -20,8 +20,8 @@ const MOST_HEAD_BYTES: usize = 8192;
 /// The most bytes of the body of a request; a longer one is refused.
 const MOST_BODY_BYTES: usize = 65_535;
 
-/// The limits of a connection.
-fn limits() -> Config {
+/// The limits of a connection: a head of 8,192 bytes and a body of 65,535.
+pub fn limits() -> Config {
     Config {
         limits: Limits {
             max_head_len: MOST_HEAD_BYTES,

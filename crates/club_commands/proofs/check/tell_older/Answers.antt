@@ -29,5 +29,5 @@ returns-in-Err-clause-written g c = (
         c.read_older_state.ensures.quiet (λ small. (c.read_older_state.ensures.too_small small).0) c.in-Err.ensures.unseen,
     c.no_older_text.ensures,
   ),
-  rw c.as_str.ensures.value at c.write_output.ensures.written,
+  rw c.as_str-in-Err.ensures.value at c.write_output-in-Err.ensures.written,
 )

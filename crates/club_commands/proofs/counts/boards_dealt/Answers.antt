@@ -6,19 +6,19 @@ use Rattle.club_commands.proofs.Counted.{number_more}
 use Rattle.club_commands.proofs.counts.boards_dealt.Goals as goal
 
 pub loop-number-preserved : goal.loop-number-preserved
-loop-number-preserved g c =
+loop-number-preserved c =
     let n = c.loop-number.number in
     let board = rw c.unwrap-board.ensures at c.new.ensures.value in
     record {
-      counted = ap (λ more. c.loop-number.count + more) (rw board at c.dealt_at.ensures.count)
+      counted = ap (λ more. c.loop-number.count + more) (rw board at c.dealt_at-count.ensures.count)
           ∙ ap (λ so_far. so_far + dealt_at c.args.session.now n) c.loop-number.invariant.counted
           ∙ sym (number_more (dealt_at c.args.session.now) n c.loop-number.invariant.least (omega arith));
       least = omega arith;
-      few = omega (arith, c.loop-number.invariant.few, c.dealt_at.ensures.most);
+      few = omega (arith, c.loop-number.invariant.few, c.dealt_at-count.ensures.most);
     }
 
 pub returns : goal.returns
-returns g c =
+returns c =
     let last : c.loop-number.number - 1 ≡ 36 = omega arith in
     c.loop-number.invariant.counted
     ∙ ap (λ i. sum_by (dealt_at c.args.session.now) (take i (range_with_len 1 36))) last

@@ -5,7 +5,7 @@ use Rattle.club_commands.specs.Counts.{dealt_at}
 use Rattle.club_commands.proofs.counts.boards_dealt.Given as goal
 
 abbrev pub invariant-loop-number : goal.invariant-loop-number
-invariant-loop-number g l = record {
+invariant-loop-number l = record {
   counted : l.count ≡ sum_by (dealt_at l.session) (take (l.number - 1) (range_with_len 1 36));
   least : 1 ≤ l.number;
   few : l.count ≤ l.number - 1;

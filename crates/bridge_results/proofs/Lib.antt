@@ -1,0 +1,12 @@
+pub mod Plays
+pub mod Known
+pub mod Counts
+pub mod Cards
+pub mod Order
+pub mod Counted
+pub mod Added
+pub mod Walked
+pub mod WrittenRows
+pub mod SuitLetters
+pub mod FourSuits
+pub mod PageParts

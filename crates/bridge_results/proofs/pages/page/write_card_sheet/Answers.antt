@@ -1,0 +1,12 @@
+use Rattle.page_layout.proofs.Walk.{then_written}
+use Rattle.bridge_results.proofs.PageParts.{then_failed}
+use Rattle.bridge_results.proofs.pages.page.write_card_sheet.Goals as goal
+
+pub returns-in_err-write_all_cards : goal.returns-in_err-write_all_cards
+returns-in_err-write_all_cards g c =
+    then_failed _ _ _ _ _ _ _ c.from_residual-in_err-write_all_cards.ensures.0 c.in_ok-write_sheet_head.ensures c.in_err-write_all_cards.ensures
+
+pub returns : goal.returns
+returns g c =
+    then_written _ _ _ _ _ _ c.in_ok-write_sheet_head.ensures
+    (then_written _ _ _ _ _ _ c.in_ok-write_all_cards.ensures c.write_sheet_end.ensures)

@@ -1,0 +1,83 @@
+-- The results of a session as a page.
+use Rattle.std.specs.Prelude.{◌≡◌, ℕ, false, List, [], ◌∷◌, ◌++◌, codes, flat_map, Option, Some, None, MatchOption}
+use Rattle.std.specs.List.{range_with_len}
+use Rattle.std.specs.Option.{option_map_or}
+use Rattle.bridge_score.specs.declared.ranking.Ranked.{Ranked}
+use Rattle.bridge_config.specs.ConfigValue.{ConfigValue}
+use Rattle.bridge_ranking.specs.declared.field.Field.{Field}
+use Rattle.bridge_ranking.specs.declared.field.Field.TheVariants.{First, Second}
+use Rattle.bridge_ranking.specs.Ranking.{has_field, lines_of, IsRankingOf}
+use Rattle.session_rules.specs.State.{SessionValue, deal_on}
+use Rattle.page_layout.specs.declared.format.Format.{Format}
+use Rattle.page_layout.specs.declared.format.Level.TheVariants as level
+use Rattle.page_layout.specs.declared.format.Section.TheVariants as section
+use Rattle.page_layout.specs.Page.{page_end, heading_text, section_start, section_end}
+use Rattle.bridge_results.specs.declared.traveller.BoardLine.{BoardLine}
+use Rattle.bridge_results.specs.Traveller.{traveller}
+use Rattle.bridge_results.specs.ScoreCard.{card_of}
+use Rattle.bridge_results.specs.EventText.{event_text}
+use Rattle.bridge_results.specs.RankingText.{field_text}
+use Rattle.bridge_results.specs.BoardText.{board_text}
+use Rattle.bridge_results.specs.CardText.{card_text}
+
+-- the ranking of a field, where there is such a field
+abbrev pub IsFieldRanking : SessionValue → Field → Option (List Ranked) → Type 0
+IsFieldRanking s field ranking =
+    MatchOption ranking (has_field s.configuration.movement.shape field ≡ false)
+    (λ ranked. IsRankingOf s.configuration.scoring (lines_of s field) ranked)
+
+-- the text of a field, if there is such a field
+abbrev pub ranked_text : Format → ConfigValue → Field → Option (List Ranked) → List ℕ
+ranked_text format configuration field ranking = option_map_or (field_text format configuration.scoring configuration.pairs field) ranking []
+
+-- what begins a sheet of that heading
+abbrev pub sheet_head : Format → List ℕ → List ℕ
+sheet_head format heading = section_start format section.Sheet ++ heading_text format level.Sheet heading
+
+-- the text of a board with these lines, if it was played
+abbrev pub played_text : Format → SessionValue → ℕ → List BoardLine → List ℕ
+played_text format s board [] = []
+played_text format s board (line ∷ lines) =
+    board_text format s.configuration.scoring board (deal_on s.deals board) (line ∷ lines)
+
+-- the text of a board, if it was played
+abbrev pub board_on : Format → SessionValue → ℕ → List ℕ
+board_on format s board = played_text format s board (traveller s board)
+
+-- the boards that were played, of boards 1 to 36
+unfoldable pub all_boards : Format → SessionValue → List ℕ
+all_boards format s = flat_map (board_on format s) (range_with_len 1 36)
+
+-- the sheet of the boards
+abbrev pub boards_text : Format → SessionValue → List ℕ
+boards_text format s = sheet_head format (codes "Boards") ++ (all_boards format s ++ section_end format)
+
+-- the card of a pair
+abbrev pub card_on : Format → SessionValue → ℕ → List ℕ
+card_on format s pair = card_text format s.configuration.scoring s.configuration.pairs pair (card_of s pair)
+
+-- the cards of all pairs
+unfoldable pub all_cards : Format → SessionValue → List ℕ
+all_cards format s = flat_map (card_on format s) (range_with_len 1 s.configuration.movement.shape.pairs)
+
+-- the sheet of the score cards
+abbrev pub cards_text : Format → SessionValue → List ℕ
+cards_text format s = sheet_head format (codes "Score cards") ++ (all_cards format s ++ section_end format)
+
+-- the rankings of the fields
+abbrev pub rankings_text : Format → ConfigValue → Option (List Ranked) → Option (List Ranked) → List ℕ
+rankings_text format configuration first second =
+    ranked_text format configuration First first ++ ranked_text format configuration Second second
+
+-- the event and the rankings
+unfoldable pub front_text : Format → ConfigValue → Option (List Ranked) → Option (List Ranked) → List ℕ
+front_text format configuration first second =
+    event_text format configuration ++ rankings_text format configuration first second
+
+-- the boards and the score cards, and the end of the page
+unfoldable pub sheets_text : Format → SessionValue → List ℕ
+sheets_text format s = boards_text format s ++ (cards_text format s ++ page_end format)
+
+-- The page: the event, the rankings, the boards and the score cards.
+abbrev pub page_text : Format → SessionValue → Option (List Ranked) → Option (List Ranked) → List ℕ
+page_text format s first second = front_text format s.configuration first second ++ sheets_text format s

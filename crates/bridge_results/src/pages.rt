@@ -1,0 +1,12 @@
+//! The results of a session as a page, in plain text of at most 100 columns or in HTML.
+mod board;
+mod cells;
+pub mod columns;
+mod diagram;
+mod event;
+mod names;
+mod page;
+mod pair_card;
+mod ranking;
+
+pub use page::write_results;

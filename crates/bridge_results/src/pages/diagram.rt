@@ -1,0 +1,139 @@
+//! The hands of a board as a diagram: North at the top, West and East in the middle, South at the bottom.
+ghost use Rattle.std.specs.Prelude.{◌≡◌, ◌+◌, ◌<◌, ◌≤◌, ◌++◌, length};
+ghost use Rattle.bridge_cards.specs.Rank.{IsRank};
+ghost use Rattle.bridge_cards.specs.DealText.{letter_of, suit_text};
+ghost use Rattle.bridge_results.specs.Diagram.{or_dash, suit_cell, middle_row, sides_row, middle_text, sides_text, diagram_text};
+
+use crate::pages::columns::HAND_COLUMNS;
+use arrayvec::ArrayString;
+use bridge_cards::{Card, CardSet, Deal, Rank, Seat, Suit};
+use page_layout::{Format, PAGE_BYTES, PageText, push_row, push_table_end, push_table_start};
+
+/// The letters of a suit, 13 at most.
+type Letters = ArrayString<13>;
+
+/// A suit of a hand: its letter, a blank, and the letters of its cards.
+pub type SuitText = ArrayString<15>;
+
+/// Adds the letter of a rank, where the hand has its card of the suit.
+fn push_rank(text: &mut Letters, hand: CardSet, suit: Suit, number: u8)
+    requires rank { IsRank number }
+    requires room { length text.old.bytes < 13 }
+    ensures text { text.new.bytes ≡ text.old.bytes ++ letter_of hand suit number }
+    ensures room { length text.new.bytes ≤ length text.old.bytes + 1 }
+{
+    let rank = Rank::new(number).unwrap();
+    if hand.has(Card::of(suit, rank)) {
+        text.push(char::from(rank.letter()));
+    }
+}
+
+/// The letters of a hand's ranks in a suit, from the highest down.
+fn suit_letters(hand: CardSet, suit: Suit) -> Letters
+    ensures { result.bytes ≡ suit_text hand suit }
+{
+    let mut text = Letters::new();
+    for index in 0..13 {
+        push_rank(&mut text, hand, suit, 14 - index);
+    }
+    text
+}
+
+/// The letters, or a dash where there are none.
+fn or_dash(letters: &str) -> &str
+    requires { length letters.now ≤ 13 }
+    ensures text { result.now ≡ or_dash letters.now }
+    ensures short { length result.now ≤ 13 }
+{
+    if letters.is_empty() { "-" } else { letters }
+}
+
+/// A suit of a hand, as `S AQ65`.
+fn suit_cell(hand: CardSet, suit: Suit) -> SuitText
+    ensures text { result.bytes ≡ suit_cell hand suit }
+    ensures short { length result.bytes ≤ 15 }
+{
+    let letters = suit_letters(hand, suit);
+    let mut text = SuitText::new();
+    text.push(char::from(suit.letter()));
+    text.push(' ');
+    text.push_str(or_dash(letters.as_str()));
+    text
+}
+
+/// Adds a suit of North's or South's hand.
+fn push_middle_row(text: &mut PageText, format: Format, hand: CardSet, suit: Suit)
+    requires { length text.old.items + 640 ≤ PAGE_BYTES }
+    ensures text { text.new.items ≡ text.old.items ++ middle_row format hand suit }
+    ensures room { length text.new.items ≤ length text.old.items + 640 }
+{
+    let cell = suit_cell(hand, suit);
+    push_row(
+        text,
+        format,
+        &HAND_COLUMNS,
+        &[b"".as_slice(), cell.as_str().as_bytes(), b"".as_slice()],
+    );
+}
+
+/// Adds a suit of West's and of East's hand.
+fn push_sides_row(text: &mut PageText, format: Format, west: CardSet, east: CardSet, suit: Suit)
+    requires { length text.old.items + 1120 ≤ PAGE_BYTES }
+    ensures text { text.new.items ≡ text.old.items ++ sides_row format west east suit }
+    ensures room { length text.new.items ≤ length text.old.items + 1120 }
+{
+    let left = suit_cell(west, suit);
+    let right = suit_cell(east, suit);
+    push_row(
+        text,
+        format,
+        &HAND_COLUMNS,
+        &[
+            left.as_str().as_bytes(),
+            b"".as_slice(),
+            right.as_str().as_bytes(),
+        ],
+    );
+}
+
+/// Adds North's or South's hand.
+fn push_middle(text: &mut PageText, format: Format, hand: CardSet)
+    requires { length text.old.items + 2560 ≤ PAGE_BYTES }
+    ensures text { text.new.items ≡ text.old.items ++ middle_text format hand }
+    ensures room { length text.new.items ≤ length text.old.items + 2560 }
+{
+    push_middle_row(text, format, hand, Suit::Spades);
+    push_middle_row(text, format, hand, Suit::Hearts);
+    push_middle_row(text, format, hand, Suit::Diamonds);
+    push_middle_row(text, format, hand, Suit::Clubs);
+}
+
+/// Adds West's and East's hands.
+fn push_sides(text: &mut PageText, format: Format, west: CardSet, east: CardSet)
+    requires { length text.old.items + 4480 ≤ PAGE_BYTES }
+    ensures text { text.new.items ≡ text.old.items ++ sides_text format west east }
+    ensures room { length text.new.items ≤ length text.old.items + 4480 }
+{
+    push_sides_row(text, format, west, east, Suit::Spades);
+    push_sides_row(text, format, west, east, Suit::Hearts);
+    push_sides_row(text, format, west, east, Suit::Diamonds);
+    push_sides_row(text, format, west, east, Suit::Clubs);
+}
+
+/// The diagram of a deal.
+pub fn diagram_text(format: Format, deal: &Deal) -> PageText
+    ensures { result.items ≡ diagram_text format deal.now }
+{
+    let mut text = PageText::new();
+    push_table_start(&mut text, format);
+    push_middle(&mut text, format, deal.hand(Seat::North));
+    push_sides(
+        &mut text,
+        format,
+        deal.hand(Seat::West),
+        deal.hand(Seat::East),
+    );
+    push_middle(&mut text, format, deal.hand(Seat::South));
+    push_table_end(&mut text, format);
+    text
+}

@@ -1,0 +1,66 @@
+//! Pages of the worked session: rows that were worked out by hand, the width of the text, and what no page may hold.
+use super::script::{IMPS, MATCHPOINTS, dealt, round_1, round_2, round_3};
+use crate::write_results;
+use page_layout::Format;
+use std::alloc::Global;
+use std::process::Abort;
+use std::test::Fail;
+
+fn page_of(rt: &impl Abort, alloc: Global, config: &[u8], format: Format) -> Result<Vec<u8>, Fail> {
+    let mut session = dealt(rt, alloc, config)?;
+    round_1(rt, &mut session);
+    round_2(rt, &mut session);
+    round_3(rt, &mut session);
+    let mut page = Vec::new(alloc);
+    write_results(&session, format, &mut page)?;
+    Ok(page)
+}
+
+fn holds(page: &[u8], part: &str) -> bool {
+    let part = part.as_bytes();
+    !part.is_empty() && page.windows(part.len()).any(|found| found == part)
+}
+
+#[test]
+fn plain_text(rt: HostRuntime) -> Result<(), Fail> {
+    let page = page_of(&rt, rt.alloc(), MATCHPOINTS, Format::Plain)?;
+    let rows = [
+        "Club-Night\nTown-Hall, 2026.03.14\nMatchpoints\nTables: 3, boards: 3, rounds: 3\n",
+        "\nRanking, field 2\n",
+        "      1      6  Kim and Lea                                                 ",
+        "     12.0       12.0   100.00\n",
+        "\nBoard 2\nDealer: E, vulnerable: NS\n",
+        "\n  S -                                 S -\n",
+        "\n      1      1      1      4  4H        N     HA         10        420        2.0        2.0\n",
+        "\n        450        1        4.0        0.0\n",
+        "\nPair 6: Kim and Lea\n",
+        "\n      3      1  EW          2  4SX       E           8       -300        4.0\n",
+        "\nTotal: 12.0 of 12.0\n",
+    ];
+    for row in rows {
+        assert!(&rt; holds(page.as_slice(), row), "{row}");
+    }
+    for line in page.split(|byte| *byte == b'\n') {
+        assert!(&rt; line.len() <= 100);
+    }
+    Ok(())
+}
+
+#[test]
+fn html(rt: HostRuntime) -> Result<(), Fail> {
+    let page = page_of(&rt, rt.alloc(), IMPS, Format::Html)?;
+    let parts = [
+        "<title>Club-Night</title>",
+        "<tr><td class=\"r\">1</td><td class=\"r\">2</td><td>Cat and Dan</td><td class=\"r\">33</td></tr>",
+        "<td>4<span class=\"s\">&spades;</span>X</td><td>E</td>",
+        "<td><span class=\"h\">&hearts;</span>A</td><td class=\"r\">10</td>",
+        "<p>Total: 33</p>",
+    ];
+    for part in parts {
+        assert!(&rt; holds(page.as_slice(), part), "{part}");
+    }
+    for part in ["http", "<script", "src=", "url("] {
+        assert!(&rt; !holds(page.as_slice(), part), "{part}");
+    }
+    Ok(())
+}

@@ -1,0 +1,4 @@
+pub mod Html
+pub mod Numbers
+pub mod Table
+pub mod Page
