@@ -105,6 +105,10 @@ def picture(window, name):
 def director_sends(window, line):
     words = line.split(" ")
     without_key = " ".join([words[0], *words[2:]])
+    window.wait("document.getElementById('lines')")
+    if not window.value("document.getElementById('lines').open"):
+        window.click("#lines summary")
+        window.wait("document.getElementById('lines').open")
     window.type("#box", without_key)
     window.value("document.getElementById('replies').textContent = ''")
     window.click("#send")

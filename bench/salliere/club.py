@@ -1,0 +1,74 @@
+"""The program's part: an evening over its `script`, and what its `rank` and `pbn` print of it."""
+import os
+import re
+import subprocess
+
+import evening as evenings
+from evening import DIRECTOR, Evening
+from plays import SEATS, SUITS, play_lines
+
+MOST = 65_535
+
+
+class Club:
+    def __init__(self, program, folder):
+        self.program = program
+        self.folder = folder
+        self.deals = {}
+
+    def run(self, *words, lines=()):
+        text = "".join(line + "\n" for line in lines).encode()
+        assert len(text) < MOST, "too many lines for one run"
+        return subprocess.run([self.program, *words], check=True, input=text, stdout=subprocess.PIPE).stdout.decode()
+
+    def play(self, evening, rounds):
+        """A disk on which the evening was played."""
+        disk, config = os.path.join(self.folder, "club.disk"), os.path.join(self.folder, "config.txt")
+        for path in [disk, config]:
+            if os.path.exists(path):
+                os.remove(path)
+        with open(config, "w", encoding="ascii") as file:
+            file.write(evening.config())
+        self.run("format", disk, config)
+        for lines in rounds:
+            replies = self.run("script", disk, lines=lines).splitlines()
+            for line, reply in zip(lines, replies, strict=True):
+                assert reply == "OK", f"{evening.name}: {line}: {reply}"
+        return disk
+
+    def hands(self, seed):
+        """The hands that a seed deals on boards 1 to 36, as lists of cards: those of a scratch session, all passed out."""
+        if seed not in self.deals:
+            rows = [(1, table, 2 * table - 1, 2 * table, table) for table in range(1, 13)]
+            scratch = Evening("scratch", evenings.by_rows(12, 24, 24, rows), rows, 24, 3)
+            lines = [f"SHUFFLE {DIRECTOR} {board} {seed}" for board in scratch.all_boards()]
+            for row in rows:
+                for board in range(3 * row[4] - 2, 3 * row[4] + 1):
+                    lines += play_lines(None, board, evenings.keys_of(row), None, ["PASS"] * 4, 0)
+            games = self.games(self.play(scratch, [lines]))
+            self.deals[seed] = {int(game["Board"]): hands_of(game["Deal"]) for game in games}
+        return self.deals[seed]
+
+    def games(self, disk):
+        """The tag pairs of each game of the results."""
+        games = self.run("pbn", disk).split("\n\n")
+        return [dict(re.findall(r'^\[(\w+) "(.*)"\]$', game, re.MULTILINE)) for game in games]
+
+    def ranking(self, disk):
+        """The lines of each field: place, pair, and the value with what was available, where there is such, as words."""
+        fields = []
+        for line in self.run("rank", disk).splitlines():
+            if line.startswith("FIELD "):
+                fields.append([])
+            else:
+                fields[-1].append(line.split())
+        return fields
+
+
+def hands_of(text):
+    """The cards in North, East, South and West of `E:AKQ.. ..`."""
+    first = SEATS.index(text[0])
+    hands = [None] * 4
+    for i, hand in enumerate(text[2:].split()):
+        hands[(first + i) % 4] = [suit + rank for suit, ranks in zip(reversed(SUITS), hand.split(".")) for rank in ranks]
+    return hands
