@@ -15,6 +15,7 @@ mod gain;
 pub mod play;
 pub mod results;
 mod session_plays;
+pub mod sums;
 pub mod traveller;
 
 pub use card::{CardLine, MOST_CARD_LINES, ScoreCard};
@@ -22,4 +23,8 @@ pub use compare::Comparison;
 pub use frequency::{Frequencies, Frequency, frequencies};
 pub use play::TablePlay;
 pub use results::Results;
+pub use sums::a_score_card_adds_up_to_the_ranking;
 pub use traveller::{BoardLine, Traveller};
+
+#[cfg(test)]
+mod tests;

@@ -1,0 +1,5 @@
+pub mod Plays
+pub mod Counts
+pub mod Cards
+pub mod Order
+pub mod Sums
