@@ -23,7 +23,7 @@ pub use compare::Comparison;
 pub use frequency::{Frequencies, Frequency, frequencies};
 pub use play::TablePlay;
 pub use results::Results;
-pub use sums::a_score_card_adds_up_to_the_ranking;
+pub use sums::{a_score_card_adds_up_to_the_ranking, frequencies_count_the_scores};
 pub use traveller::{BoardLine, Traveller};
 
 #[cfg(test)]
