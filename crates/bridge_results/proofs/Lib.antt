@@ -2,5 +2,6 @@ pub mod Plays
 pub mod Counts
 pub mod Cards
 pub mod Order
-pub mod Frequencies
-pub mod Sums
+pub mod Counted
+pub mod Added
+pub mod Walked

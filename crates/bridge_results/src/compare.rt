@@ -71,6 +71,7 @@ pub(crate) fn result_in(play: &TablePlay) -> Option<PlayResult>
 fn game_of(play: &TablePlay) -> Option<Game>
     requires { HasTricksWithin play.now }
     ensures game { result ≡ game_of play.now }
+    ensures each { IfSome result IsGame }
 {
     let result = result_in(play)?;
     Some(Game {
@@ -86,6 +87,8 @@ pub(crate) fn games_among(plays: &[TablePlay]) -> ArrayVec<Game, MOST_PLAYS>
     requires tricks { All HasTricksWithin plays.now }
     requires most { length plays.now ≤ MOST_PLAYS }
     ensures games { result.items ≡ games_among plays.now }
+    ensures each { All IsGame result.items }
+    ensures most { length result.items ≤ 432 }
 {
     let mut games = ArrayVec::new();
     for play in plays {

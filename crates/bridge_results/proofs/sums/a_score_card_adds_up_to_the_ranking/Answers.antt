@@ -1,4 +1,4 @@
-use Rattle.bridge_results.proofs.Sums.{card_gain, card_available}
+use Rattle.bridge_results.proofs.Added.{card_gain, card_available}
 use Rattle.bridge_results.proofs.sums.a_score_card_adds_up_to_the_ranking.Goals as goal
 
 pub returns-clause-gain : goal.returns-clause-gain

@@ -1,4 +1,4 @@
-use Rattle.bridge_results.proofs.Frequencies.{scores_counted}
+use Rattle.bridge_results.proofs.Counted.{scores_counted}
 use Rattle.bridge_results.proofs.sums.frequencies_count_the_scores.Goals as goal
 
 pub returns : goal.returns
