@@ -1,4 +1,8 @@
 //! A play of which something came.
+ghost use Rattle.std.specs.Prelude.{◌≡◌, ◌<◌, ◌≤◌, ◌+◌, ◌++◌, length};
+ghost use Rattle.std.specs.Option.{option_copied, option_to_list};
+
+use arrayvec::ArrayVec;
 use bridge_cards::{BoardNumber, Card};
 use bridge_movement::Row;
 use session_rules::Outcome;
@@ -30,5 +34,16 @@ impl Default for TablePlay {
             outcome: Outcome::Unfinished,
             lead: None,
         }
+    }
+}
+
+/// Adds a play, if there is one.
+pub(crate) fn push_play(plays: &mut ArrayVec<TablePlay, 3>, play: Option<&TablePlay>)
+    requires { length plays.old.items < 3 }
+    ensures plays { plays.new.items ≡ plays.old.items ++ option_to_list (option_copied play.entry) }
+    ensures few { length plays.new.items ≤ length plays.old.items + 1 }
+{
+    if let Some(known) = play {
+        plays.push(*known);
     }
 }

@@ -44,7 +44,7 @@ impl<'a> Results<'a> {
         ensures { result ≡ session.now }
     {
         // What each session is, which a clause of this call states.
-        session.parts();
+        let _parts = session.parts();
         let plays = plays_of(session);
         let games = games_among(&plays);
         Results {

@@ -1,17 +1,18 @@
 //! The plays of a session, read row by row.
-ghost use Rattle.std.specs.Prelude.{◌≡◌, ◌≤◌, ◌+◌, ◌-◌, ◌*◌, [], ◌∷◌, length, filter, filter_map, IfSome, All, Contains, option_and_then};
+ghost use Rattle.std.specs.Prelude.{◌≡◌, ◌≤◌, ◌+◌, ◌-◌, ◌*◌, length, IfSome, All, Contains, option_and_then};
 ghost use Rattle.std.specs.Option.{option_copied};
-ghost use Rattle.session_rules.specs.Numbers.{IsBoardIndex};
+ghost use Rattle.session_rules.specs.Numbers.{IsRoundNumber, IsTableNumber, IsBoardIndex};
 ghost use Rattle.session_rules.specs.StateRange.{IsSession};
 ghost use Rattle.bridge_results.specs.Plays.{play_by, lead_of, play_at, plays_at, plays_of, HasTricksWithin};
 
-use crate::play::TablePlay;
+use crate::play::{TablePlay, push_play};
 use arrayvec::ArrayVec;
 use bridge_cards::{BoardNumber, Card};
 use bridge_movement::Row;
 use bridge_play::Play;
 use bridge_ranking::game::MOST_PLAYS;
-use bridge_session::{BoardIndex, Outcome, PlayId, RoundNumber, Session, TableNumber};
+use bridge_session::{Entry, Session};
+use session_rules::{BoardIndex, Outcome, PlayId, RoundNumber, TableNumber};
 
 /// The board at an index of a set, from 1, where each set has so many boards.
 fn board_at(boards: u8, set: u8, index: u8) -> BoardNumber
@@ -55,6 +56,29 @@ fn play_by(
     }
 }
 
+/// The play of which so much is known, if something came of it.
+fn play_known(row: Row, board: BoardNumber, known: &Entry<'_>) -> Option<TablePlay>
+    ensures play { result ≡ play_by row board known.now.outcome (option_and_then (λ play. lead_of play.cards) (option_copied known.now.play)) }
+    ensures few { IfSome (option_copied known.now.play) (λ play. length play.cards ≤ 52) }
+{
+    let lead = lead_of(known.play);
+    play_by(row, board, known.outcome, lead)
+}
+
+/// The play at an index of a row's set, from 1.
+fn play_id(row: Row, index: u8) -> PlayId
+    requires round { IsRoundNumber row.round }
+    requires table { IsTableNumber row.table }
+    requires index { IsBoardIndex index }
+    ensures { result ≡ record { round = row.round; table = row.table; index = index } }
+{
+    PlayId {
+        round: RoundNumber::new(row.round).unwrap(),
+        table: TableNumber::new(row.table).unwrap(),
+        index: BoardIndex::new(index).unwrap(),
+    }
+}
+
 /// The play of the board at an index of a row's set, from 1, if something came of it.
 fn play_at(session: &Session, row: Row, index: u8) -> Option<TablePlay>
     requires session { IsSession session.now }
@@ -63,13 +87,11 @@ fn play_at(session: &Session, row: Row, index: u8) -> Option<TablePlay>
     ensures play { result ≡ play_at session.now row index }
     ensures tricks { IfSome result HasTricksWithin }
 {
-    let entry = session.entry(PlayId {
-        round: RoundNumber::new(row.round).unwrap(),
-        table: TableNumber::new(row.table).unwrap(),
-        index: BoardIndex::new(index).unwrap(),
-    })?;
     let board = board_at(session.config().fields().boards, row.set, index);
-    play_by(row, board, entry.outcome, lead_of(entry.play))
+    match session.entry(play_id(row, index)) {
+        Some(known) => play_known(row, board, &known),
+        None => None,
+    }
 }
 
 /// The plays of a row's set.
@@ -78,13 +100,12 @@ fn plays_at(session: &Session, row: Row) -> ArrayVec<TablePlay, 3>
     requires row { Contains session.now.configuration.movement.rows row }
     ensures plays { result.items ≡ plays_at session.now row }
     ensures tricks { All HasTricksWithin result.items }
+    ensures few { length result.items ≤ 3 }
 {
     let mut plays = ArrayVec::new();
-    for index in 1..4 {
-        if let Some(play) = play_at(session, row, index) {
-            plays.push(play);
-        }
-    }
+    push_play(&mut plays, play_at(session, row, 1).as_ref());
+    push_play(&mut plays, play_at(session, row, 2).as_ref());
+    push_play(&mut plays, play_at(session, row, 3).as_ref());
     plays
 }
 
