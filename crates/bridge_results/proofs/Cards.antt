@@ -47,9 +47,11 @@ sits_there pair row there =
   where
     not_zero : (n : ℕ) → not (n == 0) ≡ true → n ≢ 0
     not_zero n some none = cc (ap (λ k. not (k == 0)) none)
+
     by_east : (is : Bool) → (row.ew == pair) ≡ is → is_some (cond is (Some EastWest) None) ≡ true → not (row.ew == 0) ≡ true → (pair ≢ 0) × SitsIn row pair
     by_east true is some ew = (λ none. not_zero row.ew ew (eqb-true row.ew pair is ∙ none), inr (eqb-true row.ew pair is))
     by_east false is some ew = absurd cc
+
     by_north : (is : Bool) → (row.ns == pair) ≡ is → is_some (cond is (Some NorthSouth) (cond (row.ew == pair) (Some EastWest) None)) ≡ true → not (row.ns == 0) ≡ true → not (row.ew == 0) ≡ true → (pair ≢ 0) × SitsIn row pair
     by_north true is some ns ew = (λ none. not_zero row.ns ns (eqb-true row.ns pair is ∙ none), inl (eqb-true row.ns pair is))
     by_north false is some ns ew = by_east (row.ew == pair) refl some ew
@@ -79,10 +81,10 @@ one_round pair row rows low true is are from few rest =
     omega (
       arith,
       rest (low + 1) (omega (arith, here, most)) (λ k d within there.
-      let other = get_or rows k d in
-      let order : row.round ≤ other.round = are.order zero (suc k) d (omega arith) (omega (arith, within)) in
-      let apart : row.round ≢ other.round = λ same. are.apart zero (suc k) d (omega arith) (omega (arith, within)) (same, (pair, sits.0, sits.1, (sits_there pair other there).1)) in
-      omega (arith, here, order, apart)),
+          let other = get_or rows k d in
+          let order : row.round ≤ other.round = are.order zero (suc k) d (omega arith) (omega (arith, within)) in
+          let apart : row.round ≢ other.round = λ same. are.apart zero (suc k) d (omega arith) (omega (arith, within)) (same, (pair, sits.0, sits.1, (sits_there pair other there).1)) in
+          omega (arith, here, order, apart)),
     )
 
 rounds_left : (pair : ℕ) (rows : List Row) (low : ℕ) → AreRounds rows → low ≤ 13 → All (λ (r : Row). plays_there pair r ≡ true → low ≤ r.round) rows → low + count_there pair rows ≤ 13
@@ -140,10 +142,12 @@ no_line scoring games pair row (plain ∷ table) none =
   where
     play : TablePlay
     play = record { row = row; board = plain.board; outcome = outcome_of plain; lead = slice_get plain.cards 0 }
+
     by_side : (side : Option Side) → is_some side ≡ false → length (filter_map (card_line scoring games pair) (filter_map (play_in row) table)) ≡ 0 →
         length (cons_option (option_map (card_line_of scoring games play) side) (filter_map (card_line scoring games pair) (filter_map (play_in row) table))) ≡ 0
     by_side None absent rest = rest
     by_side (Some side) absent rest = absurd cc
+
     by_outcome : (has : Bool) → length (filter_map (card_line scoring games pair) (filter_map (play_in row) table)) ≡ 0 →
         length (filter_map (card_line scoring games pair) (cons_option (cond has (Some play) None) (filter_map (play_in row) table))) ≡ 0
     by_outcome true rest = by_side (side_at pair row) none rest

@@ -49,10 +49,10 @@ row_there shape rows i d limits movement within =
     let first : row.round - 1 ≡ i / shape.tables = omega (arith, due.1) in
     let later : row.table - 1 ≡ i % shape.tables = omega (arith, due.2) in (
       ap (λ b. b && nat_le row.table shape.tables) (le-leb row.round shape.rounds (omega (arith, due.1)))
-      ∙ le-leb row.table shape.tables (omega (arith, due.2)),
+          ∙ le-leb row.table shape.tables (omega (arith, due.2)),
       ap (λ n. n * shape.tables + (row.table - 1)) first
-      ∙ ap (λ n. i / shape.tables * shape.tables + n) later
-      ∙ omega (arith, div-add-mod i shape.tables),
+          ∙ ap (λ n. i / shape.tables * shape.tables + n) later
+          ∙ omega (arith, div-add-mod i shape.tables),
     )
 
 -- the record of a play stands at its index among those of its row

@@ -100,12 +100,7 @@ pub(crate) fn games_among(plays: &[TablePlay]) -> ArrayVec<Game, MOST_PLAYS>
 }
 
 /// What each side gained on a board of these games by that result.
-fn comparison_by(
-    scoring: Scoring,
-    games: &[Game],
-    board: BoardNumber,
-    by: PlayResult,
-) -> Comparison
+fn comparison_by(scoring: Scoring, games: &[Game], board: BoardNumber, by: PlayResult) -> Comparison
     requires games { AreGames games.now }
     requires compared { IsResult by }
     ensures { result ≡ comparison_by scoring games.now board by }

@@ -37,12 +37,7 @@ fn lead_of(play: Option<&Play>) -> Option<Card>
 }
 
 /// The play with that outcome, if something came of it.
-fn play_by(
-    row: Row,
-    board: BoardNumber,
-    outcome: Outcome,
-    lead: Option<Card>,
-) -> Option<TablePlay>
+fn play_by(row: Row, board: BoardNumber, outcome: Outcome, lead: Option<Card>) -> Option<TablePlay>
     ensures { result ≡ play_by row board outcome lead }
 {
     match outcome {

@@ -39,7 +39,10 @@ fn expect_rows(rt: &impl Abort, lines: &[BoardLine], rows: &[Row]) {
 fn expect_frequencies(rt: &impl Abort, found: &[Frequency], due: &[(i32, u8, i32, i32)]) {
     assert_eq!(rt; found.len(), due.len());
     for (found, due) in found.iter().zip(due) {
-        assert_eq!(rt; (found.score, found.count, found.ns_gain, found.ew_gain), *due);
+        assert_eq!(rt;
+            (found.score, found.count, found.ns_gain, found.ew_gain),
+            *due
+        );
     }
 }
 
@@ -120,7 +123,15 @@ fn rulings(rt: HostRuntime) -> Result<(), Fail> {
     round_1(&rt, &mut session);
     round_2(&rt, &mut session);
     let (play, tricks) = (play(&rt, 1, 1), TrickCount::new(11).unwrap());
-    act(&rt, &mut session, Action::Tricks { key: DIRECTOR, play, tricks });
+    act(
+        &rt,
+        &mut session,
+        Action::Tricks {
+            key: DIRECTOR,
+            play,
+            tricks,
+        },
+    );
     let results = Results::new(&session);
     let lines = results.traveller(board(&rt, 1));
     let rows = [
@@ -139,7 +150,12 @@ fn adjusted_and_void_plays(rt: HostRuntime) -> Result<(), Fail> {
     round_2(&rt, &mut session);
     round_3(&rt, &mut session);
     let (ns, ew) = (Average::Plus, Average::Minus);
-    let adjusted = Action::Adjust { key: DIRECTOR, play: play(&rt, 2, 1), ns, ew };
+    let adjusted = Action::Adjust {
+        key: DIRECTOR,
+        play: play(&rt, 2, 1),
+        ns,
+        ew,
+    };
     act(&rt, &mut session, adjusted);
     let results = Results::new(&session);
     let rows = [
@@ -149,7 +165,14 @@ fn adjusted_and_void_plays(rt: HostRuntime) -> Result<(), Fail> {
     ];
     expect_rows(&rt, &results.traveller(board(&rt, 2)), &rows);
     let play = play(&rt, 1, 2);
-    act(&rt, &mut session, Action::Void { key: DIRECTOR, play });
+    act(
+        &rt,
+        &mut session,
+        Action::Void {
+            key: DIRECTOR,
+            play,
+        },
+    );
     let results = Results::new(&session);
     let rows = [
         (3, 3, 3, 4, Some(-90), Some((0, 0))),
@@ -157,7 +180,11 @@ fn adjusted_and_void_plays(rt: HostRuntime) -> Result<(), Fail> {
         (1, 2, 2, 5, None, None),
     ];
     expect_rows(&rt, &results.traveller(board(&rt, 2)), &rows);
-    let rows = [(1, 1, 4, Some(420), 20, 40), (2, 2, 6, None, 0, 0), (3, 3, 5, Some(110), 20, 40)];
+    let rows = [
+        (1, 1, 4, Some(420), 20, 40),
+        (2, 2, 6, None, 0, 0),
+        (3, 3, 5, Some(110), 20, 40),
+    ];
     expect_card(&rt, Side::NorthSouth, &results.score_card(1), &rows);
     assert_eq!(rt; results.score_card(7).len(), 0);
     Ok(())

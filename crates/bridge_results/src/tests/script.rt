@@ -1,6 +1,7 @@
 //! A worked session of three tables, three rounds and three boards, as its players and the director act.
 use bridge_auction::Call;
-use bridge_cards::{BoardNumber, Card, deal_text::read_hands};
+use bridge_cards::deal_text::read_hands;
+use bridge_cards::{BoardNumber, Card};
 use bridge_config::{Key, read_config};
 use bridge_session::{
     Action, BoardIndex, MadeCount, PlayId, RoundNumber, Session, TableNumber, TrickCount,
@@ -112,19 +113,23 @@ fn bid_and_claim(
     claim(rt, session, board(rt, number), tricks, opponents);
 }
 
-/// A session of that configuration in which boards 1 to 3 are dealt, one suit in each hand: North has the spades.
+/// The director deals a board, one suit in each hand: North has the spades.
+fn deal(rt: &impl Abort, session: &mut Session, number: u8) {
+    let text = b"N:AKQJT98765432... .AKQJT98765432.. ..AKQJT98765432. ...AKQJT98765432";
+    let action = Action::Deal {
+        key: DIRECTOR,
+        board: board(rt, number),
+        hands: read_hands(text).expect(rt, "hands"),
+    };
+    act(rt, session, action);
+}
+
+/// A session of that configuration in which boards 1 to 3 are dealt.
 pub fn dealt(rt: &impl Abort, alloc: Global, config: &[u8]) -> Result<Session, Fail> {
     let config = read_config(config).ok().expect(rt, "a configuration");
     let mut session = Session::new(alloc, config)?;
-    let hands =
-        read_hands(b"N:AKQJT98765432... .AKQJT98765432.. ..AKQJT98765432. ...AKQJT98765432");
     for number in 1..4 {
-        let action = Action::Deal {
-            key: DIRECTOR,
-            board: board(rt, number),
-            hands: hands.expect(rt, "hands"),
-        };
-        act(rt, &mut session, action);
+        deal(rt, &mut session, number);
     }
     Ok(session)
 }
@@ -145,9 +150,22 @@ pub fn round_1(rt: &impl Abort, s: &mut Session) {
     call(rt, s, board(rt, 1), &calls);
     cards(rt, s, 1, &[(41, "HA"), (11, "D2"), (42, "C2"), (11, "S2")]);
     claim(rt, s, board(rt, 1), (11, 10), [41, 42]);
-    let calls = [(51, "PASS"), (22, "3NT"), (52, "PASS"), (21, "PASS"), (51, "PASS")];
+    let calls = [
+        (51, "PASS"),
+        (22, "3NT"),
+        (52, "PASS"),
+        (21, "PASS"),
+        (51, "PASS"),
+    ];
     bid_and_claim(rt, s, 2, &calls, (22, 9), [51, 52]);
-    let calls = [(32, "PASS"), (62, "2H"), (31, "X"), (61, "PASS"), (32, "PASS"), (62, "PASS")];
+    let calls = [
+        (32, "PASS"),
+        (62, "2H"),
+        (31, "X"),
+        (61, "PASS"),
+        (32, "PASS"),
+        (62, "PASS"),
+    ];
     bid_and_claim(rt, s, 3, &calls, (62, 8), [31, 32]);
     next(rt, s, 1);
 }
@@ -155,9 +173,22 @@ pub fn round_1(rt: &impl Abort, s: &mut Session) {
 /// Round 2. Board 2: 1 is one down in 3NT against 6. Board 3: 4 is one down in 2H doubled against 2. Board 1: 3 makes an
 /// overtrick in 4H against 5.
 pub fn round_2(rt: &impl Abort, s: &mut Session) {
-    let calls = [(61, "PASS"), (12, "3NT"), (62, "PASS"), (11, "PASS"), (61, "PASS")];
+    let calls = [
+        (61, "PASS"),
+        (12, "3NT"),
+        (62, "PASS"),
+        (11, "PASS"),
+        (61, "PASS"),
+    ];
     bid_and_claim(rt, s, 2, &calls, (12, 8), [61, 62]);
-    let calls = [(22, "PASS"), (42, "2H"), (21, "X"), (41, "PASS"), (22, "PASS"), (42, "PASS")];
+    let calls = [
+        (22, "PASS"),
+        (42, "2H"),
+        (21, "X"),
+        (41, "PASS"),
+        (22, "PASS"),
+        (42, "PASS"),
+    ];
     bid_and_claim(rt, s, 3, &calls, (42, 7), [21, 22]);
     let calls = [(31, "4H"), (51, "PASS"), (32, "PASS"), (52, "PASS")];
     bid_and_claim(rt, s, 1, &calls, (31, 11), [51, 52]);
@@ -166,9 +197,23 @@ pub fn round_2(rt: &impl Abort, s: &mut Session) {
 
 /// Round 3. Board 3: 1 makes 2S against 5. Board 1: 6 is two down in 4S doubled against 2. Board 2: 4 makes 1NT against 3.
 pub fn round_3(rt: &impl Abort, s: &mut Session) {
-    let calls = [(12, "PASS"), (52, "PASS"), (11, "2S"), (51, "PASS"), (12, "PASS"), (52, "PASS")];
+    let calls = [
+        (12, "PASS"),
+        (52, "PASS"),
+        (11, "2S"),
+        (51, "PASS"),
+        (12, "PASS"),
+        (52, "PASS"),
+    ];
     bid_and_claim(rt, s, 3, &calls, (11, 8), [51, 52]);
-    let calls = [(21, "PASS"), (61, "4S"), (22, "X"), (62, "PASS"), (21, "PASS"), (61, "PASS")];
+    let calls = [
+        (21, "PASS"),
+        (61, "4S"),
+        (22, "X"),
+        (62, "PASS"),
+        (21, "PASS"),
+        (61, "PASS"),
+    ];
     bid_and_claim(rt, s, 1, &calls, (61, 8), [21, 22]);
     let calls = [(41, "1NT"), (32, "PASS"), (42, "PASS"), (31, "PASS")];
     bid_and_claim(rt, s, 2, &calls, (41, 7), [32, 31]);

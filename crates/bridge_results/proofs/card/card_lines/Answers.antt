@@ -20,7 +20,7 @@ loop-play-preserved c =
     let filled_by = filled (card_line c.args.scoring c.args.games.now c.args.pair) c.args.plays.now c.loop-play.play-index c.play-item.result lines in
     elim c.match-card_line.branch [
       | in-Some w ↦ rw w.lines-is (filled_by w.push.new.self.items c.loop-play-test.true c.play-item.is c.loop-play.invariant
-        (w.push.ensures.items ∙ ap (λ o. lines ++ cons_option o []) (sym w.in-Some.is ∙ c.card_line.ensures)))
+          (w.push.ensures.items ∙ ap (λ o. lines ++ cons_option o []) (sym w.in-Some.is ∙ c.card_line.ensures)))
       | in_default w ↦ rw w.lines-is (filled_by lines c.loop-play-test.true c.play-item.is c.loop-play.invariant
-        (sym (append-nil lines) ∙ ap (λ o. lines ++ cons_option o []) (sym w.in_default.is ∙ c.card_line.ensures)))
+          (sym (append-nil lines) ∙ ap (λ o. lines ++ cons_option o []) (sym w.in_default.is ∙ c.card_line.ensures)))
     ]
