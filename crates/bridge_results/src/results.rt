@@ -1,9 +1,8 @@
 //! The results of a session.
-ghost use Rattle.std.specs.Prelude.{◌≡◌, true, false, MatchOption};
-ghost use Rattle.session_rules.specs.State.{SessionValue};
+ghost use Rattle.std.specs.Prelude.{◌≡◌, false, AllPairs, IsPermutation, MatchOption};
 ghost use Rattle.bridge_ranking.specs.Ranking.{has_field, lines_of, games_of, IsRankingOf};
 ghost use Rattle.bridge_results.specs.Plays.{plays_of};
-ghost use Rattle.bridge_results.specs.Traveller.{traveller};
+ghost use Rattle.bridge_results.specs.Traveller.{StandsOver, rows_of, traveller};
 ghost use Rattle.bridge_results.specs.ScoreCard.{card_of};
 
 use crate::card::{ScoreCard, card_lines};
@@ -71,7 +70,9 @@ impl<'a> Results<'a> {
     /// The traveller of a board: a line for each play, by the score of North and South from the best, equal scores by round,
     /// then by table; then the adjusted plays and then the void ones.
     pub fn traveller(&self, board: BoardNumber) -> Traveller
-        ensures { result.items ≡ traveller self.now board }
+        ensures lines { result.items ≡ traveller self.now board }
+        ensures order { AllPairs StandsOver result.items }
+        ensures same { IsPermutation (rows_of self.now board) result.items }
     {
         let scoring = self.session.config().fields().scoring;
         lines_on(scoring, &self.games, &self.plays, board)
