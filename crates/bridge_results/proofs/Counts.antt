@@ -1,17 +1,16 @@
 -- How many plays and games a board has: at most one for each row.
-use Rattle.std.proofs.Common.{◌≡◌, ◌+◌, ◌*◌, ◌==◌, ◌≤◌, ℕ, Bool, true, false, cond, List, [], ◌∷◌, ◌++◌, length, filter, map, Option, Some, None, refl, sym, ap, ◌∙◌, arith, length-append}
+use Rattle.std.proofs.Common.{◌≡◌, ◌*◌, ◌==◌, ◌≤◌, ℕ, Bool, true, false, cond, List, [], ◌∷◌, length, filter, map, Option, Some, None, refl, ap, ◌∙◌, arith, length-append}
 use Rattle.std.specs.Prelude.{zip, flat_map, slice_get}
 use Rattle.std.specs.List.{cons_option, filter_map}
 use Rattle.std.specs.Option.{option_map}
 use Rattle.std.proofs.lemmas.Nat.{mul-le}
-use Rattle.std.proofs.lemmas.List.Concat.{flat_map-cons}
 use Rattle.std.proofs.lemmas.List.Elements.{filter-append}
 use Rattle.bridge_movement.specs.declared.row.Row.{Row}
 use Rattle.bridge_ranking.specs.declared.game.Game.{Game}
 use Rattle.bridge_ranking.specs.declared.game.PlayResult.{PlayResult}
 use Rattle.bridge_ranking.specs.declared.game.PlayResult.TheVariants.{Averages}
 use Rattle.bridge_ranking.specs.Ranking.{is_on, result_of, games_of}
-use Rattle.bridge_ranking.specs.KeptGames.{kept_game, kept_games_in, kept_games}
+use Rattle.bridge_ranking.specs.KeptGames.{kept_game, kept_games}
 use Rattle.bridge_ranking.proofs.Games.{few_on_board}
 use Rattle.bridge_table.specs.declared.record.Record.{Record}
 use Rattle.bridge_table.specs.Kept.{board_kept}
@@ -19,7 +18,7 @@ use Rattle.session_rules.specs.declared.average.Average.TheVariants.{Even}
 use Rattle.session_rules.specs.declared.ruling.Ruling.TheVariants as ruling
 use Rattle.session_rules.specs.Outcome.{outcome_of}
 use Rattle.session_rules.specs.Record.{PlainRecord, bidding_of}
-use Rattle.session_rules.specs.State.{SessionValue, row_boards}
+use Rattle.session_rules.specs.State.{SessionValue}
 use Rattle.session_rules.specs.StateRange.{IsSession}
 use Rattle.session_rules.specs.Valid.{board_of}
 use Rattle.bridge_results.specs.declared.play.TablePlay.{TablePlay}

@@ -34,7 +34,7 @@ use Rattle.session_rules.specs.State.{SessionValue, row_at, row_boards, index_of
 use Rattle.session_rules.specs.StateRange.{IsSession, IsRulingInRange, IsRecordInRange}
 use Rattle.session_rules.specs.Valid.{IsValidRecord, board_of}
 use Rattle.bridge_results.specs.declared.play.TablePlay.{TablePlay}
-use Rattle.bridge_results.specs.Plays.{has_outcome, lead_of, HasTricksWithin, play_by, play_in, plays_in, plays_of, play_at, plays_at}
+use Rattle.bridge_results.specs.Plays.{has_outcome, lead_of, HasTricksWithin, play_by, play_in, plays_in, plays_of, plays_at}
 use Rattle.bridge_results.specs.Comparison.{game_of}
 
 -- the rows of a movement stand by round, then by table

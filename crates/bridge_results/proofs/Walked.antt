@@ -1,6 +1,6 @@
 -- What is made of the plays and games that a loop has passed, and of one more.
-use Rattle.std.proofs.Common.{◌≡◌, ◌+◌, ◌==◌, ◌<◌, ◌≤◌, ℕ, Bool, true, false, cond, List, [], ◌∷◌, ◌++◌, length, get_or, take, drop, filter, map, Option, Some, None, refl, sym, ap, ◌∙◌, arith, length-append, ℤ}
-use Rattle.std.specs.List.{cons_option, filter_map, fold}
+use Rattle.std.proofs.Common.{◌≡◌, ◌+◌, ◌==◌, ◌<◌, ◌≤◌, ℕ, Bool, true, false, cond, List, [], ◌∷◌, ◌++◌, length, get_or, take, drop, filter, map, Option, Some, None, sym, ap, ◌∙◌, arith, length-append, ℤ}
+use Rattle.std.specs.List.{cons_option, filter_map}
 use Rattle.std.proofs.lemmas.List.{take_more, take-append-drop, map-append, append-nil, length-map}
 use Rattle.std.proofs.lemmas.List.Elements.{filter_map-append, filter-append}
 use Rattle.std.proofs.lemmas.List.Sums.{fold_push}
@@ -9,7 +9,7 @@ use Rattle.bridge_score.specs.declared.ranking.Scoring.{Scoring}
 use Rattle.bridge_ranking.specs.declared.game.Game.{Game}
 use Rattle.bridge_ranking.specs.declared.game.PlayResult.{PlayResult}
 use Rattle.bridge_ranking.specs.declared.game.PlayResult.TheVariants.{Score, Averages}
-use Rattle.bridge_ranking.specs.Ranking.{is_on, side_score, score_in, scores_on}
+use Rattle.bridge_ranking.specs.Ranking.{is_on, side_score, scores_on}
 use Rattle.bridge_results.specs.declared.play.TablePlay.{TablePlay}
 use Rattle.bridge_results.specs.declared.traveller.BoardLine.{BoardLine}
 use Rattle.bridge_results.specs.Plays.{is_of, plays_on}

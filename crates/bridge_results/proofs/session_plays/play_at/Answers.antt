@@ -1,5 +1,5 @@
-use Rattle.std.proofs.Common.{◌≡◌, ◌+◌, ◌-◌, ◌*◌, Option, Some, sym, ap, ◌∙◌, subst}
-use Rattle.std.specs.Prelude.{IfSome, option_and_then}
+use Rattle.std.proofs.Common.{◌≡◌, ◌+◌, ◌-◌, ◌*◌, Option, sym, ap, ◌∙◌, subst}
+use Rattle.std.specs.Prelude.{IfSome}
 use Rattle.std.specs.Option.{option_copied, option_map}
 use Rattle.bridge_config.specs.ConfigValue.{ConfigValue}
 use Rattle.session_rules.specs.declared.action.PlayId.{PlayId}
@@ -7,7 +7,7 @@ use Rattle.session_rules.specs.Outcome.{outcome_of}
 use Rattle.session_rules.specs.Record.{PlainRecord, play_of}
 use Rattle.session_rules.specs.State.{record_of, hands_on}
 use Rattle.bridge_results.specs.declared.play.TablePlay.{TablePlay}
-use Rattle.bridge_results.specs.Plays.{play_in, HasTricksWithin}
+use Rattle.bridge_results.specs.Plays.{HasTricksWithin}
 use Rattle.bridge_results.proofs.Plays.{row_numbers, record_at, known_play, known_few, no_play}
 use Rattle.bridge_results.proofs.session_plays.play_at.Goals as goal
 use Rattle.bridge_results.proofs.session_plays.play_at.Goals.{After-board_at-board, After-play_known}

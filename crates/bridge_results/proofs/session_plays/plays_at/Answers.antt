@@ -1,6 +1,5 @@
-use Rattle.std.proofs.Common.{List, Option, sym, ap, ◌∙◌, subst}
+use Rattle.std.proofs.Common.{Option, sym, subst}
 use Rattle.std.specs.Prelude.{All, IfSome}
-use Rattle.std.specs.Option.{option_copied, option_to_list}
 use Rattle.std.proofs.lemmas.List.Elements.{All-append, All-nil}
 use Rattle.bridge_results.specs.declared.play.TablePlay.{TablePlay}
 use Rattle.bridge_results.specs.Plays.{HasTricksWithin}
