@@ -1,4 +1,5 @@
 pub mod Plays
+pub mod Known
 pub mod Counts
 pub mod Cards
 pub mod Order

@@ -8,7 +8,7 @@ use Rattle.session_rules.specs.Record.{PlainRecord, play_of}
 use Rattle.session_rules.specs.State.{record_of, hands_on}
 use Rattle.bridge_results.specs.declared.play.TablePlay.{TablePlay}
 use Rattle.bridge_results.specs.Plays.{HasTricksWithin}
-use Rattle.bridge_results.proofs.Plays.{row_numbers, record_at, known_play, known_few, no_play}
+use Rattle.bridge_results.proofs.Known.{row_numbers, record_at, known_play, known_few, no_play}
 use Rattle.bridge_results.proofs.session_plays.play_at.Goals as goal
 use Rattle.bridge_results.proofs.session_plays.play_at.Goals.{After-board_at-board, After-play_known}
 
