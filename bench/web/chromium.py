@@ -120,6 +120,8 @@ class Window:
             self.ask("Input.dispatchKeyEvent", type=kind, key=name, code=name, windowsVirtualKeyCode=code, text=text if kind == "keyDown" else "")
 
     def picture(self, path):
+        # A window behind others may never be drawn.
+        self.ask("Page.bringToFront")
         image = self.ask("Page.captureScreenshot", format="png", captureBeyondViewport=True)
         with open(path, "wb") as file:
             file.write(base64.b64decode(image["data"]))
