@@ -1,7 +1,7 @@
 #!/bin/sh
-# An evening of seven tables that the director runs by clicks in a headless Chromium, over `bridge_club web`: shuffles, rulings,
-# an ending, rounds ended by their button, the ranking, and a server that is killed and started again; the players' lines are
-# posted with their keys.
+# An evening of seven tables that the director runs by clicks in a headless Chromium, over `bridge_club web`: deals, rulings, an
+# ending, rounds ended by their button, the ranking, the results, and a server that is killed and started again; the players'
+# lines are posted with their keys.
 #
 #     bench/director.sh [FOLDER [ROUNDS]]     (pictures of the page go to FOLDER, '' for none; 7 rounds when left out)
 #

@@ -4,7 +4,8 @@
 
 The players' lines are posted with their keys. What is looked at: that the director's page does what its buttons say, that a
 round ends by its button alone and no sooner than all tables are done, that the page goes on by itself over a server that is
-killed, that the ranking shown in the end is what `rank` prints, and that nothing of the director's comes to a player."""
+killed, that the ranking and the results shown in the end are what `rank` and `results` print, and that nothing of the
+director's comes to a player."""
 import os
 import random
 import subprocess
@@ -20,6 +21,7 @@ from server import Server, complaints, pictures
 PROGRAM = os.path.abspath(sys.argv[1])
 PICTURES = sys.argv[2] if len(sys.argv) > 2 and sys.argv[2] else None
 ROUNDS = int(sys.argv[3]) if len(sys.argv) > 3 else 7
+DEAL = "N:AKQJ.T98.765.432 T98.765.432.AKQJ 765.432.AKQJ.T98 432.AKQJ.T98.765"
 CONFIG = os.path.join(os.path.dirname(os.path.abspath(__file__)), "..", "..", "examples", "evening.txt")
 PORT = 47410
 TABLES = 7
@@ -117,20 +119,21 @@ class Page:
         for _ in range(steps):
             self.window.key("ArrowDown", 40)
 
-    def rule(self, button, play, question, what):
-        """A ruling on (round, table, board), refused at its question, then done."""
+    def rule(self, button, play, what):
+        """A ruling on (round, table, board), left at its question, then done."""
         self.open("ruling")
         for field, number in zip(["rule-round", "rule-table", "rule-board"], play):
             self.number(field, number)
-        name = "round {}, table {}, board {}".format(*play)
+        name = "{}, round {}, table {}, board {}".format(what, *play)
         for answer in ["no", "yes"]:
             self.window.click(f"#{button}")
-            self.window.wait(f"document.querySelector('#rule-question p') && document.querySelector('#rule-question p').textContent === {f'{question}, {name}?'!r}")
+            self.window.wait(f"document.querySelector('#rule-question p') && document.querySelector('#rule-question p').textContent === {name + '?'!r}")
+            self.told("")
             if answer == "yes":
                 pictures(self.window, PICTURES, button)
             self.window.click(f"#{answer}")
             self.window.wait("document.getElementById('rule-question').childNodes.length === 0")
-        self.told(f"{what}, {name}: done.")
+        self.told(f"{name}: done.")
 
     def other_board(self, play, boards):
         """A board that the table does not have is no question."""
@@ -182,11 +185,22 @@ def is_refused(evening, closed):
                 assert evening.lines(f"RANK {key} 1") == "ERR 2 NotAllowed\n"
 
 
-def deal(page):
+def deal(page, work):
+    """A board by its text, one by a file, the others by a shuffle; then all of them again, which is refused."""
     page.open("dealing")
+    page.window.type("#deal-text", f"1 {DEAL}")
+    page.window.click("#deal")
+    page.told("Dealt: 1.")
+    path = os.path.join(work, "deals.pbn")
+    with open(path, "w", encoding="ascii") as file:
+        file.write(f'% PBN 2.1\r\n[Event ""]\r\n[Board "2"]\r\n[Dealer "E"]\r\n[Deal "{DEAL}"]\r\n')
+    page.window.choose_file("#deal-file", path)
+    page.window.wait("document.getElementById('deal-text').value.includes('PBN 2.1')")
+    page.window.click("#deal")
+    page.told("Dealt: 2.")
     page.window.wait("document.getElementById('shuffle-last').value === '21'")
     page.window.click("#shuffle")
-    page.told("Dealt: " + ", ".join(map(str, range(1, 22))) + ".")
+    page.told("Dealt: " + ", ".join(map(str, range(3, 22))) + ". Boards 1, 2: already dealt.")
     page.window.click("#shuffle")
     page.told("No board was dealt. Boards " + ", ".join(map(str, range(1, 22))) + ": already dealt.")
 
@@ -216,10 +230,12 @@ def first_round(evening, page):
             assert not page.may_end(), f"the round may be ended while table {table} has board {board}"
             if (table, board) == (3, first + 1):
                 page.other_board((1, 3, 1), "7 to 9")
-                page.rule("rule-void", (1, 3, board), "Take the play out", "Take the play out")
+                page.rule("rule-void", (1, 3, board), "Take the play out")
+                page.rule("rule-restore", (1, 3, board), "Take the ruling back")
+                page.rule("rule-void", (1, 3, board), "Take the play out")
             elif (table, board) == (5, first):
                 page.choose("rule-ew", 2)
-                page.rule("rule-average", (1, 5, board), "Award 60 and 40 per cent", "Award 60 and 40 per cent")
+                page.rule("rule-average", (1, 5, board), "Award 60 and 40 per cent")
             else:
                 evening.play(1, table, board, 8 if (table, board) == (2, first) else None)
         if table == 2:
@@ -229,7 +245,7 @@ def first_round(evening, page):
         for key in list(evening.windows)[1:]:
             is_a_players(evening, key)
     page.number("rule-tricks", 9)
-    page.rule("rule-set", (1, 2, evening.first_board(1, 2)), "Set declarer's tricks to 9", "Set declarer's tricks to 9")
+    page.rule("rule-set", (1, 2, evening.first_board(1, 2)), "Set declarer's tricks to 9")
     pictures(page.window, PICTURES, "round_is_done")
     page.end_round(1)
 
@@ -269,6 +285,13 @@ def rankings(page):
     return [page.ranking(field) for field in [1, 2]]
 
 
+def results(page):
+    page.open("publishing")
+    page.window.click("#show-results")
+    page.window.wait(f"{text_of('results')} !== ''")
+    return page.window.value(text_of("results"))
+
+
 def printed(evening):
     """The lines of each field as `rank` prints them; the server is not running."""
     text = subprocess.run([PROGRAM, "rank", evening.disk], check=True, stdout=subprocess.PIPE).stdout.decode()
@@ -283,7 +306,7 @@ def main():
             players = [evening.keys[1][0], evening.keys[TABLES + 3][1]]
             for key in players:
                 evening.enter(key)
-            deal(page)
+            deal(page, work)
             pictures(page.window, PICTURES, "dealt")
             is_refused(evening, False)
             first_round(evening, page)
@@ -294,6 +317,7 @@ def main():
                 page.window.wait(f"{text_of('status')} === 'The session is closed.'")
             shown = rankings(page)
             pictures(page.window, PICTURES, "ranking")
+            text = results(page)
             is_refused(evening, closed)
             for key in players:
                 if closed:
@@ -304,10 +328,12 @@ def main():
             assert not complaints(evening.windows), complaints(evening.windows)
             evening.server.kill()
             assert shown == printed(evening), f"{shown} in place of {printed(evening)}"
+            told = subprocess.run([PROGRAM, "results", evening.disk], check=True, stdout=subprocess.PIPE).stdout.decode()
+            assert text == told, "the results shown are not those of the command"
         finally:
             evening.browser.close()
             evening.server.kill()
-    print(f"{ROUNDS} rounds of {TABLES} tables by the director's clicks; the ranking shown is that of rank; nothing of the director's came to a player")
+    print(f"{ROUNDS} rounds of {TABLES} tables by the director's clicks; the ranking and the results shown are those of the commands; nothing of the director's came to a player")
 
 
 main()

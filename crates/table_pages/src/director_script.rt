@@ -43,10 +43,11 @@ function tell(text) {
 // Asks before it acts; the question stands where it was raised, and no other beside it.
 function confirmFirst(box, question, act) {
   const close = () => box.replaceChildren();
+  tell("");
   for (const id of ["end-question", "rule-question"]) at(id).replaceChildren();
   box.replaceChildren(make("p", null, question),
     make("div", { className: "row" },
-      button("Yes", question, "yes", true, () => { close(); act(); }), button("No", "", "no", true, close)));
+      button("Yes", "Yes: " + question, "yes", true, () => { close(); act(); }), button("No", "", "no", true, close)));
   at("yes").focus();
 }
 
