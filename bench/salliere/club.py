@@ -64,6 +64,18 @@ class Club:
                 fields[-1].append(line.split())
         return fields
 
+    def plays(self, disk):
+        """Each play with a score, as the command `results` prints it: board, pairs, score and what both sides gain."""
+        board = 0
+        for line in self.run("results", disk).splitlines():
+            words = line.split()
+            if re.fullmatch(r"Board \d+", line):
+                board = int(words[1])
+            elif line == "Score cards":
+                return
+            elif len(words) > 7 and re.fullmatch(r"Pass|[1-7]([CDHS]|NT)X{0,2}", words[4]):
+                yield board, (int(words[2]), int(words[3])), int(words[-3]), words[-2:]
+
 
 def hands_of(text):
     """The cards in North, East, South and West of `E:AKQ.. ..`."""

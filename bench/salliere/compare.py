@@ -135,6 +135,23 @@ def compare_imps(fields, boards, totals):
             demand(same_to(points, Fraction(sums[pair], max(full) - 1), "0.1"), f"salliere has {points} for pair {pair}")
 
 
+def compare_plays(evening, plays, boards):
+    """Each play's score, and what it gains on its board, as `results` prints them."""
+    even, found = not uneven(boards), 0
+    for board, pairs, score, gains in plays:
+        hands = boards[board]
+        hand = next(hand for hand in hands if hand.pairs == pairs)
+        found += 1
+        demand(score == hand.score, f"results has {score} for {pairs} on board {board}, salliere {hand.score}")
+        for side, gain in enumerate(gains):
+            if evening.scoring == "MP":
+                demand(Fraction(gain) == plain(hand, hands, side), f"results has {gain} points for {pairs} on board {board}")
+                demand(not even or Fraction(gain) == hand.points[side], f"results has {gain} points for {pairs} on board {board}, salliere {hand.points}")
+            elif len(hands) > 1:
+                demand(int(gain) == round(hand.points[side] * (len(hands) - 1)), f"results has {gain} IMPs for {pairs} on board {board}")
+    demand(found == sum(not hand.averaged for hands in boards.values() for hand in hands), f"results has {found} scores")
+
+
 def compare_own_places(fields, worth):
     """A place is one more than the number of better pairs in the field, and equal places stand by the pairs' numbers."""
     for field in fields:
@@ -152,13 +169,14 @@ def compare_places(fields, totals, scoring):
             demand(first >= second and (before[0] != after[0] or first == second), f"the places of {before} and {after}")
 
 
-def compare(evening, fields, hands, totals):
+def compare(evening, fields, plays, hands, totals):
     boards = defaultdict(list)
     for hand in hands:
         boards[hand.board].append(hand)
     split = max(int(line[1]) for line in fields[0])
     demand(sorted(int(line[1]) for field in fields for line in field) == list(range(1, evening.pairs + 1)), "the pairs of the fields")
     demand(all(int(line[1]) > split for field in fields[1:] for line in field), "the split")
+    compare_plays(evening, plays, boards)
     apart = compare_matchpoints(fields, boards, totals) if evening.scoring == "MP" else compare_imps(fields, boards, totals)
     if not uneven(boards) and len(boards[min(boards)]) > 1:
         compare_places(fields, totals, evening.scoring)
@@ -217,7 +235,7 @@ def main(program, jar, folder, examples, seed):
         disk = club.play(evening, evenings.rounds_lines(evening, deals, hands))
         scored, totals = scorer.scored(jar, folder, evening, club.games(disk))
         try:
-            boards, apart = compare(evening, club.ranking(disk), scored, totals)
+            boards, apart = compare(evening, club.ranking(disk), club.plays(disk), scored, totals)
             told(evening, boards, apart, totals)
         except Differs as difference:
             wrong += 1

@@ -115,11 +115,17 @@ class Window:
         self.value(f"(() => {{ const node = document.querySelector({json.dumps(selector)}); node.focus(); node.select(); }})()")
         self.ask("Input.insertText", text=text)
 
+    def choose_file(self, selector, path):
+        found = self.ask("Runtime.evaluate", expression=f"document.querySelector({json.dumps(selector)})")["result"]["objectId"]
+        self.ask("DOM.setFileInputFiles", files=[path], objectId=found)
+
     def key(self, name, code, text=""):
         for kind in ["keyDown", "keyUp"]:
             self.ask("Input.dispatchKeyEvent", type=kind, key=name, code=name, windowsVirtualKeyCode=code, text=text if kind == "keyDown" else "")
 
     def picture(self, path):
+        # A window behind others may never be drawn.
+        self.ask("Page.bringToFront")
         image = self.ask("Page.captureScreenshot", format="png", captureBeyondViewport=True)
         with open(path, "wb") as file:
             file.write(base64.b64decode(image["data"]))

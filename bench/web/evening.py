@@ -16,6 +16,7 @@ import threading
 import time
 
 from chromium import Browser, Window
+from server import Server, complaints, pictures
 
 PROGRAM = os.path.abspath(sys.argv[1])
 PICTURES = sys.argv[2] if len(sys.argv) > 2 else None
@@ -36,21 +37,6 @@ def program(*words, **options):
 def lines_of(name):
     with open(os.path.join(EXAMPLES, name), encoding="ascii") as file:
         return file.read().splitlines()
-
-
-class Server:
-    def __init__(self, disk):
-        self.disk = disk
-        self.start()
-
-    def start(self):
-        self.process = subprocess.Popen([PROGRAM, "web", self.disk, str(PORT), "30"], stdout=subprocess.PIPE)
-        line = self.process.stdout.readline()
-        assert line == f"listening at http://127.0.0.1:{PORT}\n".encode(), line
-
-    def kill(self):
-        self.process.kill()
-        self.process.wait()
 
 
 def hands_of(deal):
@@ -95,11 +81,7 @@ def check_cards(windows, tables, hands):
 
 
 def picture(window, name):
-    if PICTURES:
-        for width, height in [(390, 844), (1024, 900)]:
-            window.size(width, height)
-            time.sleep(0.2)
-            window.picture(os.path.join(PICTURES, f"{name}_{width}.png"))
+    pictures(window, PICTURES, name)
 
 
 def director_sends(window, line):
@@ -203,7 +185,7 @@ def main():
         for path in [disk, other]:
             program("format", path, os.path.join(EXAMPLES, "rows.txt"))
         program("script", other, input="\n".join(lines).encode() + b"\n")
-        server = Server(disk)
+        server = Server(PROGRAM, disk, PORT)
         browser = Browser(os.path.join(work, "profile"))
         try:
             windows = {key: Window(browser, f"http://127.0.0.1:{PORT}/") for key in [*at_table, "100"]}
@@ -250,9 +232,7 @@ def main():
             windows["11"].wait("document.getElementById('main').innerText.includes('Ranking')")
             picture(windows["11"], "closed")
             picture(windows["100"], "director")
-            for key, window in windows.items():
-                said = [one for one in window.complaints() if one.get("entry", {}).get("source") != "network"]
-                assert not said, f"{key}: {said}"
+            assert not complaints(windows), complaints(windows)
             other_sites(browser, disk)
         finally:
             browser.close()

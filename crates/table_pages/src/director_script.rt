@@ -9,6 +9,7 @@ const DIRECTOR_SENTENCES = {
   AlreadyDealt: "already dealt",
   BadDeal: "these are not four hands of thirteen cards",
   BadLine: "that cannot be read",
+  LongLine: "that cannot be read",
   NoSuchPlay: "there is no such play",
   NotYet: "that round has not begun",
   RoundOpen: "a table is still at play",
@@ -17,12 +18,16 @@ const DIRECTOR_SENTENCES = {
   NotAnEnding: "at most six whole tricks may be left, and so many must have been played",
   NotMatchPoints: "averages are for matchpoints alone",
   WrongPhase: "that is not possible now",
+  Stale: "that is not the round at play",
   Closed: "the session is closed",
   Disk: "the server's disk has failed",
+  EpochsSpent: "the server's disk is used up",
 };
 
 // When each table's line was first seen as it is.
 const since = new Map();
+// The first board of each table's set, by round and table, where it was seen.
+const firstBoards = new Map();
 let boardsOfSet = 1;
 
 // A reply of one line in words.
@@ -35,17 +40,20 @@ function tell(text) {
   say("told", text);
 }
 
-// Asks before it acts; the question stands where it was raised.
+// Asks before it acts; the question stands where it was raised, and no other beside it.
 function confirmFirst(box, question, act) {
   const close = () => box.replaceChildren();
+  tell("");
+  for (const id of ["end-question", "rule-question"]) at(id).replaceChildren();
   box.replaceChildren(make("p", null, question),
     make("div", { className: "row" },
-      button("Yes", question, "yes", true, () => { close(); act(); }), button("No", "", "no", true, close)));
+      button("Yes", "Yes: " + question, "yes", true, () => { close(); act(); }), button("No", "", "no", true, close)));
   at("yes").focus();
 }
 
 // Sends lines without the key, each of a keyword and words; gives the replies, or null.
 async function order(lines) {
+  tell("");
   const body = lines.map((line) => line.replace(/^(\S+)\s*/, (_all, word) => (word === "SYNC" ? word : word + " " + key + " ")).trim() + "\n").join("");
   const reply = await ask("/lines", body);
   if (reply === null) tell("No answer came. It may or may not have been done; what you see next tells.");
@@ -91,12 +99,19 @@ function minutesText(table, now) {
   return String(Math.floor((now - since.get(table.number).at) / 60000));
 }
 
+function noteSets(state) {
+  for (const table of state.tables.filter((one) => !one.idle)) {
+    const board = Number(table.board);
+    firstBoards.set(state.round + " " + table.number, board - ((board - 1) % state.boards));
+  }
+}
+
 function tablesTable(state) {
   const titles = ["Table", "N-S", "E-W", "Board", "What goes on", "Min."];
   const now = Date.now();
   const rows = state.tables.map((table) => make("tr", null,
     ...[table.number, table.ns, table.ew, table.idle ? "" : table.board, progressText(table), minutesText(table, now)].map((word) => make("td", null, word))));
-  return make("table", { id: "tables", className: "tables", aria_label: "Tables" },
+  return make("table", { id: "tables", className: "tables", hidden: rows.length === 0, aria_label: "Tables" },
     make("thead", null, make("tr", null, ...titles.map((title) => make("th", { scope: "col" }, title)))), make("tbody", null, ...rows));
 }
 
@@ -114,6 +129,7 @@ function roundText(state) {
 
 function showTables(state) {
   boardsOfSet = state.boards;
+  noteSets(state);
   say("status", roundText(state));
   const old = at("tables");
   if (old) old.replaceWith(tablesTable(state));
@@ -122,8 +138,7 @@ function showTables(state) {
   end.disabled = state.round > state.rounds || stillPlaying(state).length > 0;
   const label = state.round > state.rounds ? "All rounds are ended" : "End round " + state.round + (state.round === state.rounds ? ", and close the session" : "");
   if (end.textContent !== label) end.textContent = label;
-  end.onclick = () => confirmFirst(at("end-question"), "End round " + state.round + "?", () => doOne("NEXT " + state.round, "End of round " + state.round));
-  for (const id of ["shuffle-last"]) if (at(id) && at(id).value === "") at(id).value = state.all;
+  end.onclick = () => confirmFirst(at("end-question"), label + "?", () => doOne("NEXT " + state.round, "End of round " + state.round));
 }
 
 // ---- deals
@@ -146,13 +161,18 @@ function dealsIn(text) {
   return found;
 }
 
+// The boards of each answer to a deal, the dealt ones first.
+function dealtText(boards, replies) {
+  const found = new Map([["OK", []]]);
+  boards.forEach((board, i) => found.set(replies[i], [...(found.get(replies[i]) || []), board]));
+  const name = (reply, some) => (reply === "OK" ? "Dealt: " : (some.length === 1 ? "Board " : "Boards ")) + some.join(", ") + (reply === "OK" ? "." : ": " + outcome(reply) + ".");
+  return [...found].map(([reply, some]) => (some.length ? name(reply, some) : "No board was dealt.")).join(" ");
+}
+
 async function dealAll(lines, boards) {
   const reply = await order(lines);
   if (reply === null) return;
-  const words = reply.split("\n").slice(0, boards.length);
-  const dealt = boards.filter((_board, i) => words[i] === "OK");
-  const others = boards.map((board, i) => [board, words[i]]).filter((one) => one[1] !== "OK");
-  tell((dealt.length ? "Dealt: " + dealt.join(", ") + ". " : "No board was dealt. ") + others.map((one) => "Board " + one[0] + ": " + outcome(one[1]) + ".").join(" "));
+  tell(dealtText(boards, reply.split("\n")));
   look();
 }
 
@@ -162,7 +182,8 @@ function shuffleBoards() {
   const boards = [];
   for (let board = first; board <= last && boards.length < 36; board += 1) boards.push(board);
   const seed = drawSeed();
-  if (boards.length) dealAll(boards.map((board) => "SHUFFLE " + board + " " + seed), boards);
+  if (boards.length === 0) tell("There are no such boards.");
+  else dealAll(boards.map((board) => "SHUFFLE " + board + " " + seed), boards);
 }
 
 function dealText(text) {
@@ -185,10 +206,16 @@ function choice(id, label, options) {
 
 const numberAt = (id) => Math.trunc(Number(at(id).value));
 
-// The words of a play: round, table, and the board's place in its set.
+// The words of a play: round, table, and the board's place in its set; null where other boards were seen at that table.
 function playWords(prefix) {
-  const index = ((numberAt(prefix + "-board") - 1) % boardsOfSet) + 1;
-  return numberAt(prefix + "-round") + " " + numberAt(prefix + "-table") + " " + index;
+  const [round, table, board] = ["-round", "-table", "-board"].map((field) => numberAt(prefix + field));
+  const first = firstBoards.get(round + " " + table);
+  if (first !== undefined && (board < first || board >= first + boardsOfSet)) {
+    const last = first + boardsOfSet - 1;
+    tell("In round " + round + " table " + table + " has " + (first === last ? "board " + first : "boards " + first + " to " + last) + ".");
+    return null;
+  }
+  return round + " " + table + " " + (((board - 1) % boardsOfSet) + 1);
 }
 
 function playName(prefix) {
@@ -199,34 +226,40 @@ function playFields(prefix) {
   return make("div", { className: "row" }, numberField(prefix + "-round", "Round", 1, 12, 1), numberField(prefix + "-table", "Table", 1, 12, 1), numberField(prefix + "-board", "Board", 1, 36, 1));
 }
 
-function rule(what, line) {
-  confirmFirst(at("rule-question"), what + ", " + playName("rule") + "?", () => doOne(line, what + ", " + playName("rule")));
+// Rules on the play of the fields, once the question is answered: a keyword, and what follows the play.
+function rule(what, word, rest) {
+  const play = playWords("rule");
+  const name = what + ", " + playName("rule");
+  if (play !== null) confirmFirst(at("rule-question"), name + "?", () => doOne((word + " " + play + " " + rest).trim(), name));
 }
 
 function rulingNodes() {
   const per = [["60", "60: in no way at fault"], ["50", "50: partly at fault"], ["40", "40: directly at fault"]];
+  const setTricks = () => rule("Set declarer's tricks to " + numberAt("rule-tricks"), "TRICKS", String(numberAt("rule-tricks")));
+  const average = () => rule("Award " + at("rule-ns").value + " and " + at("rule-ew").value + " per cent", "ADJUST", at("rule-ns").value + " " + at("rule-ew").value);
   return [playFields("rule"),
-    make("div", { className: "row" }, numberField("rule-tricks", "Declarer's tricks", 0, 13, 7),
-      button("Set the tricks", "", "rule-set", true, () => rule("Set declarer's tricks to " + numberAt("rule-tricks"), "TRICKS " + playWords("rule") + " " + numberAt("rule-tricks")))),
+    make("div", { className: "row" }, numberField("rule-tricks", "Declarer's tricks", 0, 13, 7), button("Set the tricks", "", "rule-set", true, setTricks)),
     make("div", { className: "row" }, choice("rule-ns", "North and South, per cent", per), choice("rule-ew", "East and West, per cent", per),
-      button("Award averages", "", "rule-average", true, () => rule("Award " + at("rule-ns").value + " and " + at("rule-ew").value + " per cent",
-        "ADJUST " + playWords("rule") + " " + at("rule-ns").value + " " + at("rule-ew").value))),
-    make("div", { className: "row" }, button("Take the play out", "", "rule-void", true, () => rule("Take the play out", "VOID " + playWords("rule"))),
-      button("Take a ruling back", "", "rule-restore", true, () => rule("Take the ruling back", "RESTORE " + playWords("rule")))),
+      button("Award averages", "", "rule-average", true, average)),
+    make("div", { className: "row" }, button("Take the play out", "", "rule-void", true, () => rule("Take the play out", "VOID", "")),
+      button("Take a ruling back", "", "rule-restore", true, () => rule("Take the ruling back", "RESTORE", ""))),
     make("div", { id: "rule-question" })];
 }
 
 async function solve() {
-  const reply = await order(["SOLVE " + playWords("solve") + " " + 4 * numberAt("solve-tricks")]);
+  const play = playWords("solve");
+  const reply = play === null ? null : await order(["SOLVE " + play + " " + 4 * numberAt("solve-tricks")]);
   if (reply === null) return;
   const words = reply.split("\n")[0].split(" ");
   say("solved", words[0] === "OK" ? "Of the tricks left North and South can win " + words[1] + ", and East and West " + words[2] + "." : "No answer: " + outcome(reply) + ".");
 }
 
 async function showRankings() {
+  tell("");
   const replies = [await ask("/lines", "RANK " + key + " 1\n"), await ask("/lines", "RANK " + key + " 2\n")];
   if (replies.includes(null)) return tell("No answer came.");
-  if (at("rankings")) at("rankings").replaceChildren(...replies.flatMap((reply, i) => (refusal(reply) ? [] : rankingNode(i + 1, reply))));
+  const time = make("p", { className: "small" }, "As of " + new Date().toLocaleTimeString() + ".");
+  if (at("rankings")) at("rankings").replaceChildren(time, ...replies.flatMap((reply, i) => (refusal(reply) ? [] : rankingNode(i + 1, reply))));
 }
 
 async function showResults() {
@@ -280,10 +313,12 @@ async function showDirector(asked) {
   if (reply === null) return unreachable();
   if (refusal(reply)) return leave();
   at("title").textContent = "Director";
+  const state = readTables(reply);
   if (!at("tables")) {
     shown = "director";
     at("main").replaceChildren(...directorNodes());
+    at("shuffle-last").value = state.all;
   }
-  showTables(readTables(reply));
+  showTables(state);
 }
 "##;

@@ -397,12 +397,12 @@ async function showClosed(placeReply) {
   at("title").textContent = headText(place);
   const first = await ask("/lines", "RANK " + key + " 1\n");
   const second = await ask("/lines", "RANK " + key + " 2\n");
-  if (first === null || second === null) return;
+  if (first === null || second === null) return unreachable();
   const made = placeReply + first + second;
   // The results are long, and are asked for again only where a ranking has changed.
   if (results.made !== made) {
     const text = await ask("/results", key);
-    if (text === null) return;
+    if (text === null) return unreachable();
     results = { made, text };
   }
   const both = [[1, first], [2, second]].filter((one) => !refusal(one[1]));

@@ -44,6 +44,7 @@ select { font: inherit; min-height: 2.75rem; padding: .3rem; background: #fff; b
 .tables td, .tables th { padding: .2rem .35rem; }
 .field { display: inline-flex; flex-wrap: wrap; gap: .3rem; align-items: center; }
 .field input[type=number] { width: 5.5rem; }
+#told { position: sticky; top: 0; background: #fff1d6; border: 2px solid #8a5a00; padding: .4rem .6rem; }
 #told:empty { display: none; }
 #results:empty, #replies:empty { display: none; }
 @media print { header button, button, summary, label, input, select, textarea, #status, #told, #tables, details:not(#publishing) { display: none !important; } }

@@ -1,0 +1,339 @@
+"""An evening of seven tables that the director runs by clicks alone, over `bridge_club web`.
+
+    director.py PROGRAM [FOLDER [ROUNDS]]      (pictures go to FOLDER; 7 rounds when left out)
+
+The players' lines are posted with their keys. What is looked at: that the director's page does what its buttons say, that a
+round ends by its button alone and no sooner than all tables are done, that the page goes on by itself over a server that is
+killed, that the ranking and the results shown in the end are what `rank` and `results` print, and that nothing of the
+director's comes to a player."""
+import os
+import random
+import subprocess
+import sys
+import tempfile
+import time
+
+sys.path.append(os.path.join(os.path.dirname(os.path.abspath(__file__)), "..", "salliere"))
+import plays
+from chromium import Browser, Window
+from server import Server, complaints, pictures
+
+PROGRAM = os.path.abspath(sys.argv[1])
+PICTURES = sys.argv[2] if len(sys.argv) > 2 and sys.argv[2] else None
+ROUNDS = int(sys.argv[3]) if len(sys.argv) > 3 else 7
+DEAL = "N:AKQJ.T98.765.432 T98.765.432.AKQJ 765.432.AKQJ.T98 432.AKQJ.T98.765"
+CONFIG = os.path.join(os.path.dirname(os.path.abspath(__file__)), "..", "..", "examples", "evening.txt")
+PORT = 47410
+TABLES = 7
+BOARDS = 3
+# The elements that the director's page alone has.
+OWN = ["tables", "told", "end-round", "dealing", "ruling", "solving", "ranking", "publishing", "lines", "box"]
+
+
+def text_of(element):
+    return f"document.getElementById('{element}').textContent"
+
+
+class Evening:
+    """The server, the director's window, and what was said to players."""
+
+    def __init__(self, work):
+        with open(CONFIG, encoding="ascii") as file:
+            words = [line.split() for line in file]
+        self.director = next(line[1] for line in words if line[0] == "DIRECTOR")
+        self.keys = {int(line[1]): (line[3], line[5]) for line in words if line[0] == "PAIR"}
+        self.disk = os.path.join(work, "web.disk")
+        subprocess.run([PROGRAM, "format", self.disk, CONFIG], check=True, stdout=subprocess.DEVNULL)
+        self.server = Server(PROGRAM, self.disk, PORT)
+        self.browser = Browser(os.path.join(work, "profile"))
+        self.chance = random.Random(7)
+        self.windows = {}
+
+    def enter(self, key):
+        """A window in which the key was typed."""
+        window = Window(self.browser, f"http://127.0.0.1:{PORT}/")
+        window.wait("document.getElementById('key')")
+        window.type("#key", key)
+        window.key("Enter", 13, "\r")
+        window.wait("!document.getElementById('leave').hidden")
+        self.windows[key] = window
+        return window
+
+    def lines(self, *lines):
+        """Replies to lines of players, of which none may tell what is the director's."""
+        status, text = self.server.posted("/lines", "".join(line + "\n" for line in lines))
+        assert status == 200, status
+        for word in [self.director, "TABLE ", "BOARDS ", "ROUND "]:
+            assert word not in text, f"{lines}: {text}"
+        return text
+
+    def row_keys(self, round_, table):
+        """The keys from North clockwise: pairs T + 1 to 2T go up a table after each round."""
+        ns, ew = self.keys[table], self.keys[TABLES + (table - round_) % TABLES + 1]
+        return [ns[0], ew[0], ns[1], ew[1]]
+
+    def first_board(self, round_, table):
+        """The sets go down a table after each round."""
+        return BOARDS * ((table + round_ - 2) % TABLES) + 1
+
+    def hands(self, keys):
+        """The cards of the four players, as each sees his own."""
+        told = self.lines(*(f"SEE {key}" for key in keys))
+        hands = [line.split()[1] for line in told.splitlines() if line.startswith("HAND ")]
+        return [[suit + rank for suit, ranks in zip("SHDC", hand.split(".")) for rank in ranks] for hand in hands]
+
+    def play(self, round_, table, board, tricks=None):
+        """A play by lines of the four players."""
+        keys = self.row_keys(round_, table)
+        calls = plays.draw_calls(self.chance)
+        while tricks and plays.contract_of(calls, plays.dealer_of(board)) is None:
+            calls = plays.draw_calls(self.chance)
+        lines = plays.play_lines(self.chance, board, keys, self.hands(keys), calls, self.chance.randrange(6, 11), tricks)
+        replies = self.lines(*lines)
+        assert replies == "OK\n" * len(lines), f"{lines}: {replies}"
+
+
+class Page:
+    """The director's page, by clicks."""
+
+    def __init__(self, evening):
+        self.evening = evening
+        self.window = evening.enter(evening.director)
+        self.window.wait("document.querySelectorAll('#tables tbody tr').length === 7")
+        self.window.value("window.loadedOnce = true")
+
+    def open(self, section):
+        if not self.window.value(f"document.getElementById('{section}').open"):
+            self.window.click(f"#{section} summary")
+            self.window.wait(f"document.getElementById('{section}').open")
+
+    def told(self, expected):
+        self.window.wait(f"{text_of('told')} === {expected!r}")
+
+    def number(self, field, number):
+        self.window.type(f"#{field}", str(number))
+
+    def choose(self, field, steps):
+        """Another choice, by the arrow keys."""
+        self.window.value(f"document.getElementById('{field}').focus()")
+        for _ in range(steps):
+            self.window.key("ArrowDown", 40)
+
+    def rule(self, button, play, what):
+        """A ruling on (round, table, board), left at its question, then done."""
+        self.open("ruling")
+        for field, number in zip(["rule-round", "rule-table", "rule-board"], play):
+            self.number(field, number)
+        name = "{}, round {}, table {}, board {}".format(what, *play)
+        for answer in ["no", "yes"]:
+            self.window.click(f"#{button}")
+            self.window.wait(f"document.querySelector('#rule-question p') && document.querySelector('#rule-question p').textContent === {name + '?'!r}")
+            self.told("")
+            if answer == "yes":
+                pictures(self.window, PICTURES, button)
+            self.window.click(f"#{answer}")
+            self.window.wait("document.getElementById('rule-question').childNodes.length === 0")
+        self.told(f"{name}: done.")
+
+    def other_board(self, play, boards):
+        """A board that the table does not have is no question."""
+        self.open("ruling")
+        for field, number in zip(["rule-round", "rule-table", "rule-board"], play):
+            self.number(field, number)
+        self.window.click("#rule-void")
+        self.told(f"In round {play[0]} table {play[1]} has boards {boards}.")
+        assert self.window.value("document.getElementById('rule-question').childNodes.length === 0")
+
+    def may_end(self):
+        return not self.window.value("document.getElementById('end-round').disabled")
+
+    def end_round(self, round_):
+        self.window.wait("!document.getElementById('end-round').disabled")
+        self.window.click("#end-round")
+        question = f"End round {round_}" + (", and close the session?" if round_ == 7 else "?")
+        self.window.wait(f"document.querySelector('#end-question p').textContent === {question!r}")
+        self.window.click("#yes")
+        self.told(f"End of round {round_}: done.")
+
+    def ranking(self, field):
+        return self.window.value(f"[...document.querySelectorAll(\"[aria-label='Ranking of field {field}'] tbody tr\")].map((row) => [...row.cells].map((cell) => cell.textContent).join(' '))")
+
+    def goes_on(self):
+        assert self.window.value("window.loadedOnce === true"), "the page was loaded anew"
+
+
+def is_a_players(evening, key):
+    """No part of the director's page, and no key but his own."""
+    window = evening.windows[key]
+    found = window.value(f"{OWN}.filter((id) => document.getElementById(id))")
+    assert found == [], f"{key} has {found}"
+    document = window.value("document.documentElement.outerHTML + JSON.stringify({ ...sessionStorage, ...localStorage })")
+    others = [other for keys in evening.keys.values() for other in keys if other != key] + [evening.director]
+    assert not [other for other in others if other in document], f"the page of {key} has another's key"
+
+
+def is_refused(evening, closed):
+    """What the director may ask and do, with each player's key."""
+    for keys in evening.keys.values():
+        for key in keys:
+            assert evening.server.posted("/tables", key) == (200, "ERR 2 NotAllowed\n")
+            lines = [f"SHUFFLE {key} 1 {'0' * 64}", f"NEXT {key} 1", f"VOID {key} 1 1 1", f"RESTORE {key} 1 1 1", f"ADJUST {key} 1 1 1 60 40",
+                     f"TRICKS {key} 1 1 1 7", f"SOLVE {key} 1 1 1 52", f"PBN {key}"]
+            assert evening.lines(*lines) == "ERR 2 NotAllowed\n" * len(lines)
+            if not closed:
+                assert evening.server.posted("/results", key) == (200, "ERR 2 NotAllowed\n")
+                assert evening.lines(f"RANK {key} 1") == "ERR 2 NotAllowed\n"
+
+
+def deal(page, work):
+    """A board by its text, one by a file, the others by a shuffle; then all of them again, which is refused."""
+    page.open("dealing")
+    page.window.type("#deal-text", f"1 {DEAL}")
+    page.window.click("#deal")
+    page.told("Dealt: 1.")
+    path = os.path.join(work, "deals.pbn")
+    with open(path, "w", encoding="ascii") as file:
+        file.write(f'% PBN 2.1\r\n[Event ""]\r\n[Board "2"]\r\n[Dealer "E"]\r\n[Deal "{DEAL}"]\r\n')
+    page.window.choose_file("#deal-file", path)
+    page.window.wait("document.getElementById('deal-text').value.includes('PBN 2.1')")
+    page.window.click("#deal")
+    page.told("Dealt: 2.")
+    page.window.wait("document.getElementById('shuffle-last').value === '21'")
+    page.window.click("#shuffle")
+    page.told("Dealt: " + ", ".join(map(str, range(3, 22))) + ". Boards 1, 2: already dealt.")
+    page.window.click("#shuffle")
+    page.told("No board was dealt. Boards " + ", ".join(map(str, range(1, 22))) + ": already dealt.")
+
+
+def killed(evening, page):
+    """The server dies; a click while it is away says that no answer came, and the page goes on by itself."""
+    page.open("ranking")
+    evening.server.kill()
+    page.window.wait(f"{text_of('status')} === 'The server does not answer. Trying again.'")
+    page.window.click("#rank")
+    page.told("No answer came.")
+    pictures(page.window, PICTURES, "away")
+    evening.server.start()
+    page.window.wait(f"{text_of('status')}.startsWith('Round ')")
+    page.window.click("#rank")
+    page.told("")
+    page.window.wait("document.querySelectorAll('#rankings table').length === 2")
+    page.goes_on()
+
+
+def first_round(evening, page):
+    """Round 1, with rulings and a server that dies; the button stays grey until the last table is done."""
+    for table in range(1, TABLES + 1):
+        first = evening.first_board(1, table)
+        for board in range(first, first + BOARDS):
+            time.sleep(1.2)
+            assert not page.may_end(), f"the round may be ended while table {table} has board {board}"
+            if (table, board) == (3, first + 1):
+                page.other_board((1, 3, 1), "7 to 9")
+                page.rule("rule-void", (1, 3, board), "Take the play out")
+                page.rule("rule-restore", (1, 3, board), "Take the ruling back")
+                page.rule("rule-void", (1, 3, board), "Take the play out")
+            elif (table, board) == (5, first):
+                page.choose("rule-ew", 2)
+                page.rule("rule-average", (1, 5, board), "Award 60 and 40 per cent")
+            else:
+                evening.play(1, table, board, 8 if (table, board) == (2, first) else None)
+        if table == 2:
+            solve(evening, page, first)
+        if table == 4:
+            killed(evening, page)
+        for key in list(evening.windows)[1:]:
+            is_a_players(evening, key)
+    page.number("rule-tricks", 9)
+    page.rule("rule-set", (1, 2, evening.first_board(1, 2)), "Set declarer's tricks to 9")
+    pictures(page.window, PICTURES, "round_is_done")
+    page.end_round(1)
+
+
+def solve(evening, page, board):
+    """What the page says of the ending after eight tricks is what a line is answered."""
+    page.open("solving")
+    for field, number in [("solve-round", 1), ("solve-table", 2), ("solve-board", board), ("solve-tricks", 8)]:
+        page.number(field, number)
+    page.window.click("#solve")
+    _, text = evening.server.posted("/lines", f"SOLVE {evening.director} 1 2 1 32\n")
+    ok, ns, ew = text.split()
+    assert ok == "OK" and int(ns) + int(ew) == 5, text
+    page.window.wait(f"{text_of('solved')} === 'Of the tricks left North and South can win {ns}, and East and West {ew}.'")
+
+
+def other_round(evening, page, round_):
+    """A round without rulings; the tables in another order, and each board of the last one looked at."""
+    page.window.wait(f"{text_of('status')}.startsWith('Round {round_} of 7. Still at play: tables 1, 2, 3, 4, 5, 6, 7.')")
+    tables = list(range(1, TABLES + 1))
+    evening.chance.shuffle(tables)
+    for table in tables:
+        first = evening.first_board(round_, table)
+        for board in range(first, first + BOARDS):
+            if table == tables[-1]:
+                page.window.wait(f"{text_of('status')} === 'Round {round_} of 7. Still at play: table {table}.'")
+                assert not page.may_end()
+            evening.play(round_, table, board)
+    page.end_round(round_)
+
+
+def rankings(page):
+    page.open("ranking")
+    page.window.click("#rank")
+    page.window.wait("document.querySelectorAll('#rankings table').length === 2")
+    time.sleep(0.5)
+    return [page.ranking(field) for field in [1, 2]]
+
+
+def results(page):
+    page.open("publishing")
+    page.window.click("#show-results")
+    page.window.wait(f"{text_of('results')} !== ''")
+    return page.window.value(text_of("results"))
+
+
+def printed(evening):
+    """The lines of each field as `rank` prints them; the server is not running."""
+    text = subprocess.run([PROGRAM, "rank", evening.disk], check=True, stdout=subprocess.PIPE).stdout.decode()
+    return [part.splitlines()[1:] for part in text.split("FIELD ")[1:]]
+
+
+def main():
+    with tempfile.TemporaryDirectory() as work:
+        evening = Evening(work)
+        try:
+            page = Page(evening)
+            players = [evening.keys[1][0], evening.keys[TABLES + 3][1]]
+            for key in players:
+                evening.enter(key)
+            deal(page, work)
+            pictures(page.window, PICTURES, "dealt")
+            is_refused(evening, False)
+            first_round(evening, page)
+            for round_ in range(2, ROUNDS + 1):
+                other_round(evening, page, round_)
+            closed = ROUNDS == 7
+            if closed:
+                page.window.wait(f"{text_of('status')} === 'The session is closed.'")
+            shown = rankings(page)
+            pictures(page.window, PICTURES, "ranking")
+            text = results(page)
+            is_refused(evening, closed)
+            for key in players:
+                if closed:
+                    evening.windows[key].wait("document.getElementById('main').innerText.includes('Ranking')")
+                    pictures(evening.windows[key], PICTURES, "players_ranking")
+                is_a_players(evening, key)
+            page.goes_on()
+            assert not complaints(evening.windows), complaints(evening.windows)
+            evening.server.kill()
+            assert shown == printed(evening), f"{shown} in place of {printed(evening)}"
+            told = subprocess.run([PROGRAM, "results", evening.disk], check=True, stdout=subprocess.PIPE).stdout.decode()
+            assert text == told, "the results shown are not those of the command"
+        finally:
+            evening.browser.close()
+            evening.server.kill()
+    print(f"{ROUNDS} rounds of {TABLES} tables by the director's clicks; the ranking and the results shown are those of the commands; nothing of the director's came to a player")
+
+
+main()
