@@ -4,7 +4,7 @@ use Rattle.bridge_results.proofs.pages.page.write_results.Goals as goal
 
 pub returns : goal.returns
 returns g c =
-    let first_there = rw c.new-results.ensures at c.ranking-first.ensures.field in
+    let first_there = c.ranking-first.ensures.field in
     let first_ranked = rw c.new-results.ensures at c.ranking-first.ensures.ranking in
     let second_there = rw c.new-results.ensures at c.ranking-second.ensures.field in
     let second_ranked = rw c.new-results.ensures at c.ranking-second.ensures.ranking in (
