@@ -29,7 +29,8 @@ fn row_now(session: &Session, table: u8) -> Option<Row>
     ensures { result ≡ slice_get session.now.configuration.movement.rows (index_of_row session.now.configuration.movement.shape session.now.round table) }
 {
     let movement = &session.config().fields().movement;
-    let before = usize::from(session.round().saturating_sub(1)) * usize::from(movement.shape().tables);
+    let before = usize::from(session.round().saturating_sub(1))
+        * usize::from(movement.shape().tables);
     let index = before + usize::from(table.saturating_sub(1));
     Some(*movement.rows().get(index)?)
 }

@@ -17,8 +17,8 @@ mod style;
 mod told_results;
 
 pub use answering::answer_lines;
-pub use line_server::LineServer;
 pub use director_script::DIRECTOR_SCRIPT;
+pub use line_server::LineServer;
 pub use page::PAGE;
 pub use pages::TablePages;
 pub use script::SCRIPT;

@@ -5,8 +5,8 @@ ghost use Rattle.http.specs.Request.{head_of};
 ghost use Rattle.web_requests.specs.Filled.{IsText, IsUnavailable};
 ghost use Rattle.web_requests.specs.Route.{route_for};
 
-use crate::line_server::LineServer;
 use crate::director_script::DIRECTOR_SCRIPT;
+use crate::line_server::LineServer;
 use crate::page::PAGE;
 use crate::script::SCRIPT;
 use crate::style::STYLE;

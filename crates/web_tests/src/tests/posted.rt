@@ -6,7 +6,8 @@ use std::test::Fail;
 use table_server::serve;
 
 /// A deal, calls of both tables, a question for a view, and lines that are refused.
-const LINES: &str = "DEAL 100 1 N:AKQJT98765432... .AKQJT98765432.. ..AKQJT98765432. ...AKQJT98765432
+const LINES: &str =
+    "DEAL 100 1 N:AKQJT98765432... .AKQJT98765432.. ..AKQJT98765432. ...AKQJT98765432
 CALL 11 1 0 7S
 SEE 11
 CALL 31 1 1 PASS
@@ -76,9 +77,19 @@ fn results_wait_for_the_end(rt: HostRuntime) -> Result<(), Fail> {
         ("POST /results HTTP/1.1", "11", "ERR 2 NotAllowed\n"),
         ("POST /results HTTP/1.1", "12345", "ERR 1 NoKey\n"),
         ("POST /results HTTP/1.1", "key", "ERR 30 BadLine\n"),
-        ("POST /lines HTTP/1.1", "VOID 100 1 1 1\nVOID 100 1 2 1\nNEXT 100 1\n", "OK\nOK\nOK\n"),
+        (
+            "POST /lines HTTP/1.1",
+            "VOID 100 1 1 1\nVOID 100 1 2 1\nNEXT 100 1\n",
+            "OK\nOK\nOK\n",
+        ),
     ] {
-        let bytes = request(alloc, path, "127.0.0.1:4000", "application/x-table-lines", body)?;
+        let bytes = request(
+            alloc,
+            path,
+            "127.0.0.1:4000",
+            "application/x-table-lines",
+            body,
+        )?;
         let response = answered(&rt, alloc, &mut pages, bytes.as_slice(), 4096)?;
         expect_eq(&rt, body_of(response.as_slice()), due.as_bytes(), body);
     }

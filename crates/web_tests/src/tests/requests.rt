@@ -8,27 +8,135 @@ use std::test::Fail;
 use table_pages::{DIRECTOR_SCRIPT, PAGE, SCRIPT, STYLE};
 
 /// The first line of a request, its host, its type, its body, and the status that is due.
-type Row = (&'static str, &'static str, &'static str, &'static str, &'static str);
+type Row = (
+    &'static str,
+    &'static str,
+    &'static str,
+    &'static str,
+    &'static str,
+);
 
 /// Each refusal, in the order in which they are judged: a row that would be refused for more than one is so for the first.
 const ROWS: &[Row] = &[
-    ("GET / HTTP/1.1", "club.example:4000", "text/plain", "", "421"),
-    ("PUT /nothing HTTP/1.1", "127.0.0.1:4001", "text/plain", "", "421"),
-    ("GET http://127.0.0.1:4000/ HTTP/1.1", "127.0.0.1:4000", "text/plain", "", "421"),
-    ("PUT /nothing HTTP/1.1", "127.0.0.1:4000", "text/plain", "", "404"),
-    ("GET /table.jsx HTTP/1.1", "localhost:4000", "text/plain", "", "404"),
-    ("POST / HTTP/1.1", "127.0.0.1:4000", "application/x-table-lines", "", "405"),
-    ("DELETE /table.css HTTP/1.1", "127.0.0.1:4000", "text/plain", "", "405"),
-    ("GET /lines HTTP/1.1", "127.0.0.1:4000", "text/plain", "", "405"),
-    ("PUT /place HTTP/1.1", "127.0.0.1:4000", "application/x-table-lines", "11", "405"),
-    ("GET /tables HTTP/1.1", "127.0.0.1:4000", "application/x-table-lines", "100", "405"),
-    ("HEAD /results HTTP/1.1", "127.0.0.1:4000", "application/x-table-lines", "100", "405"),
-    ("POST /lines HTTP/1.1", "127.0.0.1:4000", "text/plain", "SYNC\n", "415"),
-    ("POST /place HTTP/1.1", "127.0.0.1:4000", "application/x-www-form-urlencoded", "11", "415"),
-    ("POST /tables HTTP/1.1", "127.0.0.1:4000", "application/x-table-lines;a=b", "100", "415"),
-    ("GET /?key=11 HTTP/1.1", "localhost:4000", "text/plain", "", "200"),
-    ("HEAD /table.js HTTP/1.1", "127.0.0.1:4000", "text/plain", "", "200"),
-    ("POST /lines HTTP/1.1", "localhost:4000", "application/x-table-lines", "SYNC\n", "200"),
+    (
+        "GET / HTTP/1.1",
+        "club.example:4000",
+        "text/plain",
+        "",
+        "421",
+    ),
+    (
+        "PUT /nothing HTTP/1.1",
+        "127.0.0.1:4001",
+        "text/plain",
+        "",
+        "421",
+    ),
+    (
+        "GET http://127.0.0.1:4000/ HTTP/1.1",
+        "127.0.0.1:4000",
+        "text/plain",
+        "",
+        "421",
+    ),
+    (
+        "PUT /nothing HTTP/1.1",
+        "127.0.0.1:4000",
+        "text/plain",
+        "",
+        "404",
+    ),
+    (
+        "GET /table.jsx HTTP/1.1",
+        "localhost:4000",
+        "text/plain",
+        "",
+        "404",
+    ),
+    (
+        "POST / HTTP/1.1",
+        "127.0.0.1:4000",
+        "application/x-table-lines",
+        "",
+        "405",
+    ),
+    (
+        "DELETE /table.css HTTP/1.1",
+        "127.0.0.1:4000",
+        "text/plain",
+        "",
+        "405",
+    ),
+    (
+        "GET /lines HTTP/1.1",
+        "127.0.0.1:4000",
+        "text/plain",
+        "",
+        "405",
+    ),
+    (
+        "PUT /place HTTP/1.1",
+        "127.0.0.1:4000",
+        "application/x-table-lines",
+        "11",
+        "405",
+    ),
+    (
+        "GET /tables HTTP/1.1",
+        "127.0.0.1:4000",
+        "application/x-table-lines",
+        "100",
+        "405",
+    ),
+    (
+        "HEAD /results HTTP/1.1",
+        "127.0.0.1:4000",
+        "application/x-table-lines",
+        "100",
+        "405",
+    ),
+    (
+        "POST /lines HTTP/1.1",
+        "127.0.0.1:4000",
+        "text/plain",
+        "SYNC\n",
+        "415",
+    ),
+    (
+        "POST /place HTTP/1.1",
+        "127.0.0.1:4000",
+        "application/x-www-form-urlencoded",
+        "11",
+        "415",
+    ),
+    (
+        "POST /tables HTTP/1.1",
+        "127.0.0.1:4000",
+        "application/x-table-lines;a=b",
+        "100",
+        "415",
+    ),
+    (
+        "GET /?key=11 HTTP/1.1",
+        "localhost:4000",
+        "text/plain",
+        "",
+        "200",
+    ),
+    (
+        "HEAD /table.js HTTP/1.1",
+        "127.0.0.1:4000",
+        "text/plain",
+        "",
+        "200",
+    ),
+    (
+        "POST /lines HTTP/1.1",
+        "localhost:4000",
+        "application/x-table-lines",
+        "SYNC\n",
+        "200",
+    ),
     ("nonsense", "127.0.0.1:4000", "text/plain", "", "400"),
 ];
 
@@ -118,7 +226,9 @@ fn expect_limit<N: Abort + RandomSource>(
     for _ in 0..target {
         bytes.push(b'a')?;
     }
-    bytes.extend_from_slice(b" HTTP/1.1\r\nHost: 127.0.0.1:4000\r\nConnection: close\r\nContent-Type: application/x-table-lines\r\nA: ")?;
+    bytes.extend_from_slice(
+        b" HTTP/1.1\r\nHost: 127.0.0.1:4000\r\nConnection: close\r\nContent-Type: application/x-table-lines\r\nA: ",
+    )?;
     for _ in 0..field {
         bytes.push(b'a')?;
     }
