@@ -1,6 +1,6 @@
 -- What the parts of a page are made of.
 use Rattle.std.proofs.Common.{◌≡◌, ℕ, ◌==◌, false, List, [], ◌∷◌, ◌++◌, length, Option, Some, None, Result, IsErr, refl}
-use Rattle.std.specs.Prelude.{MatchOption}
+use Rattle.std.specs.Prelude.{IfSome, is_some}
 use Rattle.std.specs.Option.{option_map}
 use Rattle.line_text.specs.Streams.{between, Takes, TakesPrefix, Written}
 use Rattle.line_text.proofs.Streams.{takes_prefix, prefix_longer, written_error}
@@ -21,6 +21,11 @@ played_some format s board [] none = cc
 played_some format s board (line ∷ lines) some = refl
 
 -- what holds of what is there holds of what is made of it
-pub mapped_match : {X Y : Type 0} (given : Option X) (f : X → Y) (P : Type 0) (Q : Y → Type 0) → MatchOption given P (λ x. Q (f x)) → MatchOption (option_map f given) P Q
-mapped_match None f P Q none = none
-mapped_match (Some x) f P Q some = some
+pub mapped_some : {X Y : Type 0} (given : Option X) (f : X → Y) (Q : Y → Type 0) → IfSome given (λ x. Q (f x)) → IfSome (option_map f given) Q
+mapped_some None f Q none = none
+mapped_some (Some x) f Q some = some
+
+-- and it is there where that is
+pub mapped_there : {X Y : Type 0} (given : Option X) (f : X → Y) → is_some (option_map f given) ≡ is_some given
+mapped_there None f = refl
+mapped_there (Some x) f = refl

@@ -1,5 +1,5 @@
 -- The results of a session as a page.
-use Rattle.std.specs.Prelude.{◌≡◌, ℕ, false, List, [], ◌∷◌, ◌++◌, codes, flat_map, Option, Some, None, MatchOption}
+use Rattle.std.specs.Prelude.{◌≡◌, ℕ, List, [], ◌∷◌, ◌++◌, codes, flat_map, Option, IfSome, is_some}
 use Rattle.std.specs.List.{range_with_len}
 use Rattle.std.specs.Option.{option_map_or}
 use Rattle.bridge_score.specs.declared.ranking.Ranked.{Ranked}
@@ -20,11 +20,10 @@ use Rattle.bridge_results.specs.RankingText.{field_text}
 use Rattle.bridge_results.specs.BoardText.{board_text}
 use Rattle.bridge_results.specs.CardText.{card_text}
 
--- the ranking of a field, where there is such a field
-abbrev pub IsFieldRanking : SessionValue → Field → Option (List Ranked) → Type 0
-IsFieldRanking s field ranking =
-    MatchOption ranking (has_field s.configuration.movement.shape field ≡ false)
-    (λ ranked. IsRankingOf s.configuration.scoring (lines_of s field) ranked)
+-- the ranking of a field, exactly where there is such a field
+pub record IsFieldRanking (s : SessionValue) (field : Field) (ranking : Option (List Ranked)) : Type 0 where
+  pub there : is_some ranking ≡ has_field s.configuration.movement.shape field
+  pub ranked : IfSome ranking (IsRankingOf s.configuration.scoring (lines_of s field))
 
 -- the text of a field, if there is such a field
 abbrev pub ranked_text : Format → ConfigValue → Field → Option (List Ranked) → List ℕ

@@ -1,5 +1,5 @@
 //! The results of a session.
-ghost use Rattle.std.specs.Prelude.{◌≡◌, false, AllPairs, IsPermutation, MatchOption};
+ghost use Rattle.std.specs.Prelude.{◌≡◌, AllPairs, IsPermutation, IfSome, is_some};
 ghost use Rattle.bridge_ranking.specs.Ranking.{has_field, lines_of, games_of, IsRankingOf};
 ghost use Rattle.bridge_results.specs.Plays.{plays_of};
 ghost use Rattle.bridge_results.specs.Traveller.{StandsOver, rows_of, traveller};
@@ -88,9 +88,8 @@ impl<'a> Results<'a> {
 
     /// The ranking of a field, or `None` where the session has no such field.
     pub fn ranking(&self, field: Field) -> Option<Ranking>
-        ensures { MatchOption result
-            (has_field self.now.configuration.movement.shape field ≡ false)
-            (λ ranking. IsRankingOf self.now.configuration.scoring (lines_of self.now field) ranking.items) }
+        ensures field { is_some result ≡ has_field self.now.configuration.movement.shape field }
+        ensures ranking { IfSome result (λ ranking. IsRankingOf self.now.configuration.scoring (lines_of self.now field) ranking.items) }
     {
         let fields = self.session.config().fields();
         let shape = fields.movement.shape();

@@ -212,12 +212,14 @@ fn a_damaged_record_is_named(rt: HostRuntime) -> Result<(), Fail> {
 fn streams_that_fail_are_named(rt: HostRuntime) -> Result<(), Fail> {
     let (disk, config) = ("bridge_club_output.disk", "bridge_club_output.txt");
     write_config(&rt, rt.alloc(), config, MOVEMENT)?;
-    let rows: [&[&str]; 6] = [
+    let rows: [&[&str]; 8] = [
         &["auction", "1"],
         &["format", disk, config],
         &["check", disk],
         &["rank", disk],
         &["pbn", disk],
+        &["results", disk],
+        &["results", disk, "--html"],
         &["script", disk],
     ];
     for words in rows {

@@ -1,9 +1,6 @@
-use Rattle.std.proofs.Common.{ap, ◌∙◌, subst, ℕ}
-use Rattle.std.specs.Prelude.{flat_map}
-use Rattle.std.specs.List.{range_with_len}
-use Rattle.line_text.specs.Streams.{stream, Written}
+use Rattle.std.proofs.Common.{ap, ◌∙◌}
 use Rattle.bridge_config.specs.ConfigValue.{ConfigValue}
-use Rattle.bridge_results.specs.ResultsText.{card_on, all_cards}
+use Rattle.bridge_results.specs.ResultsText.{all_cards}
 use Rattle.bridge_results.proofs.pages.page.write_all_cards.Goals as goal
 
 pub returns : goal.returns
