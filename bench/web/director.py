@@ -133,6 +133,9 @@ class Page:
                 pictures(self.window, PICTURES, button)
             self.window.click(f"#{answer}")
             self.window.wait("document.getElementById('rule-question').childNodes.length === 0")
+            if answer == "no":
+                time.sleep(0.5)
+                self.told("")
         self.told(f"{name}: done.")
 
     def other_board(self, play, boards):
@@ -152,6 +155,9 @@ class Page:
         self.window.click("#end-round")
         question = f"End round {round_}" + (", and close the session?" if round_ == 7 else "?")
         self.window.wait(f"document.querySelector('#end-question p').textContent === {question!r}")
+        self.window.click("#no")
+        self.window.wait("document.getElementById('end-question').childNodes.length === 0")
+        self.window.click("#end-round")
         self.window.click("#yes")
         self.told(f"End of round {round_}: done.")
 
@@ -244,8 +250,8 @@ def first_round(evening, page):
             killed(evening, page)
         for key in list(evening.windows)[1:]:
             is_a_players(evening, key)
-    page.number("rule-tricks", 9)
-    page.rule("rule-set", (1, 2, evening.first_board(1, 2)), "Set declarer's tricks to 9")
+    page.number("rule-tricks", 11)
+    page.rule("rule-set", (1, 2, evening.first_board(1, 2)), "Set declarer's tricks to 11")
     pictures(page.window, PICTURES, "round_is_done")
     page.end_round(1)
 
@@ -292,6 +298,14 @@ def results(page):
     return page.window.value(text_of("results"))
 
 
+def are_ruled(text):
+    """What was ruled in the first round, as the results have it: the play's pairs and what stands behind them."""
+    rows = [line.split() for line in text.splitlines()]
+    assert ["1", "3", "3", "10", "Void"] in rows, "no play is void"
+    assert any(row[:6] == ["1", "5", "5", "12", "Adjusted", "60/40%"] for row in rows), "no averages are awarded"
+    assert any(row[:4] == ["1", "2", "2", "9"] and row[-4:-3] == ["11"] for row in rows), "the tricks are not set"
+
+
 def printed(evening):
     """The lines of each field as `rank` prints them; the server is not running."""
     text = subprocess.run([PROGRAM, "rank", evening.disk], check=True, stdout=subprocess.PIPE).stdout.decode()
@@ -318,6 +332,7 @@ def main():
             shown = rankings(page)
             pictures(page.window, PICTURES, "ranking")
             text = results(page)
+            are_ruled(text)
             is_refused(evening, closed)
             for key in players:
                 if closed:

@@ -36,12 +36,14 @@ class Server:
 
 
 def pictures(window, folder, name):
-    """The page at a telephone's and at a table's width; nothing where there is no folder."""
+    """The page at a telephone's and at a table's width, which it does not exceed; nothing where there is no folder."""
     if folder:
         window.value("scrollTo(0, 0)")
         for width, height in [(390, 844), (1024, 900)]:
             window.size(width, height)
             time.sleep(0.3)
+            wide = window.value("document.documentElement.scrollWidth")
+            assert wide <= width, f"{name} is {wide} pixels wide at {width}"
             window.picture(os.path.join(folder, f"{name}_{width}.png"))
 
 
