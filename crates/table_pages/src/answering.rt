@@ -5,7 +5,7 @@ ghost use Rattle.table_pages.specs.Answered.{AnswersBody, AnswersLines, is_settl
 ghost use Rattle.table_pages.specs.ToldResults.{results_told};
 
 use crate::line_server::LineServer;
-use crate::told_results::told_results;
+use crate::results_reply::told_results;
 use bridge_endings::Cache;
 use bridge_session::Session;
 use player_place::push_place;
