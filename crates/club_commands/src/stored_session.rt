@@ -1,5 +1,6 @@
 //! The session that a disk holds.
 ghost use Rattle.std.specs.Prelude.{◌≡◌, [], false, IfOk, IfErr};
+ghost use Rattle.sector_disk.specs.Runs.{Quiet};
 ghost use Rattle.session_store.specs.Stands.{header_in};
 ghost use Rattle.club_commands.specs.Readings.{ReadsSession, RefusesReading, ReadsFound, RefusesFoundReading};
 ghost use Rattle.club_commands.specs.Stored.{OpensSession, RefusesDisk, OpensFound, RefusesFound};
@@ -43,6 +44,7 @@ pub fn open_found<D: SectorDisk + Drop>(
 fn read_disk<D: SectorDisk>(alloc: Global, disk: &mut D) -> Result<Session, StoreFault>
     ensures read { IfOk result (ReadsSession D.disk disk.old) }
     ensures fault { IfErr result (RefusesReading D.disk header_in disk.old) }
+    ensures quiet { Quiet D.disk disk.old disk.new }
 {
     match read_state::<D, Session>(alloc, disk) {
         Ok(found) => {

@@ -1,6 +1,7 @@
 use Rattle.std.proofs.Common.{[], inl, inr, refl, subst}
 use Rattle.std.proofs.lemmas.Result.{err_from_is_err_and}
 use Rattle.line_text.specs.Streams.{stream}
+use Rattle.sector_disk.proofs.RunLaws.{quiet_joins}
 use Rattle.session_store.specs.Stands.{header_in}
 use Rattle.club_commands.specs.Readings.{RefusesReading}
 use Rattle.club_commands.proofs.Seen.{refuses_reading, says_seen, checks, stops_writing}
@@ -44,3 +45,11 @@ returns-in_err-tell_older-in-Err-Damaged-clause-fault g c =
     let p = err_from_is_err_and c.from_residual.result c.from_residual.ensures.1 in
     rw (p.1, p.2, c.in_err-tell_older-in-Err-Damaged.ensures.fault)
     (refl, (told.0, inr (c.in-Err-Damaged.sector, named, (c.read_state.new.disk, c.read_state.ensures.quiet, told.1)), told.2))
+
+pub returns-in_ok-tell_older-in-Err-Damaged-clause-quiet : goal.returns-in_ok-tell_older-in-Err-Damaged-clause-quiet
+returns-in_ok-tell_older-in-Err-Damaged-clause-quiet g c =
+    quiet_joins g.D.SectorDisk.disk _ _ _ c.read_state.ensures.quiet c.in_ok-tell_older-in-Err-Damaged.ensures.quiet
+
+pub returns-in_err-tell_older-in-Err-Damaged-clause-quiet : goal.returns-in_err-tell_older-in-Err-Damaged-clause-quiet
+returns-in_err-tell_older-in-Err-Damaged-clause-quiet g c =
+    quiet_joins g.D.SectorDisk.disk _ _ _ c.read_state.ensures.quiet c.in_err-tell_older-in-Err-Damaged.ensures.quiet
