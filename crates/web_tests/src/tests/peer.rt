@@ -1,4 +1,7 @@
 //! A peer of which the bytes are known, and the pages over a session's store on a disk in memory.
+ghost use Rattle.std.specs.Prelude.{◌≡◌, true, IfOk, IfSome};
+ghost use Rattle.table_pages.specs.Answered.{is_settled};
+
 use bridge_config::read_config;
 use bridge_endings::Cache;
 use bridge_session::Session;
@@ -32,8 +35,20 @@ PAIR 4 Gus 41 Hal 42
 /// A store of a session on a disk in memory.
 pub type ClubStore = Store<MemoryDisk, Session>;
 
+/// The store that a disk holds, which works and has nothing pending.
+fn open(alloc: Global, disk: MemoryDisk) -> Option<ClubStore>
+    ensures { IfSome result (λ store. is_settled store.failed store.pending ≡ true) }
+{
+    match Store::open(alloc, disk) {
+        Ok(store) => Some(store),
+        Err(_) => None,
+    }
+}
+
 /// The store of the opening session.
-pub fn opened(alloc: Global) -> std::result::Result<ClubStore, Fail> {
+pub fn opened(alloc: Global) -> std::result::Result<ClubStore, Fail>
+    ensures { IfOk result (λ store. is_settled store.failed store.pending ≡ true) }
+{
     let Ok(config) = read_config(CLUB.as_bytes()) else {
         return Err(Fail::from("a configuration"));
     };
@@ -41,9 +56,9 @@ pub fn opened(alloc: Global) -> std::result::Result<ClubStore, Fail> {
     let Ok(disk) = format(MemoryDisk::new(alloc, 2048)?, &session) else {
         return Err(Fail::from("a formatted disk"));
     };
-    match Store::open(alloc, disk) {
-        Ok(store) => Ok(store),
-        Err(_) => Err(Fail::from("an opened store")),
+    match open(alloc, disk) {
+        Some(store) => Ok(store),
+        None => Err(Fail::from("an opened store")),
     }
 }
 
