@@ -150,19 +150,15 @@ pub fn request(
 ) -> Result<Vec<u8>, Fail> {
     let length = format!(in alloc; "{}", body.len())?;
     let mut bytes = Vec::new(alloc);
-    for part in [
-        first,
-        "\r\nHost: ",
-        host,
-        "\r\nConnection: close\r\nContent-Type: ",
-        kind,
-        "\r\nContent-Length: ",
-        length.as_str(),
-        "\r\n\r\n",
-        body,
-    ] {
-        bytes.extend_from_slice(part.as_bytes())?;
-    }
+    bytes.extend_from_slice(first.as_bytes())?;
+    bytes.extend_from_slice(b"\r\nHost: ")?;
+    bytes.extend_from_slice(host.as_bytes())?;
+    bytes.extend_from_slice(b"\r\nConnection: close\r\nContent-Type: ")?;
+    bytes.extend_from_slice(kind.as_bytes())?;
+    bytes.extend_from_slice(b"\r\nContent-Length: ")?;
+    bytes.extend_from_slice(length.as_bytes())?;
+    bytes.extend_from_slice(b"\r\n\r\n")?;
+    bytes.extend_from_slice(body.as_bytes())?;
     Ok(bytes)
 }
 
