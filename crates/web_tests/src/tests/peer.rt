@@ -1,0 +1,113 @@
+//! A peer of which the bytes are known, and the pages over a session's store on a disk in memory.
+ghost use Rattle.std.specs.Prelude.{◌≡◌, true, IfOk, IfSome};
+ghost use Rattle.table_pages.specs.Answered.{is_settled};
+
+use bridge_config::read_config;
+use bridge_endings::Cache;
+use bridge_session::Session;
+use http_server::Connection;
+use sector_disk::MemoryDisk;
+use session_store::{Store, format};
+use std::alloc::Global;
+use std::hash::RandomState;
+use std::io::{Error, ErrorKind, Read, Result};
+use std::random::RandomSource;
+use std::test::Fail;
+use table_pages::{TablePages, limits};
+use web_loop::{Turn, take_turn};
+
+/// Two tables, one round, one board.
+const CLUB: &str = "EVENT Club-Night
+SITE Town-Hall
+DATE 2026.03.14
+SCORING MP
+BOARDS 1
+MOVEMENT 2 1 1 4 2
+ROW 1 1 1 3 1
+ROW 1 2 2 4 1
+DIRECTOR 100
+PAIR 1 Ann 11 Bob 12
+PAIR 2 Cat 21 Dan 22
+PAIR 3 Eve 31 Fay 32
+PAIR 4 Gus 41 Hal 42
+";
+
+/// A store of a session on a disk in memory.
+pub type ClubStore = Store<MemoryDisk, Session>;
+
+/// The store that a disk holds, which works and has nothing pending.
+fn open(alloc: Global, disk: MemoryDisk) -> Option<ClubStore>
+    ensures { IfSome result (λ store. is_settled store.failed store.pending ≡ true) }
+{
+    match Store::open(alloc, disk) {
+        Ok(store) => Some(store),
+        Err(_) => None,
+    }
+}
+
+/// The store of the opening session.
+pub fn opened(alloc: Global) -> std::result::Result<ClubStore, Fail>
+    ensures { IfOk result (λ store. is_settled store.failed store.pending ≡ true) }
+{
+    let Ok(config) = read_config(CLUB.as_bytes()) else {
+        return Err(Fail::from("a configuration"));
+    };
+    let session = Session::new(alloc, config)?;
+    let Ok(disk) = format(MemoryDisk::new(alloc, 2048)?, &session) else {
+        return Err(Fail::from("a formatted disk"));
+    };
+    match open(alloc, disk) {
+        Some(store) => Ok(store),
+        None => Err(Fail::from("an opened store")),
+    }
+}
+
+/// The pages at port 4000 over the opening session.
+pub fn pages(alloc: Global) -> std::result::Result<TablePages<ClubStore>, Fail> {
+    let store = opened(alloc)?;
+    let cache = Cache::new(alloc, 16)?;
+    Ok(TablePages::new(alloc, 4000, store, cache)?)
+}
+
+/// Gives so many bytes at each read, and blocks before each and once all are given.
+#[derive(Drop)]
+pub struct Peer<'a> {
+    pub unread: &'a [u8],
+    pub piece: usize,
+    pub blocks: bool,
+}
+
+impl Read for Peer<'_> {
+    fn read(&mut self, buf: &mut [u8]) -> Result<usize> {
+        self.blocks = !self.blocks;
+        if self.blocks || self.unread.is_empty() {
+            return Err(Error::from(ErrorKind::WouldBlock));
+        }
+        let most = buf.len().min(self.piece);
+        self.unread.read(&mut buf[..most])
+    }
+}
+
+/// All that is written for these requests on one connection, of which each read gives so many bytes, in as many turns.
+pub fn answered<N: RandomSource>(
+    rt: &N,
+    alloc: Global,
+    pages: &mut TablePages<ClubStore>,
+    requests: &[u8],
+    piece: usize,
+) -> std::result::Result<Vec<u8>, Fail> {
+    let mut connection = Connection::new(alloc, RandomState::new(rt)?, limits());
+    let mut peer = Peer {
+        unread: requests,
+        piece,
+        blocks: false,
+    };
+    let mut written = Vec::new(alloc);
+    for _ in 0..200_000 {
+        let turn = take_turn(&mut connection, pages, &mut peer, &mut written);
+        if turn == Turn::Closes || (peer.unread.is_empty() && !connection.wants_write()) {
+            return Ok(written);
+        }
+    }
+    Err(Fail::from("an end"))
+}
