@@ -6,7 +6,8 @@ address=${2:?the address of the pages, such as http://127.0.0.1:4000}
 slip() { # NAME, PAIR, KEY
     printf -- '- - - - - - - - - - - - - - - - - - - - - - - -\n%s%s\nkey      %s\npage     %s\n' "$1" "$2" "$3" "$address"
 }
-while read -r word first second third fourth fifth; do
+# The last line may have no end, and a line a carriage return before it.
+while read -r word first second third fourth fifth || [ -n "$word" ]; do
     case $word in
         DIRECTOR) slip Director '' "$first" ;;
         PAIR)
@@ -14,4 +15,4 @@ while read -r word first second third fourth fifth; do
             slip "$fourth" ", pair $first" "$fifth"
             ;;
     esac
-done < "$config"
+done < <(tr -d '\r' < "$config")

@@ -59,6 +59,11 @@ class Browser:
             raise RuntimeError(f"{method}: {answer['error']}")
         return answer["result"]
 
+    def events_of(self, method, session):
+        """What came so far of such events of a window."""
+        with self.news:
+            return [event["params"] for event in self.events if event.get("sessionId") == session and event["method"] == method]
+
     def close(self):
         self.process.kill()
         self.process.wait()
@@ -73,6 +78,7 @@ class Window:
         self.session = browser.ask("Target.attachToTarget", targetId=target, flatten=True)["sessionId"]
         for domain in ["Page", "Runtime", "Log"]:
             self.ask(domain + ".enable")
+        self.ask("Network.enable", maxPostDataSize=65536)
         self.size(width, height)
         self.go(address)
 
@@ -133,5 +139,4 @@ class Window:
     def complaints(self):
         """What the console has said in this window."""
         kinds = ["Runtime.consoleAPICalled", "Runtime.exceptionThrown", "Log.entryAdded"]
-        with self.browser.news:
-            return [e["params"] for e in self.browser.events if e.get("sessionId") == self.session and e["method"] in kinds]
+        return [event for kind in kinds for event in self.browser.events_of(kind, self.session)]

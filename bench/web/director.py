@@ -1,11 +1,11 @@
-"""An evening of seven tables that the director runs by clicks alone, over `bridge_club web`.
+"""An evening of seven tables, one of them half, that the director runs by clicks alone, over `bridge_club web`.
 
     director.py PROGRAM [FOLDER [ROUNDS]]      (pictures go to FOLDER; 7 rounds when left out)
 
 The players' lines are posted with their keys. What is looked at: that the director's page does what its buttons say, that a
 round ends by its button alone and no sooner than all tables are done, that the page goes on by itself over a server that is
-killed, that the ranking and the results shown in the end are what `rank` and `results` print, and that nothing of the
-director's comes to a player."""
+killed, that the ranking and the results shown in the end are what `rank` and `results` print, that `script` makes the same
+ranking, results and games of all lines that were sent, and that nothing of the director's comes to a player."""
 import os
 import random
 import subprocess
@@ -22,10 +22,14 @@ PROGRAM = os.path.abspath(sys.argv[1])
 PICTURES = sys.argv[2] if len(sys.argv) > 2 and sys.argv[2] else None
 ROUNDS = int(sys.argv[3]) if len(sys.argv) > 3 else 7
 DEAL = "N:AKQJ.T98.765.432 T98.765.432.AKQJ 765.432.AKQJ.T98 432.AKQJ.T98.765"
-CONFIG = os.path.join(os.path.dirname(os.path.abspath(__file__)), "..", "..", "examples", "evening.txt")
+EVENING = os.path.join(os.path.dirname(os.path.abspath(__file__)), "..", "..", "examples", "evening.txt")
 PORT = 47410
 TABLES = 7
+# At the last table nobody sits North and South, so that in each round a pair sits out.
+PLAYED = range(1, TABLES)
 BOARDS = 3
+# The lines that change a session.
+CHANGES = ["DEAL", "SHUFFLE", "CALL", "CARD", "CLAIM", "AGREE", "REFUSE", "NEXT", "TRICKS", "VOID", "RESTORE", "ADJUST"]
 # The elements that the director's page alone has.
 OWN = ["tables", "told", "end-round", "dealing", "ruling", "solving", "ranking", "publishing", "lines", "box"]
 
@@ -34,16 +38,38 @@ def text_of(element):
     return f"document.getElementById('{element}').textContent"
 
 
+def guests(round_, table):
+    """The pair of East and West: they go up a table after each round."""
+    return TABLES + (table - round_) % TABLES
+
+
+def half_table():
+    """The configuration of the example without its seventh pair, so that the last table has nobody in North and South."""
+    with open(EVENING, encoding="ascii") as file:
+        lines = file.read().splitlines()
+    rows = [f"ROW {round_} {table} {table % TABLES} {guests(round_, table)} {(table + round_ - 2) % TABLES + 1}"
+            for round_ in range(1, TABLES + 1) for table in range(1, TABLES + 1)]
+    pairs = [line.split(" ", 2)[2] for line in lines if line.startswith("PAIR ") and not line.startswith("PAIR 7 ")]
+    head = [line for line in lines if line.split()[0] in ["EVENT", "SITE", "DATE", "SCORING", "BOARDS"]]
+    director = [line for line in lines if line.startswith("DIRECTOR")]
+    movement = [f"MOVEMENT {TABLES} {TABLES} {TABLES} {len(pairs)} {TABLES - 1}"]
+    return head + movement + rows + director + [f"PAIR {number} {pair}" for number, pair in enumerate(pairs, 1)]
+
+
 class Evening:
     """The server, the director's window, and what was said to players."""
 
     def __init__(self, work):
-        with open(CONFIG, encoding="ascii") as file:
-            words = [line.split() for line in file]
+        config = half_table()
+        self.config = os.path.join(work, "half.txt")
+        with open(self.config, "w", encoding="ascii") as file:
+            file.write("\n".join(config) + "\n")
+        words = [line.split() for line in config]
         self.director = next(line[1] for line in words if line[0] == "DIRECTOR")
         self.keys = {int(line[1]): (line[3], line[5]) for line in words if line[0] == "PAIR"}
         self.disk = os.path.join(work, "web.disk")
-        subprocess.run([PROGRAM, "format", self.disk, CONFIG], check=True, stdout=subprocess.DEVNULL)
+        subprocess.run([PROGRAM, "format", self.disk, self.config], check=True, stdout=subprocess.DEVNULL)
+        self.posted = []
         self.server = Server(PROGRAM, self.disk, PORT)
         self.browser = Browser(os.path.join(work, "profile"))
         self.chance = random.Random(7)
@@ -61,6 +87,7 @@ class Evening:
 
     def lines(self, *lines):
         """Replies to lines of players, of which none may tell what is the director's."""
+        self.posted.append((time.time(), lines))
         status, text = self.server.posted("/lines", "".join(line + "\n" for line in lines))
         assert status == 200, status
         for word in [self.director, "TABLE ", "BOARDS ", "ROUND "]:
@@ -68,8 +95,8 @@ class Evening:
         return text
 
     def row_keys(self, round_, table):
-        """The keys from North clockwise: pairs T + 1 to 2T go up a table after each round."""
-        ns, ew = self.keys[table], self.keys[TABLES + (table - round_) % TABLES + 1]
+        """The keys from North clockwise."""
+        ns, ew = self.keys[table], self.keys[guests(round_, table)]
         return [ns[0], ew[0], ns[1], ew[1]]
 
     def first_board(self, round_, table):
@@ -91,6 +118,17 @@ class Evening:
         lines = plays.play_lines(self.chance, board, keys, self.hands(keys), calls, self.chance.randrange(6, 11), tricks)
         replies = self.lines(*lines)
         assert replies == "OK\n" * len(lines), f"{lines}: {replies}"
+
+
+    def clicked(self):
+        """When the director's page sent which lines."""
+        sent = self.browser.events_of("Network.requestWillBeSent", self.windows[self.director].session)
+        return [(one["wallTime"], one["request"]["postData"].splitlines()) for one in sent if one["request"]["url"].endswith("/lines")]
+
+    def changes(self):
+        """All lines that may have changed the session, in the order in which they were sent."""
+        sent = sorted(self.posted + self.clicked(), key=lambda one: one[0])
+        return [line for _, lines in sent for line in lines if line.split()[0] in CHANGES]
 
 
 class Page:
@@ -229,7 +267,7 @@ def killed(evening, page):
 
 def first_round(evening, page):
     """Round 1, with rulings and a server that dies; the button stays grey until the last table is done."""
-    for table in range(1, TABLES + 1):
+    for table in PLAYED:
         first = evening.first_board(1, table)
         for board in range(first, first + BOARDS):
             time.sleep(1.2)
@@ -270,8 +308,8 @@ def solve(evening, page, board):
 
 def other_round(evening, page, round_):
     """A round without rulings; the tables in another order, and each board of the last one looked at."""
-    page.window.wait(f"{text_of('status')}.startsWith('Round {round_} of 7. Still at play: tables 1, 2, 3, 4, 5, 6, 7.')")
-    tables = list(range(1, TABLES + 1))
+    page.window.wait(f"{text_of('status')}.startsWith('Round {round_} of 7. Still at play: tables 1, 2, 3, 4, 5, 6.')")
+    tables = list(PLAYED)
     evening.chance.shuffle(tables)
     for table in tables:
         first = evening.first_board(round_, table)
@@ -301,15 +339,30 @@ def results(page):
 def are_ruled(text):
     """What was ruled in the first round, as the results have it: the play's pairs and what stands behind them."""
     rows = [line.split() for line in text.splitlines()]
-    assert ["1", "3", "3", "10", "Void"] in rows, "no play is void"
-    assert any(row[:6] == ["1", "5", "5", "12", "Adjusted", "60/40%"] for row in rows), "no averages are awarded"
-    assert any(row[:4] == ["1", "2", "2", "9"] and row[-4:-3] == ["11"] for row in rows), "the tricks are not set"
+    assert ["1", "3", "3", "9", "Void"] in rows, "no play is void"
+    assert any(row[:6] == ["1", "5", "5", "11", "Adjusted", "60/40%"] for row in rows), "no averages are awarded"
+    assert any(row[:4] == ["1", "2", "2", "8"] and row[-4:-3] == ["11"] for row in rows), "the tricks are not set"
+
+
+def told_by(disk, *words):
+    """What a command prints of a disk; the server is not running."""
+    return subprocess.run([PROGRAM, words[0], disk, *words[1:]], check=True, stdout=subprocess.PIPE).stdout.decode()
 
 
 def printed(evening):
-    """The lines of each field as `rank` prints them; the server is not running."""
-    text = subprocess.run([PROGRAM, "rank", evening.disk], check=True, stdout=subprocess.PIPE).stdout.decode()
-    return [part.splitlines()[1:] for part in text.split("FIELD ")[1:]]
+    """The lines of each field as `rank` prints them."""
+    return [part.splitlines()[1:] for part in told_by(evening.disk, "rank").split("FIELD ")[1:]]
+
+
+def by_script(evening, work):
+    """A disk over which `script` answered all lines that were sent, in runs of fewer bytes than one takes."""
+    disk = os.path.join(work, "script.disk")
+    subprocess.run([PROGRAM, "format", disk, evening.config], check=True, stdout=subprocess.DEVNULL)
+    changes = evening.changes()
+    for first in range(0, len(changes), 400):
+        text = "".join(line + "\n" for line in changes[first:first + 400])
+        subprocess.run([PROGRAM, "script", disk], input=text.encode(), check=True, stdout=subprocess.DEVNULL)
+    return disk
 
 
 def main():
@@ -343,12 +396,14 @@ def main():
             assert not complaints(evening.windows), complaints(evening.windows)
             evening.server.kill()
             assert shown == printed(evening), f"{shown} in place of {printed(evening)}"
-            told = subprocess.run([PROGRAM, "results", evening.disk], check=True, stdout=subprocess.PIPE).stdout.decode()
-            assert text == told, "the results shown are not those of the command"
+            assert text == told_by(evening.disk, "results"), "the results shown are not those of the command"
+            other = by_script(evening, work)
+            for words in [["rank"], ["pbn"], ["results"], ["results", "--html"]]:
+                assert told_by(evening.disk, *words) == told_by(other, *words), f"{words}: script makes something else of the lines"
         finally:
             evening.browser.close()
             evening.server.kill()
-    print(f"{ROUNDS} rounds of {TABLES} tables by the director's clicks; the ranking and the results shown are those of the commands; nothing of the director's came to a player")
+    print(f"{ROUNDS} rounds of {TABLES} tables, one of them half, by the director's clicks; the ranking and the results shown are those of the commands, and of script over the same lines; nothing of the director's came to a player")
 
 
 main()

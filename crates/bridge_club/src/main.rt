@@ -2,12 +2,15 @@
 //!
 //! ```sh
 //! bridge_club auction 1 < examples/auction.txt
+//! bridge_club plan examples/mitchell.txt
 //! bridge_club format club.disk examples/mitchell.txt
 //! bridge_club script club.disk < lines.txt
 //! bridge_club serve club.disk 4000 12
 //! bridge_club web club.disk 4000 180
 //! bridge_club rank club.disk
 //! bridge_club pbn club.disk
+//! bridge_club results club.disk --html
+//! bridge_club check club.disk
 //! ```
 #![tactic(auto)]
 

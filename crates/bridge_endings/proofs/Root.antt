@@ -1,6 +1,5 @@
 -- The worth of the ending that is solved, and what the first trick's answers tell of it.
-use Rattle.std.proofs.Common.{◌≡◌, ℕ, ◌*◌, ◌<◌, ◌≤◌, Bool, true, false, nat_le, List, [], Option, sym, ap, ◌∙◌, arith}
-use Rattle.std.proofs.lemmas.Bool.{leb-true, leb-false}
+use Rattle.std.proofs.Common.{◌≡◌, ℕ, ◌*◌, ◌≤◌, Bool, nat_le, List, [], Option, ap, ◌∙◌, arith}
 use Rattle.bridge_cards.specs.declared.suit.Suit.{Suit}
 use Rattle.bridge_cards.specs.declared.seat.Seat.{Seat}
 use Rattle.bridge_endings.specs.EndingValue.{EndingValue}
@@ -16,7 +15,7 @@ worth_of_le ending =
 
 -- what the search is asked at first is the worth of the ending
 module _ (ending : EndingValue) (hands : List ℕ) (trump : Option Suit) (leader : Seat) (tricks left need : ℕ) (answer : Bool) (hands_is : hands ≡ ending.hands) (trump_is : trump ≡ ending.trump) (leader_is : leader ≡ ending.leader) (tricks_is : tricks ≡ tricks_in ending.hands) (left_is : left_to ending.hands left ≡ dealt ending.hands) (told : answer ≡ nat_le need (worth_with trump (4 * tricks) (left_to hands left) leader [])) where
-  asked : answer ≡ nat_le need (worth_of ending)
+  pub asked : answer ≡ nat_le need (worth_of ending)
   asked =
       told
       ∙ ap (nat_le need) (
@@ -26,9 +25,3 @@ module _ (ending : EndingValue) (hands : List ℕ) (trump : Option Suit) (leader
       ∙ ap (λ held. worth_with ending.trump (4 * tricks_in ending.hands) held leader []) left_is
       ∙ ap (λ seat. worth_with ending.trump (4 * tricks_in ending.hands) (dealt ending.hands) seat []) leader_is
       )
-
-  pub told_yes : answer ≡ true → need ≤ worth_of ending
-  told_yes is = leb-true need (worth_of ending) (sym asked ∙ is)
-
-  pub told_no : answer ≡ false → worth_of ending < need
-  told_no is = leb-false need (worth_of ending) (sym asked ∙ is)

@@ -1,5 +1,5 @@
 //! Two bounds of a worth, and how an answer brings them closer.
-ghost use Rattle.std.specs.Prelude.{◌≡◌, ℕ, ◌<◌, nat_le};
+ghost use Rattle.std.specs.Prelude.{◌≡◌, ℕ, ◌+◌, ◌<◌, ◌≤◌, nat_le};
 ghost use Rattle.bridge_endings.specs.Between.{IsBounded};
 
 /// Two bounds of the worth of an ending.
@@ -14,7 +14,8 @@ pub struct Bounds {
 /// The bounds once it is known whether so many tricks are reached.
 pub fn narrowed(known: Bounds, need: u8, answer: bool) -> Bounds
     requires { known.least < need }
-    ensures { (worth : ℕ) → IsBounded worth known → answer ≡ nat_le need worth → IsBounded worth result }
+    ensures bounded { (worth : ℕ) → IsBounded worth known → answer ≡ nat_le need worth → IsBounded worth result }
+    ensures closer { need ≤ known.most → (result.most ≤ known.most) × (result.most + known.least < known.most + result.least) }
 {
     if answer {
         Bounds {

@@ -82,7 +82,7 @@ impl Cache {
         self.known.peek(&key(ending)).copied()
     }
 
-    /// KeepsWorth the worth of the ending as both its bounds, where memory is not refused; for an ending that was kept already
+    /// Keeps the worth of the ending as both its bounds, where memory is not refused; for an ending that was kept already
     /// none is asked for. So many cards were tried by now.
     pub(crate) fn keep(&mut self, ending: &Ending, worth: u8, tried: u64)
         requires { worth ≡ worth_of ending.now }

@@ -19,8 +19,11 @@ pub struct Seen {
 }
 
 impl Search {
-    /// What is seen of the other hands before a card is played to the trick.
-    pub fn seen(&self, left: CardSet, trick: &Trick) -> Seen {
+    /// What is seen of the other hands before one of the cards is played to the trick; nothing where there is no choice.
+    pub fn seen(&self, left: CardSet, cards: CardSet, trick: &Trick) -> Seen {
+        if !is_choice(cards) {
+            return Seen::default();
+        }
         match trick.led() {
             None => self.leads(left, trick.turn()),
             Some(led) => Seen {
@@ -77,6 +80,13 @@ impl Search {
                 .trump()
                 .is_some_and(|trump| !hand.of_suit(trump).is_empty())
     }
+}
+
+/// Whether there are two cards or more.
+fn is_choice(cards: CardSet) -> bool {
+    cards
+        .lowest()
+        .is_some_and(|card| !cards.without(card).is_empty())
 }
 
 /// One of the cards, the one that the hand in turn tries first; `None` where there is none.

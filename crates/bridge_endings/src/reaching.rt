@@ -20,8 +20,12 @@ impl Search {
         ensures worth { result ≡ nat_le need (worth_with self.old.trump (4 * tricks) (left_to self.old.hands left) leader []) }
         ensures later { GoesOn self.old self.new }
     {
+        let trick = Trick::new(self.trump(), leader);
+        if is_settled(&trick, tricks, need) {
+            return need == 0;
+        }
         if tricks < 2 {
-            return self.reaches(left, &Trick::new(self.trump(), leader), tricks, need);
+            return self.reaches(left, &trick, tricks, need);
         }
         if need == settled_by_one(leader, tricks) && self.sure_card(left, leader).is_some() {
             return is_sought(leader);
@@ -31,7 +35,7 @@ impl Search {
         if need <= known.least || need > known.most {
             return need <= known.least;
         }
-        let answer = self.reaches(left, &Trick::new(self.trump(), leader), tricks, need);
+        let answer = self.reaches(left, &trick, tricks, need);
         let bounds = narrowed(known, need, answer);
         self.note(Found {
             hands,
@@ -61,7 +65,7 @@ impl Search {
             return need == 0;
         }
         let sought = is_sought(trick.turn());
-        let seen = self.seen(left, trick);
+        let seen = self.seen(left, legal, trick);
         let mut rest = legal;
         while let Some(card) = next_card(rest, trick, &seen) {
             rest = rest.without(card).difference(self.equals(card));

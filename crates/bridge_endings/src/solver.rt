@@ -4,6 +4,7 @@ ghost use Rattle.bridge_endings.specs.Worth.{dealt, worth_of};
 ghost use Rattle.bridge_endings.specs.Left.{left_to};
 ghost use Rattle.bridge_endings.specs.CacheValue.{OfCache, Solving};
 
+use crate::bounds::{Bounds, narrowed};
 use crate::cache::Cache;
 use crate::ending::Ending;
 use crate::search::Search;
@@ -40,7 +41,7 @@ fn solve_with(ending: &Ending, cache: &mut Cache) -> u8
     worth
 }
 
-/// The tricks of North and South by a search: as many as it says that they win.
+/// The tricks of North and South by a search, which is asked for the middle of what they may be until that is known.
 fn tricks_won(ending: &Ending, search: &mut Search) -> u8
     requires hands { search.old.hands ≡ ending.now.hands }
     requires trump { search.old.trump ≡ ending.now.trump }
@@ -51,11 +52,16 @@ fn tricks_won(ending: &Ending, search: &mut Search) -> u8
     let left = all_cards(&ending.hands());
     let leader = ending.leader();
     let tricks = ending.tricks();
-    let mut won = 0;
-    while search.reaches_from(left, leader, tricks, won + 1) {
-        won += 1;
+    let mut bounds = Bounds {
+        least: 0,
+        most: tricks,
+    };
+    while bounds.least < bounds.most {
+        let need = bounds.most - (bounds.most - bounds.least) / 2;
+        let answer = search.reaches_from(left, leader, tricks, need);
+        bounds = narrowed(bounds, need, answer);
     }
-    won
+    bounds.least
 }
 
 /// The cards of all four hands.

@@ -140,8 +140,8 @@ with_agreement play seat = record play { claim = option_map (with_agreed seat) p
 abbrev pub without_claim : PlayValue → PlayValue
 without_claim play = record play { claim = None }
 
--- A claim that stands or was agreed: it was made between tricks, not by dummy, for no more tricks than are left, and
--- nobody has agreed to it who is not asked (Law 68).
+-- A claim that stands or was agreed: one was made, between tricks, before the last was played, not by dummy, for no more
+-- tricks than are left, and nobody has agreed to it who is not asked (Law 68).
 pub record IsClaimIn (play : PlayValue) (claim : Claim) : Type 0 where
   pub counted : 1 ≤ play.claims
   pub between : length play.cards % 4 ≡ 0

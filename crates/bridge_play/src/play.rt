@@ -79,7 +79,8 @@ impl Play {
 
     /// The play of the deal in the contract with those cards, so many claims made, and the claim that stands or was agreed.
     /// `None` where the cards are no legal list, more than 99 claims were made, or the claim is not one that the other parts
-    /// allow: it is made between tricks, not by dummy, for no more tricks than are left, and nobody agrees who is not asked.
+    /// allow: one was made, between tricks, before the last was played, not by dummy, for no more tricks than are left, and
+    /// nobody agrees who is not asked.
     pub fn from_parts(
         deal: &Deal,
         contract: Contract,
@@ -228,8 +229,8 @@ impl Play {
         self.claims
     }
 
-    /// The claim that stands or was agreed. It was made between tricks, not by dummy, for no more tricks than are left, and
-    /// nobody has agreed to it who is not asked.
+    /// The claim that stands or was agreed. It was made between tricks, before the last was played, not by dummy, for no more
+    /// tricks than are left, and nobody has agreed to it who is not asked.
     pub fn claim(&self) -> Option<Claim>
         ensures claim { result ≡ self.now.claim }
         ensures regular { IfSome result (IsClaimIn self.now) }

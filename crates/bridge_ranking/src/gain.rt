@@ -73,7 +73,7 @@ fn side_in(pair: u8, game: Game) -> Option<Side>
 }
 
 /// What is available to each of these scores of a board, in tenths: 20 for each other score.
-fn available_of(scores: &[i32]) -> u32
+pub fn available_of(scores: &[i32]) -> u32
     requires { length scores.now ≤ 144 }
     ensures available { result ≡ available_of scores.now }
     ensures most { result ≤ 2860 }
@@ -104,7 +104,7 @@ fn average_for(side: Side, ns: Average, ew: Average) -> Average
 }
 
 /// What a side gains on a board with these scores by what its play is compared by.
-fn gained(scoring: Scoring, scores: &[i32], side: Side, by: PlayResult) -> i32
+pub fn gained(scoring: Scoring, scores: &[i32], side: Side, by: PlayResult) -> i32
     requires count { length scores.now ≤ 144 }
     requires scores { All IsScore scores.now }
     requires compared { IsResult by }

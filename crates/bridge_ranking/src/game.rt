@@ -74,7 +74,7 @@ fn played_score(board: BoardNumber, contract: &Contract, tricks: u8) -> i32
 }
 
 /// What a play with that outcome is compared by, if it is.
-fn result_of(board: BoardNumber, outcome: Outcome) -> Option<PlayResult>
+pub fn result_of(board: BoardNumber, outcome: Outcome) -> Option<PlayResult>
     requires { HasFewTricks outcome }
     ensures value { result ≡ result_of board outcome }
     ensures range { IfSome result IsResult }

@@ -4,6 +4,7 @@ pub mod Counts
 pub mod Cards
 pub mod Order
 pub mod Counted
+pub mod EachScore
 pub mod Added
 pub mod Walked
 pub mod WrittenRows

@@ -12,7 +12,7 @@ use Rattle.session_rules.specs.declared.outcome.Outcome.TheVariants.{Voided}
 use Rattle.page_layout.specs.declared.format.Format.{Format}
 use Rattle.page_layout.specs.declared.format.Level.TheVariants as level
 use Rattle.page_layout.specs.declared.format.Section.TheVariants as section
-use Rattle.page_layout.specs.Numbers.{tenths_text}
+use Rattle.line_text.specs.Decimals.{tenths_text}
 use Rattle.page_layout.specs.Page.{heading_text, paragraph_text, section_start, section_end}
 use Rattle.page_layout.specs.Table.{row_text, title_row, table_start, table_end}
 use Rattle.bridge_results.specs.declared.card.CardLine.{CardLine}

@@ -13,3 +13,4 @@ pub mod Diagram
 pub mod BoardText
 pub mod CardText
 pub mod ResultsText
+pub mod Columns

@@ -12,7 +12,7 @@ use Rattle.bridge_ranking.specs.declared.game.PlayResult.TheVariants.{Score, Ave
 use Rattle.session_rules.specs.Average.{percent_of}
 use Rattle.session_rules.specs.declared.outcome.Outcome.{Outcome}
 use Rattle.session_rules.specs.declared.outcome.Outcome.TheVariants.{Unfinished, PassedOut, Played, Voided, Adjusted}
-use Rattle.page_layout.specs.Numbers.{tenths_text}
+use Rattle.line_text.specs.Decimals.{tenths_text}
 use Rattle.bridge_results.specs.declared.compare.Comparison.{Comparison}
 
 -- the contract of a play, as `4HXX`, or what else came of it

@@ -11,7 +11,7 @@ use Rattle.bridge_ranking.specs.declared.field.Field.TheVariants.{First, Second}
 use Rattle.page_layout.specs.declared.format.Format.{Format}
 use Rattle.page_layout.specs.declared.format.Level.TheVariants as level
 use Rattle.page_layout.specs.declared.format.Section.TheVariants as section
-use Rattle.page_layout.specs.Numbers.{tenths_text, hundredths_text}
+use Rattle.line_text.specs.Decimals.{tenths_text, hundredths_text}
 use Rattle.page_layout.specs.Page.{heading_text, section_start, section_end}
 use Rattle.page_layout.specs.Table.{row_text, title_row, table_start, table_end}
 use Rattle.bridge_results.specs.declared.pages.columns.TheConstants.{SHARE_COLUMNS, SUM_COLUMNS}

@@ -6,11 +6,12 @@ ghost use Rattle.bridge_results.specs.Plays.{HasTricksWithin};
 ghost use Rattle.bridge_results.specs.ScoreCard.{side_at, opponents_of, own_score, gain_by, available_by, card_line_of, card_line, card_lines};
 
 use crate::compare::result_in;
-use crate::gain::{available_of, gain_on, scores_on, side_score};
+use crate::gain::{gain_on, scores_on, side_score};
 use crate::play::TablePlay;
 use arrayvec::ArrayVec;
 use bridge_cards::{BoardNumber, Side};
 use bridge_movement::Row;
+use bridge_ranking::gain::available_of;
 use bridge_ranking::{Game, PlayResult};
 use bridge_score::Scoring;
 use session_rules::Outcome;

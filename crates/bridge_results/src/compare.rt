@@ -1,23 +1,18 @@
 //! How a play compares with the others of its board.
 ghost use Rattle.std.specs.Prelude.{◌≡◌, ◌≤◌, length, IfSome, All};
 ghost use Rattle.std.specs.Option.{option_map};
-ghost use Rattle.session_rules.specs.Outcome.{HasFewTricks};
-ghost use Rattle.bridge_ranking.specs.Ranking.{played_score, result_of};
 ghost use Rattle.bridge_ranking.specs.Gains.{AreGames};
 ghost use Rattle.bridge_ranking.specs.KeptGames.{IsGame, IsResult};
-ghost use Rattle.bridge_score.specs.ScoringTable.{IsScore};
 ghost use Rattle.bridge_results.specs.Plays.{HasTricksWithin};
 ghost use Rattle.bridge_results.specs.Comparison.{result_in, game_of, games_among, comparison_by, comparison_of};
 
 use crate::gain::gain_on;
 use crate::play::TablePlay;
 use arrayvec::ArrayVec;
-use bridge_auction::Contract;
-use bridge_cards::{BoardNumber, Side, vulnerable};
-use bridge_ranking::game::{MOST_PLAYS, score_for};
+use bridge_cards::{BoardNumber, Side};
+use bridge_ranking::game::{MOST_PLAYS, result_of};
 use bridge_ranking::{Game, PlayResult};
-use bridge_score::{Scoring, score};
-use session_rules::Outcome;
+use bridge_score::Scoring;
 
 /// What a play is compared by, and what each side gained by it against the other scores of its board: matchpoints in tenths,
 /// or cross-IMPs.
@@ -29,33 +24,6 @@ pub struct Comparison {
     pub ns_gain: i32,
     /// What East and West gained.
     pub ew_gain: i32,
-}
-
-/// What North and South score for a contract on a board, with so many tricks (Law 77).
-fn played_score(board: BoardNumber, contract: &Contract, tricks: u8) -> i32
-    requires { tricks ≤ 13 }
-    ensures value { result ≡ played_score board contract.now tricks }
-    ensures range { IsScore result }
-{
-    let side = contract.declarer.side();
-    score_for(side, score(contract, vulnerable(board, side), tricks))
-}
-
-/// What a play of a board with that outcome is compared by, if it is.
-fn result_of(board: BoardNumber, outcome: Outcome) -> Option<PlayResult>
-    requires { HasFewTricks outcome }
-    ensures value { result ≡ result_of board outcome }
-    ensures range { IfSome result IsResult }
-{
-    match outcome {
-        Outcome::Unfinished | Outcome::Voided => None,
-        Outcome::PassedOut => Some(PlayResult::Score(0)),
-        Outcome::Played { contract, tricks } => {
-            let score = played_score(board, &contract, tricks);
-            Some(PlayResult::Score(score))
-        }
-        Outcome::Adjusted { ns, ew } => Some(PlayResult::Averages { ns, ew }),
-    }
 }
 
 /// What a play is compared by, if it is not void.

@@ -30,10 +30,7 @@ fn lead_of(play: Option<&Play>) -> Option<Card>
     ensures lead { result ≡ option_and_then (λ known. lead_of known.cards) (option_copied play.entry) }
     ensures few { IfSome (option_copied play.entry) (λ known. length known.cards ≤ 52) }
 {
-    match play {
-        Some(play) => play.cards().first().copied(),
-        None => None,
-    }
+    play?.cards().first().copied()
 }
 
 /// The play with that outcome, if something came of it.

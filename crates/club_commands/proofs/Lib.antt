@@ -1,7 +1,9 @@
+pub mod PlanStops
 pub mod Reading
 pub mod Stopped
 pub mod Seen
 pub mod Counted
 pub mod Connected
 pub mod Opened
+pub mod Told
 pub mod Shown

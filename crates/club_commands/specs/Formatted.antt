@@ -1,5 +1,5 @@
 -- What the command `format` makes.
-use Rattle.std.specs.Prelude.{◌≡◌, ◌⊎◌, ◌≤◌, ℕ, List, Option, length, codes, Result, Ok, MatchResult}
+use Rattle.std.specs.Prelude.{◌≡◌, ◌⊎◌, ◌≤◌, ℕ, List, Option, Some, None, length, codes, Result, Ok, Err, MatchResult}
 use Rattle.std.specs.declared.fs.File.{File}
 use Rattle.line_text.specs.Streams.{Stream, stream, Takes, TakesPrefix, IsUntouched}
 use Rattle.sector_disk.specs.declared.file.FileDisk.{FileDisk}
@@ -39,25 +39,27 @@ module _ {D : Type 0} (disk : Disk D) where
     pub first_epoch : disk.honest made → (c : Image) → disk.may_leave formatted c → HasEpoch 1 c
 
   -- a disk was made of it that holds the session, and `formatted` is written
-  abbrev pub Formats : D → SessionValue → Stream → Type 0
-  Formats made session output = (formatted : D) × IsFormattedAs made formatted session × Takes output formatted_line
+  abbrev pub Formats : D → D → SessionValue → Stream → Type 0
+  Formats made left session output = IsFormattedAs made left session × Takes output formatted_line
 
   -- at a fault: a call of the disk failed, and nothing is written; or the disk holds the session, and a write failed
-  abbrev pub FailsToFormat : D → SessionValue → Stream → RunFault → Type 0
-  FailsToFormat made session output (StreamFault fault) = (fault ≡ Write)
-      × ((formatted : D) × IsFormattedAs made formatted session × TakesPrefix output formatted_line)
-  FailsToFormat made session output (Config fault) = ⊥
-  FailsToFormat made session output (Store fault) = (fault ≡ DiskFault)
-      × ((left : D) × Rose (disk.faults made) (disk.faults left)) × IsUntouched output
+  abbrev pub FailsToFormat : D → D → SessionValue → Stream → RunFault → Type 0
+  FailsToFormat made left session output (StreamFault fault) =
+      (fault ≡ Write) × IsFormattedAs made left session × TakesPrefix output formatted_line
+  FailsToFormat made left session output (Config fault) = ⊥
+  FailsToFormat made left session output (Store fault) =
+      (fault ≡ DiskFault) × Rose (disk.faults made) (disk.faults left) × IsUntouched output
 
   -- a disk was made in a file, and of it one that holds the session, and `formatted` is written
-  abbrev pub FormatsMade : {E : Type 0} → Result D E → SessionValue → Stream → Type 0
-  FormatsMade found session output = MatchResult found (λ made. Formats made session output) (λ _. ⊥)
+  abbrev pub FormatsMade : {E : Type 0} → Result D E → D → SessionValue → Stream → Type 0
+  FormatsMade found left session output = MatchResult found (λ made. Formats made left session output) (λ _. ⊥)
 
-  -- a disk was made, and that failed; or none was made, which is a fault of the disk, and nothing is written
-  abbrev pub FailsToFormatMade : {E : Type 0} → Result D E → SessionValue → Stream → RunFault → Type 0
-  FailsToFormatMade found session output fault =
-      MatchResult found (λ made. FailsToFormat made session output fault) (λ _. (fault ≡ Store DiskFault) × IsUntouched output)
+  -- a disk was made, that failed, and it is handed back; or none was made, which is a fault of the disk, and nothing is written
+  abbrev pub FailsToFormatMade : {E : Type 0} → Result D E → Option D → SessionValue → Stream → RunFault → Type 0
+  FailsToFormatMade (Ok made) (Some left) session output fault = FailsToFormat made left session output fault
+  FailsToFormatMade (Ok made) None session output fault = ⊥
+  FailsToFormatMade (Err _) (Some left) session output fault = ⊥
+  FailsToFormatMade (Err _) None session output fault = (fault ≡ Store DiskFault) × IsUntouched output
 
 -- over a file: which bytes it still gives
 module _ {F : Type 0} (remaining : F → Option (List ℕ)) where
@@ -81,24 +83,32 @@ IsNoSessionOfFile fault =
     (fault ≡ StreamFault Read) ⊎ ((text : List ℕ) × (length text ≤ most_read) × IsNoSession text fault)
 
 -- `format` is done: a disk of 2,048 sectors was made in a file, and of it one that holds the session of a configuration's
--- file, and `formatted` is written
-pub record HasFormatted (output : Stream) : Type 0 where
+-- file, and `formatted` is written; the disk is as `format` of the store left it
+pub record LeavesFormatted (left : FileDisk (SystemFile File)) (output : Stream) : Type 0 where
   pub session : SessionValue
   pub session_of : IsSessionOfFile session
   pub made : FileDisk (SystemFile File)
   pub count : file_disk.count made ≡ sector_count
-  pub formats : Formats file_disk made session output
+  pub formats : Formats file_disk made left session output
 
 -- a disk was made in a file, but formatting it for the session of a configuration's file, or writing `formatted`, failed
-pub record FailsOnFile (output : Stream) (fault : RunFault) : Type 0 where
+pub record FailsOnFile (left : FileDisk (SystemFile File)) (output : Stream) (fault : RunFault) : Type 0 where
   pub session : SessionValue
   pub session_of : IsSessionOfFile session
   pub made : FileDisk (SystemFile File)
   pub count : file_disk.count made ≡ sector_count
-  pub fails : FailsToFormat file_disk made session output fault
+  pub fails : FailsToFormat file_disk made left session output fault
 
--- `format` stopped: there is no session, or the fault is that of a disk that cannot be made, of which no contract can say
--- more, and then nothing is written; or making it one that holds the session failed
+-- `format` stopped, and which disk it leaves: there is no session, or the fault is that of a disk that cannot be made, of which
+-- no contract can say more, and then nothing is written; or making it one that holds the session failed
+abbrev pub LeavesUnformatted : Option (FileDisk (SystemFile File)) → Stream → RunFault → Type 0
+LeavesUnformatted None output fault = (IsNoSessionOfFile fault × IsUntouched output) ⊎ ((fault ≡ Store DiskFault) × IsUntouched output)
+LeavesUnformatted (Some left) output fault = FailsOnFile left output fault
+
+-- the same, of the disk that it leaves
+abbrev pub HasFormatted : Stream → Type 0
+HasFormatted output = (left : FileDisk (SystemFile File)) × LeavesFormatted left output
+
+-- and where it stops
 abbrev pub StopsFormatting : Stream → RunFault → Type 0
-StopsFormatting output fault = (IsNoSessionOfFile fault × IsUntouched output)
-    ⊎ (((fault ≡ Store DiskFault) × IsUntouched output) ⊎ FailsOnFile output fault)
+StopsFormatting output fault = (left : Option (FileDisk (SystemFile File))) × LeavesUnformatted left output fault

@@ -2,6 +2,7 @@ pub use Rattle.command_line.specs.Words
 pub mod Faults
 pub mod Opening
 pub mod Formatted
+pub mod Planned
 pub mod Stored
 pub mod Readings
 pub mod Results
@@ -10,5 +11,6 @@ pub mod Checked
 pub mod Scripted
 pub mod Connections
 pub mod OnFile
+pub mod Told
 pub mod Web
 pub mod Run

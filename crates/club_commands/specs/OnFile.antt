@@ -1,5 +1,5 @@
 -- What the commands do over the session that a disk in a file holds.
-use Rattle.std.specs.Prelude.{◌≡◌, ◌⊎◌, ℕ, List, Option, None, Result, Ok, Err, MatchResult}
+use Rattle.std.specs.Prelude.{◌≡◌, ◌⊎◌, ℕ, List, Option, Some, None, Result, Ok, Err, MatchResult}
 use Rattle.std.specs.declared.fs.File.{File}
 use Rattle.std.specs.declared.net.tcp.TcpStream.{TcpStream}
 use Rattle.line_text.specs.Streams.{Stream, Takes, TakesPrefix, IsUntouched}
@@ -22,36 +22,52 @@ use Rattle.club_commands.specs.Stored.{OpensSession, RefusesDisk}
 abbrev pub IsOnFile : StoreValue (FileDisk (SystemFile File)) SessionValue Action → Type 0
 IsOnFile store = (d : FileDisk (SystemFile File)) × OpensSession file_disk d store
 
--- the fault is that of a file that cannot be opened as a disk, of which no contract can say more; or the disk in it gives
--- no session
-abbrev pub RefusesFile : StoreFault → Type 0
-RefusesFile fault = (fault ≡ DiskFault) ⊎ ((d : FileDisk (SystemFile File)) × RefusesDisk file_disk d fault)
+-- there is no disk, and the fault is that of a file that cannot be opened as one, of which no contract can say more; or the disk
+-- in it gives no session, and is handed back as opening left it
+abbrev pub RefusesFile : Option (FileDisk (SystemFile File)) → StoreFault → Type 0
+RefusesFile (Some left) fault = (d : FileDisk (SystemFile File)) × RefusesDisk file_disk d left fault
+RefusesFile None fault = fault ≡ DiskFault
 
--- all lines of the input were served over a session that was opened on a disk in a file
-pub record HasScripted (input output : Stream) : Type 0 where
+-- there is no session; or memory was refused once one was opened, and the disk is as opening left it
+abbrev pub LacksSession : Option (FileDisk (SystemFile File)) → StoreFault → Type 0
+LacksSession left fault = RefusesFile left fault
+    ⊎ ((fault ≡ NoMemory) × ((start : StoreValue (FileDisk (SystemFile File)) SessionValue Action) × IsOnFile start × (left ≡ Some start.disk)))
+
+-- all lines of the input were served over a session that was opened on a disk in a file, which is as the last call left it
+pub record LeavesScripted (left : FileDisk (SystemFile File)) (input output : Stream) : Type 0 where
   pub start : StoreValue (FileDisk (SystemFile File)) SessionValue Action
   pub opened : IsOnFile start
   pub store : StoreValue (FileDisk (SystemFile File)) SessionValue Action
+  pub left_by : left ≡ store.disk
   pub serves : ServesAll file_disk start store input output
 
 -- no line was served: there is no session, or memory was refused
-pub record IsNotScripted (input output : Stream) (fault : RunFault) : Type 0 where
+pub record IsNotScripted (left : Option (FileDisk (SystemFile File))) (input output : Stream) (fault : RunFault) : Type 0 where
   pub cause : StoreFault
   pub named : fault ≡ Store cause
-  pub refused : RefusesFile cause ⊎ (cause ≡ NoMemory)
+  pub refused : LacksSession left cause
   pub unread : IsUntouched input
   pub unwritten : IsUntouched output
 
 -- the store failed, or a stream
-pub record StopsOnFile (input output : Stream) (fault : RunFault) : Type 0 where
+pub record StopsOnFile (left : Option (FileDisk (SystemFile File))) (input output : Stream) (fault : RunFault) : Type 0 where
   pub start : StoreValue (FileDisk (SystemFile File)) SessionValue Action
   pub opened : IsOnFile start
   pub store : StoreValue (FileDisk (SystemFile File)) SessionValue Action
+  pub left_by : left ≡ Some store.disk
   pub stops : StopsScript file_disk start store input output fault
 
--- how `script` stops: before it reads a line, or over a session that was opened
+-- how `script` stops, and which disk it leaves: before it reads a line, or over a session that was opened
+abbrev pub LeavesStopped : Option (FileDisk (SystemFile File)) → Stream → Stream → RunFault → Type 0
+LeavesStopped left input output fault = IsNotScripted left input output fault ⊎ StopsOnFile left input output fault
+
+-- the same, of the disk that it leaves
+abbrev pub HasScripted : Stream → Stream → Type 0
+HasScripted input output = (left : FileDisk (SystemFile File)) × LeavesScripted left input output
+
+-- and where it stops
 abbrev pub StopsScripting : Stream → Stream → RunFault → Type 0
-StopsScripting input output fault = IsNotScripted input output fault ⊎ StopsOnFile input output fault
+StopsScripting input output fault = (left : Option (FileDisk (SystemFile File))) × LeavesStopped left input output fault
 
 -- no contract can say which bytes a connection gives, or has taken
 abbrev pub unknown : TcpStream → Option (List ℕ)
@@ -73,40 +89,55 @@ abbrev pub StopsListening : ℕ → StoreValue (FileDisk (SystemFile File)) Sess
 StopsListening count start store fault =
     ((fault ≡ StreamFault Accept) × (store ≡ start)) ⊎ StopsConnections file_disk unknown unknown count start store fault
 
--- the lines of so many connections were served over a session that was opened on a disk in a file
-pub record HasServedConnections (count : ℕ) : Type 0 where
+-- the lines of so many connections were served over a session that was opened on a disk in a file, which is as the last call
+-- left it
+pub record LeavesServed (left : FileDisk (SystemFile File)) (count : ℕ) : Type 0 where
   pub start : StoreValue (FileDisk (SystemFile File)) SessionValue Action
   pub opened : IsOnFile start
   pub store : StoreValue (FileDisk (SystemFile File)) SessionValue Action
+  pub left_by : left ≡ store.disk
   pub serves : ServesAllConnections file_disk unknown unknown count start store
 
 -- there is no session, or memory was refused
-pub record IsNotServed (fault : RunFault) : Type 0 where
+pub record IsNotServed (left : Option (FileDisk (SystemFile File))) (fault : RunFault) : Type 0 where
   pub cause : StoreFault
   pub named : fault ≡ Store cause
-  pub refused : RefusesFile cause ⊎ (cause ≡ NoMemory)
+  pub refused : LacksSession left cause
 
 -- the serving of connections stopped over a session that was opened
-pub record StopsOnConnections (count : ℕ) (fault : RunFault) : Type 0 where
+pub record StopsOnConnections (left : Option (FileDisk (SystemFile File))) (count : ℕ) (fault : RunFault) : Type 0 where
   pub start : StoreValue (FileDisk (SystemFile File)) SessionValue Action
   pub opened : IsOnFile start
   pub store : StoreValue (FileDisk (SystemFile File)) SessionValue Action
+  pub left_by : left ≡ Some store.disk
   pub stops : StopsListening count start store fault
 
--- how `serve` stops: before it listens, or over a session that was opened
+-- how `serve` stops, and which disk it leaves: before it listens, or over a session that was opened
+abbrev pub LeavesUnserved : Option (FileDisk (SystemFile File)) → ℕ → RunFault → Type 0
+LeavesUnserved left count fault = IsNotServed left fault ⊎ StopsOnConnections left count fault
+
+-- the same, of the disk that it leaves
+abbrev pub HasServedConnections : ℕ → Type 0
+HasServedConnections count = (left : FileDisk (SystemFile File)) × LeavesServed left count
+
+-- and where it stops
 abbrev pub StopsServingConnections : ℕ → RunFault → Type 0
-StopsServingConnections count fault = IsNotServed fault ⊎ StopsOnConnections count fault
+StopsServingConnections count fault = (left : Option (FileDisk (SystemFile File))) × LeavesUnserved left count fault
+
+-- what opening a disk in a file gave: a store, or the disk, where there is one, and why it gives none
+abbrev pub OpenedFile : Type 0
+OpenedFile = Result (StoreValue (FileDisk (SystemFile File)) SessionValue Action) (Option (FileDisk (SystemFile File)) × StoreFault)
 
 -- a session was opened, there was memory for a cache, and the lines of so many connections were served
-abbrev pub ServesConnectionsOpened : {C E : Type 0} → Result (StoreValue (FileDisk (SystemFile File)) SessionValue Action) StoreFault → Result C E → ℕ → Type 0
-ServesConnectionsOpened (Ok start) (Ok _) count =
-    (store : StoreValue (FileDisk (SystemFile File)) SessionValue Action) × ServesAllConnections file_disk unknown unknown count start store
-ServesConnectionsOpened (Ok start) (Err _) count = ⊥
-ServesConnectionsOpened (Err _) cache count = ⊥
+abbrev pub ServesConnectionsOpened : {C E : Type 0} → OpenedFile → Result C E → FileDisk (SystemFile File) → ℕ → Type 0
+ServesConnectionsOpened (Ok start) (Ok _) left count = (store : StoreValue (FileDisk (SystemFile File)) SessionValue Action)
+    × (left ≡ store.disk) × ServesAllConnections file_disk unknown unknown count start store
+ServesConnectionsOpened (Ok start) (Err _) left count = ⊥
+ServesConnectionsOpened (Err _) cache left count = ⊥
 
 -- the serving stopped; or there was none, since memory was refused or for the cause for which no session was opened
-abbrev pub StopsConnectionsOpened : {C E : Type 0} → Result (StoreValue (FileDisk (SystemFile File)) SessionValue Action) StoreFault → Result C E → ℕ → RunFault → Type 0
-StopsConnectionsOpened (Ok start) (Ok _) count fault =
-    (store : StoreValue (FileDisk (SystemFile File)) SessionValue Action) × StopsListening count start store fault
-StopsConnectionsOpened (Ok start) (Err _) count fault = fault ≡ Store NoMemory
-StopsConnectionsOpened (Err cause) cache count fault = fault ≡ Store cause
+abbrev pub StopsConnectionsOpened : {C E : Type 0} → OpenedFile → Result C E → Option (FileDisk (SystemFile File)) → ℕ → RunFault → Type 0
+StopsConnectionsOpened (Ok start) (Ok _) left count fault = (store : StoreValue (FileDisk (SystemFile File)) SessionValue Action)
+    × (left ≡ Some store.disk) × StopsListening count start store fault
+StopsConnectionsOpened (Ok start) (Err _) left count fault = (left ≡ Some start.disk) × (fault ≡ Store NoMemory)
+StopsConnectionsOpened (Err refused) cache left count fault = (left ≡ refused.0) × (fault ≡ Store refused.1)

@@ -6,7 +6,7 @@ use Rattle.table_server.specs.declared.fault.ServeFault.TheVariants.{Read}
 use Rattle.table_server.specs.Heard.{StopsAt}
 use Rattle.table_server.specs.Replies.{auction_output, byte_limit}
 use Rattle.command_line.specs.declared.command.Command.{Command}
-use Rattle.command_line.specs.declared.command.Command.TheVariants.{Auction, Format, Script, Serve, Web, Rank, Pbn, Results, Check}
+use Rattle.command_line.specs.declared.command.Command.TheVariants.{Auction, Format, Script, Serve, Web, Rank, Pbn, Results, Check, Plan}
 use Rattle.command_line.specs.declared.command.WordsFault.{WordsFault}
 use Rattle.command_line.specs.declared.command.WordsFault.TheVariants.{Usage, Memory}
 use Rattle.club_commands.specs.declared.fault.RunFault.{RunFault}
@@ -16,8 +16,11 @@ use Rattle.club_commands.specs.Faults.{store_line, stream_line, fault_line, faul
 use Rattle.club_commands.specs.Formatted.{HasFormatted, StopsFormatting}
 use Rattle.club_commands.specs.OnFile.{HasScripted, StopsScripting, HasServedConnections, StopsServingConnections}
 use Rattle.club_commands.specs.Web.{HasShownPages, StopsShowingPages}
-use Rattle.club_commands.specs.Results.{IsRankingText, IsPbnText, IsPageText, HasResults, StopsResults}
+use Rattle.club_commands.specs.declared.telling.Told.TheVariants.{Ranking, Games}
+use Rattle.club_commands.specs.Told.{HasTold, StopsTold}
+use Rattle.club_commands.specs.Results.{IsPageText, HasResults, StopsResults}
 use Rattle.club_commands.specs.Checked.{HasChecked, StopsCheckingFile}
+use Rattle.club_commands.specs.Planned.{HasPlanned, StopsPlanningFile}
 
 -- the output of a board's auction is written for what was read of the input
 abbrev pub HasAuction : ℕ → Stream → Stream → Type 0
@@ -36,11 +39,12 @@ DoesCommand (Auction board) input output = HasAuction board input output
 DoesCommand (Format disk config) input output = HasFormatted output × IsUntouched input
 DoesCommand (Script disk) input output = HasScripted input output
 DoesCommand (Serve disk port count) input output = HasServedConnections count × IsUntouched output × IsUntouched input
-DoesCommand (Web disk port minutes) input output = HasShownPages port output × IsUntouched input
-DoesCommand (Rank disk) input output = HasResults IsRankingText output × IsUntouched input
-DoesCommand (Pbn disk) input output = HasResults IsPbnText output × IsUntouched input
+DoesCommand (Web disk host minutes) input output = HasShownPages host output × IsUntouched input
+DoesCommand (Rank disk) input output = HasTold Ranking output × IsUntouched input
+DoesCommand (Pbn disk) input output = HasTold Games output × IsUntouched input
 DoesCommand (Results disk html) input output = HasResults (IsPageText html) output × IsUntouched input
 DoesCommand (Check disk) input output = HasChecked output × IsUntouched input
+DoesCommand (Plan config) input output = HasPlanned output × IsUntouched input
 
 -- what a command leaves of standard input and on standard output where it stops at that fault
 abbrev pub StopsBy : Command → Stream → Stream → RunFault → Type 0
@@ -49,11 +53,12 @@ StopsBy (Format disk config) input output fault = StopsFormatting output fault �
 StopsBy (Script disk) input output fault = StopsScripting input output fault
 StopsBy (Serve disk port count) input output fault =
     StopsServingConnections count fault × IsUntouched output × IsUntouched input
-StopsBy (Web disk port minutes) input output fault = StopsShowingPages port output fault × IsUntouched input
-StopsBy (Rank disk) input output fault = StopsResults IsRankingText output fault × IsUntouched input
-StopsBy (Pbn disk) input output fault = StopsResults IsPbnText output fault × IsUntouched input
+StopsBy (Web disk host minutes) input output fault = StopsShowingPages host output fault × IsUntouched input
+StopsBy (Rank disk) input output fault = StopsTold Ranking output fault × IsUntouched input
+StopsBy (Pbn disk) input output fault = StopsTold Games output fault × IsUntouched input
 StopsBy (Results disk html) input output fault = StopsResults (IsPageText html) output fault × IsUntouched input
 StopsBy (Check disk) input output fault = StopsCheckingFile output fault × IsUntouched input
+StopsBy (Plan config) input output fault = StopsPlanningFile output fault × IsUntouched input
 
 -- a command was done, and nothing stands on standard error
 abbrev pub IsDone : Command → Stream → Stream → Stream → Type 0

@@ -1,5 +1,5 @@
 -- What the command `script` does.
-use Rattle.std.specs.Prelude.{◌≡◌, ◌⊎◌, Bool, true, false, Result, Ok, Err}
+use Rattle.std.specs.Prelude.{◌≡◌, ◌⊎◌, Bool, true, false, Option, Some, Result, Ok, Err}
 use Rattle.line_text.specs.Streams.{Stream, IsUntouched}
 use Rattle.sector_disk.specs.Disk.{Disk, Rose}
 use Rattle.session_store.specs.declared.fault.StoreFault.{StoreFault}
@@ -46,14 +46,19 @@ module _ {D : Type 0} (disk : Disk D) where
   StopsScript start store input output fault =
       (FailsServing start store input output × (fault ≡ Store DiskFault)) ⊎ EndsEarly start store input output fault
 
-  -- a session was opened, there was memory for a cache, and all lines were served
-  abbrev pub ServesOpened : {C E : Type 0} → Result (StoreValue D SessionValue Action) StoreFault → Result C E → Stream → Stream → Type 0
-  ServesOpened (Ok start) (Ok _) input output = (store : StoreValue D SessionValue Action) × ServesAll start store input output
-  ServesOpened (Ok start) (Err _) input output = ⊥
-  ServesOpened (Err _) cache input output = ⊥
+  -- a session was opened, there was memory for a cache, and all lines were served; the disk is as the last call left it
+  abbrev pub ServesOpened : {C E : Type 0} → Result (StoreValue D SessionValue Action) (Option D × StoreFault) → Result C E → D → Stream → Stream → Type 0
+  ServesOpened (Ok start) (Ok _) left input output =
+      (store : StoreValue D SessionValue Action) × (left ≡ store.disk) × ServesAll start store input output
+  ServesOpened (Ok start) (Err _) left input output = ⊥
+  ServesOpened (Err _) cache left input output = ⊥
 
-  -- the serving stopped; or no line was served, since memory was refused or for the cause for which no session was opened
-  abbrev pub StopsOpened : {C E : Type 0} → Result (StoreValue D SessionValue Action) StoreFault → Result C E → Stream → Stream → RunFault → Type 0
-  StopsOpened (Ok start) (Ok _) input output fault = (store : StoreValue D SessionValue Action) × StopsScript start store input output fault
-  StopsOpened (Ok start) (Err _) input output fault = (fault ≡ Store NoMemory) × IsUntouched input × IsUntouched output
-  StopsOpened (Err cause) cache input output fault = (fault ≡ Store cause) × IsUntouched input × IsUntouched output
+  -- the serving stopped; or no line was served, since memory was refused or for the cause for which no session was opened;
+  -- the disk, if one was found, is as the last call or opening left it
+  abbrev pub StopsOpened : {C E : Type 0} → Result (StoreValue D SessionValue Action) (Option D × StoreFault) → Result C E → Option D → Stream → Stream → RunFault → Type 0
+  StopsOpened (Ok start) (Ok _) left input output fault =
+      (store : StoreValue D SessionValue Action) × (left ≡ Some store.disk) × StopsScript start store input output fault
+  StopsOpened (Ok start) (Err _) left input output fault =
+      (left ≡ Some start.disk) × (fault ≡ Store NoMemory) × IsUntouched input × IsUntouched output
+  StopsOpened (Err refused) cache left input output fault =
+      (left ≡ refused.0) × (fault ≡ Store refused.1) × IsUntouched input × IsUntouched output

@@ -1,12 +1,15 @@
 -- What the command `web` does.
-use Rattle.std.specs.Prelude.{◌≡◌, ◌⊎◌, ◌++◌, ℕ, List, true, false, codes, decimal, Result, Ok, Err}
+use Rattle.std.specs.Prelude.{◌≡◌, ◌⊎◌, ◌++◌, ℕ, List, [], ◌∷◌, true, false, codes, Option, Some, None, Result, Ok, Err}
+use Rattle.std.specs.Borrow.{Bor}
+use Rattle.std.specs.Net.Addr.{ipv4_octets}
+use Rattle.std.specs.Net.Grammar.{IsIpv4Text}
+use Rattle.std.specs.declared.net.ipv4_addr.Ipv4Addr.{Ipv4Addr}
 use Rattle.std.specs.declared.fs.File.{File}
 use Rattle.line_text.specs.Streams.{Stream, Takes, TakesPrefix, IsUntouched}
 use Rattle.sector_disk.specs.Disk.{Disk, Rose}
 use Rattle.sector_disk.specs.declared.file.FileDisk.{FileDisk}
 use Rattle.sector_disk.specs.declared.system_file.SystemFile.{SystemFile}
 use Rattle.sector_disk.specs.File.{file_disk}
-use Rattle.session_store.specs.declared.fault.StoreFault.{StoreFault}
 use Rattle.session_store.specs.declared.fault.StoreFault.TheVariants.{Disk as DiskFault, NoMemory}
 use Rattle.session_store.specs.Value.{StoreValue}
 use Rattle.session_rules.specs.declared.action.Action.{Action}
@@ -15,21 +18,43 @@ use Rattle.table_server.specs.declared.fault.ServeFault.TheVariants.{Write, Acce
 use Rattle.web_loop.specs.Turns.{LeadsTo}
 use Rattle.table_pages.specs.Answered.{AnswersLines, place_told, tables_told}
 use Rattle.table_pages.specs.ToldResults.{results_told}
+use Rattle.table_pages.specs.HostNames.{with_port}
 use Rattle.table_pages.specs.Responses.{Answering}
+use Rattle.command_line.specs.declared.command.WebHost.{WebHost}
 use Rattle.club_commands.specs.declared.fault.RunFault.{RunFault}
 use Rattle.club_commands.specs.declared.fault.RunFault.TheVariants.{Stream as StreamFault, Store}
-use Rattle.club_commands.specs.OnFile.{IsOnFile, IsNotServed}
+use Rattle.club_commands.specs.OnFile.{IsOnFile, IsNotServed, OpenedFile}
 
--- a port of this computer, by its number and by its name
-abbrev pub host_at : ℕ → List ℕ
-host_at port = (codes "127.0.0.1" ++ codes ":") ++ decimal port
+-- the host that browsers are to name: the name that is given, or else the address, or else this computer's own
+abbrev pub host_name : Option (Bor (List ℕ)) → Option (Bor (List ℕ)) → List ℕ
+host_name address (Some name) = name.now
+host_name (Some address) None = address.now
+host_name None None = codes "127.0.0.1"
 
-abbrev pub alias_at : ℕ → List ℕ
-alias_at port = (codes "localhost" ++ codes ":") ++ decimal port
+-- and its other name: the same without a port, or where neither is given this computer's name with it
+abbrev pub other_name : Option (Bor (List ℕ)) → Option (Bor (List ℕ)) → ℕ → List ℕ
+other_name address (Some name) port = name.now
+other_name (Some address) None port = address.now
+other_name None None port = with_port (codes "localhost") port
 
--- the line on standard output once there is a listener at the port
-abbrev pub listening_line : ℕ → List ℕ
-listening_line port = (codes "listening at http://127.0.0.1:" ++ decimal port) ++ codes "\n"
+-- the first of its names, at its port
+abbrev pub host_at : WebHost → List ℕ
+host_at web = with_port (host_name web.address web.name) web.port
+
+-- and the other
+abbrev pub alias_at : WebHost → List ℕ
+alias_at web = other_name web.address web.name web.port
+
+-- the address to listen at, which is this computer's own where none is given
+abbrev pub IsAddress : Option (Bor (List ℕ)) → Option Ipv4Addr → Type 0
+IsAddress None (Some a) = ipv4_octets a ≡ 127 ∷ 0 ∷ 0 ∷ 1 ∷ []
+IsAddress None None = ⊥
+IsAddress (Some text) (Some a) = IsIpv4Text text.now a
+IsAddress (Some text) None = (a : Ipv4Addr) → ¬ (IsIpv4Text text.now a)
+
+-- the line on standard output once there is a listener: where the pages are
+abbrev pub listening_line : List ℕ → List ℕ
+listening_line host = (codes "listening at http://" ++ host) ++ codes "\n"
 
 module _ {D : Type 0} (disk : Disk D) (host alias : List ℕ) where
   -- Requests were answered over a store, one after another, and no call of its disk failed.
@@ -49,50 +74,64 @@ module _ {D : Type 0} (disk : Disk D) (host alias : List ℕ) where
   StopsPages start store fault =
       (FailsPages start store × (fault ≡ Store DiskFault)) ⊎ (ShowsPages start store × (fault ≡ StreamFault Accept))
 
--- over a store in a file, at a server of these two names
-module _ (host alias : List ℕ) (port : ℕ) (start : StoreValue (FileDisk (SystemFile File)) SessionValue Action) where
+-- over a store in a file, which is led from the first to the second, at a server of these two names
+module _ (host alias : List ℕ) (start store : StoreValue (FileDisk (SystemFile File)) SessionValue Action) where
   -- where the pages are is said, and they were shown
   pub record HasShown (output : Stream) : Type 0 where
-    pub said : Takes output (listening_line port)
-    pub store : StoreValue (FileDisk (SystemFile File)) SessionValue Action
+    pub said : Takes output (listening_line host)
     pub shows : ShowsPages file_disk host alias start store
 
   -- where they are is said, and the showing stopped
   pub record StopsShown (output : Stream) (fault : RunFault) : Type 0 where
-    pub said : Takes output (listening_line port)
-    pub store : StoreValue (FileDisk (SystemFile File)) SessionValue Action
+    pub said : Takes output (listening_line host)
     pub stops : StopsPages file_disk host alias start store fault
 
-  -- there is no listener at the port, or no secret number to be had; or a write failed; or the showing stopped
+  -- there is no listener at the port, or no secret number to be had, or a write failed, and the store is as it was; or the
+  -- showing stopped
   abbrev pub StopsShowing : Stream → RunFault → Type 0
-  StopsShowing output fault = ((fault ≡ StreamFault Accept) × IsUntouched output)
-      ⊎ (((fault ≡ StreamFault Write) × TakesPrefix output (listening_line port)) ⊎ StopsShown output fault)
+  StopsShowing output fault = ((store ≡ start) × (fault ≡ StreamFault Accept) × IsUntouched output)
+      ⊎ (((store ≡ start) × (fault ≡ StreamFault Write) × TakesPrefix output (listening_line host)) ⊎ StopsShown output fault)
 
--- a session was opened, there was memory for a cache, and pages were shown
-abbrev pub ShowsOpened : {C E : Type 0} → ℕ → Result (StoreValue (FileDisk (SystemFile File)) SessionValue Action) StoreFault → Result C E → Stream → Type 0
-ShowsOpened port (Ok start) (Ok _) output = HasShown (host_at port) (alias_at port) port start output
-ShowsOpened port (Ok start) (Err _) output = ⊥
-ShowsOpened port (Err _) cache output = ⊥
+-- a session was opened, there was memory for a cache, and pages were shown where the words say; the disk is as the last call
+-- left it
+abbrev pub ShowsOpened : {C E : Type 0} → WebHost → OpenedFile → Result C E → FileDisk (SystemFile File) → Stream → Type 0
+ShowsOpened web (Ok start) (Ok _) left output = (store : StoreValue (FileDisk (SystemFile File)) SessionValue Action)
+    × (left ≡ store.disk) × HasShown (host_at web) (alias_at web) start store output
+ShowsOpened web (Ok start) (Err _) left output = ⊥
+ShowsOpened web (Err _) cache left output = ⊥
 
 -- the showing stopped; or there was none, since memory was refused or for the cause for which no session was opened
-abbrev pub StopsOpenedPages : {C E : Type 0} → ℕ → Result (StoreValue (FileDisk (SystemFile File)) SessionValue Action) StoreFault → Result C E → Stream → RunFault → Type 0
-StopsOpenedPages port (Ok start) (Ok _) output fault =
-    ((fault ≡ Store NoMemory) × IsUntouched output) ⊎ StopsShowing (host_at port) (alias_at port) port start output fault
-StopsOpenedPages port (Ok start) (Err _) output fault = (fault ≡ Store NoMemory) × IsUntouched output
-StopsOpenedPages port (Err cause) cache output fault = (fault ≡ Store cause) × IsUntouched output
+abbrev pub StopsOpenedPages : {C E : Type 0} → WebHost → OpenedFile → Result C E → Option (FileDisk (SystemFile File)) → Stream → RunFault → Type 0
+StopsOpenedPages web (Ok start) (Ok _) left output fault = ((left ≡ Some start.disk) × (fault ≡ Store NoMemory) × IsUntouched output)
+    ⊎ ((store : StoreValue (FileDisk (SystemFile File)) SessionValue Action)
+    × (left ≡ Some store.disk) × StopsShowing (host_at web) (alias_at web) start store output fault)
+StopsOpenedPages web (Ok start) (Err _) left output fault = (left ≡ Some start.disk) × (fault ≡ Store NoMemory) × IsUntouched output
+StopsOpenedPages web (Err refused) cache left output fault = (left ≡ refused.0) × (fault ≡ Store refused.1) × IsUntouched output
 
--- pages were shown over a session that was opened on a disk in a file
-pub record HasShownPages (port : ℕ) (output : Stream) : Type 0 where
+-- pages were shown over a session that was opened on a disk in a file, which is as the last call left it
+pub record LeavesShown (left : FileDisk (SystemFile File)) (web : WebHost) (output : Stream) : Type 0 where
   pub start : StoreValue (FileDisk (SystemFile File)) SessionValue Action
   pub opened : IsOnFile start
-  pub shown : HasShown (host_at port) (alias_at port) port start output
+  pub store : StoreValue (FileDisk (SystemFile File)) SessionValue Action
+  pub left_by : left ≡ store.disk
+  pub shown : HasShown (host_at web) (alias_at web) start store output
 
 -- the showing of pages stopped over a session that was opened
-pub record StopsOnPages (port : ℕ) (output : Stream) (fault : RunFault) : Type 0 where
+pub record StopsOnPages (left : Option (FileDisk (SystemFile File))) (web : WebHost) (output : Stream) (fault : RunFault) : Type 0 where
   pub start : StoreValue (FileDisk (SystemFile File)) SessionValue Action
   pub opened : IsOnFile start
-  pub stops : StopsShowing (host_at port) (alias_at port) port start output fault
+  pub store : StoreValue (FileDisk (SystemFile File)) SessionValue Action
+  pub left_by : left ≡ Some store.disk
+  pub stops : StopsShowing (host_at web) (alias_at web) start store output fault
 
 -- there is no session, or memory was refused, and nothing is written; or the showing stopped
-abbrev pub StopsShowingPages : ℕ → Stream → RunFault → Type 0
-StopsShowingPages port output fault = (IsNotServed fault × IsUntouched output) ⊎ StopsOnPages port output fault
+abbrev pub LeavesUnshown : Option (FileDisk (SystemFile File)) → WebHost → Stream → RunFault → Type 0
+LeavesUnshown left web output fault = (IsNotServed left fault × IsUntouched output) ⊎ StopsOnPages left web output fault
+
+-- the same, of the disk that it leaves
+abbrev pub HasShownPages : WebHost → Stream → Type 0
+HasShownPages web output = (left : FileDisk (SystemFile File)) × LeavesShown left web output
+
+-- and where it stops
+abbrev pub StopsShowingPages : WebHost → Stream → RunFault → Type 0
+StopsShowingPages web output fault = (left : Option (FileDisk (SystemFile File))) × LeavesUnshown left web output fault

@@ -41,7 +41,7 @@ fn read_on<R: Read>(reader: &mut R, text: &mut Text) -> Result<bool, ServeFault>
 }
 
 /// Reads a text, of at most its first 16,385 bytes.
-fn read_text<R: Read>(reader: &mut R, text: &mut Text) -> Result<(), ServeFault>
+pub fn read_text<R: Read>(reader: &mut R, text: &mut Text) -> Result<(), ServeFault>
     requires { text.old.items ≡ [] }
     ensures read { OnOk result (IsTextRead (stream R.remaining reader.old reader.new) text.new.items) }
     ensures fault { IfErr result (λ fault. fault ≡ ReadFault) }

@@ -2,10 +2,11 @@
 ghost use Rattle.std.specs.Prelude.{◌≡◌, ◌≤◌, OnOk, IfOk, IfErr};
 ghost use Rattle.line_text.specs.Streams.{stream};
 ghost use Rattle.sector_disk.specs.File.{file_disk};
-ghost use Rattle.club_commands.specs.Formatted.{Formats, FailsToFormat, FormatsMade, FailsToFormatMade, IsSessionFound, IsNoSessionFound, IsSessionOfFile, IsNoSessionOfFile, HasFormatted, StopsFormatting};
+ghost use Rattle.club_commands.specs.Formatted.{Formats, FailsToFormat, FormatsMade, FailsToFormatMade, IsSessionFound, IsNoSessionFound, IsSessionOfFile, IsNoSessionOfFile, LeavesFormatted, LeavesUnformatted, HasFormatted, StopsFormatting};
 
 use crate::config_file::read_session;
 use crate::fault::RunFault;
+use crate::handing_out::let_go;
 use crate::moving_aside::lock_spare;
 use crate::output::write_output;
 use bridge_session::Session;
@@ -17,19 +18,22 @@ use std::io::{self, Read, Write};
 use std::rt::Files;
 use table_server::ServeFault;
 
-/// Makes of the disk, of at least 2,048 sectors, one that holds the session, and writes `formatted`.
+/// Makes of the disk, of at least 2,048 sectors, one that holds the session, writes `formatted`, and hands the disk out.
 fn format_disk<W: Write>(
     disk: FileDisk<SystemFile<File>>,
     session: &Session,
     output: &mut W,
-) -> Result<(), RunFault>
+) -> Result<FileDisk<SystemFile<File>>, (FileDisk<SystemFile<File>>, RunFault)>
     requires { 2048 ≤ file_disk.count disk }
-    ensures done { OnOk result (Formats file_disk disk session.now (stream W.contents output.old output.new)) }
-    ensures fault { IfErr result (FailsToFormat file_disk disk session.now (stream W.contents output.old output.new)) }
+    ensures done { IfOk result (λ left. Formats file_disk disk left session.now (stream W.contents output.old output.new)) }
+    ensures fault { IfErr result (λ e. FailsToFormat file_disk disk e.0 session.now (stream W.contents output.old output.new) e.1) }
 {
     match format(disk, session) {
-        Ok(_) => write_output(output, "formatted\n"),
-        Err((_, fault)) => Err(RunFault::Store(fault)),
+        Ok(disk) => match write_output(output, "formatted\n") {
+            Ok(()) => Ok(disk),
+            Err(fault) => Err((disk, fault)),
+        },
+        Err((disk, fault)) => Err((disk, RunFault::Store(fault))),
     }
 }
 
@@ -38,14 +42,17 @@ fn format_made<W: Write>(
     made: Result<FileDisk<SystemFile<File>>, DiskFault>,
     session: &Session,
     output: &mut W,
-) -> Result<(), RunFault>
+) -> Result<FileDisk<SystemFile<File>>, (Option<FileDisk<SystemFile<File>>>, RunFault)>
     requires { IfOk made (λ disk. 2048 ≤ file_disk.count disk) }
-    ensures done { OnOk result (FormatsMade file_disk made session.now (stream W.contents output.old output.new)) }
-    ensures fault { IfErr result (FailsToFormatMade file_disk made session.now (stream W.contents output.old output.new)) }
+    ensures done { IfOk result (λ left. FormatsMade file_disk made left session.now (stream W.contents output.old output.new)) }
+    ensures fault { IfErr result (λ e. FailsToFormatMade file_disk made e.0 session.now (stream W.contents output.old output.new) e.1) }
 {
     match made {
-        Ok(disk) => format_disk(disk, session, output),
-        Err(_) => Err(RunFault::Store(StoreFault::Disk)),
+        Ok(disk) => match format_disk(disk, session, output) {
+            Ok(disk) => Ok(disk),
+            Err((disk, fault)) => Err((Some(disk), fault)),
+        },
+        Err(_) => Err((None, RunFault::Store(StoreFault::Disk))),
     }
 }
 
@@ -87,6 +94,26 @@ fn create_locked<S: Files<File = File>>(
     }
 }
 
+/// The same as `run_format`, and hands the disk out.
+fn format_on_file<S: Files<File = File>, W: Write>(
+    rt: &S,
+    alloc: Global,
+    disk: &str,
+    config: &str,
+    output: &mut W,
+) -> Result<FileDisk<SystemFile<File>>, (Option<FileDisk<SystemFile<File>>>, RunFault)>
+    ensures done { IfOk result (λ left. LeavesFormatted left (stream W.contents output.old output.new)) }
+    ensures fault { IfErr result (λ e. LeavesUnformatted e.0 (stream W.contents output.old output.new) e.1) }
+{
+    match session_of_file(rt, alloc, config) {
+        Ok(session) => {
+            let lock = lock_spare(rt, alloc, disk);
+            format_made(create_locked(rt, disk, &lock), &session, output)
+        }
+        Err(fault) => Err((None, fault)),
+    }
+}
+
 /// Makes the file DISK anew, as a disk that holds the session that begins by the configuration in the file CONFIG, and
 /// writes `formatted`. What stood at DISK first gets the name `DISK.1`, or the first such number that is free, unless it is
 /// empty or a disk of whose session nothing is accepted. The configuration is read first, and where that fails DISK is not
@@ -102,11 +129,5 @@ pub fn run_format<S: Files<File = File>, W: Write>(
     ensures done { OnOk result (HasFormatted (stream W.contents output.old output.new)) }
     ensures fault { IfErr result (StopsFormatting (stream W.contents output.old output.new)) }
 {
-    match session_of_file(rt, alloc, config) {
-        Ok(session) => {
-            let lock = lock_spare(rt, alloc, disk);
-            format_made(create_locked(rt, disk, &lock), &session, output)
-        }
-        Err(fault) => Err(fault),
-    }
+    let_go(format_on_file(rt, alloc, disk, config, output))
 }

@@ -6,6 +6,7 @@ use std::io::Write;
 /// the command line may hold it, does anything to a terminal.
 #[derive(Drop)]
 pub struct Printable<'a, W> {
+    /// The writer below.
     pub writer: &'a mut W,
 }
 

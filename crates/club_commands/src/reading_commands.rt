@@ -1,15 +1,15 @@
-//! The commands that read the session that a disk in a file holds. Each opens the file for reading alone, and keeps runs that
-//! write it from it for as long as it runs, which no clause can say and tests show.
+//! The commands that read the session that a disk in a file holds and write nothing to it. Each opens the file for reading
+//! alone, and keeps runs that write it from it for as long as it runs, which no clause can say and tests show.
 ghost use Rattle.std.specs.Prelude.{OnOk, IfOk, IfErr};
 ghost use Rattle.line_text.specs.Streams.{stream};
 ghost use Rattle.club_commands.specs.Checked.{HasChecked, StopsCheckingFile};
 ghost use Rattle.club_commands.specs.Readings.{IsReadOnFile, IsUnreadOnFile};
-ghost use Rattle.club_commands.specs.Results.{IsRankingText, IsPbnText, IsPageText, TellsRead, StopsTelling, HasResults, StopsResults};
+ghost use Rattle.club_commands.specs.Results.{IsPageText, TellsRead, StopsTelling, HasResults, StopsResults};
 
 use crate::check::check_disk;
 use crate::disk_lock::lock_to_read;
 use crate::fault::RunFault;
-use crate::results::{write_games, write_page, write_ranking};
+use crate::results::write_page;
 use crate::stored_session::read_found;
 use bridge_session::Session;
 use sector_disk::FileDisk;
@@ -31,28 +31,6 @@ fn read_session_on<S: Files<File = File>>(
     read_found(alloc, FileDisk::open_read_only(rt, disk))
 }
 
-/// Writes the ranking of each field of a session, where it was read.
-fn rank_read<W: Write>(read: Result<Session, StoreFault>, output: &mut W) -> Result<(), RunFault>
-    ensures done { OnOk result (TellsRead IsRankingText read (stream W.contents output.old output.new)) }
-    ensures fault { IfErr result (StopsTelling IsRankingText read (stream W.contents output.old output.new)) }
-{
-    match read {
-        Ok(session) => write_ranking(&session, output),
-        Err(cause) => Err(RunFault::Store(cause)),
-    }
-}
-
-/// Writes the results of a session, where it was read.
-fn pbn_read<W: Write>(read: Result<Session, StoreFault>, output: &mut W) -> Result<(), RunFault>
-    ensures done { OnOk result (TellsRead IsPbnText read (stream W.contents output.old output.new)) }
-    ensures fault { IfErr result (StopsTelling IsPbnText read (stream W.contents output.old output.new)) }
-{
-    match read {
-        Ok(session) => write_games(&session, output),
-        Err(cause) => Err(RunFault::Store(cause)),
-    }
-}
-
 /// Writes the results of a session as a page, where it was read.
 fn page_read<W: Write>(
     read: Result<Session, StoreFault>,
@@ -66,34 +44,6 @@ fn page_read<W: Write>(
         Ok(session) => write_page(&session, html, output),
         Err(cause) => Err(RunFault::Store(cause)),
     }
-}
-
-/// Writes the ranking of each field of the session that the disk in a file holds.
-pub fn run_rank<S: Files<File = File>, W: Write>(
-    rt: &S,
-    alloc: Global,
-    disk: &str,
-    output: &mut W,
-) -> Result<(), RunFault>
-    ensures done { OnOk result (HasResults IsRankingText (stream W.contents output.old output.new)) }
-    ensures fault { IfErr result (StopsResults IsRankingText (stream W.contents output.old output.new)) }
-{
-    let _lock = lock_to_read(rt, disk)?;
-    rank_read(read_session_on(rt, alloc, disk), output)
-}
-
-/// Writes the results of the session that the disk in a file holds, in Portable Bridge Notation.
-pub fn run_pbn<S: Files<File = File>, W: Write>(
-    rt: &S,
-    alloc: Global,
-    disk: &str,
-    output: &mut W,
-) -> Result<(), RunFault>
-    ensures done { OnOk result (HasResults IsPbnText (stream W.contents output.old output.new)) }
-    ensures fault { IfErr result (StopsResults IsPbnText (stream W.contents output.old output.new)) }
-{
-    let _lock = lock_to_read(rt, disk)?;
-    pbn_read(read_session_on(rt, alloc, disk), output)
 }
 
 /// Writes the results of the session that the disk in a file holds as a page, of HTML or of plain text.

@@ -11,8 +11,10 @@ use crate::disk_commands::{run_script, run_serve};
 use crate::fault::RunFault;
 use crate::fault_line::{fault_line, fault_status};
 use crate::formatting::run_format;
+use crate::planning::run_plan;
 use crate::printable::Printable;
-use crate::reading_commands::{run_check, run_pbn, run_rank, run_results};
+use crate::reading_commands::{run_check, run_results};
+use crate::telling::{Told, run_told};
 use crate::web::run_web;
 use bridge_cards::BoardNumber;
 use command_line::{Command, WordsFault, read_words};
@@ -37,11 +39,12 @@ const NOT_TEXT: &str = "a word of the command line is not UTF-8\n";
 
 /// Runs the command that the words after the program's name ask for, and answers the exit status.
 ///
-/// The runtime gives the files that commands open, and for `serve` the connections; `auction` opens none.
+/// The runtime gives the files that commands open, and for `serve` and `web` the connections; `auction` opens none.
 ///
 /// 0: done. 2: the words are no command, or call for help; what clap says of them goes to `errors`, and no clause speaks of
-/// that text. At 3 and 4 `errors` takes the line that names the fault, or a prefix of it where it fails itself. 3: `cannot read input`, `cannot write output`, `config line N: Name`, `disk fault`, `epochs spent` or
-/// `no memory`. 4: the disk holds no session, being `disk too small`, `not formatted` or `damaged sector N`.
+/// that text. At 3 and 4 `errors` takes the line that names the fault, or a prefix of it where it fails itself. 3: `cannot
+/// read input`, `cannot write output`, `config line N: Name`, `disk fault`, `epochs spent` or `no memory`. 4: the disk holds
+/// no session, being `disk too small`, `not formatted` or `damaged sector N`.
 pub fn run_words<
     S: Files<File = File> + Net<Listener = TcpListener, Stream = TcpStream> + Clock + RandomSource,
     R: Read,
@@ -126,13 +129,14 @@ fn do_command<
         Command::Serve { disk, port, count } => run_serve(rt, alloc, disk, port, count),
         Command::Web {
             disk,
-            port,
+            host,
             minutes,
-        } => run_web(rt, alloc, disk, port, minutes, output),
-        Command::Rank { disk } => run_rank(rt, alloc, disk, output),
-        Command::Pbn { disk } => run_pbn(rt, alloc, disk, output),
+        } => run_web(rt, alloc, disk, &host, minutes, output),
+        Command::Rank { disk } => run_told(rt, alloc, Told::Ranking, disk, output),
+        Command::Pbn { disk } => run_told(rt, alloc, Told::Games, disk, output),
         Command::Results { disk, html } => run_results(rt, alloc, disk, html, output),
         Command::Check { disk } => run_check(rt, alloc, disk, output),
+        Command::Plan { config } => run_plan(rt, config, output),
     }
 }
 

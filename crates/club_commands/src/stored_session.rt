@@ -10,33 +10,36 @@ use sector_disk::{DiskFault, SectorDisk};
 use session_store::{Reading, Store, StoreFault, read_state};
 use std::alloc::Global;
 
-/// Opens the session that a disk holds, which begins a new epoch of its store.
+/// Opens the session that a disk holds, which begins a new epoch of its store. The disk comes back at an error.
 pub fn open_session<D: SectorDisk + Drop>(
     alloc: Global,
     disk: D,
-) -> Result<Store<D, Session>, StoreFault>
+) -> Result<Store<D, Session>, (D, StoreFault)>
     ensures opened { IfOk result (OpensSession D.disk disk) }
     ensures begins { IfOk result (λ store. (store.failed ≡ false) × (store.pending ≡ [])) }
-    ensures fault { IfErr result (RefusesDisk D.disk disk) }
+    ensures fault { IfErr result (λ e. RefusesDisk D.disk disk e.0 e.1) }
 {
     match Store::open(alloc, disk) {
         Ok(store) => Ok(store),
-        Err((_, fault)) => Err(fault),
+        Err((disk, fault)) => Err((disk, fault)),
     }
 }
 
-/// Opens the session that a disk holds, where the disk was found.
+/// Opens the session that a disk holds, where the disk was found. It comes back at an error.
 pub fn open_found<D: SectorDisk + Drop>(
     alloc: Global,
     found: Result<D, DiskFault>,
-) -> Result<Store<D, Session>, StoreFault>
+) -> Result<Store<D, Session>, (Option<D>, StoreFault)>
     ensures opened { IfOk result (OpensFound D.disk found) }
     ensures begins { IfOk result (λ store. (store.failed ≡ false) × (store.pending ≡ [])) }
-    ensures fault { IfErr result (RefusesFound D.disk found) }
+    ensures fault { IfErr result (λ e. RefusesFound D.disk found e.0 e.1) }
 {
     match found {
-        Ok(disk) => open_session(alloc, disk),
-        Err(_) => Err(StoreFault::Disk),
+        Ok(disk) => match open_session(alloc, disk) {
+            Ok(store) => Ok(store),
+            Err((disk, fault)) => Err((Some(disk), fault)),
+        },
+        Err(_) => Err((None, StoreFault::Disk)),
     }
 }
 

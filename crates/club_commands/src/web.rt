@@ -1,67 +1,30 @@
 //! Pages for browsers, as the command `web` shows them.
-ghost use Rattle.std.specs.Prelude.{◌≡◌, [], false, string_bytes, OnOk, IfOk, IfErr};
-ghost use Rattle.line_text.specs.Streams.{stream, Written};
-ghost use Rattle.table_server.specs.declared.fault.ServeFault.TheVariants.{Accept as AcceptFault, Write as WriteFault};
-ghost use Rattle.club_commands.specs.Web.{listening_line, ShowsPages, StopsPages, HasShown, StopsShowing, ShowsOpened, StopsOpenedPages, HasShownPages, StopsShowingPages};
+ghost use Rattle.std.specs.Prelude.{◌≡◌, [], false, Some, string_bytes, OnOk, IfOk, IfErr};
+ghost use Rattle.session_store.specs.declared.fault.StoreFault.TheVariants.{NoMemory};
+ghost use Rattle.line_text.specs.Streams.{stream};
+ghost use Rattle.club_commands.specs.Web.{listening_line, ShowsPages, StopsPages, HasShown, StopsShowing, ShowsOpened, StopsOpenedPages, LeavesShown, LeavesUnshown, HasShownPages, StopsShowingPages};
 
 use crate::disk_commands::{CACHED_ENDINGS, open_store};
 use crate::disk_lock::lock;
 use crate::fault::RunFault;
+use crate::handing_out::{let_go, with_disk};
+use crate::listening::{listen_at, listening_line, names_of};
 use crate::output::write_output;
-use arrayvec::ArrayString;
 use bridge_endings::Cache;
 use bridge_session::Session;
-use itoa::Buffer;
+use command_line::WebHost;
 use sector_disk::{FileDisk, SectorDisk, SystemFile};
 use session_store::{Store, StoreFault};
 use std::alloc::{AllocError, Global};
 use std::fs::File;
 use std::hash::RandomState;
 use std::io::Write;
-use std::net::{Ipv4Addr, Net, SocketAddr, TcpListener, TcpStream};
+use std::net::{Net, TcpListener, TcpStream};
 use std::random::RandomSource;
 use std::rt::Files;
 use std::time::Clock;
 use table_pages::{TablePages, show_minutes};
 use table_server::ServeFault;
-
-/// Listens at a port of 127.0.0.1, without waiting there for anybody.
-fn listen_at<N: Net<Listener = TcpListener, Stream = TcpStream>>(
-    rt: &N,
-    port: u16,
-) -> Result<TcpListener, RunFault>
-    ensures { IfErr result (λ fault. fault ≡ RunFault.Stream AcceptFault) }
-{
-    let Ok(listener) = TcpListener::bind(rt, SocketAddr::from((Ipv4Addr::LOCALHOST, port))) else {
-        return Err(RunFault::Stream(ServeFault::Accept));
-    };
-    match listener.set_nonblocking(true) {
-        Ok(()) => Ok(listener),
-        Err(_) => Err(RunFault::Stream(ServeFault::Accept)),
-    }
-}
-
-/// The most bytes of the line that says where the pages are.
-const LINE_BYTES: usize = 40;
-
-/// The line that says where the pages are.
-fn listening_line(port: u16) -> ArrayString<LINE_BYTES>
-    ensures { result.bytes ≡ listening_line port }
-{
-    let mut line = ArrayString::new();
-    line.push_str("listening at http://127.0.0.1:");
-    line.push_str(Buffer::new().format(port));
-    line.push_str("\n");
-    line
-}
-
-/// Says on standard output where the pages are.
-fn write_listening<W: Write>(port: u16, output: &mut W) -> Result<(), RunFault>
-    ensures written { Written (stream W.contents output.old output.new) (listening_line port) result }
-    ensures fault { IfErr result (λ fault. fault ≡ RunFault.Stream WriteFault) }
-{
-    write_output(output, listening_line(port).as_str())
-}
 
 /// Shows pages for so many minutes, or until the store fails. The fault is that the store failed, or that the clock cannot be
 /// read.
@@ -87,59 +50,102 @@ pub fn show_pages<N: Net + Clock, D: SectorDisk + Drop>(
     }
 }
 
-/// Listens at a port of 127.0.0.1, says so, and shows pages for so many minutes over a store.
+/// Listens, says where, and shows pages for so many minutes over a store.
 fn listen_and_show<
     N: Net<Listener = TcpListener, Stream = TcpStream> + Clock + RandomSource,
     W: Write,
 >(
     rt: &N,
     alloc: Global,
-    port: u16,
+    host: &WebHost<'_>,
     minutes: u16,
-    mut pages: TablePages<Store<FileDisk<SystemFile<File>>, Session>>,
+    line: &str,
+    pages: &mut TablePages<Store<FileDisk<SystemFile<File>>, Session>>,
     output: &mut W,
 ) -> Result<(), RunFault>
-    requires { pages.server.failed ≡ false }
-    ensures done { OnOk result (HasShown (string_bytes pages.host) (string_bytes pages.alias) port pages.server (stream W.contents output.old output.new)) }
-    ensures fault { IfErr result (StopsShowing (string_bytes pages.host) (string_bytes pages.alias) port pages.server (stream W.contents output.old output.new)) }
+    requires works { pages.old.server.failed ≡ false }
+    requires line { line.now ≡ listening_line (string_bytes pages.old.host) }
+    ensures done { OnOk result (HasShown (string_bytes pages.old.host) (string_bytes pages.old.alias) pages.old.server pages.new.server (stream W.contents output.old output.new)) }
+    ensures fault { IfErr result (StopsShowing (string_bytes pages.old.host) (string_bytes pages.old.alias) pages.old.server pages.new.server (stream W.contents output.old output.new)) }
 {
-    let listener = listen_at(rt, port)?;
+    let listener = listen_at(rt, host)?;
     let Ok(keys) = RandomState::new(rt) else {
         return Err(RunFault::Stream(ServeFault::Accept));
     };
-    write_listening(port, output)?;
-    show_pages(rt, alloc, keys, &listener, &mut pages, minutes)
+    write_output(output, line)?;
+    show_pages(rt, alloc, keys, &listener, pages, minutes)
 }
 
-/// Shows pages over a session, where it was opened and there was memory for a cache.
+/// Shows pages over a session, where it was opened and there was memory for a cache, and hands the disk out.
 fn web_opened<N: Net<Listener = TcpListener, Stream = TcpStream> + Clock + RandomSource, W: Write>(
     rt: &N,
     alloc: Global,
-    port: u16,
+    host: &WebHost<'_>,
     minutes: u16,
-    opened: Result<Store<FileDisk<SystemFile<File>>, Session>, StoreFault>,
+    opened: Result<
+        Store<FileDisk<SystemFile<File>>, Session>,
+        (Option<FileDisk<SystemFile<File>>>, StoreFault),
+    >,
     cache: Result<Cache, AllocError>,
     output: &mut W,
-) -> Result<(), RunFault>
+) -> Result<FileDisk<SystemFile<File>>, (Option<FileDisk<SystemFile<File>>>, RunFault)>
     requires works { IfOk opened (λ store. store.failed ≡ false) }
     requires none_pending { IfOk opened (λ store. store.pending ≡ []) }
-    ensures done { OnOk result (ShowsOpened port opened cache (stream W.contents output.old output.new)) }
-    ensures fault { IfErr result (StopsOpenedPages port opened cache (stream W.contents output.old output.new)) }
+    ensures done { IfOk result (λ left. ShowsOpened host.now opened cache left (stream W.contents output.old output.new)) }
+    ensures fault { IfErr result (λ e. StopsOpenedPages host.now opened cache e.0 (stream W.contents output.old output.new) e.1) }
 {
     let store = match opened {
         Ok(store) => store,
-        Err(cause) => return Err(RunFault::Store(cause)),
+        Err((left, cause)) => return Err((left, RunFault::Store(cause))),
     };
     let Ok(cache) = cache else {
-        return Err(RunFault::Store(StoreFault::NoMemory));
+        return Err(without_memory(store));
     };
-    match TablePages::new(alloc, port, store, cache) {
-        Ok(pages) => listen_and_show(rt, alloc, port, minutes, pages, output),
-        Err(_) => Err(RunFault::Store(StoreFault::NoMemory)),
-    }
+    let Ok(names) = names_of(alloc, host) else {
+        return Err(without_memory(store));
+    };
+    let Ok(line) = listening_line(alloc, names.host()) else {
+        return Err(without_memory(store));
+    };
+    let mut pages = TablePages::new(alloc, names, store, cache);
+    let ended = listen_and_show(rt, alloc, host, minutes, line.as_str(), &mut pages, output);
+    with_disk(pages.into_server(), ended)
 }
 
-/// Shows pages for so many minutes at a port of 127.0.0.1, over the session that the disk in a file holds.
+/// The disk of a store over which memory was refused.
+fn without_memory(
+    store: Store<FileDisk<SystemFile<File>>, Session>,
+) -> (Option<FileDisk<SystemFile<File>>>, RunFault)
+    ensures { result ≡ (Some store.disk, RunFault.Store NoMemory) }
+{
+    let disk = store.into_disk();
+    (Some(disk), RunFault::Store(StoreFault::NoMemory))
+}
+
+/// Shows pages for so many minutes, over the session that the disk in a file holds, and hands the disk out.
+fn web_on_file<
+    S: Files<File = File> + Net<Listener = TcpListener, Stream = TcpStream> + Clock + RandomSource,
+    W: Write,
+>(
+    rt: &S,
+    alloc: Global,
+    disk: &str,
+    host: &WebHost<'_>,
+    minutes: u16,
+    output: &mut W,
+) -> Result<FileDisk<SystemFile<File>>, (Option<FileDisk<SystemFile<File>>>, RunFault)>
+    ensures done { IfOk result (λ left. LeavesShown left host.now (stream W.contents output.old output.new)) }
+    ensures fault { IfErr result (λ e. LeavesUnshown e.0 host.now (stream W.contents output.old output.new) e.1) }
+{
+    let Ok(_lock) = lock(rt, disk) else {
+        return Err((None, RunFault::Store(StoreFault::Disk)));
+    };
+    let opened = open_store(rt, alloc, disk);
+    let cache = Cache::new(alloc, CACHED_ENDINGS);
+    web_opened(rt, alloc, host, minutes, opened, cache, output)
+}
+
+/// Shows pages for so many minutes, over the session that the disk in a file holds.
 pub fn run_web<
     S: Files<File = File> + Net<Listener = TcpListener, Stream = TcpStream> + Clock + RandomSource,
     W: Write,
@@ -147,15 +153,12 @@ pub fn run_web<
     rt: &S,
     alloc: Global,
     disk: &str,
-    port: u16,
+    host: &WebHost<'_>,
     minutes: u16,
     output: &mut W,
 ) -> Result<(), RunFault>
-    ensures done { OnOk result (HasShownPages port (stream W.contents output.old output.new)) }
-    ensures fault { IfErr result (StopsShowingPages port (stream W.contents output.old output.new)) }
+    ensures done { OnOk result (HasShownPages host.now (stream W.contents output.old output.new)) }
+    ensures fault { IfErr result (StopsShowingPages host.now (stream W.contents output.old output.new)) }
 {
-    let _lock = lock(rt, disk)?;
-    let opened = open_store(rt, alloc, disk);
-    let cache = Cache::new(alloc, CACHED_ENDINGS);
-    web_opened(rt, alloc, port, minutes, opened, cache, output)
+    let_go(web_on_file(rt, alloc, disk, host, minutes, output))
 }

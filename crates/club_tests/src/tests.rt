@@ -7,7 +7,7 @@ mod script;
 
 use bridge_cards::BoardNumber;
 use club_commands::{refuse, run_words, status_of};
-use command_line::{Command, WordsFault, read_words};
+use command_line::{Command, WebHost, WordsFault, read_words};
 use std::alloc::{AllocError, Global};
 use std::fmt::Debug;
 use std::fs;
@@ -151,25 +151,82 @@ fn ports_and_counts_are_read(rt: HostRuntime) -> Result<(), Fail> {
             Err(_) => return Err(Fail::from("a command")),
         }
     }
-    let words = ["web", disk, "65535", "1440"];
-    match read_words(rt.alloc(), words.as_slice()) {
-        Ok(command) => expect_eq(
+    Ok(())
+}
+
+/// Fails where the words are no command; which it is, is proved.
+fn expect_command(rt: &impl Abort, alloc: Global, words: &[&str]) {
+    expect_eq(rt, read_words(alloc, words).is_ok(), true, words.last());
+}
+
+// Every board, every count and every number of minutes is taken, and ports all over their range.
+#[test]
+fn every_number_is_read(rt: HostRuntime) -> Result<(), Fail> {
+    let alloc = rt.alloc();
+    for number in 1..1441u32 {
+        let text = format!(in alloc; "{number}")?;
+        let port = format!(in alloc; "{}", 45 * number)?;
+        expect_command(
             &rt,
-            command,
-            Command::Web {
-                disk,
-                port: 65_535,
-                minutes: 1440,
-            },
-            "web",
+            alloc,
+            &["web", "club.disk", port.as_str(), text.as_str()],
+        );
+        if number <= 1000 {
+            expect_command(&rt, alloc, &["serve", "club.disk", "4000", text.as_str()]);
+        }
+        if number <= 36 {
+            expect_command(&rt, alloc, &["auction", text.as_str()]);
+        }
+    }
+    Ok(())
+}
+
+// Where pages are shown is what the options say, before, behind or between the other words.
+#[test]
+fn hosts_are_read(rt: HostRuntime) -> Result<(), Fail> {
+    let rows: [(&str, Option<&str>, Option<&str>); 4] = [
+        ("web club.disk 65535 1440", None, None),
+        (
+            "web --address 192.168.4.1 club.disk 65535 1440",
+            Some("192.168.4.1"),
+            None,
         ),
-        Err(_) => return Err(Fail::from("a command")),
+        (
+            "web club.disk 65535 --name club.test 1440",
+            None,
+            Some("club.test"),
+        ),
+        (
+            "web club.disk 65535 1440 --name=b --address=a",
+            Some("a"),
+            Some("b"),
+        ),
+    ];
+    for (text, address, name) in rows {
+        let mut words = Vec::new(rt.alloc());
+        for word in text.split_whitespace() {
+            words.push(word)?;
+        }
+        let host = WebHost {
+            port: 65_535,
+            address,
+            name,
+        };
+        let due = Command::Web {
+            disk: "club.disk",
+            host,
+            minutes: 1440,
+        };
+        match read_words(rt.alloc(), words.as_slice()) {
+            Ok(command) => expect_eq(&rt, command, due, text),
+            Err(_) => return Err(Fail::from("a command")),
+        }
     }
     Ok(())
 }
 
 /// Words, and behind `: ` how what is written of them begins.
-const OTHER_WORDS: [&str; 20] = [
+const OTHER_WORDS: [&str; 22] = [
     "format club.disk: error: the following required arguments were not provided:\n  <CONFIG>\n",
     "rank: error: the following required arguments were not provided:\n  <DISK>\n",
     "auction: error: the following required arguments were not provided:\n  <BOARD>\n",
@@ -184,6 +241,8 @@ const OTHER_WORDS: [&str; 20] = [
     "web club.disk 65536 1: error: invalid value '65536' for '<PORT>': 65536 is not in 1..=65535\n",
     "web club.disk 4000 0: error: invalid value '0' for '<MINUTES>': 0 is not in 1..=1440\n",
     "web club.disk 4000 1441: error: invalid value '1441' for '<MINUTES>': 1441 is not in 1..=1440\n",
+    "web club.disk 4000 1 --name=: error: a value is required for '--name <HOST>' but none was supplied\n",
+    "web club.disk 4000 1 --address a --address b: error: the argument '--address <IP>' cannot be used multiple times\n",
     "auction 0: error: invalid value '0' for '<BOARD>': 0 is not in 1..=36\n",
     "auction 37: error: invalid value '37' for '<BOARD>': 37 is not in 1..=36\n",
     "auctions 1: error: unrecognized subcommand 'auctions'\n",
@@ -239,24 +298,4 @@ fn words_that_cannot_be_had_are_named(rt: HostRuntime) {
     let status = refuse(WordsFault::Memory, &mut errors);
     expect_eq(&rt, status, 3, "memory refused");
     expect_eq(&rt, errors.as_slice(), b"no memory\n".as_slice(), "errors");
-}
-
-/// `rt try --test --fail-alloc N` refuses the Nth allocation: where `run_words` meets that, it is named, and nothing is
-/// read or written. The gate refuses none: there this is a plain run.
-#[test]
-fn a_run_whose_memory_may_be_refused(rt: HostRuntime) -> Result<(), Fail> {
-    let mut output = Vec::with_capacity(rt.alloc(), 64)?;
-    let mut errors = Vec::with_capacity(rt.alloc(), 64)?;
-    let mut input: &[u8] = b"1C\n";
-    let words = ["auction", "1"];
-    let words = words.as_slice();
-    let status = run_words(&rt, rt.alloc(), words, &mut input, &mut output, &mut errors);
-    let (line, lines, left): (&[u8], &[u8], &[u8]) = match status {
-        3 => (b"no memory\n", b"", b"1C\n"),
-        _ => (b"", b"OK\nUNFINISHED\n", b""),
-    };
-    expect_eq(&rt, errors.as_slice(), line, "errors");
-    expect_eq(&rt, output.as_slice(), lines, "output");
-    expect_eq(&rt, input, left, "input");
-    Ok(())
 }

@@ -1,12 +1,14 @@
 -- The command line, in the words of clap.
-use Rattle.std.specs.Prelude.{◌≡◌, ◌≢◌, ℕ, Bool, List, [], Option, None, Some, Ok, pos, true, false, codes}
+use Rattle.std.specs.Prelude.{◌≡◌, ◌≢◌, ℕ, Bool, List, [], Option, None, Some, Ok, pos, true, false, codes, option_map}
+use Rattle.std.specs.Borrow.{Bor}
 use Rattle.std.specs.Str.Parse.{ParsesUnsigned}
 use Rattle.std.specs.declared.num.ParseIntError.{ParseIntError}
 use Rattle.clap.specs.Words.{App, Row, Rule, Text, new_app, new_rule, with_rule, with_subcommand, subcommand_of, one_of, first_of, fault_of}
 use Rattle.clap.specs.declared.builder.action.ArgAction.TheVariants.{SetTrue}
 use Rattle.clap.specs.declared.builder.value_parser.ValueParser.TheVariants as parser
 use Rattle.command_line.specs.declared.command.Command.{Command}
-use Rattle.command_line.specs.declared.command.Command.TheVariants.{Auction, Format, Script, Serve, Web, Rank, Pbn, Results, Check}
+use Rattle.command_line.specs.declared.command.Command.TheVariants.{Auction, Format, Script, Serve, Web, Rank, Pbn, Results, Check, Plan}
+use Rattle.command_line.specs.declared.command.WebHost.{WebHost}
 use Rattle.command_line.specs.declared.command.WordsFault.{WordsFault}
 use Rattle.command_line.specs.declared.command.WordsFault.TheVariants.{Usage, Memory}
 
@@ -54,9 +56,25 @@ serve_app = with_rule (with_rule (disk_app (codes "serve")) port_rule) count_rul
 abbrev pub minutes_rule : Rule
 minutes_rule = record (new_rule (codes "MINUTES")) { required = true; parser = Some (parser.Signed (pos 1) (pos 1440)) }
 
+-- an option of that name, with a text that is not empty
+abbrev pub option_rule : Text → Rule
+option_rule name = record (new_rule name) { long = Some name; value_names = 1; parser = Some parser.NonEmptyString }
+
+-- the option `--address IP`
+abbrev pub address_rule : Rule
+address_rule = option_rule (codes "address")
+
+-- the option `--name HOST`
+abbrev pub name_rule : Rule
+name_rule = option_rule (codes "name")
+
 -- the command `web DISK PORT MINUTES`
+abbrev pub plain_web_app : App
+plain_web_app = with_rule (with_rule (disk_app (codes "web")) port_rule) minutes_rule
+
+-- with those options or without
 abbrev pub web_app : App
-web_app = with_rule (with_rule (disk_app (codes "web")) port_rule) minutes_rule
+web_app = with_rule (with_rule plain_web_app address_rule) name_rule
 
 -- the command `rank DISK`
 abbrev pub rank_app : App
@@ -77,6 +95,10 @@ results_app = with_rule (disk_app (codes "results")) html_rule
 -- the command `check DISK`
 abbrev pub check_app : App
 check_app = disk_app (codes "check")
+
+-- the command `plan CONFIG`
+abbrev pub plan_app : App
+plan_app = with_rule (new_app (codes "plan")) config_rule
 
 -- the program's name alone
 abbrev pub named_app : App
@@ -118,9 +140,13 @@ app_with_pbn = with_subcommand app_with_rank pbn_app.top
 abbrev pub app_with_results : App
 app_with_results = with_subcommand app_with_pbn results_app.top
 
+-- and with `check`
+abbrev pub app_with_check : App
+app_with_check = with_subcommand app_with_results check_app.top
+
 -- the program: words without its own name, and one of its commands
 abbrev pub club_app : App
-club_app = with_subcommand app_with_results check_app.top
+club_app = with_subcommand app_with_check plan_app.top
 
 -- the argument of that name is this number of so many bits, in decimal digits
 abbrev pub HasNumber : ℕ → List Row → Text → ℕ → Type 0
@@ -136,6 +162,15 @@ abbrev pub HasFlag : List Row → Text → Bool → Type 0
 HasFlag rows id flag = (one_of id rows ≡ Some (codes "true") → flag ≡ true)
     × (one_of id rows ≡ Some (codes "false") → flag ≡ false) × (one_of id rows ≡ None → flag ≡ false)
 
+-- the option of that name has this text, or is not given
+abbrev pub HasOption : List Row → Text → Option (Bor Text) → Type 0
+HasOption rows id text = first_of id rows ≡ option_map (λ t. t.now) text
+
+-- the port, and the options that are given
+abbrev pub HasHost : List Row → WebHost → Type 0
+HasHost rows host = HasNumber 16 rows (codes "PORT") host.port
+    × HasOption rows (codes "address") host.address × HasOption rows (codes "name") host.name
+
 -- the arguments are those of a command
 abbrev pub HasWords : List Row → Command → Type 0
 HasWords rows (Auction board) = HasNumber 8 rows (codes "BOARD") board
@@ -143,12 +178,13 @@ HasWords rows (Format disk config) = HasText rows (codes "DISK") disk.now × Has
 HasWords rows (Script disk) = HasText rows (codes "DISK") disk.now
 HasWords rows (Serve disk port count) = HasText rows (codes "DISK") disk.now
     × HasNumber 16 rows (codes "PORT") port × HasNumber 16 rows (codes "COUNT") count
-HasWords rows (Web disk port minutes) = HasText rows (codes "DISK") disk.now
-    × HasNumber 16 rows (codes "PORT") port × HasNumber 16 rows (codes "MINUTES") minutes
+HasWords rows (Web disk host minutes) = HasText rows (codes "DISK") disk.now
+    × HasHost rows host × HasNumber 16 rows (codes "MINUTES") minutes
 HasWords rows (Rank disk) = HasText rows (codes "DISK") disk.now
 HasWords rows (Pbn disk) = HasText rows (codes "DISK") disk.now
 HasWords rows (Results disk html) = HasText rows (codes "DISK") disk.now × HasFlag rows (codes "html") html
 HasWords rows (Check disk) = HasText rows (codes "DISK") disk.now
+HasWords rows (Plan config) = HasText rows (codes "CONFIG") config.now
 
 -- the name of a command
 abbrev pub name_of : Command → Text
@@ -156,11 +192,12 @@ name_of (Auction board) = codes "auction"
 name_of (Format disk config) = codes "format"
 name_of (Script disk) = codes "script"
 name_of (Serve disk port count) = codes "serve"
-name_of (Web disk port minutes) = codes "web"
+name_of (Web disk host minutes) = codes "web"
 name_of (Rank disk) = codes "rank"
 name_of (Pbn disk) = codes "pbn"
 name_of (Results disk html) = codes "results"
 name_of (Check disk) = codes "check"
+name_of (Plan config) = codes "plan"
 
 -- the command of that name, with these arguments
 abbrev pub IsNamed : Text → List Row → Command → Type 0

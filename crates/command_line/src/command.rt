@@ -8,43 +8,74 @@ pub enum Command<'a> {
     Auction(BoardNumber),
     /// `format DISK CONFIG`: a new disk for the session that begins by the configuration in a file.
     Format {
+        /// DISK, the name of the disk's file.
         disk: &'a str,
+        /// CONFIG, the name of the configuration's file.
         config: &'a str,
     },
     /// `script DISK`: lines from standard input, served over the session that a disk holds.
     Script {
+        /// DISK, the name of the disk's file.
         disk: &'a str,
     },
     /// `serve DISK PORT COUNT`: so many connections at a port, served one after the other over the session that a disk
     /// holds.
     Serve {
+        /// DISK, the name of the disk's file.
         disk: &'a str,
+        /// PORT, from 1 to 65535.
         port: u16,
+        /// COUNT, from 1 to 1000.
         count: u16,
     },
-    /// `web DISK PORT MINUTES`: pages for browsers at a port, for so many minutes, over the session that a disk holds.
+    /// `web DISK PORT MINUTES [--address IP] [--name HOST]`: pages for browsers, for so many minutes, over the session that
+    /// a disk holds.
     Web {
+        /// DISK, the name of the disk's file.
         disk: &'a str,
-        port: u16,
+        /// Where the pages are shown.
+        host: WebHost<'a>,
+        /// MINUTES, from 1 to 1440.
         minutes: u16,
     },
     /// `rank DISK`: the ranking of each field of the session that a disk holds.
     Rank {
+        /// DISK, the name of the disk's file.
         disk: &'a str,
     },
     /// `pbn DISK`: the results of the session that a disk holds, in Portable Bridge Notation.
     Pbn {
+        /// DISK, the name of the disk's file.
         disk: &'a str,
     },
     /// `results DISK`: the results of the session that a disk holds, as a page of text, or with `--html` of HTML.
     Results {
+        /// DISK, the name of the disk's file.
         disk: &'a str,
+        /// Whether `--html` is among the words.
         html: bool,
     },
     /// `check DISK`: what a disk holds, in words, or where it is damaged and what its older snapshot holds.
     Check {
+        /// DISK, the name of the disk's file.
         disk: &'a str,
     },
+    /// `plan CONFIG`: the evening that the configuration in a file plans, in words, or what is wrong with it.
+    Plan {
+        /// CONFIG, the name of the configuration's file.
+        config: &'a str,
+    },
+}
+
+/// Where the pages of `web` are shown, and by which name.
+#[derive(Clone, Copy, Debug, PartialEq, Eq)]
+pub struct WebHost<'a> {
+    /// The port to listen at.
+    pub port: u16,
+    /// The IPv4 address to listen at, in place of 127.0.0.1. It may be no address.
+    pub address: Option<&'a str>,
+    /// The host's name as browsers write it, in place of the address. It may be no name.
+    pub name: Option<&'a str>,
 }
 
 /// Why the words ask for no command.

@@ -6,8 +6,10 @@
 //! ```
 #![tactic(auto)]
 
+mod arguments;
 mod command;
+mod declaration;
 mod read;
 
-pub use command::{Command, WordsFault};
+pub use command::{Command, WebHost, WordsFault};
 pub use read::read_words;

@@ -7,6 +7,7 @@
 //! ```
 #![tactic(auto)]
 
+mod decimals;
 mod lines;
 mod numeral;
 mod refusal;
@@ -14,6 +15,9 @@ mod split;
 mod words;
 mod write;
 
+pub use decimals::{
+    NUMBER_BYTES, NumberText, hundredths_text, number_text, signed_text, tenths_text,
+};
 pub use lines::{LINE_BYTES, first_line, without_return};
 pub use numeral::{are_digits, is_numeral, value_of};
 pub use refusal::push_refusal;

@@ -1,4 +1,3 @@
 pub mod Html
-pub mod Numbers
 pub mod Table
 pub mod Page

@@ -13,7 +13,6 @@ mod block;
 mod cell;
 mod escape;
 mod format;
-mod number;
 mod page;
 mod style;
 mod table;
@@ -23,9 +22,6 @@ mod text;
 
 pub use block::{push_heading, push_paragraph};
 pub use format::{Align, Column, Content, Format, Level, Section};
-pub use number::{
-    NUMBER_BYTES, NumberText, hundredths_text, number_text, signed_text, tenths_text,
-};
 pub use page::{push_page_end, push_page_start, push_section_end, push_section_start};
 pub use style::{PAGE_START, PAGE_STYLE};
 pub use table::{push_row, push_table_end, push_table_start, push_titles};

@@ -6,16 +6,16 @@ use Rattle.std.proofs.lemmas.Bool.{cases_lt}
 use Rattle.std.proofs.lemmas.List.{take-append-le, length_push}
 use Rattle.sector_disk.specs.Disk.{Image}
 use Rattle.sector_disk.specs.Calls.{Elapses}
-use Rattle.sector_disk.specs.Held.{SectorValue, written, restarted, possible, sector_at, after, replay, after_first, IsReplayed, IsImage, LeftSince, left_only_now}
+use Rattle.sector_disk.specs.Held.{SectorValue, written, restarted, possible, sector_at, after, after_events, after_first, IsReplayed, IsImage, LeftSince, left_only_now}
 use Rattle.sector_disk.specs.Memory.{held, memory_disk}
 use Rattle.sector_disk.specs.declared.memory.MemoryDisk.{MemoryDisk}
 use Rattle.sector_disk.specs.declared.memory.events.Event.{Event}
 use Rattle.sector_disk.specs.declared.memory.events.Event.TheVariants.{Write, Sync}
 
 -- an event at the end is replayed last
-replay-push : (k : ℕ) (h : SectorValue) (events : List Event) (e : Event) → replay k h (events ++ e ∷ []) ≡ after k (replay k h events) e
-replay-push k h [] e = refl
-replay-push k h (d ∷ events) e = replay-push k (after k h d) events e
+after_events-push : (k : ℕ) (h : SectorValue) (events : List Event) (e : Event) → after_events k h (events ++ e ∷ []) ≡ after k (after_events k h events) e
+after_events-push k h [] e = refl
+after_events-push k h (d ∷ events) e = after_events-push k (after k h d) events e
 
 -- an event leaves the first value
 restarted-after : (k : ℕ) (h : SectorValue) (e : Event) → restarted (after k h e) ≡ restarted h
@@ -31,16 +31,16 @@ module _ (old new : ℕ → SectorValue) (events : List Event) (e : Event) (one_
   -- they hold what all events made of these
   replayed_push : IsReplayed old events → IsReplayed new (events ++ e ∷ [])
   replayed_push replayed k =
-      replay-push k (restarted (new k)) events e
-      ∙ ap (λ (h : SectorValue). after k (replay k h events) e) (same_first k)
+      after_events-push k (restarted (new k)) events e
+      ∙ ap (λ (h : SectorValue). after k (after_events k h events) e) (same_first k)
       ∙ ap (λ (h : SectorValue). after k h e) (replayed k)
       ∙ sym (one_more k)
 
   -- what was left before the event
   earlier : (j k : ℕ) → j ≤ length events → after_first new (events ++ e ∷ []) j k ≡ after_first old events j k
   earlier j k le =
-      ap (λ (h : SectorValue). replay k h (take j (events ++ e ∷ []))) (same_first k)
-      ∙ ap (λ (es : List Event). replay k (restarted (old k)) es) (take-append-le j events (e ∷ []) le)
+      ap (λ (h : SectorValue). after_events k h (take j (events ++ e ∷ []))) (same_first k)
+      ∙ ap (λ (es : List Event). after_events k (restarted (old k)) es) (take-append-le j events (e ∷ []) le)
 
   -- a power cut left what it might have left before the event, or what it may leave now
   pub nothing_else : IsReplayed new (events ++ e ∷ []) → (t : ℕ) (c : Image) → LeftSince new (events ++ e ∷ []) t c → LeftSince old events t c ⊎ IsImage new c

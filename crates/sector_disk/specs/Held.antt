@@ -64,13 +64,13 @@ after k h (Write i bytes) = if i == k then written bytes h else h
 after k h Sync = settled h
 
 -- sector k after these events, the first of them first
-abbrev pub replay : ℕ → SectorValue → List Event → SectorValue
-replay k h [] = h
-replay k h (e ∷ events) = replay k (after k h e) events
+abbrev pub after_events : ℕ → SectorValue → List Event → SectorValue
+after_events k h [] = h
+after_events k h (e ∷ events) = after_events k (after k h e) events
 
 -- what the sectors hold is what these events made of their first values
 abbrev pub IsReplayed : (ℕ → SectorValue) → List Event → Type 0
-IsReplayed sectors events = (k : ℕ) → replay k (restarted (sectors k)) events ≡ sectors k
+IsReplayed sectors events = (k : ℕ) → after_events k (restarted (sectors k)) events ≡ sectors k
 
 -- each sector of the image has one of its possible values
 abbrev pub IsImage : (ℕ → SectorValue) → Image → Type 0
@@ -78,7 +78,7 @@ IsImage sectors c = (k : ℕ) → Contains (possible (sectors k)) (c k)
 
 -- the sectors after the first n of these events
 abbrev pub after_first : (ℕ → SectorValue) → List Event → ℕ → ℕ → SectorValue
-after_first sectors events n k = replay k (restarted (sectors k)) (take n events)
+after_first sectors events n k = after_events k (restarted (sectors k)) (take n events)
 
 -- a power cut after n of these events, from the number t on, left this image
 abbrev pub LeftSince : (ℕ → SectorValue) → List Event → ℕ → Image → Type 0
@@ -97,7 +97,7 @@ module _ (sectors : ℕ → SectorValue) (events : List Event) (replayed : IsRep
   -- after all events the sectors are as they are now
   all_events : (k : ℕ) → after_first sectors events (length events) k ≡ sectors k
   all_events k =
-      ap (λ (es : List Event). replay k (restarted (sectors k)) es) (take_all (length events) events (omega arith)) ∙ replayed k
+      ap (λ (es : List Event). after_events k (restarted (sectors k)) es) (take_all (length events) events (omega arith)) ∙ replayed k
 
   -- what a power cut may leave now, it might have left since an earlier moment
   pub left_now : (t : ℕ) (c : Image) → t ≤ length events → IsImage sectors c → LeftSince sectors events t c

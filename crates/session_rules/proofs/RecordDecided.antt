@@ -1,5 +1,5 @@
 -- Whether the record of a play is valid.
-use Rattle.std.proofs.Common.{◌≡◌, ℕ, List, [], take, Option, Result, Ok, Err, inl, inr, refl, ap}
+use Rattle.std.proofs.Common.{◌≡◌, ℕ, List, take, Option, Result, Ok, Err, inl, inr, refl, ap}
 use Rattle.bridge_auction.specs.declared.call.Call.{Call}
 use Rattle.bridge_auction.specs.declared.call.Call.TheVariants.{Pass, Bid, Double, Redouble}
 use Rattle.bridge_auction.specs.declared.contract.Contract.{Contract}

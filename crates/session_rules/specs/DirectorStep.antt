@@ -1,5 +1,5 @@
 -- What the director does: the answer, and what changes.
-use Rattle.std.specs.Prelude.{ℕ, ◌-◌, ◌*◌, nat_lt, nat_le, not, ◌==◌, if◌then◌else◌, is_some, List, [], take, drop, Option, None, Some, Ok, Err}
+use Rattle.std.specs.Prelude.{ℕ, ◌-◌, ◌*◌, nat_lt, nat_le, not, ◌==◌, if◌then◌else◌, is_some, List, take, drop, Option, None, Some, Ok, Err}
 use Rattle.std.specs.List.{list_any}
 use Rattle.bridge_cards.specs.Deal.{is_dealt_out}
 use Rattle.bridge_score.specs.declared.Scoring.{Scoring}

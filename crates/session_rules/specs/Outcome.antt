@@ -1,5 +1,5 @@
 -- What came of a play.
-use Rattle.std.specs.Prelude.{◌≤◌, if◌then◌else◌, List, [], Option, None, Some}
+use Rattle.std.specs.Prelude.{◌≤◌, if◌then◌else◌, List, Option, None, Some}
 use Rattle.std.specs.Option.{option_map_or}
 use Rattle.bridge_cards.specs.Seat.{side_of}
 use Rattle.bridge_auction.specs.declared.call.Call.{Call}

@@ -14,7 +14,7 @@ use Rattle.session_store.specs.Store.{IsSoundStore}
 use Rattle.sector_disk.specs.declared.disk.DiskFault.{DiskFault}
 use Rattle.session_store.specs.declared.fault.StoreFault.{StoreFault}
 use Rattle.session_store.specs.declared.fault.StoreFault.TheVariants.{Disk as DiskFailed}
-use Rattle.session_store.specs.Opening.{IsStillSound, IsOnly, IsRead, IsUnread, Begins, first_of, Opens, Refuses}
+use Rattle.session_store.specs.Opening.{IsStillSound, IsOnly, IsRead, IsUnread, Begins, at_beginning, Opens, Refuses}
 use Rattle.session_store.proofs.OpeningLemmas.{cause-stands, disk-not_memory}
 use Rattle.session_store.proofs.StandsLemmas.{fold-nil}
 use Rattle.session_store.proofs.SnapshotLemmas.{stands-settled, settled-nothing_later, has_epoch-none_later, with_snapshot-format}
@@ -143,7 +143,7 @@ module _ {D S A R : Type 0} (kept : Keeping S A R) (disk : Disk D) where
 
   -- a store that begins is the first of its epoch
   pub first-is : (new : D) (base s : S) (pending : List A) (epoch : ℕ) → base ≡ s → pending ≡ []
-      → (record { disk = new; base = base; pending = pending; state = s; epoch = epoch; records = 0; failed = false }) ≡ first_of kept disk new s epoch
+      → (record { disk = new; base = base; pending = pending; state = s; epoch = epoch; records = 0; failed = false }) ≡ at_beginning kept disk new s epoch
   first-is new base s pending epoch same none =
       λ i. record { disk = new; base = same i; pending = none i; state = s; epoch = epoch; records = 0; failed = false }
 

@@ -67,13 +67,13 @@ module _ {D S A R : Type 0} (kept : Keeping S A R) (disk : Disk D) where
     pub memory : fault ≡ NoMemory → disk.honest old → HasNext (disk.reads old)
 
   -- the store of this state with nothing pending, at the beginning of an epoch
-  abbrev pub first_of : D → S → ℕ → StoreValue D S A
-  first_of d state epoch =
+  abbrev pub at_beginning : D → S → ℕ → StoreValue D S A
+  at_beginning d state epoch =
       record { disk = d; base = state; pending = []; state = state; epoch = epoch; records = 0; failed = false }
 
   -- a store at the beginning of this epoch, of which the snapshot was written
   pub record Begins (d : D) (epoch : ℕ) (state : S) (v : StoreValue D S A) : Type 0 where
-    pub is : v ≡ first_of v.disk state epoch
+    pub is : v ≡ at_beginning v.disk state epoch
     pub snapshot : WritesSnapshot {E = DiskFault} kept disk d v.disk epoch state (Ok tt)
 
   -- opening this disk answered Ok with this store

@@ -6,7 +6,6 @@ mod epochs;
 mod faults;
 mod formats;
 mod formatting;
-mod memory;
 mod rows;
 
 use arrayvec::ArrayVec;

@@ -34,10 +34,7 @@ fn first_key(fields: &ConfigFields, pair: u8) -> Option<Key>
     if pair == 0 {
         return None;
     }
-    match fields.pairs.get(usize::from(pair - 1)) {
-        Some(found) => Some(key_of(found)),
-        None => None,
-    }
+    fields.pairs.get(usize::from(pair - 1)).map(key_of)
 }
 
 /// Adds the board of a view, whether the cards are played, whose turn it is, and how many calls and cards were made.

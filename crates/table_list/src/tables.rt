@@ -112,10 +112,10 @@ fn push_tables_to(text: &mut ReplyText, session: &Session, key: Key)
 }
 
 /// Adds what is answered to these bytes, which are to be the director's key: `OK`, the round and how many there are, how many
-/// boards a set has and how many there are in all, a line for each table of the round, and a full stop. A table's line has its number, the pair of North and South, that of East
-/// and West, the board, `AUCTION` or `PLAY`, whose turn it is, and how many calls and cards were made; or after the pairs
-/// `-`, and why nothing is played: `NotDealt` where the next board is not dealt, `NotCurrent` where the boards of the round
-/// are done, and `SitsOut` where a pair sits out. No card is in it.
+/// boards a set has and how many there are in all, a line for each table of the round, and a full stop. A table's line has
+/// its number, the pair of North and South, that of East and West, the board, `AUCTION` or `PLAY`, whose turn it is, and how
+/// many calls and cards were made; or after the pairs `-`, and why nothing is played: `NotDealt` where the next board is not
+/// dealt, `NotCurrent` where the boards of the round are done, and `SitsOut` where a pair sits out. No card is in it.
 ///
 /// Refused are `BadLine` where the bytes are no key, `NoKey` where it is nobody's, and `NotAllowed` where it is a player's.
 pub fn push_tables(text: &mut ReplyText, session: &Session, bytes: &[u8])

@@ -1,3 +1,5 @@
 pub mod Answered
 pub mod Responses
 pub mod ToldResults
+pub mod HostNames
+pub mod WrongKeys

@@ -24,11 +24,17 @@ const DIRECTOR_SENTENCES = {
   EpochsSpent: "the server's disk is used up",
 };
 
+const MOST_BOARDS = 36;
+const MOST_TABLES = 12;
+const MINUTE = 60000;
+
 // When each table's line was first seen as it is.
 const since = new Map();
 // The first board of each table's set, by round and table, where it was seen.
 const firstBoards = new Map();
 let boardsOfSet = 1;
+// Whether lines are out.
+let ordered = false;
 
 // A reply of one line in words.
 function outcome(reply) {
@@ -51,11 +57,14 @@ function confirmFirst(box, question, act) {
   at("yes").focus();
 }
 
-// Sends lines without the key, each of a keyword and words; gives the replies, or null.
+// Sends lines without the key, each of a keyword and words; gives the replies, or null, also while other lines are out.
 async function order(lines) {
+  if (ordered) return null;
+  ordered = true;
   tell("");
   const body = lines.map((line) => line.replace(/^(\S+)\s*/, (_all, word) => (word === "SYNC" ? word : word + " " + key + " ")).trim() + "\n").join("");
   const reply = await ask("/lines", body);
+  ordered = false;
   if (reply === null) tell("No answer came. It may or may not have been done; what you see next tells.");
   return reply;
 }
@@ -85,7 +94,7 @@ function readTables(reply) {
   };
 }
 
-const IDLE = { NotDealt: "waits for its deal", NotCurrent: "has done its boards", SitsOut: "nobody plays here", Closed: "closed" };
+const IDLE = { NotDealt: "waits for its deal", NotCurrent: "has done its boards", SitsOut: "nobody plays here" };
 
 function progressText(table) {
   if (table.idle) return IDLE[table.idle] || table.idle;
@@ -96,7 +105,7 @@ function progressText(table) {
 function minutesText(table, now) {
   const known = since.get(table.number);
   if (!known || known.line !== table.line) since.set(table.number, { line: table.line, at: now });
-  return String(Math.floor((now - since.get(table.number).at) / 60000));
+  return String(Math.floor((now - since.get(table.number).at) / MINUTE));
 }
 
 function noteSets(state) {
@@ -132,7 +141,8 @@ function showTables(state) {
   noteSets(state);
   say("status", roundText(state));
   const old = at("tables");
-  if (old) old.replaceWith(tablesTable(state));
+  const tables = tablesTable(state);
+  if (old && !old.isEqualNode(tables)) old.replaceWith(tables);
   const end = at("end-round");
   if (!end) return;
   end.disabled = state.round > state.rounds || stillPlaying(state).length > 0;
@@ -147,13 +157,13 @@ function drawSeed() {
   return [...crypto.getRandomValues(new Uint8Array(32))].map((byte) => byte.toString(16).padStart(2, "0")).join("");
 }
 
-// The deals of a text: DEAL lines, a number and a deal, or the tag pairs of a PBN file.
+// The deals of a text: DEAL lines, with a key or without, a number and a deal, or the tag pairs of a PBN file.
 function dealsIn(text) {
   const found = [];
   let board = null;
   for (const line of text.split(/\r?\n/)) {
     const tag = /^\s*\[(Board|Deal)\s+"([^"]*)"\]/.exec(line);
-    const plain = /^\s*(?:DEAL\s+)?(\d+)\s+([NESW]:.+?)\s*$/.exec(line);
+    const plain = /^\s*(?:DEAL\s+(?:\d+\s+)?)?(\d+)\s+([NESW]:.+?)\s*$/.exec(line);
     if (tag && tag[1] === "Board") board = tag[2];
     else if (tag && board !== null) found.push([board, tag[2]]);
     else if (plain) found.push([plain[1], plain[2]]);
@@ -180,7 +190,7 @@ function shuffleBoards() {
   const first = Number(at("shuffle-first").value);
   const last = Number(at("shuffle-last").value);
   const boards = [];
-  for (let board = first; board <= last && boards.length < 36; board += 1) boards.push(board);
+  for (let board = first; board <= last && boards.length < MOST_BOARDS; board += 1) boards.push(board);
   const seed = drawSeed();
   if (boards.length === 0) tell("There are no such boards.");
   else dealAll(boards.map((board) => "SHUFFLE " + board + " " + seed), boards);
@@ -189,8 +199,8 @@ function shuffleBoards() {
 function dealText(text) {
   const deals = dealsIn(text);
   if (deals.length === 0) return tell("No deal was found in this text.");
-  const few = deals.slice(0, 36);
-  return dealAll(few.map((deal) => "DEAL " + deal[0] + " " + deal[1]), few.map((deal) => deal[0]));
+  if (deals.length > MOST_BOARDS) return tell("There are " + deals.length + " deals in this text, and at most " + MOST_BOARDS + " boards in a session.");
+  return dealAll(deals.map((deal) => "DEAL " + deal[0] + " " + deal[1]), deals.map((deal) => deal[0]));
 }
 
 // ---- a form of a few fields
@@ -206,6 +216,13 @@ function choice(id, label, options) {
 
 const numberAt = (id) => Math.trunc(Number(at(id).value));
 
+// Whether each number of a section is there and in its range.
+function isFilledIn(id) {
+  const filled = [...at(id).querySelectorAll("input")].every((field) => field.value !== "" && field.checkValidity());
+  if (!filled) tell("Each number has to be there, and in its range.");
+  return filled;
+}
+
 // The words of a play: round, table, and the board's place in its set; null where other boards were seen at that table.
 function playWords(prefix) {
   const [round, table, board] = ["-round", "-table", "-board"].map((field) => numberAt(prefix + field));
@@ -215,19 +232,25 @@ function playWords(prefix) {
     tell("In round " + round + " table " + table + " has " + (first === last ? "board " + first : "boards " + first + " to " + last) + ".");
     return null;
   }
-  return round + " " + table + " " + (((board - 1) % boardsOfSet) + 1);
+  return round + " " + table + " " + placeInSet(board);
 }
 
+const placeInSet = (board) => ((board - 1) % boardsOfSet) + 1;
+
+// The play by its round, its table, and its board; where it was not seen which boards were played there, by that board's place.
 function playName(prefix) {
-  return "round " + numberAt(prefix + "-round") + ", table " + numberAt(prefix + "-table") + ", board " + numberAt(prefix + "-board");
+  const [round, table, board] = ["-round", "-table", "-board"].map((field) => numberAt(prefix + field));
+  const name = firstBoards.has(round + " " + table) ? "board " + board : "board in place " + placeInSet(board) + " of its set";
+  return "round " + round + ", table " + table + ", " + name;
 }
 
 function playFields(prefix) {
-  return make("div", { className: "row" }, numberField(prefix + "-round", "Round", 1, 12, 1), numberField(prefix + "-table", "Table", 1, 12, 1), numberField(prefix + "-board", "Board", 1, 36, 1));
+  return make("div", { className: "row" }, numberField(prefix + "-round", "Round", 1, MOST_TABLES, 1), numberField(prefix + "-table", "Table", 1, MOST_TABLES, 1), numberField(prefix + "-board", "Board", 1, MOST_BOARDS, 1));
 }
 
 // Rules on the play of the fields, once the question is answered: a keyword, and what follows the play.
 function rule(what, word, rest) {
+  if (!isFilledIn("ruling")) return;
   const play = playWords("rule");
   const name = what + ", " + playName("rule");
   if (play !== null) confirmFirst(at("rule-question"), name + "?", () => doOne((word + " " + play + " " + rest).trim(), name));
@@ -247,6 +270,7 @@ function rulingNodes() {
 }
 
 async function solve() {
+  if (!isFilledIn("solving")) return;
   const play = playWords("solve");
   const reply = play === null ? null : await order(["SOLVE " + play + " " + 4 * numberAt("solve-tricks")]);
   if (reply === null) return;
@@ -255,16 +279,19 @@ async function solve() {
 }
 
 async function showRankings() {
+  const asked = key;
   tell("");
-  const replies = [await ask("/lines", "RANK " + key + " 1\n"), await ask("/lines", "RANK " + key + " 2\n")];
+  const replies = [await ask("/lines", "RANK " + asked + " 1\n"), await ask("/lines", "RANK " + asked + " 2\n")];
+  if (key !== asked) return;
   if (replies.includes(null)) return tell("No answer came.");
   const time = make("p", { className: "small" }, "As of " + new Date().toLocaleTimeString() + ".");
   if (at("rankings")) at("rankings").replaceChildren(time, ...replies.flatMap((reply, i) => (refusal(reply) ? [] : rankingNode(i + 1, reply))));
 }
 
 async function showResults() {
-  const text = await ask("/results", key);
-  say("results", text === null ? "No answer came." : text);
+  const asked = key;
+  const text = await ask("/results", asked);
+  if (key === asked) say("results", text === null ? "No answer came." : text);
 }
 
 function section(id, title, ...nodes) {
@@ -275,6 +302,7 @@ function linesNodes() {
   const box = make("textarea", { id: "box", spellcheck: false });
   const replies = make("pre", { id: "replies", role: "log", aria_label: "Replies" });
   const send = async () => {
+    if (ordered) return;
     const reply = await order(box.value.split("\n").map((line) => line.trim()).filter((line) => line !== ""));
     replies.textContent = reply === null ? "No answer came. The lines may or may not have been taken." : reply;
   };
@@ -284,7 +312,7 @@ function linesNodes() {
 function dealNodes() {
   const file = make("input", { id: "deal-file", type: "file", onchange: async () => { at("deal-text").value = await file.files[0].text(); } });
   return [
-    make("div", { className: "row" }, numberField("shuffle-first", "Shuffle boards", 1, 36, 1), numberField("shuffle-last", "to", 1, 36, ""), button("Shuffle", "", "shuffle", true, shuffleBoards)),
+    make("div", { className: "row" }, numberField("shuffle-first", "Shuffle boards", 1, MOST_BOARDS, 1), numberField("shuffle-last", "to", 1, MOST_BOARDS, ""), button("Shuffle", "", "shuffle", true, shuffleBoards)),
     make("div", { className: "row" }, make("label", { for: "deal-file" }, "Or a file of deals (PBN)"), file),
     make("label", { for: "deal-text" }, "Or their text: PBN, or lines such as 1 N:AKQJ.T98.765.432 ..."),
     make("textarea", { id: "deal-text", spellcheck: false }),
@@ -307,9 +335,9 @@ function directorNodes() {
 }
 
 // Shows the director's page, built once, with its tables as they are now.
-async function showDirector(asked) {
+async function showDirector(asked, mine) {
   const reply = await ask("/tables", asked);
-  if (key !== asked) return;
+  if (mine !== turn) return;
   if (reply === null) return unreachable();
   if (refusal(reply)) return leave();
   at("title").textContent = "Director";

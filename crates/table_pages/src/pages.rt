@@ -1,11 +1,14 @@
 //! The pages, and the lines that they post.
-ghost use Rattle.std.specs.Prelude.{◌≡◌, ◌<◌, ◌++◌, ◌⊎◌, ℕ, List, true, not, codes, decimal, length, nat_lt, string_bytes, IfOk, OnOk, OnErr};
+ghost use Rattle.std.specs.Prelude.{◌≡◌, ◌<◌, ◌⊎◌, ℕ, List, true, not, length, nat_lt, string_bytes, IfSome, OnOk, OnErr};
 ghost use Rattle.http_server.specs.Response.{IsBlank};
 ghost use Rattle.http.specs.Request.{head_of};
 ghost use Rattle.web_requests.specs.Filled.{IsText, IsUnavailable};
 ghost use Rattle.web_requests.specs.Route.{route_for};
+ghost use Rattle.table_pages.specs.WrongKeys.{wrong_keys, with_more};
 
+use crate::counting::wrong_keys;
 use crate::director_script::DIRECTOR_SCRIPT;
+use crate::host_names::HostNames;
 use crate::line_server::LineServer;
 use crate::page::PAGE;
 use crate::script::SCRIPT;
@@ -14,7 +17,6 @@ use bridge_endings::Cache;
 use bytes::Bytes;
 use http::Request;
 use http_server::{Response, Service};
-use itoa::Buffer;
 use std::alloc::{AllocError, Global};
 use table_server::ReplyText;
 use web_loop::LastingService;
@@ -33,43 +35,39 @@ pub struct TablePages<T: LineServer> {
     alias: String,
     server: T,
     cache: Cache,
+    /// How many wrong keys were answered.
+    wrong: u64,
     ghost ready: { T.is_ready server ≡ true },
-}
-
-/// A name of this computer with its port, as browsers write it.
-fn host_at(alloc: Global, name: &str, port: u16) -> Result<String, AllocError>
-    ensures { IfOk result (λ host. string_bytes host ≡ (name.now ++ codes ":") ++ decimal port) }
-{
-    let mut host = String::from_str(alloc, name)?;
-    host.push_str(":")?;
-    host.push_str(Buffer::new().format(port))?;
-    Ok(host)
 }
 
 impl<T: LineServer> TablePages<T> {
     ghost use Rattle.table_pages.specs.Responses.{TellsLines, TellsShort};
 
-    /// The pages at a port of this computer.
-    pub fn new(
-        alloc: Global,
-        port: u16,
-        server: T,
-        cache: Cache,
-    ) -> Result<TablePages<T>, AllocError>
+    /// The pages of a server that goes by these names.
+    pub fn new(alloc: Global, names: HostNames, server: T, cache: Cache) -> TablePages<T>
         requires { T.is_ready server ≡ true }
-        ensures server { IfOk result (λ pages. pages.server ≡ server) }
-        ensures host { IfOk result (λ pages. string_bytes pages.host ≡ (codes "127.0.0.1" ++ codes ":") ++ decimal port) }
-        ensures alias { IfOk result (λ pages. string_bytes pages.alias ≡ (codes "localhost" ++ codes ":") ++ decimal port) }
+        ensures server { result.server ≡ server }
+        ensures host { result.host ≡ names.host }
+        ensures alias { result.alias ≡ names.alias }
+        ensures wrong { result.wrong ≡ 0 }
     {
-        let host = host_at(alloc, "127.0.0.1", port)?;
-        let alias = host_at(alloc, "localhost", port)?;
-        Ok(TablePages {
+        let HostNames { host, alias } = names;
+        TablePages {
             alloc,
             host,
             alias,
             server,
             cache,
-        })
+            wrong: 0,
+        }
+    }
+
+    /// Gives back what answers the lines.
+    pub fn into_server(self) -> T
+        ensures { result ≡ self.server }
+    {
+        let TablePages { server, .. } = self;
+        server
     }
 
     /// Where a request goes.
@@ -90,10 +88,13 @@ impl<T: LineServer> TablePages<T> {
     fn call_lines(&mut self, body: &[u8], response: &mut Response) -> Result<(), AllocError>
         requires { IsBlank response.old }
         ensures lines { OnOk result (TellsShort T.answers (nat_lt (length body.now) 65536) self.old.server body.now response.new self.new.server) }
+        ensures counted { OnOk result (self.new.wrong ≡ with_more self.old.wrong (wrong_keys response.new.body.items)) }
         ensures host { self.new.host ≡ self.old.host }
         ensures alias { self.new.alias ≡ self.old.alias }
         ensures err { OnErr result (self.new ≡ self.old) }
     {
+        // read so that its range is known: of an empty body no wrong key more is counted
+        let _wrong = self.wrong;
         if body.len() < TOO_MANY_BYTES {
             self.put_lines(body, response);
             Ok(())
@@ -103,34 +104,56 @@ impl<T: LineServer> TablePages<T> {
     }
 
     /// Answers a key with what its player is told of his place.
-    fn put_place(&self, key: &[u8], response: &mut Response) -> Result<(), AllocError>
+    fn put_place(&mut self, key: &[u8], response: &mut Response) -> Result<(), AllocError>
         requires { IsBlank response.old }
-        ensures { OnOk result (IsText Kind.Lines (T.places self.now.server key.now) response.new) }
+        ensures told { OnOk result (IsText Kind.Lines (T.places self.old.server key.now) response.new) }
+        ensures counted { OnOk result (self.new.wrong ≡ with_more self.old.wrong (wrong_keys response.new.body.items)) }
+        ensures server { self.new.server ≡ self.old.server }
+        ensures host { self.new.host ≡ self.old.host }
+        ensures alias { self.new.alias ≡ self.old.alias }
+        ensures err { OnErr result (self.new ≡ self.old) }
     {
         let mut text = ReplyText::new();
         self.server.place(key, &mut text);
-        put_text(response, Kind::Lines, text.as_str().as_bytes())
+        self.put_told(response, text.as_str().as_bytes())
     }
 
     /// Answers the director's key with what is told of all tables.
-    fn put_tables(&self, key: &[u8], response: &mut Response) -> Result<(), AllocError>
+    fn put_tables(&mut self, key: &[u8], response: &mut Response) -> Result<(), AllocError>
         requires { IsBlank response.old }
-        ensures { OnOk result (IsText Kind.Lines (T.tables self.now.server key.now) response.new) }
+        ensures told { OnOk result (IsText Kind.Lines (T.tables self.old.server key.now) response.new) }
+        ensures counted { OnOk result (self.new.wrong ≡ with_more self.old.wrong (wrong_keys response.new.body.items)) }
+        ensures server { self.new.server ≡ self.old.server }
+        ensures host { self.new.host ≡ self.old.host }
+        ensures alias { self.new.alias ≡ self.old.alias }
+        ensures err { OnErr result (self.new ≡ self.old) }
     {
         let mut text = ReplyText::new();
         self.server.tables(key, &mut text);
-        put_text(response, Kind::Lines, text.as_str().as_bytes())
+        self.put_told(response, text.as_str().as_bytes())
     }
 
     /// Answers a key with what its holder is told of the results.
-    fn put_results(&self, key: &[u8], response: &mut Response) -> Result<(), AllocError>
+    fn put_results(&mut self, key: &[u8], response: &mut Response) -> Result<(), AllocError>
         requires { IsBlank response.old }
-        ensures { OnOk result ((text : List ℕ) × T.results self.now.server key.now text × IsText Kind.Lines text response.new) }
+        ensures told { OnOk result ((text : List ℕ) × T.results self.old.server key.now text × IsText Kind.Lines text response.new) }
+        ensures counted { OnOk result (self.new.wrong ≡ with_more self.old.wrong (wrong_keys response.new.body.items)) }
+        ensures server { self.new.server ≡ self.old.server }
+        ensures host { self.new.host ≡ self.old.host }
+        ensures alias { self.new.alias ≡ self.old.alias }
+        ensures err { OnErr result (self.new ≡ self.old) }
     {
-        match self.server.results(self.alloc, key) {
-            Some(text) => put_text(response, Kind::Lines, text.as_slice()),
-            None => Err(AllocError),
-        }
+        let Some(text) = self.results(key) else {
+            return Err(AllocError);
+        };
+        self.put_told(response, text.as_slice())
+    }
+
+    /// What is told of the results to the holder of a key. `None` where memory is refused.
+    fn results(&self, key: &[u8]) -> Option<Vec<u8>>
+        ensures { IfSome result (λ text. T.results self.now.server key.now text.items) }
+    {
+        self.server.results(self.alloc, key)
     }
 
     /// Answers posted lines. Where memory is refused once they were taken, the response says nothing.
@@ -138,33 +161,61 @@ impl<T: LineServer> TablePages<T> {
         requires blank { IsBlank response.old }
         requires short { length body.now < 65536 }
         ensures lines { TellsLines T.answers self.old.server body.now response.new self.new.server }
+        ensures counted { self.new.wrong ≡ with_more self.old.wrong (wrong_keys response.new.body.items) }
         ensures host { self.new.host ≡ self.old.host }
         ensures alias { self.new.alias ≡ self.old.alias }
     {
+        // read so that its range is known: of an empty body no wrong key more is counted
+        let _wrong = self.wrong;
         match self.server.answer(self.alloc, &mut self.cache, body) {
-            Some(text) => put_replies(response, text.as_slice()),
+            Some(text) => self.put_replies(response, text.as_slice()),
             None => put_unavailable(response),
         }
     }
-}
 
-/// Fills a response with replies, or where memory is refused with nothing.
-fn put_replies(response: &mut Response, text: &[u8])
-    requires { IsBlank response.old }
-    ensures { IsText Kind.Lines text.now response.new ⊎ IsUnavailable response.new }
-{
-    if put_text(response, Kind::Lines, text).is_err() {
-        put_unavailable(response);
+    /// Fills a response with replies, or where memory is refused with nothing.
+    fn put_replies(&mut self, response: &mut Response, text: &[u8])
+        requires { IsBlank response.old }
+        ensures text { IsText Kind.Lines text.now response.new ⊎ IsUnavailable response.new }
+        ensures counted { self.new.wrong ≡ with_more self.old.wrong (wrong_keys response.new.body.items) }
+        ensures server { self.new.server ≡ self.old.server }
+        ensures host { self.new.host ≡ self.old.host }
+        ensures alias { self.new.alias ≡ self.old.alias }
+    {
+        // read so that its range is known: of an empty body no wrong key more is counted
+        let _wrong = self.wrong;
+        if self.put_told(response, text).is_err() {
+            put_unavailable(response);
+        }
+    }
+
+    /// Fills a response with what is told, and counts the wrong keys in it.
+    fn put_told(&mut self, response: &mut Response, text: &[u8]) -> Result<(), AllocError>
+        requires { IsBlank response.old }
+        ensures told { OnOk result (IsText Kind.Lines text.now response.new) }
+        ensures counted { OnOk result (self.new.wrong ≡ with_more self.old.wrong (wrong_keys response.new.body.items)) }
+        ensures server { self.new.server ≡ self.old.server }
+        ensures host { self.new.host ≡ self.old.host }
+        ensures alias { self.new.alias ≡ self.old.alias }
+        ensures err { OnErr result (self.new ≡ self.old) }
+    {
+        put_text(response, Kind::Lines, text)?;
+        self.wrong = self.wrong.saturating_add(wrong_keys(text));
+        Ok(())
     }
 }
 
 impl<T: LineServer> Service for TablePages<T> {
     ghost use Rattle.std.specs.Prelude.{◌≡◌, string_bytes};
+    ghost use Rattle.http.specs.Request.{head_of};
+    ghost use Rattle.web_requests.specs.Route.{route_for};
     ghost use Rattle.table_pages.specs.Responses.{Answering};
+    ghost use Rattle.table_pages.specs.WrongKeys.{Counts};
 
     ghost answers = { λ old request response new.
         Answering T.answers T.places T.tables T.results (string_bytes old.host) (string_bytes old.alias) old.server request response new.server
-        × (new.host ≡ old.host) × (new.alias ≡ old.alias) };
+        × (new.host ≡ old.host) × (new.alias ≡ old.alias)
+        × Counts (route_for (string_bytes old.host) (string_bytes old.alias) (head_of request)) old.wrong response new.wrong };
 
     fn call(
         &mut self,
@@ -188,7 +239,13 @@ impl<T: LineServer> Service for TablePages<T> {
 impl<T: LineServer> LastingService for TablePages<T> {
     ghost lasts = { λ pages. not (T.failed pages.server) };
 
+    ghost wrong_keys = { λ pages. pages.wrong };
+
     fn lasts(&self) -> bool {
         !self.server.has_failed()
+    }
+
+    fn wrong_keys(&self) -> u64 {
+        self.wrong
     }
 }

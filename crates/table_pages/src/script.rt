@@ -11,7 +11,11 @@ const SIGNS = { S: "\u2660", H: "\u2665", D: "\u2666", C: "\u2663" };
 const SUIT_NAMES = { S: "spades", H: "hearts", D: "diamonds", C: "clubs" };
 const RANK_NAMES = { A: "ace", K: "king", Q: "queen", J: "jack", T: "10" };
 const STRAINS = ["C", "D", "H", "S", "NT"];
+// Milliseconds: an answer that comes later is none; how often the page looks, also where it is hidden; how long results last.
 const LATE = 8000;
+const LOOK = 1000;
+const HIDDEN_LOOK = 5000;
+const RESULTS_LAST = 60000;
 const SENTENCES = {
   NoKey: "Nobody has this key.",
   NotAllowed: "That is not yours to do.",
@@ -35,6 +39,7 @@ const SENTENCES = {
   ClaimsSpent: "No more claims can be made on this board.",
   Disk: "The server's disk has failed. Call the director.",
   EpochsSpent: "The server's disk is used up. Call the director.",
+  BadLine: "That cannot be read.",
 };
 
 const at = (id) => document.getElementById(id);
@@ -42,7 +47,9 @@ let key = sessionStorage.getItem("key");
 let busy = false;
 let shown = "";
 let timer = 0;
-let results = { made: "", text: "" };
+// Raised by each look and each act: an answer that an earlier one gets is shown no more.
+let turn = 0;
+let results = { made: "", text: "", at: 0 };
 
 function make(tag, properties, ...children) {
   const node = document.createElement(tag);
@@ -286,10 +293,14 @@ function claimNode(place, view) {
   const left = 13 - Number(view.tricks.NS) - Number(view.tricks.EW);
   const dummy = place.contract && partner(place.contract.declarer) === view.seat;
   const between = view.trick.length === 0;
-  const count = make("input", { id: "claim", type: "number", min: 0, max: left, value: left });
+  const count = make("input", { id: "claim", type: "number", min: 0, max: left, value: left, required: true });
+  const claim = () => {
+    if (count.checkValidity()) act(line("CLAIM", " " + Number(count.value)));
+    else say("notice", "Give a number of tricks from 0 to " + left + ".");
+  };
   const open = make("details", { id: "claiming" }, make("summary", null, "Claim or concede"),
     make("div", { className: "row" }, make("label", { for: "claim" }, "My side wins of the tricks left"), count,
-      button("Claim", "", "claim-button", between && !dummy, () => act(line("CLAIM", " " + Math.trunc(Number(count.value)))))));
+      button("Claim", "", "claim-button", between && !dummy, claim)));
   open.hidden = dummy === true;
   return open;
 }
@@ -392,21 +403,23 @@ function rankingNode(field, reply) {
   return [make("h2", null, "Ranking, field " + field), make("table", { aria_label: "Ranking of field " + field }, make("thead", null, head), make("tbody", null, ...rows))];
 }
 
-async function showClosed(placeReply) {
+async function showClosed(placeReply, asked, mine) {
   const place = readPlace(placeReply);
   at("title").textContent = headText(place);
-  const first = await ask("/lines", "RANK " + key + " 1\n");
-  const second = await ask("/lines", "RANK " + key + " 2\n");
+  const first = await ask("/lines", "RANK " + asked + " 1\n");
+  const second = await ask("/lines", "RANK " + asked + " 2\n");
+  if (mine !== turn) return;
   if (first === null || second === null) return unreachable();
   const made = placeReply + first + second;
-  // The results are long, and are asked for again only where a ranking has changed.
-  if (results.made !== made) {
-    const text = await ask("/results", key);
+  // The results are long: they are asked for again where a ranking has changed, and else once a minute.
+  if (results.made !== made || Date.now() - results.at > RESULTS_LAST) {
+    const text = await ask("/results", asked);
+    if (mine !== turn) return;
     if (text === null) return unreachable();
-    results = { made, text };
+    results = { made, text, at: Date.now() };
   }
   const both = [[1, first], [2, second]].filter((one) => !refusal(one[1]));
-  show(made, "The session is closed.", () => [...both.flatMap((one) => rankingNode(one[0], one[1])), make("h2", null, "Results"), make("pre", { id: "results" }, results.text)]);
+  show(made + results.text, "The session is closed.", () => [...both.flatMap((one) => rankingNode(one[0], one[1])), make("h2", null, "Results"), make("pre", { id: "results" }, results.text)]);
 }
 
 function showLogin() {
@@ -427,6 +440,7 @@ function showLogin() {
 
 function leave() {
   key = null;
+  turn += 1;
   sessionStorage.removeItem("key");
   say("notice", "");
   showLogin();
@@ -441,19 +455,22 @@ async function look() {
   clearTimeout(timer);
   const asked = key;
   if (asked === null) return showLogin();
-  if (!busy) await lookOnce(asked);
+  // What is no answer of this server, as that of a network's own login page, cannot be read.
+  if (!busy) await lookOnce(asked).catch(unreachable);
   clearTimeout(timer);
-  if (key !== null) timer = setTimeout(look, document.hidden ? 5000 : 1000);
+  if (key !== null) timer = setTimeout(look, document.hidden ? HIDDEN_LOOK : LOOK);
 }
 
 async function lookOnce(asked) {
+  turn += 1;
+  const mine = turn;
   const place = await ask("/place", asked);
-  if (key !== asked || busy) return;
+  if (mine !== turn) return;
   if (place === null) return unreachable();
   const refused = refusal(place);
   if (refused === "NotAllowed") {
     enter(asked);
-    return showDirector(asked);
+    return showDirector(asked, mine);
   }
   if (refused) {
     leave();
@@ -461,9 +478,9 @@ async function lookOnce(asked) {
   }
   enter(asked);
   const where = readPlace(place);
-  if (where.round > where.rounds) return showClosed(place);
+  if (where.round > where.rounds) return showClosed(place, asked, mine);
   const view = await ask("/lines", "SEE " + asked + "\n");
-  if (key !== asked || busy) return;
+  if (mine !== turn) return;
   if (view === null) return unreachable();
   showView(place, view);
 }
@@ -476,15 +493,18 @@ function enter(asked) {
 // Sends one line, and shows what has become of it.
 async function act(line) {
   if (busy) return;
+  const asked = key;
   busy = true;
+  turn += 1;
   say("notice", "");
   for (const node of at("main").querySelectorAll("button")) node.disabled = true;
   const reply = await ask("/lines", line + "\n");
   busy = false;
   shown = "";
+  if (key !== asked) return look();
   if (reply === null) say("notice", "No answer came. It may or may not have been taken; what you see next tells.");
   else if (refusal(reply)) say("notice", SENTENCES[refusal(reply)] || reply);
-  look();
+  return look();
 }
 
 at("leave").onclick = leave;

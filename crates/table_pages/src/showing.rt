@@ -11,8 +11,8 @@ use std::alloc::Global;
 use std::hash::RandomState;
 use std::io;
 use std::net::Net;
-use std::time::Clock;
-use web_loop::{Clients, serve_minutes, serve_rounds};
+use std::time::{Clock, Instant};
+use web_loop::{Clients, serve_minutes};
 
 /// The most bytes of the head of a request; a longer one is refused.
 const MOST_HEAD_BYTES: usize = 8192;
@@ -20,7 +20,8 @@ const MOST_HEAD_BYTES: usize = 8192;
 /// The most bytes of the body of a request; a longer one is refused.
 const MOST_BODY_BYTES: usize = 65_535;
 
-/// The limits of a connection: a head of 8,192 bytes and a body of 65,535.
+/// The limits of a connection: a head of 8,192 bytes, a body of 65,535, and one request after another, so that none is read
+/// before the answer to the last is sent.
 pub fn limits() -> Config {
     Config {
         limits: Limits {
@@ -28,28 +29,14 @@ pub fn limits() -> Config {
             ..Limits::default()
         },
         max_body_len: MOST_BODY_BYTES,
+        max_pending: 0,
         ..Config::default()
     }
 }
 
-/// Shows pages to the clients of a listener that does not block for so many rounds, in each of which each client has its turn,
-/// or until the server of lines has failed; then what is pending is sent. Names that clients choose are looked up by `keys`,
-/// which are secret. The error is that the clock cannot be read.
-pub fn show_rounds<N: Net + Clock, T: LineServer>(
-    rt: &N,
-    alloc: Global,
-    keys: RandomState,
-    listener: &N::Listener,
-    pages: &mut TablePages<T>,
-    rounds: u64,
-) -> io::Result<()>
-    ensures { LeadsTo (Answering T.answers T.places T.tables T.results (string_bytes pages.old.host) (string_bytes pages.old.alias)) pages.old.server pages.new.server }
-{
-    let mut clients = Clients::new(alloc, keys, limits());
-    serve_rounds(rt, listener, &mut clients, pages, rounds)
-}
-
-/// The same for so many minutes.
+/// Shows pages to the clients of a listener that does not block for so many minutes, in rounds in each of which each client has
+/// its turn, or until the server of lines has failed; then what is pending is sent. Names that clients choose are looked up by
+/// `keys`, which are secret. The error is that the clock cannot be read.
 pub fn show_minutes<N: Net + Clock, T: LineServer>(
     rt: &N,
     alloc: Global,
@@ -60,6 +47,6 @@ pub fn show_minutes<N: Net + Clock, T: LineServer>(
 ) -> io::Result<()>
     ensures { LeadsTo (Answering T.answers T.places T.tables T.results (string_bytes pages.old.host) (string_bytes pages.old.alias)) pages.old.server pages.new.server }
 {
-    let mut clients = Clients::new(alloc, keys, limits());
+    let mut clients = Clients::new(alloc, keys, limits(), Instant::now(rt)?);
     serve_minutes(rt, listener, &mut clients, pages, minutes)
 }

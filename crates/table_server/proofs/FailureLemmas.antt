@@ -1,8 +1,8 @@
 -- What holds of lines once the store has failed.
-use Rattle.std.proofs.Common.{◌≡◌, ℕ, ◌+◌, ◌<◌, ◌∙◌, true, List, [], ◌∷◌, ◌++◌, length, refl, sym, ap, arith, append_assoc, append-nil, length-append}
+use Rattle.std.proofs.Common.{◌≡◌, ℕ, ◌+◌, ◌<◌, ◌∙◌, true, false, List, [], ◌∷◌, ◌++◌, length, Ok, refl, sym, ap, arith, append_assoc, append-nil, length-append}
 use Rattle.std.proofs.lemmas.Bool.{true≢false}
 use Rattle.sector_disk.specs.Disk.{Disk}
-use Rattle.session_store.specs.Answers.{room}
+use Rattle.session_store.specs.Answers.{room, Confirms}
 use Rattle.session_store.proofs.CallLaws.{few_pending, continues_begins}
 use Rattle.session_store.specs.Store.{Continues}
 use Rattle.session_store.specs.Value.{StoreValue}
@@ -15,6 +15,7 @@ use Rattle.table_server.specs.Answered.{after_asked, accepted, after_all, accept
 use Rattle.table_server.specs.Served.{IsServed}
 use Rattle.table_server.specs.Serving.{FailsTaking, Holding}
 use Rattle.table_server.specs.Standing.{Standing, standing_of, after_change, accepted_change}
+use Rattle.table_server.proofs.CourseLemmas.{course_begins, course_calls}
 use Rattle.table_server.proofs.Folds.{after_append, accepted_append, accepted_one, room_left, all_held_one, errors_append}
 use Rattle.table_server.proofs.ServingLemmas.{confirmed_enough, joined}
 
@@ -30,9 +31,10 @@ module _ {D : Type 0} (disk : Disk D) where
       let lines : List Asked = h.answered ++ h.waiting in
       let none : h.waiting ++ [] ≡ h.waiting = append-nil h.waiting in
       let few = few_pending session_keeping disk store new [] call in
+      let accepts : accepted_all from lines ≡ accepted_all from asked ++ []
+      = ap (accepted_all from) (sym h.all) ∙ sym (append-nil (accepted_all from asked)) in
       let calls : Continues session_keeping disk start (accepted_all from lines) new
-      = joined disk start store new from asked [] (accepted_all from lines) h.continues call
-      (ap (accepted_all from) (sym h.all) ∙ sym (append-nil (accepted_all from asked))) in
+      = joined disk start store new from asked [] (accepted_all from lines) h.continues call accepts in
       let split = ap length (accepted_append from h.answered h.waiting) ∙ length-append (accepted_all from h.answered) (accepted_all before h.waiting) in record {
         answered = h.answered;
         taken = h.waiting;
@@ -41,6 +43,7 @@ module _ {D : Type 0} (disk : Disk D) where
         replies = written;
         are_replies = h.are_replies;
         says = ap (λ n. written ++ disk_errors n) (sym h.count_is ∙ ap length (sym none));
+        course = course_calls disk start h.answered written (accepted_all from asked) store h.course new [] (accepted_all from lines) call accepts;
         state = ap (λ (t : Standing). t.state) (same ∙ h.standing) ∙ ap (λ (xs : List Asked). (after_all from xs).state) h.all;
         standing = λ works. absurd (true≢false (sym failed ∙ works));
         continues = calls;
@@ -76,15 +79,15 @@ module _ {D : Type 0} (disk : Disk D) where
       = accepted_one before h.waiting one ∙ ap (λ (t : Standing). accepted_all before h.waiting ++ accepted t one) (sym here) in
       let count_waits = ap length waits ∙ length-append (accepted_all before h.waiting) more in
       let few = few_pending session_keeping disk store new more f.continues in
+      let accepts : accepted_all from lines ≡ accepted_all from asked ++ more
+      = ap (accepted_all from) (sym all) ∙ accepted_one from asked one
+      ∙ ap (λ (t : Standing). accepted_all from asked ++ accepted t one) (sym h.standing) in
       let calls : Continues session_keeping disk start (accepted_all from lines) new
-      = joined disk start store new from asked more (accepted_all from lines) h.continues f.continues
-      (ap (accepted_all from) (sym all) ∙ accepted_one from asked one
-      ∙ ap (λ (t : Standing). accepted_all from asked ++ accepted t one) (sym h.standing)) in
+      = joined disk start store new from asked more (accepted_all from lines) h.continues f.continues accepts in
       let split = ap length (accepted_append from h.answered group) ∙ length-append (accepted_all from h.answered) (accepted_all before group) in
       let count_is = length-append h.waiting (one ∷ []) in
       let lines_more : accepted_all from lines ≡ accepted_all from asked ++ action ∷ []
-      = ap (accepted_all from) (sym all) ∙ accepted_one from asked one
-      ∙ ap (λ (t : Standing). accepted_all from asked ++ accepted t one) (sym h.standing) ∙ ap (λ (xs : List Action). accepted_all from asked ++ xs) f.accepted in
+      = accepts ∙ ap (λ (xs : List Action). accepted_all from asked ++ xs) f.accepted in
       let counted : length (accepted_all from asked) + 1 ≡ length (accepted_all from lines)
       = sym (ap length lines_more ∙ length-append (accepted_all from asked) (action ∷ [])) in
       let after_is : after_change (standing_of store) action ≡ after_all from lines
@@ -96,6 +99,7 @@ module _ {D : Type 0} (disk : Disk D) where
         replies = written;
         are_replies = h.are_replies;
         says = ap (λ n. written ++ disk_errors n) (ap (λ n. n + 1) (sym h.count_is) ∙ sym count_is ∙ ap length (sym none));
+        course = course_calls disk start h.answered written (accepted_all from asked) store h.course new more (accepted_all from lines) f.continues accepts;
         state = f.state ∙ ap (λ (t : Standing). t.state) after_is;
         standing = λ works. absurd (true≢false (sym f.failed ∙ works));
         continues = calls;
@@ -129,6 +133,7 @@ module _ {D : Type 0} (disk : Disk D) where
         are_replies = s.are_replies;
         says = ap (λ (xs : List ℕ). xs ++ disk_errors 1) s.says ∙ append_assoc s.replies (disk_errors (length rest)) (disk_errors 1)
             ∙ ap (λ (xs : List ℕ). s.replies ++ xs) errors;
+        course = s.course;
         state = s.state;
         standing = s.standing;
         continues = s.continues;
@@ -152,6 +157,7 @@ module _ {D : Type 0} (disk : Disk D) where
     replies = [];
     are_replies = refl;
     says = refl;
+    course = course_begins disk store;
     state = refl;
     standing = λ works. refl;
     continues = continues_begins session_keeping disk store;
@@ -164,3 +170,26 @@ module _ {D : Type 0} (disk : Disk D) where
     few = omega arith;
     failed_before = λ it. refl;
   }
+
+  -- before the first line, where the store works
+  pub begins_working : (old new : StoreValue D SessionValue Action) → Confirms session_keeping disk old new (Ok tt)
+      → Continues session_keeping disk old [] new → (old.failed ≡ false → old.pending ≡ []) → Holding disk old [] new [] 0 []
+  begins_working old new answer call none =
+      let same : new ≡ old = answer.2 (none answer.0) in
+      let empty : length new.pending ≡ 0 = ap (λ (v : StoreValue D SessionValue Action). length v.pending) same ∙ ap length (none answer.0) in record {
+        answered = [];
+        waiting = [];
+        all = refl;
+        are_replies = refl;
+        are_held = refl;
+        begins = refl;
+        group = refl;
+        count_is = refl;
+        few = omega arith;
+        works = ap (λ (v : StoreValue D SessionValue Action). v.failed) same ∙ answer.0;
+        worked = answer.0;
+        standing = ap standing_of same;
+        continues = call;
+        pending = omega (arith, empty);
+        course = course_calls disk old [] [] [] old (course_begins disk old) new [] [] call refl;
+      }

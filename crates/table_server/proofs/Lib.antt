@@ -7,6 +7,7 @@ pub mod CommandLaws
 pub mod Pairs
 pub mod WrittenParts
 pub mod Folds
+pub mod CourseLemmas
 pub mod ServingLemmas
 pub mod TakingLemmas
 pub mod CountLemmas

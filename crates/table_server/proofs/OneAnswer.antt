@@ -1,16 +1,15 @@
 -- A question has one answer.
-use Rattle.std.specs.Prelude.{ℕ, ◌≡◌, ◌⊎◌, ◌-◌, Bool, List, [], ◌∷◌, ◌++◌, codes, map, refl, Option, Some, None, Result, Ok, Err}
+use Rattle.std.specs.Prelude.{ℕ, ◌≡◌, ◌⊎◌, ◌-◌, List, [], ◌∷◌, ◌++◌, codes, map, refl, Option, Some, None, Result, Ok, Err}
 use Rattle.std.specs.Option.{option_map}
-use Rattle.std.proofs.Common.{sym, ap, ap₂, ◌∙◌, subst, inl, inr}
+use Rattle.std.proofs.Common.{sym, ap, ap₂, ◌∙◌, inl, inr}
 use Rattle.bridge_cards.specs.Card.{card_text}
 use Rattle.bridge_cards.specs.CardSet.{cards_of}
 use Rattle.bridge_endings.specs.Ending.{tricks_in}
 use Rattle.bridge_endings.specs.EndingValue.{EndingValue}
 use Rattle.bridge_endings.specs.Worth.{worth_of}
-use Rattle.bridge_score.specs.declared.ranking.Ranked.{Ranked}
-use Rattle.bridge_session.specs.Ending.{PlainEnding, plain_ending, ending_answer}
+use Rattle.bridge_session.specs.Ending.{plain_ending, ending_answer}
 use Rattle.bridge_ranking.specs.declared.field.Field.{Field}
-use Rattle.bridge_ranking.specs.Ranking.{ranking_answer, IsRankingTo}
+use Rattle.bridge_ranking.specs.Ranking.{ranking_answer}
 use Rattle.bridge_ranking.proofs.OneRanking.{one_ranking}
 use Rattle.session_rules.specs.declared.action.PlayId.{PlayId}
 use Rattle.session_rules.specs.declared.refused.Refused.{Refused as SessionRefused}
@@ -18,7 +17,7 @@ use Rattle.session_rules.specs.declared.view.Trick.{Trick}
 use Rattle.session_rules.specs.declared.view.View.{View}
 use Rattle.session_rules.specs.See.{PlainTrick, shown_to}
 use Rattle.session_rules.specs.State.{SessionValue, director_answer}
-use Rattle.session_rules.specs.Views.{IsViewTo, ShowSame, plain_seen}
+use Rattle.session_rules.specs.Views.{ShowSame, plain_seen}
 use Rattle.session_rules.proofs.OneView.{one_view}
 use Rattle.table_server.specs.declared.asked.Asked.{Asked}
 use Rattle.table_server.specs.declared.asked.Asked.TheVariants.{Change, Told, BadLine, LongLine}
@@ -30,7 +29,7 @@ use Rattle.table_server.specs.PbnReply.{pbn_reply}
 use Rattle.table_server.specs.ReplyTexts.{short_text, solved_text, ranking_text}
 use Rattle.table_server.specs.Standing.{Standing}
 use Rattle.table_server.specs.Told.{Tells, TellsRefusal, TellsView, TellsRanking, TellsWorth}
-use Rattle.table_server.specs.ViewText.{seat_word, hand_or_dash, trick_words, play_line, dealer_line, at_line, view_lines, view_text}
+use Rattle.table_server.specs.ViewText.{seat_word, hand_or_dash, trick_words, view_text}
 use Rattle.table_server.proofs.SameHands.{same_hand_text, same_endings}
 
 -- the words of a trick, by what is seen of it

@@ -1,11 +1,10 @@
 -- Hands with the same cards have one text, and endings of the same cards are one.
-use Rattle.std.specs.Prelude.{ℕ, zero, suc, ◌≡◌, ◌+◌, ◌-◌, ◌*◌, ◌<◌, ◌≤◌, ◌⊎◌, Bool, true, false, cond, ◌==◌, ◌&&◌, nat_le, List, [], ◌∷◌, ◌++◌, length, map, filter, flat_map, count_by, All, refl, Option, Some, None}
+use Rattle.std.specs.Prelude.{ℕ, ◌≡◌, ◌+◌, ◌<◌, ◌⊎◌, Bool, true, false, cond, ◌==◌, nat_le, List, [], ◌∷◌, ◌++◌, map, filter, flat_map, count_by, All, refl, Option}
 use Rattle.std.specs.List.{range_with_len, list_all}
-use Rattle.std.specs.Option.{option_map}
 use Rattle.std.proofs.Common.{sym, ap, ap₂, ◌∙◌, arith, inl, inr}
 use Rattle.std.proofs.lemmas.List.Sums.{sum_by-cons}
 use Rattle.std.proofs.lemmas.List.Elements.{All-head, All-tail}
-use Rattle.std.proofs.lemmas.Bool.{cases_eq, eq-eqb, ne_eqb, cond-true, cond-false, and_parts}
+use Rattle.std.proofs.lemmas.Bool.{cases_eq, ne_eqb, and_parts}
 use Rattle.std.proofs.lemmas.Bool.Decides.{nat_tests}
 use Rattle.bridge_cards.specs.declared.suit.Suit.{Suit}
 use Rattle.bridge_cards.specs.declared.suit.Suit.TheVariants.{Clubs, Diamonds, Hearts, Spades}
@@ -14,7 +13,7 @@ use Rattle.bridge_cards.specs.Suit.{suit_number}
 use Rattle.bridge_cards.specs.Rank.{rank_letter}
 use Rattle.bridge_cards.specs.Card.{card_of}
 use Rattle.bridge_cards.specs.CardSet.{IsCardSet, has_card, deck, cards_of}
-use Rattle.bridge_cards.specs.DealText.{dot, descending, letter_of, suit_text, hand_text}
+use Rattle.bridge_cards.specs.DealText.{descending, letter_of, suit_text, hand_text}
 use Rattle.bridge_cards.proofs.CardCounts.{count_one}
 use Rattle.bridge_cards.proofs.CardSetLaws.{same_cards_of_deck}
 use Rattle.bridge_endings.specs.Ending.{IsEnding}

@@ -18,6 +18,8 @@ use Rattle.table_server.specs.Served.{IsServed}
 use Rattle.table_server.specs.Serving.{Holding, Settled}
 use Rattle.table_server.specs.Standing.{Standing, standing_of}
 use Rattle.table_server.specs.Told.{Tells}
+use Rattle.table_server.specs.Course.{HasCourse}
+use Rattle.table_server.proofs.CourseLemmas.{course_calls, course_replies}
 use Rattle.table_server.proofs.Folds.{after_append, accepted_one, room_left, replies_append, replies_one, all_held_one}
 
 module _ {D : Type 0} where
@@ -53,16 +55,23 @@ module _ {D : Type 0} where
     pub settled : (start store new : StoreValue D SessionValue Action) (asked : List Asked) (text : List ℕ) (count : ℕ) (written : List ℕ)
         → Holding disk start asked store text count written → new ≡ after_confirm store new.disk
         → Continues session_keeping disk store [] new → Settled disk start asked new (written ++ text)
-    settled start store new asked text count written h is call = record {
-      are_replies = rw h.all (replies_append (standing_of start) h.answered h.waiting written text h.are_replies h.are_held);
-      works = ap (λ (v : StoreValue D SessionValue Action). v.failed) is ∙ h.works;
-      worked = h.worked;
-      standing = ap standing_of is ∙ confirmed_standing store new.disk ∙ h.standing;
-      continues =
-          joined start store new (standing_of start) asked [] (accepted_all (standing_of start) asked) h.continues call
-          (sym (append-nil (accepted_all (standing_of start) asked)));
-      pending = ap (λ (v : StoreValue D SessionValue Action). v.pending) is;
-    }
+    settled start store new asked text count written h is call =
+        let from = standing_of start in
+        let all : List Action = accepted_all from asked in
+        let called = course_calls disk start h.answered written all store h.course new [] all call (sym (append-nil all)) in
+        let lines : length all ≡ length (accepted_all from (h.answered ++ h.waiting)) = ap (λ (xs : List Asked). length (accepted_all from xs)) h.all in
+        let none : length new.pending ≡ 0 = ap (λ (v : StoreValue D SessionValue Action). length v.pending) is in record {
+          are_replies = rw h.all (replies_append (standing_of start) h.answered h.waiting written text h.are_replies h.are_held);
+          works = ap (λ (v : StoreValue D SessionValue Action). v.failed) is ∙ h.works;
+          worked = h.worked;
+          standing = ap standing_of is ∙ confirmed_standing store new.disk ∙ h.standing;
+          continues =
+              joined start store new (standing_of start) asked [] (accepted_all (standing_of start) asked) h.continues call
+              (sym (append-nil (accepted_all (standing_of start) asked)));
+          pending = ap (λ (v : StoreValue D SessionValue Action). v.pending) is;
+          course = subst (λ (xs : List Asked). HasCourse disk start xs (written ++ text) all new) (sym h.all)
+              (course_replies disk start h.answered written all new called h.waiting text h.are_held (omega (arith, lines, none)));
+        }
 
     -- and then another group may begin
     pub holding : (start store : StoreValue D SessionValue Action) (asked : List Asked) (written : List ℕ)
@@ -82,6 +91,7 @@ module _ {D : Type 0} where
       standing = s.standing;
       continues = s.continues;
       pending = rw s.pending (omega arith);
+      course = s.course;
     }
 
     -- or all was served
@@ -100,6 +110,7 @@ module _ {D : Type 0} where
           replies = written;
           are_replies = s.are_replies;
           says = sym (append-nil written);
+          course = rw all s.course;
           state = ap (λ (t : Standing). t.state) s.standing ∙ ap (λ (xs : List Asked). (after_all from xs).state) (sym same);
           standing = λ works. s.standing ∙ ap (after_all from) (sym same);
           continues = calls;
@@ -121,13 +132,20 @@ module _ {D : Type 0} where
     told start store asked question written text s tells =
         let from = standing_of start in
         let there : Tells (after_all from asked).state question text
-        = subst (λ (t : SessionValue). Tells t question text) (ap (λ (t : Standing). t.state) s.standing) tells in record {
+        = subst (λ (t : SessionValue). Tells t question text) (ap (λ (t : Standing). t.state) s.standing) tells in
+        let same : accepted_all from (asked ++ Told question ∷ []) ≡ accepted_all from asked
+        = accepted_one from asked (Told question) ∙ append-nil (accepted_all from asked) in
+        let count : length (accepted_all from (asked ++ Told question ∷ [])) ≡ length (accepted_all from asked) = ap length same in
+        let none : length store.pending ≡ 0 = ap length s.pending in record {
           are_replies = replies_one from asked (Told question) written text s.are_replies there;
           works = s.works;
           worked = s.worked;
           standing = s.standing ∙ sym (after_append from asked (Told question ∷ []));
           continues = rw (accepted_one from asked (Told question), append-nil (accepted_all from asked)) s.continues;
           pending = s.pending;
+          course = subst (λ (xs : List Action). HasCourse disk start (asked ++ Told question ∷ []) (written ++ text) xs store) (sym same)
+              (course_replies disk start asked written (accepted_all from asked) store s.course (Told question ∷ []) text
+              (text, [], there, refl, sym (append-nil text)) (omega (arith, count, none)));
         }
 
     -- one line more is held
@@ -147,6 +165,8 @@ module _ {D : Type 0} where
         let waits : accepted_all before (h.waiting ++ one ∷ []) ≡ accepted_all before h.waiting ++ more
         = accepted_one before h.waiting one ∙ ap (λ (t : Standing). accepted_all before h.waiting ++ accepted t one) (sym here) in
         let count_waits = ap length waits ∙ length-append (accepted_all before h.waiting) more in
+        let accepts : accepted_all from (asked ++ one ∷ []) ≡ accepted_all from asked ++ more
+        = accepted_one from asked one ∙ ap (λ (t : Standing). accepted_all from asked ++ accepted t one) (sym h.standing) in
         let few = few_pending session_keeping disk store new more call in record {
           answered = h.answered;
           waiting = h.waiting ++ one ∷ [];
@@ -161,7 +181,7 @@ module _ {D : Type 0} where
           worked = h.worked;
           standing = standing ∙ ap (λ (t : Standing). after_asked t one) h.standing ∙ sym (after_append from asked (one ∷ []));
           continues =
-              joined start store new from asked more (accepted_all from (asked ++ one ∷ [])) h.continues call
-              (accepted_one from asked one ∙ ap (λ (t : Standing). accepted_all from asked ++ accepted t one) (sym h.standing));
+              joined start store new from asked more (accepted_all from (asked ++ one ∷ [])) h.continues call accepts;
           pending = omega (arith, count_waits, few, h.pending);
+          course = course_calls disk start h.answered written (accepted_all from asked) store h.course new more (accepted_all from (asked ++ one ∷ [])) call accepts;
         }

@@ -11,6 +11,7 @@ pub mod ViewText
 pub mod Standing
 pub mod Told
 pub mod Answered
+pub mod Course
 pub mod Served
 pub mod Serving
 pub mod Faulted

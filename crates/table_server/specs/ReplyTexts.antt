@@ -1,6 +1,7 @@
 -- The replies of the protocol as text. Each line ends with a line feed.
 use Rattle.std.specs.Prelude.{ℕ, ◌/◌, ◌%◌, ◌+◌, List, [], ◌∷◌, ◌++◌, codes, map, flat_map, unsigned_abs, int_le, nat_le, pos, Bool, ◌&&◌, if◌then◌else◌, Option, Some, None}
 use Rattle.std.specs.Fmt.{decimal, signed_decimal}
+use Rattle.line_text.specs.Decimals.{tenths_text, hundredths_text}
 use Rattle.line_text.specs.Refusal.{refusal_line}
 use Rattle.bridge_auction.specs.Refused.{refusal_number as call_refusal_number, refusal_name as call_refusal_name}
 use Rattle.bridge_score.specs.declared.ranking.Ranked.{Ranked}
@@ -38,18 +39,10 @@ listed_text lines = lines_text (codes "OK" ∷ (lines ++ codes "." ∷ []))
 abbrev pub solved_text : ℕ → ℕ → List ℕ
 solved_text ns ew = lines_text (spaced_line (codes "OK") (decimal ns ∷ decimal ew ∷ []) ∷ [])
 
--- a number below 100 in two digits
-abbrev pub two_digits : ℕ → List ℕ
-two_digits number = (48 + number / 10) ∷ (48 + number % 10) ∷ []
-
 -- a percentage with two decimals, as `33.33`, or `-` where nothing was available
 abbrev pub percent_text : Option ℕ → List ℕ
 percent_text None = codes "-"
-percent_text (Some hundredths) = (decimal (hundredths / 100) ++ codes ".") ++ two_digits (hundredths % 100)
-
--- a number of tenths, in units with one decimal, as `1.2`
-abbrev pub tenths_text : ℕ → List ℕ
-tenths_text tenths = (decimal (tenths / 10) ++ codes ".") ++ (48 + tenths % 10) ∷ []
+percent_text (Some hundredths) = hundredths_text hundredths
 
 -- what a pair gained in matchpoints, which are never below 0, of what was available to it
 abbrev pub share_text : Ranked → List ℕ

@@ -9,6 +9,7 @@ use Rattle.session_rules.specs.declared.action.Action.{Action}
 use Rattle.bridge_session.specs.SessionKeeping.{session_keeping}
 use Rattle.session_rules.specs.State.{SessionValue}
 use Rattle.table_server.specs.declared.asked.Asked.{Asked}
+use Rattle.table_server.specs.Course.{HasCourse}
 use Rattle.table_server.specs.Answered.{AreReplies, after_all, accepted_all, held_after, is_held, disk_errors}
 use Rattle.table_server.specs.Standing.{standing_of}
 
@@ -24,6 +25,8 @@ module _ {D : Type 0} (disk : Disk D) where
     pub replies : List ℕ
     pub are_replies : AreReplies (standing_of start) answered replies
     pub says : text ≡ replies ++ disk_errors (length (taken ++ later))
+    -- there is a course of calls of the store and writes of the replies to those answered, each once what it says was confirmed
+    pub course : HasCourse disk start answered replies (accepted_all (standing_of start) (answered ++ taken)) store
     -- the state and the actions accepted, and where the store works how many more can be taken
     pub state : store.state ≡ (after_all (standing_of start) (answered ++ taken)).state
     pub standing : store.failed ≡ false → standing_of store ≡ after_all (standing_of start) (answered ++ taken)

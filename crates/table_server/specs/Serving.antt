@@ -16,6 +16,7 @@ use Rattle.table_server.specs.declared.held_replies.HeldReplies.{HeldReplies}
 use Rattle.table_server.specs.declared.served.Served.{Served}
 use Rattle.table_server.specs.declared.short_reply.ShortReply.{ShortReply}
 use Rattle.table_server.specs.declared.short_reply.ShortReply.TheVariants.{Done, Refused, Illegal, BadLine, LongLine, Disk as DiskReply, EpochsSpent}
+use Rattle.table_server.specs.Course.{HasCourse}
 use Rattle.table_server.specs.Answered.{AreReplies, after_all, accepted_all, held_after, is_held, disk_errors}
 use Rattle.table_server.specs.Served.{IsServed}
 use Rattle.table_server.specs.Standing.{Standing, standing_of, change_reply, after_change, accepted_change}
@@ -100,6 +101,7 @@ module _ {D : Type 0} (disk : Disk D) where
     pub standing : standing_of store ≡ after_all (standing_of start) asked
     pub continues : Continues session_keeping disk start (accepted_all (standing_of start) asked) store
     pub pending : length store.pending ≤ length (accepted_all (after_all (standing_of start) answered) waiting)
+    pub course : HasCourse disk start answered written (accepted_all (standing_of start) asked) store
 
   -- All lines were answered, and what was accepted of them is confirmed.
   pub record Settled (start : StoreValue D SessionValue Action) (asked : List Asked) (store : StoreValue D SessionValue Action) (written : List ℕ) : Type 0 where
@@ -109,6 +111,7 @@ module _ {D : Type 0} (disk : Disk D) where
     pub standing : standing_of store ≡ after_all (standing_of start) asked
     pub continues : Continues session_keeping disk start (accepted_all (standing_of start) asked) store
     pub pending : store.pending ≡ []
+    pub course : HasCourse disk start asked written (accepted_all (standing_of start) asked) store
 
   -- The store works, and so many actions were accepted.
   pub record Works (start : StoreValue D SessionValue Action) (asked : List Asked) (store : StoreValue D SessionValue Action) (held : HeldReplies) (written : List ℕ) : Type 0 where

@@ -1,31 +1,20 @@
 //! The reply to a question for the ranking of a field.
-ghost use Rattle.std.specs.Prelude.{◌≡◌, ◌+◌, ◌*◌, ◌/◌, ◌%◌, ◌<◌, ◌≤◌, ◌∷◌, ◌++◌, [], length, map};
-ghost use Rattle.std.specs.Fmt.{decimal};
+ghost use Rattle.std.specs.Prelude.{◌≡◌, ◌+◌, ◌*◌, ◌≤◌, ◌∷◌, ◌++◌, [], length, map};
 ghost use Rattle.arrayvec.specs.ArrayString.{array_string_len};
 ghost use Rattle.line_text.specs.Lines.{lines_text};
 ghost use Rattle.bridge_score.specs.declared.ranking.Scoring.TheVariants.{MatchPoints};
-ghost use Rattle.table_server.specs.ReplyTexts.{two_digits, percent_text, tenths_text, each_spaced, gain_words, ranked_line, ranking_text, share_percent};
+ghost use Rattle.table_server.specs.ReplyTexts.{percent_text, each_spaced, gain_words, ranked_line, ranking_text, share_percent};
 
 use crate::reply_text::{REPLY_BYTES, ReplyText, push_word};
 use bridge_score::{Ranked, Scoring, percent_hundredths};
 use itoa::Buffer;
+use line_text::{hundredths_text, tenths_text};
 
 /// The room for a line of a ranking.
 pub const RANK_BYTES: usize = 80;
 
 /// The most that may be available to a pair.
 const MOST_AVAILABLE: u32 = 10_000_000;
-
-/// Adds a number below 100 in two digits.
-fn push_two_digits(text: &mut ReplyText, number: u32)
-    requires small { number < 100 }
-    requires room { array_string_len text.old + 2 ≤ REPLY_BYTES }
-    ensures text { text.new.bytes ≡ text.old.bytes ++ two_digits number }
-    ensures room { array_string_len text.new ≤ array_string_len text.old + 2 }
-{
-    text.push(char::from(b'0' + (number / 10) as u8));
-    text.push(char::from(b'0' + (number % 10) as u8));
-}
 
 /// Adds a percentage with two decimals, or `-` where there is none.
 fn push_percent(text: &mut ReplyText, hundredths: Option<u32>)
@@ -35,11 +24,7 @@ fn push_percent(text: &mut ReplyText, hundredths: Option<u32>)
 {
     match hundredths {
         None => text.push_str("-"),
-        Some(hundredths) => {
-            text.push_str(Buffer::new().format(hundredths / 100));
-            text.push_str(".");
-            push_two_digits(text, hundredths % 100);
-        }
+        Some(hundredths) => text.push_str(hundredths_text(hundredths).as_str()),
     }
 }
 
@@ -55,17 +40,6 @@ fn share_percent(ranked: &Ranked) -> Option<u32>
     }
 }
 
-/// Adds a number of tenths, in units with one decimal.
-fn push_tenths(text: &mut ReplyText, tenths: u32)
-    requires { array_string_len text.old + 12 ≤ REPLY_BYTES }
-    ensures text { text.new.bytes ≡ text.old.bytes ++ tenths_text tenths }
-    ensures room { array_string_len text.new ≤ array_string_len text.old + 12 }
-{
-    text.push_str(Buffer::new().format(tenths / 10));
-    text.push_str(".");
-    text.push(char::from(b'0' + (tenths % 10) as u8));
-}
-
 /// Adds the share of a pair: its matchpoints, those available to it, and the percentage.
 fn push_share(text: &mut ReplyText, ranked: &Ranked)
     requires { array_string_len text.old + 66 ≤ REPLY_BYTES }
@@ -73,9 +47,9 @@ fn push_share(text: &mut ReplyText, ranked: &Ranked)
     ensures room { array_string_len text.new ≤ array_string_len text.old + 66 }
 {
     text.push_str(" ");
-    push_tenths(text, ranked.value.unsigned_abs());
+    text.push_str(tenths_text(u64::from(ranked.value.unsigned_abs())).as_str());
     text.push_str("/");
-    push_tenths(text, ranked.available);
+    text.push_str(tenths_text(u64::from(ranked.available)).as_str());
     text.push_str(" ");
     push_percent(text, share_percent(ranked));
 }

@@ -2,9 +2,12 @@
 ghost use Rattle.std.specs.Prelude.{◌≡◌};
 ghost use Rattle.web_loop.specs.Turns.{LeadsTo};
 
+use crate::guesses::Guesses;
+use crate::service::LastingService;
 use crate::turn::{Turn, take_turn};
-use http_server::{Connection, Service};
+use http_server::Connection;
 use std::io::{Read, Write};
+use std::net::IpAddr;
 use std::time::{Duration, Instant};
 
 /// After so many seconds of silence a connection is closed.
@@ -16,16 +19,24 @@ pub struct Client<T> {
     connection: Connection,
     reader: T,
     writer: T,
+    address: IpAddr,
     heard: Instant,
 }
 
 impl<T: Read + Write + Drop> Client<T> {
-    /// A client that came now.
-    pub fn new(connection: Connection, reader: T, writer: T, now: Instant) -> Client<T> {
+    /// A client that came now from an address.
+    pub fn new(
+        connection: Connection,
+        reader: T,
+        writer: T,
+        address: IpAddr,
+        now: Instant,
+    ) -> Client<T> {
         Client {
             connection,
             reader,
             writer,
+            address,
             heard: now,
         }
     }
@@ -35,10 +46,20 @@ impl<T: Read + Write + Drop> Client<T> {
         self.heard
     }
 
-    /// Takes its turn. It closes once it has been silent for 20 seconds.
-    pub fn take_turn<S: Service>(&mut self, service: &mut S, now: Instant) -> Turn
+    /// Takes its turn, unless its address waits. It closes once it has been silent for 20 seconds, but not while its address
+    /// waits.
+    pub fn take_turn<S: LastingService>(
+        &mut self,
+        service: &mut S,
+        guesses: &mut Guesses,
+        now: Instant,
+    ) -> Turn
         ensures { LeadsTo S.answers service.old service.new }
     {
+        if guesses.waits(self.address, now) {
+            return Turn::Waits { moved: false };
+        }
+        let before = service.wrong_keys();
         let turn = take_turn(
             &mut self.connection,
             service,
@@ -47,6 +68,8 @@ impl<T: Read + Write + Drop> Client<T> {
         );
         if turn != (Turn::Waits { moved: false }) {
             self.heard = now;
+            let wrong = service.wrong_keys().saturating_sub(before);
+            guesses.note(self.address, wrong, now);
             return turn;
         }
         if now.duration_since(self.heard) < Duration::from_secs(PATIENCE) {

@@ -3,43 +3,47 @@ ghost use Rattle.std.specs.Prelude.{◌≡◌};
 ghost use Rattle.web_loop.specs.Turns.{LeadsTo};
 
 use crate::client::Client;
+use crate::guesses::Guesses;
+use crate::service::LastingService;
 use crate::turn::Turn;
-use http_server::{Config, Connection, Service};
+use http_server::{Config, Connection};
 use slab::Slab;
 use std::alloc::Global;
 use std::hash::RandomState;
 use std::io;
 use std::io::{Read, Write};
-use std::net::OpenStream;
+use std::net::{IpAddr, OpenStream};
 use std::time::Instant;
 
 /// The most clients at once.
 pub const MOST_CLIENTS: usize = 128;
 
-/// The clients that are connected, at most 128.
+/// The clients that are connected, at most 128, and the addresses from which wrong keys came.
 #[derive(Drop)]
 pub struct Clients<T> {
     alloc: Global,
     keys: RandomState,
     config: Config,
     connected: Slab<Client<T>>,
+    guesses: Guesses,
 }
 
 impl<T: Read + Write + OpenStream + Drop> Clients<T> {
-    /// No client. The limits of each connection are those of `config`, and the names of headers, which a peer chooses, are
-    /// looked up by secret keys.
-    pub fn new(alloc: Global, keys: RandomState, config: Config) -> Clients<T> {
+    /// No client, at the beginning of a server's run. The limits of each connection are those of `config`, and the names of
+    /// headers, which a peer chooses, are looked up by secret keys.
+    pub fn new(alloc: Global, keys: RandomState, config: Config, begun: Instant) -> Clients<T> {
         Clients {
             alloc,
             keys,
             config,
             connected: Slab::new(alloc),
+            guesses: Guesses::new(begun),
         }
     }
 
-    /// Takes a new client, in place of the one that has been silent the longest where there are 128. The error is the socket's,
-    /// or that memory was refused, and then it is closed.
-    pub fn admit(&mut self, stream: T, now: Instant) -> io::Result<()> {
+    /// Takes a new client from an address, in place of the one that has been silent the longest where there are 128. The
+    /// error is the socket's, or that memory was refused, and then it is closed.
+    pub fn admit(&mut self, stream: T, address: IpAddr, now: Instant) -> io::Result<()> {
         stream.set_nonblocking(true)?;
         let _ = stream.set_nodelay(true);
         let writer = stream.try_clone()?;
@@ -47,7 +51,7 @@ impl<T: Read + Write + OpenStream + Drop> Clients<T> {
             self.drop_longest_silent();
         }
         let connection = Connection::new(self.alloc, self.keys, self.config);
-        let client = Client::new(connection, stream, writer, now);
+        let client = Client::new(connection, stream, writer, address, now);
         match self.connected.insert(client) {
             Ok(_) => Ok(()),
             Err(_) => Err(io::ErrorKind::OutOfMemory.into()),
@@ -71,8 +75,8 @@ impl<T: Read + Write + OpenStream + Drop> Clients<T> {
         }
     }
 
-    /// A turn of each client, and whether any of them read or wrote.
-    pub fn take_turns<S: Service>(&mut self, service: &mut S, now: Instant) -> bool
+    /// A turn of each client whose address does not wait, and whether any of them read or wrote.
+    pub fn take_turns<S: LastingService>(&mut self, service: &mut S, now: Instant) -> bool
         ensures { LeadsTo S.answers service.old service.new }
     {
         let mut moved = false;
@@ -83,10 +87,10 @@ impl<T: Read + Write + OpenStream + Drop> Clients<T> {
     }
 
     /// The turn of the client under a key, if there is one, and whether it read or wrote. It goes where it closes.
-    fn take_turn_at<S: Service>(&mut self, key: usize, service: &mut S, now: Instant) -> bool
+    fn take_turn_at<S: LastingService>(&mut self, key: usize, service: &mut S, now: Instant) -> bool
         ensures { LeadsTo S.answers service.old service.new }
     {
-        match turn_at(&mut self.connected, key, service, now) {
+        match turn_at(&mut self.connected, &mut self.guesses, key, service, now) {
             Turn::Waits { moved } => moved,
             Turn::GoesOn => true,
             Turn::Closes => {
@@ -98,8 +102,9 @@ impl<T: Read + Write + OpenStream + Drop> Clients<T> {
 }
 
 /// The turn of the client under a key, if there is one.
-fn turn_at<T: Read + Write + Drop, S: Service>(
+fn turn_at<T: Read + Write + Drop, S: LastingService>(
     connected: &mut Slab<Client<T>>,
+    guesses: &mut Guesses,
     key: usize,
     service: &mut S,
     now: Instant,
@@ -107,7 +112,7 @@ fn turn_at<T: Read + Write + Drop, S: Service>(
     ensures { LeadsTo S.answers service.old service.new }
 {
     match connected.get_mut(key) {
-        Some(client) => client.take_turn(service, now),
+        Some(client) => client.take_turn(service, guesses, now),
         None => Turn::Waits { moved: false },
     }
 }

@@ -2,19 +2,22 @@
 //! does not read holds the others up.
 //!
 //! ```rust
-//! let mut clients = Clients::new(rt.alloc(), RandomState::new(&rt)?, Config::default());
+//! let mut clients = Clients::new(rt.alloc(), RandomState::new(&rt)?, Config::default(), Instant::now(&rt)?);
 //! serve_minutes(&rt, &listener, &mut clients, &mut service, 180)?;
 //! ```
 #![tactic(auto)]
 
 mod client;
 mod clients;
+mod guesser;
+mod guesses;
 mod service;
 mod serving;
 mod turn;
 
 pub use client::Client;
 pub use clients::{Clients, MOST_CLIENTS};
+pub use guesses::Guesses;
 pub use service::LastingService;
-pub use serving::{serve_minutes, serve_rounds};
+pub use serving::serve_minutes;
 pub use turn::{Turn, take_turn};

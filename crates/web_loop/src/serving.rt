@@ -4,7 +4,6 @@ ghost use Rattle.web_loop.specs.Turns.{LeadsTo};
 
 use crate::clients::{Clients, MOST_CLIENTS};
 use crate::service::LastingService;
-use http_server::Service;
 use std::net::{Net, OpenListener};
 use std::time::{Clock, Duration, Instant};
 use std::{io, thread};
@@ -19,8 +18,8 @@ const LAST_ROUNDS: u64 = 200;
 fn admit_waiting<N: Net>(listener: &N::Listener, clients: &mut Clients<N::Stream>, now: Instant) {
     for _ in 0..MOST_CLIENTS {
         match listener.accept() {
-            Ok((stream, _)) => {
-                let _ = clients.admit(stream, now);
+            Ok((stream, peer)) => {
+                let _ = clients.admit(stream, peer.ip(), now);
             }
             Err(_) => return,
         }
@@ -29,7 +28,7 @@ fn admit_waiting<N: Net>(listener: &N::Listener, clients: &mut Clients<N::Stream
 
 /// One round: takes who waits at the listener, and gives each client its turn. It sleeps for 5 milliseconds where none of them
 /// did anything.
-fn take_round<N: Net + Clock, S: Service>(
+fn take_round<N: Net + Clock, S: LastingService>(
     rt: &N,
     listener: &N::Listener,
     clients: &mut Clients<N::Stream>,
@@ -46,7 +45,7 @@ fn take_round<N: Net + Clock, S: Service>(
 }
 
 /// Gives clients their turns until none does anything, for about a second at most: what is pending is sent.
-fn send_pending<N: Net + Clock, S: Service>(
+fn send_pending<N: Net + Clock, S: LastingService>(
     rt: &N,
     clients: &mut Clients<N::Stream>,
     service: &mut S,
@@ -58,25 +57,6 @@ fn send_pending<N: Net + Clock, S: Service>(
             return Ok(());
         }
         thread::sleep(rt, Duration::from_millis(PAUSE));
-    }
-    Ok(())
-}
-
-/// Takes so many rounds, or as many as the service lasts.
-fn take_rounds<N: Net + Clock, S: LastingService>(
-    rt: &N,
-    listener: &N::Listener,
-    clients: &mut Clients<N::Stream>,
-    service: &mut S,
-    rounds: u64,
-) -> io::Result<()>
-    ensures { LeadsTo S.answers service.old service.new }
-{
-    for _ in 0..rounds {
-        if !service.lasts() {
-            return Ok(());
-        }
-        take_round(rt, listener, clients, service)?;
     }
     Ok(())
 }
@@ -99,21 +79,6 @@ fn take_rounds_for<N: Net + Clock, S: LastingService>(
         take_round(rt, listener, clients, service)?;
     }
     Ok(())
-}
-
-/// Serves the connections of a listener that does not block for so many rounds, or as long as the service lasts, and then
-/// sends what is pending. The error is that the clock cannot be read.
-pub fn serve_rounds<N: Net + Clock, S: LastingService>(
-    rt: &N,
-    listener: &N::Listener,
-    clients: &mut Clients<N::Stream>,
-    service: &mut S,
-    rounds: u64,
-) -> io::Result<()>
-    ensures { LeadsTo S.answers service.old service.new }
-{
-    take_rounds(rt, listener, clients, service, rounds)?;
-    send_pending(rt, clients, service)
 }
 
 /// Serves the connections of a listener that does not block for so many minutes, or as long as the service lasts, and then

@@ -1,9 +1,10 @@
 //! One turn of one connection.
-ghost use Rattle.std.specs.Prelude.{◌≡◌};
+ghost use Rattle.std.specs.Prelude.{◌≡◌, if◌then◌else◌};
 ghost use Rattle.http_server.specs.Connection.{history};
 ghost use Rattle.http_server.specs.Exchange.{Calls};
 ghost use Rattle.web_loop.specs.Turns.{Receives, Sends};
 
+use crate::service::LastingService;
 use http_server::{Connection, Service};
 use std::io::{ErrorKind, Read, Write};
 
@@ -92,12 +93,22 @@ fn take_step<S: Service, R: Read, W: Write>(
     }
 }
 
+/// How a turn ends that ends before it has to: the connection closes where it is done.
+fn cut_short(done: bool) -> Turn
+    ensures { result ≡ (if done then Turn.Closes else Turn.GoesOn) }
+{
+    match done {
+        true => Turn::Closes,
+        false => Turn::GoesOn,
+    }
+}
+
 /// Reads, answers and writes, until the connection waits for its peer, is done, or had its share of this turn. Nothing is read
 /// while something is pending.
 ///
 /// It waits where the reader or the writer would block, and closes where it is done, at any other error than an interruption,
-/// and where the writer takes nothing.
-pub fn take_turn<S: Service, R: Read, W: Write>(
+/// and where the writer takes nothing. Where a wrong key was answered, it ends once the answer is sent.
+pub fn take_turn<S: LastingService, R: Read, W: Write>(
     connection: &mut Connection,
     service: &mut S,
     reader: &mut R,
@@ -107,11 +118,15 @@ pub fn take_turn<S: Service, R: Read, W: Write>(
     ensures written { Sends (history connection.old) (history connection.new) (W.contents writer.old) (W.contents writer.new) }
     ensures calls { Calls S.answers service.old service.new (history connection.old).calls (history connection.new).calls }
 {
+    let before = service.wrong_keys();
     for steps in 0..MOST_STEPS {
         match take_step(connection, service, reader, writer) {
             Step::Moved => {}
             Step::Blocked => return Turn::Waits { moved: steps > 0 },
             Step::Closed => return Turn::Closes,
+        }
+        if service.wrong_keys() != before && !connection.wants_write() {
+            return cut_short(connection.is_done());
         }
     }
     Turn::GoesOn

@@ -1,4 +1,5 @@
 //! Requests of known bytes, and their responses.
+mod guesses;
 mod peer;
 mod posted;
 mod requests;

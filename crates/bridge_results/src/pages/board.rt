@@ -18,11 +18,10 @@ use crate::traveller::BoardLine;
 use arrayvec::ArrayString;
 use bridge_cards::{BoardNumber, Deal, dealer, seat_text, vulnerability_of, vulnerability_text};
 use bridge_score::Scoring;
-use line_text::write_text;
+use line_text::{NumberText, number_text, signed_text, write_text};
 use page_layout::{
-    Format, Level, NumberText, PageText, Section, number_text, push_heading, push_paragraph,
-    push_row, push_section_end, push_section_start, push_table_end, push_table_start, push_titles,
-    signed_text,
+    Format, Level, PageText, Section, push_heading, push_paragraph, push_row, push_section_end,
+    push_section_start, push_table_end, push_table_start, push_titles,
 };
 use std::io::{Error, Write};
 

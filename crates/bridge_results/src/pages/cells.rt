@@ -11,7 +11,7 @@ use bridge_auction::{Contract, doubling_text, print_bid};
 use bridge_cards::{Card, seat_text};
 use bridge_ranking::PlayResult;
 use bridge_score::Scoring;
-use page_layout::{NumberText, number_text, signed_text, tenths_text};
+use line_text::{NumberText, number_text, signed_text, tenths_text};
 use session_rules::{Average, Outcome};
 
 /// The text of a cell.

@@ -1,4 +1,10 @@
 //! The columns of the tables.
+ghost use Rattle.std.specs.Prelude.{◌≡◌, ◌≤◌, ◌∷◌, [], map};
+ghost use Rattle.page_layout.specs.declared.format.Column.{Column as ColumnType};
+ghost use Rattle.page_layout.specs.declared.format.Content.TheVariants.{Words, Cards};
+ghost use Rattle.bridge_results.specs.declared.pages.columns.TheConstants.{SHARE_COLUMNS as share_columns, SUM_COLUMNS as sum_columns, LINE_COLUMNS as line_columns, FREQUENCY_COLUMNS as frequency_columns, CARD_COLUMNS as card_columns, HAND_COLUMNS as hand_columns};
+ghost use Rattle.bridge_results.specs.Columns.{width_of};
+
 use page_layout::{Align, Column, Content};
 
 /// A number of at most two digits.
@@ -85,3 +91,21 @@ pub const CARD_COLUMNS: [Column; 9] = [
 
 /// Of a diagram of hands: West, North and South, East.
 pub const HAND_COLUMNS: [Column; 3] = [SUIT, SUIT, LAST_SUIT];
+
+/// Contracts, leads and the cards of hands stand in columns in which the letters S, H, D and C are suits, and nothing else of
+/// these tables does.
+pub fn suits_stand_in_columns_of_cards()
+    ensures rankings { (map (λ (column : ColumnType). column.content) share_columns ≡ Words ∷ Words ∷ Words ∷ Words ∷ Words ∷ Words ∷ [])
+        × (map (λ (column : ColumnType). column.content) sum_columns ≡ Words ∷ Words ∷ Words ∷ Words ∷ []) }
+    ensures traveller { map (λ (column : ColumnType). column.content) line_columns ≡ Words ∷ Words ∷ Words ∷ Words ∷ Cards ∷ Words ∷ Cards ∷ Words ∷ Words ∷ Words ∷ Words ∷ [] }
+    ensures frequencies { map (λ (column : ColumnType). column.content) frequency_columns ≡ Words ∷ Words ∷ Words ∷ Words ∷ [] }
+    ensures card { map (λ (column : ColumnType). column.content) card_columns ≡ Words ∷ Words ∷ Words ∷ Words ∷ Cards ∷ Words ∷ Words ∷ Words ∷ Words ∷ [] }
+    ensures hands { map (λ (column : ColumnType). column.content) hand_columns ≡ Cards ∷ Cards ∷ Cards ∷ [] }
+{}
+
+/// The columns of each table take at most 100 bytes of a line of plain text.
+pub fn tables_are_narrow()
+    ensures rankings { (width_of share_columns ≤ 100) × (width_of sum_columns ≤ 100) }
+    ensures boards { (width_of line_columns ≤ 100) × (width_of frequency_columns ≤ 100) × (width_of hand_columns ≤ 100) }
+    ensures cards { width_of card_columns ≤ 100 }
+{}

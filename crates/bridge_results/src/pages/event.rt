@@ -7,9 +7,8 @@ use arrayvec::ArrayString;
 use bridge_config::Config;
 use bridge_movement::Shape;
 use bridge_score::Scoring;
-use page_layout::{
-    Format, Level, PageText, number_text, push_heading, push_page_start, push_paragraph,
-};
+use line_text::number_text;
+use page_layout::{Format, Level, PageText, push_heading, push_page_start, push_paragraph};
 
 /// How scores are compared.
 fn scoring_words(scoring: Scoring) -> &'static str

@@ -15,11 +15,10 @@ use arrayvec::ArrayString;
 use bridge_cards::Side;
 use bridge_config::PairFields;
 use bridge_score::Scoring;
-use line_text::write_text;
+use line_text::{number_text, tenths_text, write_text};
 use page_layout::{
-    Format, Level, PageText, Section, number_text, push_heading, push_paragraph, push_row,
-    push_section_end, push_section_start, push_table_end, push_table_start, push_titles,
-    tenths_text,
+    Format, Level, PageText, Section, push_heading, push_paragraph, push_row, push_section_end,
+    push_section_start, push_table_end, push_table_start, push_titles,
 };
 use session_rules::Outcome;
 use std::io::{Error, Write};

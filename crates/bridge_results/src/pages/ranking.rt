@@ -11,11 +11,10 @@ use crate::pages::names::pair_names;
 use bridge_config::PairFields;
 use bridge_ranking::Field;
 use bridge_score::{Ranked, Scoring, percent_hundredths};
-use line_text::write_text;
+use line_text::{NumberText, hundredths_text, number_text, signed_text, tenths_text, write_text};
 use page_layout::{
-    Format, Level, NumberText, PageText, Section, hundredths_text, number_text, push_heading,
-    push_row, push_section_end, push_section_start, push_table_end, push_table_start, push_titles,
-    signed_text, tenths_text,
+    Format, Level, PageText, Section, push_heading, push_row, push_section_end, push_section_start,
+    push_table_end, push_table_start, push_titles,
 };
 use std::io::{Error, Write};
 

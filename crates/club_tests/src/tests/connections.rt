@@ -50,7 +50,7 @@ fn serve_two<N: Net + Abort>(
     let mut cache = Cache::new(alloc, 1)?;
     match open_session(alloc, failing_disk(rt, alloc, passes)?) {
         Ok(mut store) => Ok(serve_connections(rt, listener, 2, &mut store, &mut cache)),
-        Err(fault) => Ok(Err(RunFault::Store(fault))),
+        Err((_, fault)) => Ok(Err(RunFault::Store(fault))),
     }
 }
 

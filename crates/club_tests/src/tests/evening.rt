@@ -39,8 +39,8 @@ FIELD 2
 
 /// What `check` says after the lines: one action for each is recorded.
 const CHECKED: &str = "format 2
-epoch 2
-snapshot in sector 512
+epoch 3
+snapshot in sector 0
 records 12
 event Club-Night
 date 2026.03.14
@@ -49,10 +49,10 @@ boards dealt 1
 plays finished or ruled on 2
 ";
 
-/// And after the round's end, in the run after the next.
+/// And after the round's end, four runs later.
 const CLOSED: &str = "format 2
-epoch 4
-snapshot in sector 512
+epoch 7
+snapshot in sector 0
 records 1
 event Club-Night
 date 2026.03.14
@@ -104,9 +104,10 @@ fn an_evening_is_kept_between_runs(rt: HostRuntime) -> Result<(), Fail> {
     let due = (0, "OK\nERR 3 Closed\n", "");
     expect_run(&rt, alloc, &["script", disk], "NEXT 100 1\nSEE 11\n", due);
     expect_run(&rt, alloc, &["check", disk], "", (0, CLOSED, ""));
-    // `format` began the first epoch and each of the three scripts one more: the last byte of the epoch in each header.
+    // `format` began the first epoch and each of the six commands that open the disk one more, and `check` none: the last byte
+    // of the epoch in each header.
     let bytes = fs::read(&rt, disk)?;
-    for (sector, epoch) in [(0, 3), (512, 4)] {
+    for (sector, epoch) in [(0, 7), (512, 6)] {
         let found = bytes.get(sector * 512 + 11).copied();
         expect_eq(&rt, found, Some(epoch), sector);
     }

@@ -70,7 +70,29 @@ fn a_bad_configuration_leaves_the_disk(rt: HostRuntime) -> Result<(), Fail> {
     Ok(())
 }
 
-/// Runs each of the commands but `check` over this disk, and expects the status and the line.
+/// What `plan` says of a Mitchell movement of one table.
+const REFUSED: &str = "line 6: MITCHELL 1
+due: MITCHELL and the number of tables, or MOVEMENT and the numbers of tables, rounds, sets and
+  pairs, and of the last pair of the first field
+  numbers: 2 to 12 tables, 1 to 12 rounds, 1 to 12 sets, 2 to 24 pairs; the last is one of these
+refused: word 2 is not from 2 to 12
+";
+
+// What is wrong is said on the output, and named on the errors.
+#[test]
+fn a_bad_configuration_is_said_in_words(rt: HostRuntime) -> Result<(), Fail> {
+    let config = "bridge_club_words.txt";
+    let words = ["plan", config];
+    let due = (3, "", "cannot read input\n");
+    expect_run(&rt, rt.alloc(), &words, "", due);
+    write_config(&rt, rt.alloc(), config, "MITCHELL 1\n")?;
+    let due = (3, REFUSED, "config line 6: Range\n");
+    expect_run(&rt, rt.alloc(), &words, "", due);
+    fs::remove_file(&rt, config)?;
+    Ok(())
+}
+
+/// Runs each of the commands that open a session over this disk, and expects the status and the line.
 fn expect_refused<
     T: Abort
         + Files<File = File>
@@ -78,21 +100,9 @@ fn expect_refused<
         + Clock
         + RandomSource,
 >(rt: &T, alloc: Global, disk: &str, status: u8, line: &str) {
-    for command in ["rank", "pbn"] {
-        expect_run(rt, alloc, &[command, disk], "", (status, "", line));
+    for command in ["rank", "pbn", "script"] {
+        expect_run(rt, alloc, &[command, disk], "SYNC\n", (status, "", line));
     }
-    expect_not_served(rt, alloc, disk, status, line);
-}
-
-/// The same of the commands that write a disk.
-fn expect_not_served<
-    T: Abort
-        + Files<File = File>
-        + Net<Listener = TcpListener, Stream = TcpStream>
-        + Clock
-        + RandomSource,
->(rt: &T, alloc: Global, disk: &str, status: u8, line: &str) {
-    expect_run(rt, alloc, &["script", disk], "SYNC\n", (status, "", line));
     for command in ["serve", "web"] {
         let words = [command, disk, "4000", "1"];
         expect_run(rt, alloc, &words, "SYNC\n", (status, "", line));
@@ -125,9 +135,9 @@ fn a_disk_without_a_session_is_refused(rt: HostRuntime) -> Result<(), Fail> {
         *byte = 0xff;
     }
     fs::write(&rt, disk, bytes.as_slice())?;
-    expect_not_served(&rt, rt.alloc(), disk, 3, "epochs spent\n");
+    expect_refused(&rt, rt.alloc(), disk, 3, "epochs spent\n");
     let due = (4, "", "damaged sector 1\n");
-    expect_run(&rt, rt.alloc(), &["rank", disk], "", due);
+    expect_run(&rt, rt.alloc(), &["results", disk], "", due);
     let missing = "missing_folder/bridge_club.disk";
     expect_run(
         &rt,
@@ -160,8 +170,8 @@ fn a_locked_disk_is_left(rt: HostRuntime) -> Result<(), Fail> {
         let Ok(_held) = lock_to_read(&rt, disk) else {
             return Err(Fail::from("a lock for reading"));
         };
-        expect_not_served(&rt, alloc, disk, 3, "disk fault\n");
-        expect_run(&rt, alloc, &["pbn", disk], "", (0, "% PBN 2.1\n", ""));
+        expect_refused(&rt, alloc, disk, 3, "disk fault\n");
+        expect_run(&rt, alloc, &["check", disk], "", (0, FRESH, ""));
     }
     let same = fs::read(&rt, disk)?.as_slice() == bytes.as_slice();
     expect_eq(&rt, same, true, "the disk");
@@ -169,6 +179,18 @@ fn a_locked_disk_is_left(rt: HostRuntime) -> Result<(), Fail> {
     fs::remove_file(&rt, config)?;
     Ok(())
 }
+
+/// What `check` says of a disk that `format` made.
+const FRESH: &str = "format 2
+epoch 1
+snapshot in sector 0
+records 0
+event Club-Night
+date 2026.03.14
+round 1 of 1
+boards dealt 0
+plays finished or ruled on 0
+";
 
 /// What `check` says of the snapshot that `format` made, once the next one has a record in place of its own.
 const OLDER: &str = "older snapshot
@@ -212,8 +234,9 @@ fn a_damaged_record_is_named(rt: HostRuntime) -> Result<(), Fail> {
 fn streams_that_fail_are_named(rt: HostRuntime) -> Result<(), Fail> {
     let (disk, config) = ("bridge_club_output.disk", "bridge_club_output.txt");
     write_config(&rt, rt.alloc(), config, MOVEMENT)?;
-    let rows: [&[&str]; 8] = [
+    let rows: [&[&str]; 9] = [
         &["auction", "1"],
+        &["plan", config],
         &["format", disk, config],
         &["check", disk],
         &["rank", disk],

@@ -99,7 +99,7 @@ fn serve_failing<W: Write>(
     let mut input: &[u8] = b"VOID 100 1 1 1\nSYNC\n";
     match open_session(alloc, disk) {
         Ok(mut store) => Ok(serve_store(&mut store, &mut cache, &mut input, output)),
-        Err(fault) => Ok(Err(RunFault::Store(fault))),
+        Err((_, fault)) => Ok(Err(RunFault::Store(fault))),
     }
 }
 

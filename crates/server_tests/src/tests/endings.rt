@@ -56,8 +56,7 @@ fn played(alloc: Global) -> Result<ClubStore, Fail> {
     Ok(store)
 }
 
-// `rt try --test --fail-alloc N` refuses the Nth allocation: where the cache asks for it, the same is written. Every other
-// run refuses none.
+// The reply is the same with a cache of any size and without one.
 #[test]
 fn an_endings_worth(rt: HostRuntime) -> Result<(), Fail> {
     let mut store = played(rt.alloc())?;

@@ -50,7 +50,7 @@ fn a_write_that_fails(rt: HostRuntime) -> Result<(), Fail> {
     Ok(())
 }
 
-/// Lines of each kind, of which the last but one has 130 bytes, and their replies.
+/// Lines of many kinds, one of them of 130 bytes, and their replies.
 const LINES: &str =
     "DEAL 100 1 N:AKQJT98765432... .AKQJT98765432.. ..AKQJT98765432. ...AKQJT98765432
 CALL 11 1 0 7S\r

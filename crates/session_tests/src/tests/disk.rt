@@ -18,12 +18,9 @@ const DEAL: &str =
 /// The calls of the disk in which a store without records is opened.
 const OPENING_CALLS: u64 = 25;
 
-/// The disk as it is formatted with a session, at a second try where memory is refused to the first.
+/// The disk as it is formatted with a session.
 pub fn with_format(rt: &impl Abort, disk: MemoryDisk, session: &Session) -> MemoryDisk {
-    match format(disk, session) {
-        Ok(disk) => disk,
-        Err((disk, _)) => format(disk, session).ok().expect(rt, "a formatted disk"),
-    }
+    format(disk, session).ok().expect(rt, "a formatted disk")
 }
 
 /// A disk of 2,048 sectors with the club's opening session.

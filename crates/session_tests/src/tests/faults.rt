@@ -110,26 +110,17 @@ fn prepared(rt: &impl Abort, alloc: Global) -> Result<(MemoryDisk, Tally), Alloc
     Ok((store.into_disk(), tally))
 }
 
-/// Opens the disk, which may fail from these causes, and takes the actions of the texts.
-fn go_on(
-    rt: &impl Abort,
-    alloc: Global,
-    disk: Fuse<MemoryDisk>,
-    tally: &mut Tally,
-    texts: &[&str],
-    causes: &[StoreFault],
-) -> MemoryDisk {
+/// Opens the disk, of which a call may fail, and takes the actions that follow.
+fn go_on(rt: &impl Abort, alloc: Global, disk: Fuse<MemoryDisk>, tally: &mut Tally) -> MemoryDisk {
     match Store::open(alloc, disk) {
         Err((disk, fault)) => {
-            expect_eq(rt, causes.contains(&fault), true, fault);
+            expect_eq(rt, fault, StoreFault::Disk, "opening");
             tally.fault(rt);
             disk.into_inner()
         }
         Ok(mut store) => {
             tally.confirmed = tally.accepted;
-            for text in texts {
-                take(rt, &mut store, tally, text);
-            }
+            take(rt, &mut store, tally, THEN);
             store.into_disk().into_inner()
         }
     }
@@ -177,7 +168,7 @@ fn fail_every_call(
         for picks in &picks() {
             let (disk, mut tally) = prepared(rt, alloc)?;
             let fuse = Fuse::new(disk, passes, fail, effect);
-            let mut disk = go_on(rt, alloc, fuse, &mut tally, &[THEN], &[StoreFault::Disk]);
+            let mut disk = go_on(rt, alloc, fuse, &mut tally);
             expect_eq(rt, tally.failed, passes < CALLS, passes);
             disk.crash(picks);
             let store = opened(rt, alloc, disk);
@@ -257,24 +248,5 @@ fn a_fault_at_each_of_the_first_calls_of_formatting(rt: HostRuntime) -> Result<(
 #[test]
 fn a_fault_at_each_of_the_last_calls_of_formatting(rt: HostRuntime) -> Result<(), Fail> {
     fail_formatting(&rt, rt.alloc(), 1400, 2061)?;
-    Ok(())
-}
-
-// `rt try --test --fail-alloc N` refuses the Nth allocation, and every other run none.
-#[test]
-fn a_store_whose_memory_may_be_refused(rt: HostRuntime) -> Result<(), Fail> {
-    let causes = [StoreFault::Disk, StoreFault::NoMemory];
-    let mut tally = Tally::default();
-    let fuse = Fuse::new(formatted(&rt, rt.alloc())?, u64::MAX, FailOf::Once, false);
-    let mut disk = go_on(&rt, rt.alloc(), fuse, &mut tally, &[FIRST, THEN], &causes);
-    disk.crash(&[1; 2048]);
-    let store = match Store::open(rt.alloc(), disk) {
-        Ok(store) => store,
-        Err((disk, fault)) => {
-            expect_eq(&rt, causes.contains(&fault), true, fault);
-            opened(&rt, rt.alloc(), disk)
-        }
-    };
-    expect_prefix(&rt, rt.alloc(), store.state(), tally)?;
     Ok(())
 }

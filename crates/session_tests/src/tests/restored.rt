@@ -99,14 +99,3 @@ fn a_byte_changed_while_a_claim_stands(rt: HostRuntime) -> Result<(), Fail> {
     let session = after(&rt, rt.alloc(), &STANDING)?;
     expect_near(&rt, rt.alloc(), &session, &[(6, 0), (7, 5), (8, 1)])
 }
-
-#[test]
-fn a_byte_changed_before_the_boards(rt: HostRuntime) -> Result<(), Fail> {
-    for texts in [[A_SLAM, A_CLAIM, A_PASS, CLOSED].as_slice(), &STANDING] {
-        let session = after(&rt, rt.alloc(), texts)?;
-        for part_index in 0..6 {
-            let _sessions = sessions_near(&rt, rt.alloc(), &session, part_index)?;
-        }
-    }
-    Ok(())
-}

@@ -13,7 +13,7 @@ use std::hash::RandomState;
 use std::io::{Error, ErrorKind, Read, Result};
 use std::random::RandomSource;
 use std::test::Fail;
-use table_pages::{TablePages, limits};
+use table_pages::{HostNames, TablePages, limits};
 use web_loop::{Turn, take_turn};
 
 /// Two tables, one round, one board.
@@ -62,11 +62,19 @@ pub fn opened(alloc: Global) -> std::result::Result<ClubStore, Fail>
     }
 }
 
-/// The pages at port 4000 over the opening session.
-pub fn pages(alloc: Global) -> std::result::Result<TablePages<ClubStore>, Fail> {
+/// The pages over the opening session, of a server that goes by these names.
+pub fn named_pages(
+    alloc: Global,
+    names: HostNames,
+) -> std::result::Result<TablePages<ClubStore>, Fail> {
     let store = opened(alloc)?;
     let cache = Cache::new(alloc, 16)?;
-    Ok(TablePages::new(alloc, 4000, store, cache)?)
+    Ok(TablePages::new(alloc, names, store, cache))
+}
+
+/// The pages at port 4000 of this computer over the opening session.
+pub fn pages(alloc: Global) -> std::result::Result<TablePages<ClubStore>, Fail> {
+    named_pages(alloc, HostNames::of_this_computer(alloc, 4000)?)
 }
 
 /// Gives so many bytes at each read, and blocks before each and once all are given.

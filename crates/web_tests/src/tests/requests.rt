@@ -1,11 +1,11 @@
 //! Where requests go, and how each is refused.
 use super::expect_eq;
-use super::peer::{answered, pages};
+use super::peer::{answered, named_pages, pages};
 use std::alloc::Global;
 use std::process::Abort;
 use std::random::RandomSource;
 use std::test::Fail;
-use table_pages::{DIRECTOR_SCRIPT, PAGE, SCRIPT, STYLE};
+use table_pages::{DIRECTOR_SCRIPT, HostNames, PAGE, SCRIPT, STYLE};
 
 /// The first line of a request, its host, its type, its body, and the status that is due.
 type Row = (
@@ -187,6 +187,31 @@ fn requests_are_answered_in_order(rt: HostRuntime) -> Result<(), Fail> {
         let bytes = request(alloc, first, host, kind, body)?;
         let response = answered(&rt, alloc, &mut pages, bytes.as_slice(), 4096)?;
         expect_eq(&rt, status_of(response.as_slice()), due.as_bytes(), row);
+    }
+    Ok(())
+}
+
+// A host that is given answers to its name, with its port or without, and to no other, not even that of this computer.
+#[test]
+fn a_given_host_answers_alone(rt: HostRuntime) -> Result<(), Fail> {
+    let alloc = rt.alloc();
+    for (name, host, due) in [
+        ("club.test", "club.test:4000", "200"),
+        ("club.test", "club.test", "200"),
+        ("club.test", "club.test:4001", "421"),
+        ("club.test", "club.test:80", "421"),
+        ("club.test", "a.club.test:4000", "421"),
+        ("club.test", "127.0.0.1:4000", "421"),
+        ("club.test", "localhost:4000", "421"),
+        ("192.168.4.1", "192.168.4.1:4000", "200"),
+        ("192.168.4.1", "192.168.4.1", "200"),
+        ("192.168.4.1", "192.168.4.11:4000", "421"),
+        ("192.168.4.1", "localhost:4000", "421"),
+    ] {
+        let mut pages = named_pages(alloc, HostNames::of_host(alloc, name, 4000)?)?;
+        let bytes = request(alloc, "GET / HTTP/1.1", host, "text/plain", "")?;
+        let response = answered(&rt, alloc, &mut pages, bytes.as_slice(), 4096)?;
+        expect_eq(&rt, status_of(response.as_slice()), due.as_bytes(), host);
     }
     Ok(())
 }

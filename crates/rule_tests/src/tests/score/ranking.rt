@@ -25,7 +25,7 @@ const fn at(place: u8, pair: u8, value: i32, available: u32) -> Ranked {
     }
 }
 
-// By share, where nothing was available last; by sum.
+// By share, where nothing was available last; by sum; of no lines.
 #[test]
 fn lines_are_ranked(rt: HostRuntime) {
     let shares = [
@@ -46,8 +46,20 @@ fn lines_are_ranked(rt: HostRuntime) {
     ];
     let ranking = rank(Scoring::MatchPoints, &shares);
     expect_eq(&rt, ranking.as_slice(), by_share.as_slice(), "shares");
-    let sums = [line(4, -31, 0), line(3, 9, 0), line(2, 9, 0)];
-    let by_sum = [at(1, 2, 9, 0), at(1, 3, 9, 0), at(3, 4, -31, 0)];
+    let sums = [
+        line(4, -31, 0),
+        line(3, 9, 0),
+        line(1, 13, 0),
+        line(2, 9, 0),
+    ];
+    let by_sum = [
+        at(1, 1, 13, 0),
+        at(2, 2, 9, 0),
+        at(2, 3, 9, 0),
+        at(4, 4, -31, 0),
+    ];
     let ranking = rank(Scoring::Imps, &sums);
     expect_eq(&rt, ranking.as_slice(), by_sum.as_slice(), "sums");
+    let ranking = rank(Scoring::MatchPoints, &[]);
+    expect_eq(&rt, ranking.len(), 0, "no lines");
 }

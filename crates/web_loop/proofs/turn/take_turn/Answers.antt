@@ -20,3 +20,7 @@ loop-steps-preserved g c =
       Sends-then old here new (g.W.Write.contents c.args.writer.now) (g.W.Write.contents c.loop-steps.writer) (g.W.Write.contents c.take_step.new.writer) c.loop-steps.invariant.1 c.in-Moved.ensures.written,
       Calls-then g.S.Service.answers _ _ _ _ _ _ c.loop-steps.invariant.2 c.in-Moved.ensures.calls,
     )
+
+pub returns-then-not-wants_write-clause-calls : goal.returns-then-not-wants_write-clause-calls
+returns-then-not-wants_write-clause-calls g c =
+    Calls-then g.S.Service.answers _ _ _ _ _ _ c.loop-steps.invariant.2 c.in-Moved.ensures.calls

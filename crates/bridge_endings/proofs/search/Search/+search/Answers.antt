@@ -1,4 +1,4 @@
-use Rattle.std.proofs.Common.{rules, ◌≡◌, ℕ, ◌-◌, ◌*◌, true, not, nat_le, List, length, refl, sym, ap, ◌∙◌, subst, arith}
+use Rattle.std.proofs.Common.{rules, ◌≡◌, ℕ, ◌-◌, ◌*◌, true, not, nat_le, List, [], length, refl, sym, ap, ◌∙◌, subst, arith}
 use Rattle.bridge_cards.specs.CardSet.{has_card}
 use Rattle.bridge_cards.proofs.CardSetLaws.{has_card-zero}
 use Rattle.bridge_cards.specs.declared.seat.Seat.{Seat}
@@ -6,6 +6,7 @@ use Rattle.bridge_cards.specs.Seat.{clockwise_from}
 use Rattle.bridge_endings.specs.Ending.{IsEnding}
 use Rattle.bridge_endings.specs.Left.{left_to, EachDealt}
 use Rattle.bridge_endings.specs.Equal.{IsEqualTo}
+use Rattle.bridge_endings.specs.Worth.{worth_with}
 use Rattle.bridge_endings.proofs.WorthSteps.{worth_of_card}
 use Rattle.bridge_endings.proofs.Answered.{same_answer, other_answer}
 use Rattle.bridge_endings.proofs.GoingOn.{goes_on_again, told_before}
@@ -13,6 +14,13 @@ use Rattle.bridge_endings.proofs.SearchSteps.{settled, none_legal, found, none_f
 use Rattle.bridge_endings.proofs.EqualSteps.{legal_held, answered_with_equals, fewer}
 use Rattle.bridge_endings.proofs.SureTrick.{sure_answer}
 use Rattle.bridge_endings.proofs.search.Search.+search.Goals as goal
+
+pub reaches_from-returns-then-is_settled-clause-worth : goal.reaches_from-returns-then-is_settled-clause-worth
+reaches_from-returns-then-is_settled-clause-worth t c =
+    let held = left_to c.args.self.now.hands c.args.left in
+    let whole : 4 * c.args.tricks - length {A = ℕ} [] ≡ 4 * c.args.tricks = omega arith in
+    settled c.args.self.now.trump c.args.tricks c.args.need held c.args.leader [] (refl, c.if-is_settled.ensures.1)
+    ∙ ap (λ n. nat_le c.args.need (worth_with c.args.self.now.trump n held c.args.leader [])) whole
 
 pub reaches_from-returns-then-is_some-clause-worth : goal.reaches_from-returns-then-is_some-clause-worth
 reaches_from-returns-then-is_some-clause-worth t c =

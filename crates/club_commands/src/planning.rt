@@ -1,0 +1,95 @@
+//! The command `plan`: the evening that a configuration plans, in words, or what is wrong with it. Nothing is made.
+ghost use Rattle.std.specs.Prelude.{◌≡◌, OnOk, IfErr};
+ghost use Rattle.line_text.specs.Streams.{stream, Written};
+ghost use Rattle.table_server.specs.declared.fault.ServeFault.TheVariants.{Write as WriteFault};
+ghost use Rattle.evening_plan.specs.Evening.{evening_of};
+ghost use Rattle.evening_plan.specs.PlanText.{plan_text};
+ghost use Rattle.evening_plan.specs.FaultText.{fault_text};
+ghost use Rattle.club_commands.specs.Planned.{Plans, StopsPlanning, PlansRead, StopsPlanningRead, PlansFound, StopsPlanningFound, HasPlanned, StopsPlanningFile};
+
+use crate::config_file::{Text, read_text};
+use crate::fault::RunFault;
+use bridge_config::{Config, ConfigFault, read_config};
+use evening_plan::{write_fault, write_plan};
+use std::fs::File;
+use std::io::{self, Read, Write};
+use std::rt::Files;
+use table_server::ServeFault;
+
+/// Writes the evening that a configuration plans.
+fn write_evening<W: Write>(config: &Config, output: &mut W) -> Result<(), RunFault>
+    ensures written { Written (stream W.contents output.old output.new) (plan_text (evening_of config.now)) result }
+    ensures fault { IfErr result (λ fault. fault ≡ RunFault.Stream WriteFault) }
+{
+    match write_plan(config, output) {
+        Ok(()) => Ok(()),
+        Err(_) => Err(RunFault::Stream(ServeFault::Write)),
+    }
+}
+
+/// Writes what is wrong with a text of that fault.
+fn write_refusal<W: Write>(text: &[u8], fault: ConfigFault, output: &mut W) -> Result<(), RunFault>
+    ensures written { Written (stream W.contents output.old output.new) (fault_text text.now fault) result }
+    ensures fault { IfErr result (λ fault. fault ≡ RunFault.Stream WriteFault) }
+{
+    match write_fault(text, fault, output) {
+        Ok(()) => Ok(()),
+        Err(_) => Err(RunFault::Stream(ServeFault::Write)),
+    }
+}
+
+/// Writes the evening that a text plans; or what is wrong with it, which is the fault then.
+fn plan_of_text<W: Write>(text: &[u8], output: &mut W) -> Result<(), RunFault>
+    ensures done { OnOk result (Plans text.now (stream W.contents output.old output.new)) }
+    ensures fault { IfErr result (StopsPlanning text.now (stream W.contents output.old output.new)) }
+{
+    match read_config(text) {
+        Ok(config) => write_evening(&config, output),
+        Err(fault) => match write_refusal(text, fault, output) {
+            Ok(()) => Err(RunFault::Config(fault)),
+            Err(stopped) => Err(stopped),
+        },
+    }
+}
+
+/// Writes the evening that the configuration plans which the reader gives; or what is wrong with it, which is the fault
+/// then.
+pub fn plan_evening<R: Read, W: Write>(reader: &mut R, output: &mut W) -> Result<(), RunFault>
+    ensures done { OnOk result (PlansRead (stream R.remaining reader.old reader.new)
+        (stream W.contents output.old output.new)) }
+    ensures fault { IfErr result (StopsPlanningRead (stream R.remaining reader.old reader.new)
+        (stream W.contents output.old output.new)) }
+{
+    let mut text = Text::new();
+    match read_text(reader, &mut text) {
+        Ok(()) => plan_of_text(text.as_slice(), output),
+        Err(fault) => Err(RunFault::Stream(fault)),
+    }
+}
+
+/// The same of a file, where one was found; otherwise the fault is that of a read.
+fn plan_found<R: Read + Drop, W: Write>(
+    found: io::Result<R>,
+    output: &mut W,
+) -> Result<(), RunFault>
+    ensures done { OnOk result (PlansFound R.remaining found (stream W.contents output.old output.new)) }
+    ensures fault { IfErr result (StopsPlanningFound R.remaining found (stream W.contents output.old output.new)) }
+{
+    match found {
+        Ok(mut file) => plan_evening(&mut file, output),
+        Err(_) => Err(RunFault::Stream(ServeFault::Read)),
+    }
+}
+
+/// Writes the evening that the configuration in a file plans; or what is wrong with it, which is the fault then. A file
+/// that cannot be opened counts as one that cannot be read.
+pub fn run_plan<S: Files<File = File>, W: Write>(
+    rt: &S,
+    config: &str,
+    output: &mut W,
+) -> Result<(), RunFault>
+    ensures done { OnOk result (HasPlanned (stream W.contents output.old output.new)) }
+    ensures fault { IfErr result (StopsPlanningFile (stream W.contents output.old output.new)) }
+{
+    plan_found(File::open(rt, config), output)
+}

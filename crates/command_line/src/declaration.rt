@@ -1,0 +1,208 @@
+//! The program's command line, as it is declared to clap.
+ghost use Rattle.std.specs.Prelude.{◌≡◌, IfOk, false};
+ghost use Rattle.clap.specs.Words.{app_of, shape_of};
+ghost use Rattle.clap.specs.declared.builder.command.Command.TheViews.{out-Command as fields_of};
+ghost use Rattle.command_line.specs.Words.{auction_app, format_app, script_app, serve_app, plain_web_app, web_app, rank_app, pbn_app, results_app, check_app, plan_app, bare_app, app_with_auction, app_with_format, app_with_script, app_with_serve, app_with_web, app_with_rank, app_with_pbn, app_with_results, app_with_check, club_app};
+
+use crate::arguments::{
+    address_argument, board_argument, config_argument, count_argument, disk_argument,
+    html_argument, minutes_argument, name_argument, port_argument,
+};
+use std::alloc::{AllocError, Global};
+
+/// The program's command line.
+pub fn club_command<'a>(alloc: Global) -> Result<clap::Command<'a>, AllocError>
+    ensures { IfOk result (λ command. app_of command ≡ club_app) }
+{
+    with_check(alloc)?.subcommand(plan_command(alloc)?)
+}
+
+/// The command line with the commands up to `check`.
+fn with_check<'a>(alloc: Global) -> Result<clap::Command<'a>, AllocError>
+    ensures { IfOk result (λ command. app_of command ≡ app_with_check) }
+{
+    with_results(alloc)?.subcommand(check_command(alloc)?)
+}
+
+/// The command line with the commands up to `results`.
+fn with_results<'a>(alloc: Global) -> Result<clap::Command<'a>, AllocError>
+    ensures { IfOk result (λ command. app_of command ≡ app_with_results) }
+{
+    with_pbn(alloc)?.subcommand(results_command(alloc)?)
+}
+
+/// The command line with the commands up to `pbn`.
+fn with_pbn<'a>(alloc: Global) -> Result<clap::Command<'a>, AllocError>
+    ensures { IfOk result (λ command. app_of command ≡ app_with_pbn) }
+{
+    with_rank(alloc)?.subcommand(pbn_command(alloc)?)
+}
+
+/// The command line with the commands up to `rank`.
+fn with_rank<'a>(alloc: Global) -> Result<clap::Command<'a>, AllocError>
+    ensures { IfOk result (λ command. app_of command ≡ app_with_rank) }
+{
+    with_web(alloc)?.subcommand(rank_command(alloc)?)
+}
+
+/// The command line with the commands up to `web`.
+fn with_web<'a>(alloc: Global) -> Result<clap::Command<'a>, AllocError>
+    ensures { IfOk result (λ command. app_of command ≡ app_with_web) }
+{
+    with_serve(alloc)?.subcommand(web_command(alloc)?)
+}
+
+/// The command line with the commands up to `serve`.
+fn with_serve<'a>(alloc: Global) -> Result<clap::Command<'a>, AllocError>
+    ensures { IfOk result (λ command. app_of command ≡ app_with_serve) }
+{
+    with_script(alloc)?.subcommand(serve_command(alloc)?)
+}
+
+/// The command line with the commands up to `script`.
+fn with_script<'a>(alloc: Global) -> Result<clap::Command<'a>, AllocError>
+    ensures { IfOk result (λ command. app_of command ≡ app_with_script) }
+{
+    with_format(alloc)?.subcommand(script_command(alloc)?)
+}
+
+/// The command line with the commands up to `format`.
+fn with_format<'a>(alloc: Global) -> Result<clap::Command<'a>, AllocError>
+    ensures { IfOk result (λ command. app_of command ≡ app_with_format) }
+{
+    with_auction(alloc)?.subcommand(format_command(alloc)?)
+}
+
+/// The command line with the command `auction`.
+fn with_auction<'a>(alloc: Global) -> Result<clap::Command<'a>, AllocError>
+    ensures { IfOk result (λ command. app_of command ≡ app_with_auction) }
+{
+    bare_command(alloc)?.subcommand(auction_command(alloc)?)
+}
+
+/// The program's command line without its commands.
+fn bare_command<'a>(alloc: Global) -> Result<clap::Command<'a>, AllocError>
+    ensures { IfOk result (λ command. app_of command ≡ bare_app) }
+{
+    clap::Command::new(alloc, "bridge_club")
+        .about("The server of a duplicate bridge club")
+        .no_binary_name(true)
+        .subcommand_required(true)
+        .bin_name("bridge_club")
+}
+
+/// The command `auction BOARD`.
+fn auction_command<'a>(alloc: Global) -> Result<clap::Command<'a>, AllocError>
+    ensures shape { IfOk result (λ command. shape_of command ≡ auction_app.top) }
+    ensures local { IfOk result (λ command. (fields_of command).has_globals ≡ false) }
+{
+    clap::Command::new(alloc, "auction")
+        .about("Reads a board's calls from standard input, a line each, and prints the contract")
+        .arg(board_argument(alloc))
+}
+
+/// The command `format DISK CONFIG`.
+fn format_command<'a>(alloc: Global) -> Result<clap::Command<'a>, AllocError>
+    ensures shape { IfOk result (λ command. shape_of command ≡ format_app.top) }
+    ensures local { IfOk result (λ command. (fields_of command).has_globals ≡ false) }
+{
+    clap::Command::new(alloc, "format")
+        .about("Makes the file DISK anew, for the session that begins by a configuration")
+        .arg(disk_argument(alloc))?
+        .arg(config_argument(alloc))
+}
+
+/// The command `script DISK`.
+fn script_command<'a>(alloc: Global) -> Result<clap::Command<'a>, AllocError>
+    ensures shape { IfOk result (λ command. shape_of command ≡ script_app.top) }
+    ensures local { IfOk result (λ command. (fields_of command).has_globals ≡ false) }
+{
+    clap::Command::new(alloc, "script")
+        .about("Answers lines from standard input over the session on a disk")
+        .arg(disk_argument(alloc))
+}
+
+/// The command `serve DISK PORT COUNT`.
+fn serve_command<'a>(alloc: Global) -> Result<clap::Command<'a>, AllocError>
+    ensures shape { IfOk result (λ command. shape_of command ≡ serve_app.top) }
+    ensures local { IfOk result (λ command. (fields_of command).has_globals ≡ false) }
+{
+    clap::Command::new(alloc, "serve")
+        .about("Answers lines from COUNT connections at a port, one after the other")
+        .arg(disk_argument(alloc))?
+        .arg(port_argument(alloc))?
+        .arg(count_argument(alloc))
+}
+
+/// The command `web DISK PORT MINUTES`, with an address, a name, both or neither.
+fn web_command<'a>(alloc: Global) -> Result<clap::Command<'a>, AllocError>
+    ensures shape { IfOk result (λ command. shape_of command ≡ web_app.top) }
+    ensures local { IfOk result (λ command. (fields_of command).has_globals ≡ false) }
+{
+    plain_web_command(alloc)?
+        .arg(address_argument(alloc))?
+        .arg(name_argument(alloc))
+}
+
+/// The command `web DISK PORT MINUTES`.
+fn plain_web_command<'a>(alloc: Global) -> Result<clap::Command<'a>, AllocError>
+    ensures shape { IfOk result (λ command. shape_of command ≡ plain_web_app.top) }
+    ensures local { IfOk result (λ command. (fields_of command).has_globals ≡ false) }
+{
+    clap::Command::new(alloc, "web")
+        .about("Shows tables to browsers at a port, for so many minutes")
+        .arg(disk_argument(alloc))?
+        .arg(port_argument(alloc))?
+        .arg(minutes_argument(alloc))
+}
+
+/// The command `rank DISK`.
+fn rank_command<'a>(alloc: Global) -> Result<clap::Command<'a>, AllocError>
+    ensures shape { IfOk result (λ command. shape_of command ≡ rank_app.top) }
+    ensures local { IfOk result (λ command. (fields_of command).has_globals ≡ false) }
+{
+    clap::Command::new(alloc, "rank")
+        .about("Prints the ranking of each field of the session on a disk")
+        .arg(disk_argument(alloc))
+}
+
+/// The command `pbn DISK`.
+fn pbn_command<'a>(alloc: Global) -> Result<clap::Command<'a>, AllocError>
+    ensures shape { IfOk result (λ command. shape_of command ≡ pbn_app.top) }
+    ensures local { IfOk result (λ command. (fields_of command).has_globals ≡ false) }
+{
+    clap::Command::new(alloc, "pbn")
+        .about("Prints the results of the session on a disk in Portable Bridge Notation")
+        .arg(disk_argument(alloc))
+}
+
+/// The command `results DISK`, or `results DISK --html`.
+fn results_command<'a>(alloc: Global) -> Result<clap::Command<'a>, AllocError>
+    ensures shape { IfOk result (λ command. shape_of command ≡ results_app.top) }
+    ensures local { IfOk result (λ command. (fields_of command).has_globals ≡ false) }
+{
+    clap::Command::new(alloc, "results")
+        .about("Prints the rankings, travellers and score cards of the session on a disk")
+        .arg(disk_argument(alloc))?
+        .arg(html_argument(alloc))
+}
+
+/// The command `check DISK`.
+fn check_command<'a>(alloc: Global) -> Result<clap::Command<'a>, AllocError>
+    ensures shape { IfOk result (λ command. shape_of command ≡ check_app.top) }
+    ensures local { IfOk result (λ command. (fields_of command).has_globals ≡ false) }
+{
+    clap::Command::new(alloc, "check")
+        .about("Says what a disk holds, or where it is damaged; nothing is written to it")
+        .arg(disk_argument(alloc))
+}
+
+/// The command `plan CONFIG`.
+fn plan_command<'a>(alloc: Global) -> Result<clap::Command<'a>, AllocError>
+    ensures shape { IfOk result (λ command. shape_of command ≡ plan_app.top) }
+    ensures local { IfOk result (λ command. (fields_of command).has_globals ≡ false) }
+{
+    clap::Command::new(alloc, "plan")
+        .about("Says in words what a configuration plans, or what is wrong with it; makes nothing")
+        .arg(config_argument(alloc))
+}

@@ -1,0 +1,5 @@
+pub mod Lines
+pub mod NamedWords
+pub mod Numbers
+pub mod ShownLines
+pub mod Written

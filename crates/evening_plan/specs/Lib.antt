@@ -1,0 +1,13 @@
+pub mod Kind
+pub mod Part
+pub mod Misfit
+pub mod Rule
+pub mod Reason
+pub mod Shown
+pub mod FaultText
+pub mod Evening
+pub mod Seat
+pub mod EventText
+pub mod PairText
+pub mod PlanText
+pub mod Named

@@ -1,0 +1,132 @@
+//! The plan of a small evening, and what is said of lines that are refused, as they were written by hand.
+use crate::{write_fault, write_plan};
+use arrayvec::ArrayVec;
+use bridge_config::read_config;
+
+const EVENING: &str = "EVENT Club-Night
+SITE Town-Hall
+DATE 2026.03.14
+SCORING IMP
+BOARDS 2
+MOVEMENT 2 2 2 3 3
+ROW 1 1 1 2 2
+ROW 1 2 3 0 1
+ROW 2 1 3 1 1
+ROW 2 2 0 2 2
+DIRECTOR 10055
+PAIR 1 Ann 10011 Bob 10012
+PAIR 2 Cat 10021 Dan 10022
+PAIR 3 Eve 10031 Fay 10032
+";
+
+const PLAN: &str = "Club-Night
+Town-Hall, 2026.03.14
+Scoring: IMPs
+Tables: 2, rounds: 2, pairs: 3
+Sets: 2, boards in a set: 2, boards in all: 4
+Ranked: all pairs together
+Of a pair the first player sits North or East, the second South or West.
+
+Pair 1: Ann and Bob
+  Round  Table  Side  Against    Set  Boards
+      1      1  NS          2      2  3 to 4
+      2      1  EW          3      1  1 to 2
+
+Pair 2: Cat and Dan
+  Round  Table  Side  Against    Set  Boards
+      1      1  EW          1      2  3 to 4
+      2  sits out
+
+Pair 3: Eve and Fay
+  Round  Table  Side  Against    Set  Boards
+      1  sits out
+      2      1  NS          1      1  1 to 2
+";
+
+/// What is written of a text: its plan, or what is wrong with it.
+fn words_of(text: &[u8]) -> ArrayVec<u8, 2048> {
+    let mut written = ArrayVec::<u8, 2048>::new();
+    let _ = match read_config(text) {
+        Ok(config) => write_plan(&config, &mut written),
+        Err(fault) => write_fault(text, fault, &mut written),
+    };
+    written
+}
+
+#[test]
+fn a_small_evening(rt: HostRuntime) {
+    let written = words_of(EVENING.as_bytes());
+    assert!(&rt;
+        written.as_slice() == PLAN.as_bytes(),
+        "{:?}",
+        str::from_utf8(written.as_slice())
+    );
+}
+
+/// The text of the small evening with another line in place of one.
+fn with_line(number: usize, line: &str) -> ArrayVec<u8, 1024> {
+    let mut text = ArrayVec::<u8, 1024>::new();
+    for (index, before) in EVENING.lines().enumerate() {
+        let put = if index + 1 == number { line } else { before };
+        let _ = text.try_extend_from_slice(put.as_bytes());
+        let _ = text.try_extend_from_slice(b"\n");
+    }
+    text
+}
+
+#[test]
+fn lines_that_are_refused(rt: HostRuntime) {
+    let long =
+        "EVENT aaaaaaaaaaaaaaaaaaaaaaaaaaaaaaaaaaaaaaaaaaaaaaaaaaaaaaaaaaaaaaaaaaaaaaaaaaaaaaaaaaaaaaaaaaaaaaaaaaaaaaaaaaaaaaaaaaaaaaaaaaa";
+    let rows = [
+        (1, long, "the line has more than 128 characters"),
+        (2, "", "the line is empty"),
+        (
+            2,
+            "SITE Town ",
+            "word 3 is empty: one space stands between two words, and none at the end",
+        ),
+        (6, "MITCHEL 7", "word 1 is not MITCHELL or MOVEMENT"),
+        (6, "MITCHELL 7 7", "word 3 is one too many"),
+        (6, "MOVEMENT 2 2 13 3 3", "word 4 is not from 1 to 12"),
+        (
+            7,
+            "ROW 1 2 1 2 2",
+            "its round and table are not the ones that are next",
+        ),
+        (
+            7,
+            "ROW 1 1 1 4 2",
+            "a pair's number is above the number of pairs in line 6",
+        ),
+        (
+            7,
+            "ROW 1 1 1 2 3",
+            "the set is 0, or above the number of sets in line 6",
+        ),
+        (11, "PAIR 1 Ann 10011 Bob 10012", "word 1 is not DIRECTOR"),
+        (12, "PAIR 1 Ann 10011 Bob", "word 6 is missing"),
+        (
+            13,
+            "PAIR 02 Cat 10021 Dan 10022",
+            "word 2 is not a number in digits alone, without a 0 in front",
+        ),
+        (
+            14,
+            "PAIR 3 Eve 10012 Fay 10032",
+            "one of its keys stands earlier in the text",
+        ),
+    ];
+    for (number, line, reason) in rows {
+        let written = words_of(with_line(number, line).as_slice());
+        let mut wanted = ArrayVec::<u8, 256>::new();
+        let _ = wanted.try_extend_from_slice(b"\nrefused: ");
+        let _ = wanted.try_extend_from_slice(reason.as_bytes());
+        let _ = wanted.try_extend_from_slice(b"\n");
+        assert!(&rt;
+            written.as_slice().ends_with(wanted.as_slice()),
+            "{line:?}: {:?}",
+            str::from_utf8(written.as_slice())
+        );
+    }
+}

@@ -1,0 +1,32 @@
+//! Endings solved with a cache that could not be made, or could not keep one.
+use super::outcome::{Outcome, Refusals};
+use bridge_cards::{Seat, Suit, read_hands};
+use bridge_endings::{Cache, Ending, solve};
+use std::alloc::Global;
+
+/// Hands, a trump suit, and how many tricks North and South take where South leads.
+const WORTHS: [(&[u8], Option<Suit>, u8); 5] = [
+    (b"N:AQ... KJ... 54... 32...", None, 1),
+    (b"N:AQ... 32... 54... KJ...", None, 2),
+    (b"N:A... 2... .2.. .3..", None, 0),
+    (b"N:A... 2... .2.. .3..", Some(Suit::Hearts), 0),
+    (b"N:A... 2... .2.. .3..", Some(Suit::Spades), 1),
+];
+
+/// The answers are the same with a cache of one ending, of all, and without.
+pub fn solve_all(alloc: Global, refusals: &mut Refusals) -> Outcome {
+    for capacity in [1, 16] {
+        let mut cache = Cache::new(alloc, capacity).ok();
+        if cache.is_none() {
+            refusals.note("a cache");
+        }
+        for (text, trump, worth) in WORTHS {
+            let hands = read_hands(text).ok_or("hands")?;
+            let ending = Ending::new(hands, trump, Seat::South).map_err(|_| "an ending")?;
+            if solve(&ending, cache.as_mut()) != worth || solve(&ending, None) != worth {
+                return Err("the worth of an ending");
+            }
+        }
+    }
+    Ok(())
+}
