@@ -3,8 +3,8 @@
 #
 #     bench/web.sh [SECONDS]     (10 when left out)
 #
-# A look is a POST of one line SEE over a connection that stays open. The peer, bench/web/answers.py, answers the same bytes
-# and does nothing else. PROGRAM names a program that was built before; else it is proved and built.
+# A look is what a player's page asks: his place, and then a line SEE, each a POST over a connection that stays open. The peer,
+# bench/web/answers.py, answers the same bytes and does nothing else. PROGRAM names a program that was built before; else it is proved and built.
 set -eu
 top=$(cd "$(dirname "$0")/.." && pwd)
 work=$(mktemp -d)

@@ -1,14 +1,13 @@
-"""Answers each request of a connection with the same bytes, and does nothing else: a server to compare with.
+"""Answers each request of a connection with one of two texts, by what it asks, and does nothing else: a server to compare with.
 
-Words: a port, and the file that holds the answer.
+Words: a port, the file that holds the answer to a player's place, and that of the answer to SEE.
 """
 import selectors
 import socket
 import sys
 
 listener = socket.create_server(("127.0.0.1", int(sys.argv[1])), backlog=128)
-with open(sys.argv[2], "rb") as file:
-    answer = file.read()
+answers = [open(name, "rb").read() for name in sys.argv[2:4]]
 selector = selectors.DefaultSelector()
 selector.register(listener, selectors.EVENT_READ)
 while True:
@@ -20,7 +19,7 @@ while True:
             continue
         piece = key.fileobj.recv(65536)
         if piece:
-            key.fileobj.sendall(answer * piece.count(b"SEE "))
+            key.fileobj.sendall(answers[0] * piece.count(b"/place") + answers[1] * piece.count(b"/lines"))
         else:
             selector.unregister(key.fileobj)
             key.fileobj.close()

@@ -14,11 +14,17 @@ disk = os.path.join(folder, "web.disk")
 peer = os.path.join(os.path.dirname(os.path.abspath(__file__)), "answers.py")
 CLIENTS = 28
 PORT = 47392
-LINE = b"SEE 11\n"
-REQUEST = (
-    b"POST /lines HTTP/1.1\r\nhost: 127.0.0.1:%d\r\ncontent-type: application/x-table-lines\r\ncontent-length: %d\r\n\r\n%s"
-    % (PORT, len(LINE), LINE)
-)
+
+
+def request(path, body):
+    """A request as a page sends it."""
+    return (
+        b"POST %s HTTP/1.1\r\nhost: 127.0.0.1:%d\r\ncontent-type: application/x-table-lines\r\ncontent-length: %d\r\n\r\n%s"
+        % (path, PORT, len(body), body)
+    )
+
+
+REQUESTS = [request(b"/place", b"11"), request(b"/lines", b"SEE 11\n")]
 
 
 def connected():
@@ -32,9 +38,9 @@ def connected():
     sys.exit("nothing listens")
 
 
-def look(connection):
-    """The answer to one look."""
-    connection.sendall(REQUEST)
+def asked(connection, request):
+    """The answer to one request."""
+    connection.sendall(request)
     answer = b""
     while b"\r\n\r\n" not in answer:
         piece = connection.recv(65536)
@@ -46,6 +52,11 @@ def look(connection):
     while len(body) < length:
         body += connection.recv(65536)
     return head + b"\r\n\r\n" + body
+
+
+def look(connection):
+    """The answers to one look: a player's place, and then what he sees."""
+    return [asked(connection, request) for request in REQUESTS]
 
 
 def client(pause, end, took):
@@ -102,8 +113,9 @@ def run(name, words):
 
 
 subprocess.run([program, "format", disk, config], check=True, stdout=subprocess.DEVNULL)
-answer = run("bridge_club", [program, "web", disk, str(PORT), "60"])
-path = os.path.join(folder, "answer")
-with open(path, "wb") as file:
-    file.write(answer)
-run("a server that only answers", [sys.executable, peer, str(PORT), path])
+answers = run("bridge_club", [program, "web", disk, str(PORT), "60"])
+paths = [os.path.join(folder, name) for name in ("place", "seen")]
+for path, answer in zip(paths, answers):
+    with open(path, "wb") as file:
+        file.write(answer)
+run("a server that only answers", [sys.executable, peer, str(PORT), *paths])

@@ -22,7 +22,11 @@ const MOST_BODY_BYTES: usize = 65_535;
 
 /// The limits of a connection: a head of 8,192 bytes, a body of 65,535, and one request after another, so that none is read
 /// before the answer to the last is sent.
-pub fn limits() -> Config {
+pub fn limits() -> Config
+    ensures head { result.limits.max_head_len ≡ 8192 }
+    ensures body { result.max_body_len ≡ 65535 }
+    ensures pending { result.max_pending ≡ 0 }
+{
     Config {
         limits: Limits {
             max_head_len: MOST_HEAD_BYTES,
