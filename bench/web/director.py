@@ -306,6 +306,26 @@ def solve(evening, page, board):
     page.window.wait(f"{text_of('solved')} === 'Of the tricks left North and South can win {ns}, and East and West {ew}.'")
 
 
+def boards_unseen(evening):
+    """A page that has not seen which boards were played names a board by its place, and takes no number that is lacking."""
+    window = Window(evening.browser, f"http://127.0.0.1:{PORT}/")
+    window.wait("document.getElementById('key')")
+    window.type("#key", evening.director)
+    window.key("Enter", 13, "\r")
+    window.wait("document.getElementById('ruling')")
+    window.click("#ruling summary")
+    for field, number in [("rule-round", 1), ("rule-table", 2), ("rule-board", 8)]:
+        window.type(f"#{field}", str(number))
+    window.click("#rule-void")
+    window.wait("document.getElementById('rule-question').innerText.startsWith('Take the play out, round 1, table 2, board in place 2 of its set?')")
+    window.click("#no")
+    window.type("#rule-tricks", "")
+    window.click("#rule-set")
+    window.wait(f"{text_of('told')} === 'Each number has to be there, and in its range.'")
+    assert window.value("document.getElementById('rule-question').childNodes.length === 0")
+    assert not window.complaints(), window.complaints()
+
+
 def other_round(evening, page, round_):
     """A round without rulings; the tables in another order, and each board of the last one looked at."""
     page.window.wait(f"{text_of('status')}.startsWith('Round {round_} of 7. Still at play: tables 1, 2, 3, 4, 5, 6.')")
@@ -377,6 +397,7 @@ def main():
             pictures(page.window, PICTURES, "dealt")
             is_refused(evening, False)
             first_round(evening, page)
+            boards_unseen(evening)
             for round_ in range(2, ROUNDS + 1):
                 other_round(evening, page, round_)
             closed = ROUNDS == 7
