@@ -27,6 +27,7 @@ const DIRECTOR_SENTENCES = {
 const MOST_BOARDS = 36;
 const MOST_TABLES = 12;
 const MINUTE = 60000;
+const WAITED = "An answer is still waited for; nothing was sent.";
 
 // When each table's line was first seen as it is.
 const since = new Map();
@@ -59,7 +60,10 @@ function confirmFirst(box, question, act) {
 
 // Sends lines without the key, each of a keyword and words; gives the replies, or null, also while other lines are out.
 async function order(lines) {
-  if (ordered) return null;
+  if (ordered) {
+    tell(WAITED);
+    return null;
+  }
   ordered = true;
   tell("");
   const body = lines.map((line) => line.replace(/^(\S+)\s*/, (_all, word) => (word === "SYNC" ? word : word + " " + key + " ")).trim() + "\n").join("");
@@ -187,6 +191,7 @@ async function dealAll(lines, boards) {
 }
 
 function shuffleBoards() {
+  if (!isFilledIn("dealing")) return;
   const first = Number(at("shuffle-first").value);
   const last = Number(at("shuffle-last").value);
   const boards = [];
@@ -218,7 +223,7 @@ const numberAt = (id) => Math.trunc(Number(at(id).value));
 
 // Whether each number of a section is there and in its range.
 function isFilledIn(id) {
-  const filled = [...at(id).querySelectorAll("input")].every((field) => field.value !== "" && field.checkValidity());
+  const filled = [...at(id).querySelectorAll("input[type=number]")].every((field) => field.value !== "" && field.checkValidity());
   if (!filled) tell("Each number has to be there, and in its range.");
   return filled;
 }
@@ -302,7 +307,7 @@ function linesNodes() {
   const box = make("textarea", { id: "box", spellcheck: false });
   const replies = make("pre", { id: "replies", role: "log", aria_label: "Replies" });
   const send = async () => {
-    if (ordered) return;
+    if (ordered) return tell(WAITED);
     const reply = await order(box.value.split("\n").map((line) => line.trim()).filter((line) => line !== ""));
     replies.textContent = reply === null ? "No answer came. The lines may or may not have been taken." : reply;
   };

@@ -11,6 +11,7 @@ const SIGNS = { S: "\u2660", H: "\u2665", D: "\u2666", C: "\u2663" };
 const SUIT_NAMES = { S: "spades", H: "hearts", D: "diamonds", C: "clubs" };
 const RANK_NAMES = { A: "ace", K: "king", Q: "queen", J: "jack", T: "10" };
 const STRAINS = ["C", "D", "H", "S", "NT"];
+const LOGIN = "login";
 // Milliseconds: an answer that comes later is none; how often the page looks, also where it is hidden; how long results last.
 const LATE = 8000;
 const LOOK = 1000;
@@ -47,7 +48,7 @@ let key = sessionStorage.getItem("key");
 let busy = false;
 let shown = "";
 let timer = 0;
-// Raised by each look and each act: an answer that an earlier one gets is shown no more.
+// Raised by each look, each act and Leave: an answer that an earlier look gets is shown no more.
 let turn = 0;
 let results = { made: "", text: "", at: 0 };
 
@@ -293,7 +294,7 @@ function claimNode(place, view) {
   const left = 13 - Number(view.tricks.NS) - Number(view.tricks.EW);
   const dummy = place.contract && partner(place.contract.declarer) === view.seat;
   const between = view.trick.length === 0;
-  const count = make("input", { id: "claim", type: "number", min: 0, max: left, value: left, required: true });
+  const count = make("input", { id: "claim", type: "number", min: 0, max: left, defaultValue: left, required: true });
   const claim = () => {
     if (count.checkValidity()) act(line("CLAIM", " " + Number(count.value)));
     else say("notice", "Give a number of tricks from 0 to " + left + ".");
@@ -362,16 +363,17 @@ function headText(place) {
 // Shows these nodes, where what they are made of is new; the focus and what is open stay.
 function show(made, status, nodes) {
   say("status", status);
-  const mark = made + (busy ? " busy" : "");
+  const mark = made + (busy && made !== LOGIN ? " busy" : "");
   if (mark === shown) return;
   shown = mark;
   const main = at("main");
   const focus = document.activeElement && main.contains(document.activeElement) ? document.activeElement.id : "";
   const open = [...main.querySelectorAll("details[open]")].map((node) => node.id);
-  const value = at("claim") ? at("claim").value : "";
+  const claim = at("claim");
+  const typed = claim && claim.value !== claim.defaultValue ? claim.value : null;
   main.replaceChildren(...nodes());
   for (const id of open) if (at(id)) at(id).open = true;
-  if (value !== "" && open.includes("claiming") && at("claim") && Number(value) <= Number(at("claim").max)) at("claim").value = value;
+  if (typed !== null && open.includes("claiming") && at("claim")) at("claim").value = typed;
   if (focus && at(focus) && !at(focus).disabled) at(focus).focus();
 }
 
@@ -425,7 +427,7 @@ async function showClosed(placeReply, asked, mine) {
 function showLogin() {
   at("title").textContent = "Bridge table";
   at("leave").hidden = true;
-  show("login", "", () => {
+  show(LOGIN, "", () => {
     const field = make("input", { id: "key", type: "text", inputMode: "numeric", autocomplete: "off", pattern: "[0-9]+", required: true });
     const enter = (event) => {
       event.preventDefault();
@@ -455,8 +457,13 @@ async function look() {
   clearTimeout(timer);
   const asked = key;
   if (asked === null) return showLogin();
-  // What is no answer of this server, as that of a network's own login page, cannot be read.
-  if (!busy) await lookOnce(asked).catch(unreachable);
+  if (!busy) {
+    const mine = turn + 1;
+    // What is no answer of this server, as that of a network's own login page, cannot be read.
+    await lookOnce(asked).catch(unreachable);
+    // After a later look, an act or Leave those go on.
+    if (turn !== mine) return;
+  }
   clearTimeout(timer);
   if (key !== null) timer = setTimeout(look, document.hidden ? HIDDEN_LOOK : LOOK);
 }
@@ -500,8 +507,8 @@ async function act(line) {
   for (const node of at("main").querySelectorAll("button")) node.disabled = true;
   const reply = await ask("/lines", line + "\n");
   busy = false;
+  if (key !== asked) return key === null ? undefined : look();
   shown = "";
-  if (key !== asked) return look();
   if (reply === null) say("notice", "No answer came. It may or may not have been taken; what you see next tells.");
   else if (refusal(reply)) say("notice", SENTENCES[refusal(reply)] || reply);
   return look();
