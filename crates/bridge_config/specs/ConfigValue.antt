@@ -1,5 +1,5 @@
 -- What contracts see of a configuration: its fields, with texts as lists of bytes and keys as numbers.
-use Rattle.std.specs.Prelude.{ℕ, List, map, flat_map, ◌∷◌}
+use Rattle.std.specs.Prelude.{ℕ, List, [], map, flat_map, ◌∷◌, ◌++◌, codes, slice_index_or}
 use Rattle.bridge_score.specs.declared.ranking.Scoring.{Scoring}
 use Rattle.bridge_movement.specs.MovementValue.{MovementValue}
 use Rattle.bridge_config.specs.declared.fields.Key.{Key}
@@ -29,6 +29,10 @@ key_number key = key.0
 -- a pair, its names as their bytes
 abbrev pub pair_of : PairFields → Pair
 pair_of pair = record { names = map (λ name. name.bytes) pair.names; keys = map key_number pair.keys }
+
+-- of a pair's names both, as `Anna and Berta`
+abbrev pub both_names : List (List ℕ) → List ℕ
+both_names names = (slice_index_or names 0 [] ++ codes " and ") ++ slice_index_or names 1 []
 
 -- what fields state
 abbrev pub configuration_of : ConfigFields → ConfigValue

@@ -10,11 +10,13 @@ pub mod config;
 pub mod fields;
 mod limits;
 mod line;
+mod names;
 mod reading;
 pub mod refused;
 
 pub use config::Config;
 pub use fields::{ConfigFields, DATE_BYTES, Key, NAME_BYTES, PairFields};
 pub use limits::{read_date, read_name};
+pub use names::{NAMES_BYTES, NamesText};
 pub use reading::read_config;
 pub use refused::{ConfigFault, ConfigRefused};

@@ -14,7 +14,7 @@ use Rattle.bridge_results.specs.declared.play.TablePlay.{TablePlay}
 use Rattle.bridge_results.specs.declared.card.CardLine.{CardLine}
 use Rattle.bridge_results.specs.Plays.{plays_of}
 use Rattle.bridge_results.specs.Comparison.{result_in, game_of}
-use Rattle.bridge_results.specs.ScoreCard.{side_at, card_line_of, card_line, card_lines, card_of}
+use Rattle.bridge_results.specs.ScoreCard.{side_at, card_line_of, score_card_line, card_lines, score_card_of}
 use Rattle.bridge_results.proofs.Plays.{games_are}
 
 -- the sum from a start on
@@ -43,11 +43,11 @@ all_add : {T : Type 0} (plus : T → T → T) (none : T) → ((a : T) → plus a
     (scoring : Scoring) (games : List Game) (pair : ℕ) →
     ((play : TablePlay) (s : Side) → of_line (card_line_of scoring games play s) ≡ option_map_or (made play s) (result_in play) none) →
     ((play : TablePlay) (r : PlayResult) → of_game (game_with play r) ≡ option_map_or (λ s. made play s r) (side_at pair play.row) none) →
-    (start : T) (plays : List TablePlay) → added plus of_line start (filter_map (card_line scoring games pair) plays) ≡ added plus of_game start (filter_map game_of plays)
+    (start : T) (plays : List TablePlay) → added plus of_line start (filter_map (score_card_line scoring games pair) plays) ≡ added plus of_game start (filter_map game_of plays)
 all_add plus none unit of_line of_game made scoring games pair by_line by_game start [] = refl
 all_add plus none unit of_line of_game made scoring games pair by_line by_game start (play ∷ plays) =
     one_adds plus none unit of_line of_game (card_line_of scoring games play) (game_with play) (made play) (side_at pair play.row) (result_in play) start
-    (filter_map (card_line scoring games pair) plays) (filter_map game_of plays) (by_line play) (by_game play)
+    (filter_map (score_card_line scoring games pair) plays) (filter_map game_of plays) (by_line play) (by_game play)
     (λ from. all_add plus none unit of_line of_game made scoring games pair by_line by_game from plays)
 
 no_gain : (a : ℤ) → a +ℤ pos 0 ≡ a
@@ -66,12 +66,12 @@ available_adds scoring games pair plays =
     all_add ◌+◌ 0 none_more (λ (line : CardLine). line.available) (available_in games pair) (λ play side result. available_of (scores_on games side play.board))
     scoring games pair (λ play side. refl) (λ play result. refl) 0 plays
 
-pub card_gain : (s : SessionValue) (pair : ℕ) → int_sum_by (λ (line : CardLine). line.gain) (card_of s pair) ≡ (line_of s.configuration.scoring (games_of s) pair).value
+pub card_gain : (s : SessionValue) (pair : ℕ) → int_sum_by (λ (line : CardLine). line.gain) (score_card_of s pair) ≡ (line_of s.configuration.scoring (games_of s) pair).value
 card_gain s pair =
     gains_add s.configuration.scoring (games_of s) pair (plays_of s)
     ∙ ap (int_sum_by (value_in s.configuration.scoring (games_of s) pair)) (games_are s)
 
-pub card_available : (s : SessionValue) (pair : ℕ) → sum_by (λ (line : CardLine). line.available) (card_of s pair) ≡ (line_of s.configuration.scoring (games_of s) pair).available
+pub card_available : (s : SessionValue) (pair : ℕ) → sum_by (λ (line : CardLine). line.available) (score_card_of s pair) ≡ (line_of s.configuration.scoring (games_of s) pair).available
 card_available s pair =
     available_adds s.configuration.scoring (games_of s) pair (plays_of s)
     ∙ ap (sum_by (available_in (games_of s) pair)) (games_are s)

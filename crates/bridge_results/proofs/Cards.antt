@@ -25,8 +25,8 @@ use Rattle.session_rules.specs.StateRange.{IsSession}
 use Rattle.session_rules.specs.Valid.{board_of}
 use Rattle.bridge_results.specs.declared.play.TablePlay.{TablePlay}
 use Rattle.bridge_results.specs.declared.card.CardLine.{CardLine}
-use Rattle.bridge_results.specs.Plays.{has_outcome, play_in, plays_in, plays_of}
-use Rattle.bridge_results.specs.ScoreCard.{side_at, card_line_of, card_line, card_lines}
+use Rattle.bridge_results.specs.Plays.{has_outcome, table_play_in, plays_in, plays_of}
+use Rattle.bridge_results.specs.ScoreCard.{side_at, card_line_of, score_card_line, card_lines}
 use Rattle.bridge_results.proofs.Plays.{most_boards}
 
 -- whether the pair plays in the row
@@ -120,22 +120,22 @@ few_rounds s pair is =
     omega (arith, left)
 
 -- a row has a line on the card for each of its records at most
-one_line : (scoring : Scoring) (games : List Game) (pair : ℕ) (play : Option TablePlay) (plays : List TablePlay) (n : ℕ) → length (filter_map (card_line scoring games pair) plays) ≤ n →
-    length (filter_map (card_line scoring games pair) (cons_option play plays)) ≤ n + 1
+one_line : (scoring : Scoring) (games : List Game) (pair : ℕ) (play : Option TablePlay) (plays : List TablePlay) (n : ℕ) → length (filter_map (score_card_line scoring games pair) plays) ≤ n →
+    length (filter_map (score_card_line scoring games pair) (cons_option play plays)) ≤ n + 1
 one_line scoring games pair None plays n less = omega (arith, less)
-one_line scoring games pair (Some play) plays n less = by_side (card_line scoring games pair play)
+one_line scoring games pair (Some play) plays n less = by_side (score_card_line scoring games pair play)
   where
-    by_side : (line : Option CardLine) → length (cons_option line (filter_map (card_line scoring games pair) plays)) ≤ n + 1
+    by_side : (line : Option CardLine) → length (cons_option line (filter_map (score_card_line scoring games pair) plays)) ≤ n + 1
     by_side None = omega (arith, less)
     by_side (Some line) = omega (arith, less)
 
-table_lines : (scoring : Scoring) (games : List Game) (pair : ℕ) (row : Row) (table : List PlainRecord) → length (filter_map (card_line scoring games pair) (filter_map (play_in row) table)) ≤ length table
+table_lines : (scoring : Scoring) (games : List Game) (pair : ℕ) (row : Row) (table : List PlainRecord) → length (filter_map (score_card_line scoring games pair) (filter_map (table_play_in row) table)) ≤ length table
 table_lines scoring games pair row [] = omega arith
 table_lines scoring games pair row (plain ∷ table) =
-    omega (arith, one_line scoring games pair (play_in row plain) (filter_map (play_in row) table) (length table) (table_lines scoring games pair row table))
+    omega (arith, one_line scoring games pair (table_play_in row plain) (filter_map (table_play_in row) table) (length table) (table_lines scoring games pair row table))
 
 -- and none where the pair does not sit there
-no_line : (scoring : Scoring) (games : List Game) (pair : ℕ) (row : Row) (table : List PlainRecord) → is_some (side_at pair row) ≡ false → length (filter_map (card_line scoring games pair) (filter_map (play_in row) table)) ≡ 0
+no_line : (scoring : Scoring) (games : List Game) (pair : ℕ) (row : Row) (table : List PlainRecord) → is_some (side_at pair row) ≡ false → length (filter_map (score_card_line scoring games pair) (filter_map (table_play_in row) table)) ≡ 0
 no_line scoring games pair row [] none = refl
 no_line scoring games pair row (plain ∷ table) none =
     by_outcome (has_outcome (outcome_of plain)) (no_line scoring games pair row table none)
@@ -143,19 +143,19 @@ no_line scoring games pair row (plain ∷ table) none =
     play : TablePlay
     play = record { row = row; board = plain.board; outcome = outcome_of plain; lead = slice_get plain.cards 0 }
 
-    by_side : (side : Option Side) → is_some side ≡ false → length (filter_map (card_line scoring games pair) (filter_map (play_in row) table)) ≡ 0 →
-        length (cons_option (option_map (card_line_of scoring games play) side) (filter_map (card_line scoring games pair) (filter_map (play_in row) table))) ≡ 0
+    by_side : (side : Option Side) → is_some side ≡ false → length (filter_map (score_card_line scoring games pair) (filter_map (table_play_in row) table)) ≡ 0 →
+        length (cons_option (option_map (card_line_of scoring games play) side) (filter_map (score_card_line scoring games pair) (filter_map (table_play_in row) table))) ≡ 0
     by_side None absent rest = rest
     by_side (Some side) absent rest = absurd cc
 
-    by_outcome : (has : Bool) → length (filter_map (card_line scoring games pair) (filter_map (play_in row) table)) ≡ 0 →
-        length (filter_map (card_line scoring games pair) (cons_option (cond has (Some play) None) (filter_map (play_in row) table))) ≡ 0
+    by_outcome : (has : Bool) → length (filter_map (score_card_line scoring games pair) (filter_map (table_play_in row) table)) ≡ 0 →
+        length (filter_map (score_card_line scoring games pair) (cons_option (cond has (Some play) None) (filter_map (table_play_in row) table))) ≡ 0
     by_outcome true rest = by_side (side_at pair row) none rest
     by_outcome false rest = rest
 
 -- a row that is not live has no record
 row_lines : (scoring : Scoring) (games : List Game) (pair : ℕ) (row : Row) (table : List PlainRecord) (live here : Bool) (a n : ℕ) → n ≤ 3 → map board_of table ≡ cond live (range_with_len a n) [] →
-    is_some (side_at pair row) ≡ here → length (filter_map (card_line scoring games pair) (filter_map (play_in row) table)) ≤ 3 * (cond (live && here) 1 0)
+    is_some (side_at pair row) ≡ here → length (filter_map (score_card_line scoring games pair) (filter_map (table_play_in row) table)) ≤ 3 * (cond (live && here) 1 0)
 row_lines scoring games pair row table true true a n few boards is =
     omega (arith, table_lines scoring games pair row table, sym (length-map table board_of) ∙ ap length boards, length-range_with_len a n)
 row_lines scoring games pair row table false here a n few boards is =
@@ -163,15 +163,15 @@ row_lines scoring games pair row table false here a n few boards is =
 row_lines scoring games pair row table true false a n few boards is = omega (arith, no_line scoring games pair row table is)
 
 all_lines : (scoring : Scoring) (games : List Game) (pair boards : ℕ) (rows : List Row) (records : List (List PlainRecord)) → boards ≤ 3 → map (map board_of) records ≡ map (row_boards boards) rows →
-    length (filter_map (card_line scoring games pair) (flat_map plays_in (zip rows records))) ≤ 3 * count_there pair rows
+    length (filter_map (score_card_line scoring games pair) (flat_map plays_in (zip rows records))) ≤ 3 * count_there pair rows
 all_lines scoring games pair boards [] records few same = omega arith
 all_lines scoring games pair boards (row ∷ rows) [] few same = omega arith
 all_lines scoring games pair boards (row ∷ rows) (table ∷ records) few same =
     let first : map board_of table ≡ row_boards boards row = cc in
     let others : map (map board_of) records ≡ map (row_boards boards) rows = cc in
-    let plays = filter_map (play_in row) table in
+    let plays = filter_map (table_play_in row) table in
     let later = flat_map plays_in (zip rows records) in
-    let line = card_line scoring games pair in
+    let line = score_card_line scoring games pair in
     omega (
       arith,
       row_lines scoring games pair row table (is_live row) (is_some (side_at pair row)) ((row.set - 1) * boards + 1) boards few first refl,

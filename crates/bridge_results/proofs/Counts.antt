@@ -22,7 +22,7 @@ use Rattle.session_rules.specs.State.{SessionValue}
 use Rattle.session_rules.specs.StateRange.{IsSession}
 use Rattle.session_rules.specs.Valid.{board_of}
 use Rattle.bridge_results.specs.declared.play.TablePlay.{TablePlay}
-use Rattle.bridge_results.specs.Plays.{has_outcome, play_in, plays_in, plays_of, plays_on, is_of}
+use Rattle.bridge_results.specs.Plays.{has_outcome, table_play_in, plays_in, plays_of, plays_on, is_of}
 use Rattle.bridge_results.specs.Comparison.{game_of}
 use Rattle.bridge_results.proofs.Plays.{games_are}
 
@@ -52,17 +52,17 @@ one_counts true b play plays game games same less =
     omega (arith, both, here)
 one_counts false b play plays game games same less = perhaps_more (game.board == b) (length (filter (is_of b) plays)) game (filter (is_on b) games) less
 
-table_counts : (row : Row) (table : List PlainRecord) (b : ℕ) → length (filter (is_of b) (filter_map (play_in row) table)) ≤ length (filter (is_on b) (filter_map (kept_game row) (map adjusted table)))
+table_counts : (row : Row) (table : List PlainRecord) (b : ℕ) → length (filter (is_of b) (filter_map (table_play_in row) table)) ≤ length (filter (is_on b) (filter_map (kept_game row) (map adjusted table)))
 table_counts row [] b = omega arith
 table_counts row (plain ∷ table) b =
-    one_counts (has_outcome (outcome_of plain)) b (record { row = row; board = plain.board; outcome = outcome_of plain; lead = slice_get plain.cards 0 }) (filter_map (play_in row) table)
+    one_counts (has_outcome (outcome_of plain)) b (record { row = row; board = plain.board; outcome = outcome_of plain; lead = slice_get plain.cards 0 }) (filter_map (table_play_in row) table)
     (record { board = plain.board; ns = row.ns; ew = row.ew; result = Averages Even Even }) (filter_map (kept_game row) (map adjusted table)) refl (table_counts row table b)
 
 all_count : (rows : List Row) (records : List (List PlainRecord)) (b : ℕ) → length (filter (is_of b) (flat_map plays_in (zip rows records))) ≤ length (filter (is_on b) (kept_games rows (map (map adjusted) records)))
 all_count [] records b = omega arith
 all_count (row ∷ rows) [] b = omega arith
 all_count (row ∷ rows) (table ∷ records) b =
-    let plays = filter_map (play_in row) table in
+    let plays = filter_map (table_play_in row) table in
     let later = flat_map plays_in (zip rows records) in
     let games = filter_map (kept_game row) (map adjusted table) in
     let others = kept_games rows (map (map adjusted) records) in

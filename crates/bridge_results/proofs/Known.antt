@@ -24,7 +24,7 @@ use Rattle.session_rules.specs.State.{SessionValue, row_at, record_of, hands_on}
 use Rattle.session_rules.specs.StateRange.{IsSession, IsRulingInRange, IsRecordInRange}
 use Rattle.session_rules.specs.Valid.{IsValidRecord}
 use Rattle.bridge_results.specs.declared.play.TablePlay.{TablePlay}
-use Rattle.bridge_results.specs.Plays.{has_outcome, lead_of, HasTricksWithin, play_by, play_in}
+use Rattle.bridge_results.specs.Plays.{has_outcome, lead_of, HasTricksWithin, play_by, table_play_in}
 use Rattle.bridge_results.proofs.Plays.{record_there, board_there, same_count}
 
 -- a play has 13 tricks at most
@@ -107,7 +107,7 @@ lead_by hands plain (Some contract) none = refl
 -- a play that is known is that of its record
 pub known_play : (s : SessionValue) (row : Row) (index board : ℕ) (outcome : Outcome) (play : Option PlayValue) (found : Option PlainRecord) → board ≡ (row.set - 1) * s.configuration.boards + index →
     ((plain : PlainRecord) → found ≡ Some plain → IsRecordAt s row index plain) → Some outcome ≡ option_map outcome_of found → Some play ≡ option_map (λ (plain : PlainRecord). play_of (hands_on s.deals plain.board) plain) found →
-    play_by row board outcome (option_and_then (λ (known : PlayValue). lead_of known.cards) play) ≡ option_and_then (play_in row) found
+    play_by row board outcome (option_and_then (λ (known : PlayValue). lead_of known.cards) play) ≡ option_and_then (table_play_in row) found
 known_play s row index board outcome play None on_board at came played = absurd cc
 known_play s row index board outcome play (Some plain) on_board at came played =
     let is = at plain refl in
@@ -140,6 +140,6 @@ known_few s row index board outcome lead play (Some plain) at came played few =
     play_few row board outcome lead (subst HasFewTricks outcome_is (few_tricks hands plain is.ranges.ruling few_cards is.valid.play))
 
 -- of no record there is no play
-pub no_play : (row : Row) (found : Option PlainRecord) → ◌≡◌ {A = Option Outcome} None (option_map outcome_of found) → ◌≡◌ {A = Option TablePlay} None (option_and_then (play_in row) found)
+pub no_play : (row : Row) (found : Option PlainRecord) → ◌≡◌ {A = Option Outcome} None (option_map outcome_of found) → ◌≡◌ {A = Option TablePlay} None (option_and_then (table_play_in row) found)
 no_play row None none = refl
 no_play row (Some plain) none = absurd cc

@@ -24,7 +24,7 @@ use Rattle.session_rules.specs.State.{SessionValue, row_at, row_boards, index_of
 use Rattle.session_rules.specs.StateRange.{IsSession}
 use Rattle.session_rules.specs.Valid.{board_of}
 use Rattle.bridge_results.specs.declared.play.TablePlay.{TablePlay}
-use Rattle.bridge_results.specs.Plays.{play_by, play_in, plays_in, plays_of, plays_at}
+use Rattle.bridge_results.specs.Plays.{play_by, table_play_in, plays_in, plays_of, plays_at}
 use Rattle.bridge_results.specs.Comparison.{game_of}
 
 -- the rows of a movement stand by round, then by table
@@ -110,7 +110,7 @@ board_there s i d index plain is within least there =
     omega (arith, board, least)
 
 -- three records at most, one by one
-three : (row : Row) (table : List PlainRecord) → length table ≤ 3 → filter_map (λ index. option_and_then (play_in row) (slice_get table (index - 1))) (1 ∷ 2 ∷ 3 ∷ []) ≡ filter_map (play_in row) table
+three : (row : Row) (table : List PlainRecord) → length table ≤ 3 → filter_map (λ index. option_and_then (table_play_in row) (slice_get table (index - 1))) (1 ∷ 2 ∷ 3 ∷ []) ≡ filter_map (table_play_in row) table
 three row [] few = refl
 three row (a ∷ []) few = refl
 three row (a ∷ (b ∷ [])) few = refl
@@ -118,12 +118,12 @@ three row (a ∷ (b ∷ (c ∷ []))) few = refl
 three row (a ∷ (b ∷ (c ∷ (d ∷ rest)))) few = absurd (omega arith)
 
 pub row_plays : (s : SessionValue) (i : ℕ) (d : Row) → IsSession s → i < length s.configuration.movement.rows →
-    plays_at s (get_or s.configuration.movement.rows i d) ≡ filter_map (play_in (get_or s.configuration.movement.rows i d)) (row_at s.records i)
+    plays_at s (get_or s.configuration.movement.rows i d) ≡ filter_map (table_play_in (get_or s.configuration.movement.rows i d)) (row_at s.records i)
 row_plays s i d is within =
     let row = get_or s.configuration.movement.rows i d in
     let table = row_at s.records i in
     ap (λ (h : ℕ → Option TablePlay). filter_map h (1 ∷ 2 ∷ 3 ∷ []))
-    (λ k index. ap (option_and_then (play_in row)) (record_there s i d index is within) k)
+    (λ k index. ap (option_and_then (table_play_in row)) (record_there s i d index is within) k)
     ∙ three row table (few_there s i d is within)
 
 -- what is made of each row is made of each row with its records
@@ -159,11 +159,11 @@ one_more : (play : Option TablePlay) (plays : List TablePlay) → filter_map gam
 one_more None plays = refl
 one_more (Some play) plays = refl
 
-table_games : (row : Row) (table : List PlainRecord) → filter_map game_of (filter_map (play_in row) table) ≡ filter_map (game_in row) table
+table_games : (row : Row) (table : List PlainRecord) → filter_map game_of (filter_map (table_play_in row) table) ≡ filter_map (game_in row) table
 table_games row [] = refl
 table_games row (plain ∷ table) =
-    one_more (play_in row plain) (filter_map (play_in row) table)
-    ∙ ap (λ (game : Option Game). cons_option game (filter_map game_of (filter_map (play_in row) table))) (game_by_play row plain.board (outcome_of plain) (slice_get plain.cards 0))
+    one_more (table_play_in row plain) (filter_map (table_play_in row) table)
+    ∙ ap (λ (game : Option Game). cons_option game (filter_map game_of (filter_map (table_play_in row) table))) (game_by_play row plain.board (outcome_of plain) (slice_get plain.cards 0))
     ∙ ap (cons_option (game_in row plain)) (table_games row table)
 
 all_games : (tables : List (Row × List PlainRecord)) → filter_map game_of (flat_map plays_in tables) ≡ flat_map games_in tables

@@ -13,7 +13,7 @@ use Rattle.bridge_ranking.specs.Ranking.{is_on, side_score, scores_on}
 use Rattle.bridge_results.specs.declared.play.TablePlay.{TablePlay}
 use Rattle.bridge_results.specs.declared.traveller.BoardLine.{BoardLine}
 use Rattle.bridge_results.specs.Plays.{is_of, plays_on}
-use Rattle.bridge_results.specs.Traveller.{line_of, with_line, in_order}
+use Rattle.bridge_results.specs.Traveller.{board_line_of, with_line, in_order}
 use Rattle.bridge_results.proofs.Order.{order_length}
 
 -- where something comes of an element, less came of those before it than of all
@@ -49,17 +49,17 @@ plays_next plays board i d here within is =
 
 -- the lines of a board with one play more
 abbrev lines_among : Scoring → List Game → List TablePlay → List BoardLine
-lines_among scoring games plays = in_order (map (line_of scoring games) plays)
+lines_among scoring games plays = in_order (map (board_line_of scoring games) plays)
 
 pub lines_more : (scoring : Scoring) (games : List Game) (plays : List TablePlay) (board i : ℕ) (d : TablePlay) (before after : List BoardLine) → i < length plays → is_of board (get_or plays i d) ≡ true →
-    before ≡ lines_among scoring games (plays_on (take i plays) board) → after ≡ with_line before (line_of scoring games (get_or plays i d)) → after ≡ lines_among scoring games (plays_on (take (i + 1) plays) board)
+    before ≡ lines_among scoring games (plays_on (take i plays) board) → after ≡ with_line before (board_line_of scoring games (get_or plays i d)) → after ≡ lines_among scoring games (plays_on (take (i + 1) plays) board)
 lines_more scoring games plays board i d before after within is so_far left =
     let passed = plays_on (take i plays) board in
     let play = get_or plays i d in
     left
-    ∙ ap (λ lines. with_line lines (line_of scoring games play)) so_far
-    ∙ sym (fold_push with_line [] (map (line_of scoring games) passed) (line_of scoring games play))
-    ∙ ap in_order (sym (map-append (line_of scoring games) passed (play ∷ [])))
+    ∙ ap (λ lines. with_line lines (board_line_of scoring games play)) so_far
+    ∙ sym (fold_push with_line [] (map (board_line_of scoring games) passed) (board_line_of scoring games play))
+    ∙ ap in_order (sym (map-append (board_line_of scoring games) passed (play ∷ [])))
     ∙ ap (lines_among scoring games) (sym (plays_next plays board i d true within is))
 
 pub lines_same : (scoring : Scoring) (games : List Game) (plays : List TablePlay) (board i : ℕ) (d : TablePlay) (before : List BoardLine) → i < length plays → is_of board (get_or plays i d) ≡ false →
@@ -80,8 +80,8 @@ room_for_line scoring games plays board i d before within is so_far =
     omega (
       arith,
       ap length so_far,
-      order_length [] (map (line_of scoring games) passed),
-      length-map passed (line_of scoring games),
+      order_length [] (map (board_line_of scoring games) passed),
+      length-map passed (board_line_of scoring games),
       ap length next,
       length-append passed (get_or plays i d ∷ []),
       ap length whole,

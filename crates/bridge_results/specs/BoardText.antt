@@ -64,8 +64,8 @@ line_titles format =
     ∷ codes "Score" ∷ codes "NS gain" ∷ codes "EW gain" ∷ [])
 
 -- a traveller
-abbrev pub lines_text : Format → Scoring → List BoardLine → List ℕ
-lines_text format scoring lines = line_titles format ++ (flat_map (line_row format scoring) lines ++ table_end format)
+abbrev pub traveller_text : Format → Scoring → List BoardLine → List ℕ
+traveller_text format scoring lines = line_titles format ++ (flat_map (line_row format scoring) lines ++ table_end format)
 
 -- the row of a score: how often it was made, and what each side gains by it
 abbrev pub frequency_row : Format → Scoring → Frequency → List ℕ
@@ -86,11 +86,11 @@ frequencies_text format scoring frequencies =
     frequency_titles format ++ (flat_map (frequency_row format scoring) frequencies ++ table_end format)
 
 -- the traveller and the frequencies of a board
-abbrev pub tables_text : Format → Scoring → List BoardLine → List ℕ
-tables_text format scoring lines =
-    lines_text format scoring lines ++ (frequencies_text format scoring (frequencies_of lines) ++ section_end format)
+abbrev pub board_tables : Format → Scoring → List BoardLine → List ℕ
+board_tables format scoring lines =
+    traveller_text format scoring lines ++ (frequencies_text format scoring (frequencies_of lines) ++ section_end format)
 
 -- A board with the lines of its traveller: dealer, vulnerability, hands, traveller and frequencies.
 abbrev pub board_text : Format → Scoring → ℕ → Option (List ℕ) → List BoardLine → List ℕ
 board_text format scoring board hands lines =
-    board_head format board ++ (hands_text format hands ++ tables_text format scoring lines)
+    board_head format board ++ (hands_text format hands ++ board_tables format scoring lines)

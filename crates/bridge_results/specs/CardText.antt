@@ -73,6 +73,6 @@ card_end format scoring lines =
     (table_end format ++ paragraph_text format (total_words scoring lines)) ++ section_end format
 
 -- The card of a pair: its names, a row for each play, and the total.
-abbrev pub card_text : Format → Scoring → List Pair → ℕ → List CardLine → List ℕ
-card_text format scoring pairs pair lines =
+abbrev pub score_card_text : Format → Scoring → List Pair → ℕ → List CardLine → List ℕ
+score_card_text format scoring pairs pair lines =
     card_head format pairs pair ++ (flat_map (card_row format scoring) lines ++ card_end format scoring lines)

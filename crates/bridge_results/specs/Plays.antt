@@ -24,12 +24,12 @@ abbrev pub lead_of : List ℕ → Option ℕ
 lead_of cards = slice_get cards 0
 
 -- the play of a record by the pairs of a row
-abbrev pub play_in : Row → PlainRecord → Option TablePlay
-play_in row plain = play_by row plain.board (outcome_of plain) (lead_of plain.cards)
+abbrev pub table_play_in : Row → PlainRecord → Option TablePlay
+table_play_in row plain = play_by row plain.board (outcome_of plain) (lead_of plain.cards)
 
 -- the plays of a row's records
 abbrev pub plays_in : Row × List PlainRecord → List TablePlay
-plays_in both = filter_map (play_in both.0) both.1
+plays_in both = filter_map (table_play_in both.0) both.1
 
 -- the plays of a session of which something came, by round, table and board
 unfoldable pub plays_of : SessionValue → List TablePlay
@@ -44,13 +44,13 @@ abbrev pub plays_on : List TablePlay → ℕ → List TablePlay
 plays_on plays board = filter (is_of board) plays
 
 -- the play of the board at an index of a row's set, if something came of it
-abbrev pub play_at : SessionValue → Row → ℕ → Option TablePlay
-play_at s row index =
-    option_and_then (play_in row) (record_of s (record { round = row.round; table = row.table; index = index }))
+abbrev pub table_play_at : SessionValue → Row → ℕ → Option TablePlay
+table_play_at s row index =
+    option_and_then (table_play_in row) (record_of s (record { round = row.round; table = row.table; index = index }))
 
 -- the plays of a row's set, of at most three boards
 abbrev pub plays_at : SessionValue → Row → List TablePlay
-plays_at s row = filter_map (play_at s row) (1 ∷ 2 ∷ 3 ∷ [])
+plays_at s row = filter_map (table_play_at s row) (1 ∷ 2 ∷ 3 ∷ [])
 
 -- the play has no more tricks than a board has
 abbrev pub HasTricksWithin : TablePlay → Type 0

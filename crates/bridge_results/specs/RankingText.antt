@@ -4,40 +4,25 @@ use Rattle.std.specs.Fmt.{decimal, signed_decimal}
 use Rattle.bridge_score.specs.declared.ranking.Ranked.{Ranked}
 use Rattle.bridge_score.specs.declared.ranking.Scoring.{Scoring}
 use Rattle.bridge_score.specs.declared.ranking.Scoring.TheVariants.{MatchPoints, Imps}
-use Rattle.bridge_score.specs.Percent.{percent_hundredths_of}
+use Rattle.bridge_score.specs.Percent.{share_percent}
 use Rattle.bridge_config.specs.ConfigValue.{Pair}
 use Rattle.bridge_ranking.specs.declared.field.Field.{Field}
 use Rattle.bridge_ranking.specs.declared.field.Field.TheVariants.{First, Second}
 use Rattle.page_layout.specs.declared.format.Format.{Format}
 use Rattle.page_layout.specs.declared.format.Level.TheVariants as level
 use Rattle.page_layout.specs.declared.format.Section.TheVariants as section
-use Rattle.line_text.specs.Decimals.{tenths_text, hundredths_text}
+use Rattle.line_text.specs.Decimals.{tenths_text, percent_text}
 use Rattle.page_layout.specs.Page.{heading_text, section_start, section_end}
 use Rattle.page_layout.specs.Table.{row_text, title_row, table_start, table_end}
 use Rattle.bridge_results.specs.declared.pages.columns.TheConstants.{SHARE_COLUMNS, SUM_COLUMNS}
 use Rattle.bridge_results.specs.PairNames.{pair_names}
-
--- what was gained lies between nothing and all that was available
-abbrev pub is_share : Ranked → Bool
-is_share ranked =
-    int_le (pos 0) ranked.value && nat_le (unsigned_abs ranked.value) ranked.available && nat_le ranked.available 10000000
-
--- the share in hundredths of a per cent, where it is one
-abbrev pub share_percent : Ranked → Option ℕ
-share_percent ranked =
-    if is_share ranked then percent_hundredths_of (unsigned_abs ranked.value) ranked.available else None
-
--- a percentage with two decimals, or `-` where nothing was available
-abbrev pub percent_cell : Option ℕ → List ℕ
-percent_cell None = codes "-"
-percent_cell (Some hundredths) = hundredths_text hundredths
 
 -- the row of a pair by matchpoints: place, pair, names, matchpoints, those available, and the percentage
 abbrev pub share_row : Format → List ℕ → Ranked → List ℕ
 share_row format names ranked =
     row_text format SHARE_COLUMNS
     (decimal ranked.place ∷ decimal ranked.pair ∷ names ∷ tenths_text (unsigned_abs ranked.value) ∷ tenths_text ranked.available
-    ∷ percent_cell (share_percent ranked) ∷ [])
+    ∷ percent_text (share_percent ranked) ∷ [])
 
 -- the row of a pair by IMPs: place, pair, names, and the sum
 abbrev pub sum_row : Format → List ℕ → Ranked → List ℕ

@@ -14,11 +14,11 @@ use Rattle.page_layout.specs.declared.format.Section.TheVariants as section
 use Rattle.page_layout.specs.Page.{page_end, heading_text, section_start, section_end}
 use Rattle.bridge_results.specs.declared.traveller.BoardLine.{BoardLine}
 use Rattle.bridge_results.specs.Traveller.{traveller}
-use Rattle.bridge_results.specs.ScoreCard.{card_of}
+use Rattle.bridge_results.specs.ScoreCard.{score_card_of}
 use Rattle.bridge_results.specs.EventText.{event_text}
 use Rattle.bridge_results.specs.RankingText.{field_text}
 use Rattle.bridge_results.specs.BoardText.{board_text}
-use Rattle.bridge_results.specs.CardText.{card_text}
+use Rattle.bridge_results.specs.CardText.{score_card_text}
 
 -- the ranking of a field, exactly where there is such a field
 pub record IsFieldRanking (s : SessionValue) (field : Field) (ranking : Option (List Ranked)) : Type 0 where
@@ -53,7 +53,7 @@ boards_text format s = sheet_head format (codes "Boards") ++ (all_boards format 
 
 -- the card of a pair
 abbrev pub card_on : Format → SessionValue → ℕ → List ℕ
-card_on format s pair = card_text format s.configuration.scoring s.configuration.pairs pair (card_of s pair)
+card_on format s pair = score_card_text format s.configuration.scoring s.configuration.pairs pair (score_card_of s pair)
 
 -- the cards of all pairs
 unfoldable pub all_cards : Format → SessionValue → List ℕ
@@ -80,3 +80,8 @@ sheets_text format s = boards_text format s ++ (cards_text format s ++ page_end 
 -- The page: the event, the rankings, the boards and the score cards.
 abbrev pub page_text : Format → SessionValue → Option (List Ranked) → Option (List Ranked) → List ℕ
 page_text format s first second = front_text format s.configuration first second ++ sheets_text format s
+
+-- the text is the page of the session's results, with the ranking of each field
+abbrev pub IsPageText : Format → SessionValue → List ℕ → Type 0
+IsPageText format s text = (first second : Option (List Ranked)) × IsFieldRanking s First first × IsFieldRanking s Second second
+    × (text ≡ page_text format s first second)

@@ -50,13 +50,13 @@ card_line_of scoring games play side = record {
 }
 
 -- the line of a play on the card of a pair, if the pair played there
-abbrev pub card_line : Scoring → List Game → ℕ → TablePlay → Option CardLine
-card_line scoring games pair play = option_map (card_line_of scoring games play) (side_at pair play.row)
+abbrev pub score_card_line : Scoring → List Game → ℕ → TablePlay → Option CardLine
+score_card_line scoring games pair play = option_map (card_line_of scoring games play) (side_at pair play.row)
 
 -- the lines of a pair among plays
 abbrev pub card_lines : Scoring → List Game → List TablePlay → ℕ → List CardLine
-card_lines scoring games plays pair = filter_map (card_line scoring games pair) plays
+card_lines scoring games plays pair = filter_map (score_card_line scoring games pair) plays
 
 -- The score card of a pair: its plays that are finished, adjusted or void, by round, then by board.
-abbrev pub card_of : SessionValue → ℕ → List CardLine
-card_of s pair = card_lines s.configuration.scoring (games_of s) (plays_of s) pair
+abbrev pub score_card_of : SessionValue → ℕ → List CardLine
+score_card_of s pair = card_lines s.configuration.scoring (games_of s) (plays_of s) pair

@@ -3,7 +3,7 @@ ghost use Rattle.std.specs.Prelude.{◌≡◌, ◌≤◌, length, All, IfSome};
 ghost use Rattle.bridge_ranking.specs.Gains.{AreGames};
 ghost use Rattle.bridge_ranking.specs.KeptGames.{IsResult};
 ghost use Rattle.bridge_results.specs.Plays.{HasTricksWithin};
-ghost use Rattle.bridge_results.specs.ScoreCard.{side_at, opponents_of, own_score, gain_by, available_by, card_line_of, card_line, card_lines};
+ghost use Rattle.bridge_results.specs.ScoreCard.{side_at, opponents_of, own_score, gain_by, available_by, card_line_of, score_card_line, card_lines};
 
 use crate::compare::result_in;
 use crate::gain::{gain_on, scores_on, side_score};
@@ -145,10 +145,10 @@ fn card_line_of(scoring: Scoring, games: &[Game], play: &TablePlay, side: Side) 
 }
 
 /// The line of a play on the card of a pair, if the pair played there.
-fn card_line(scoring: Scoring, games: &[Game], pair: u8, play: &TablePlay) -> Option<CardLine>
+fn score_card_line(scoring: Scoring, games: &[Game], pair: u8, play: &TablePlay) -> Option<CardLine>
     requires games { AreGames games.now }
     requires tricks { HasTricksWithin play.now }
-    ensures { result ≡ card_line scoring games.now pair play.now }
+    ensures { result ≡ score_card_line scoring games.now pair play.now }
 {
     let side = side_at(pair, play.row)?;
     Some(card_line_of(scoring, games, play, side))
@@ -168,7 +168,7 @@ pub(crate) fn card_lines(
 {
     let mut lines = ArrayVec::new();
     for play in plays {
-        if let Some(line) = card_line(scoring, games, pair, play) {
+        if let Some(line) = score_card_line(scoring, games, pair, play) {
             lines.push(line);
         }
     }

@@ -8,5 +8,6 @@ mod names;
 mod page;
 mod pair_card;
 mod ranking;
+mod sheets;
 
 pub use page::write_results;

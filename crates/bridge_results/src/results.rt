@@ -3,7 +3,7 @@ ghost use Rattle.std.specs.Prelude.{◌≡◌, AllPairs, IsPermutation, IfSome, 
 ghost use Rattle.bridge_ranking.specs.Ranking.{has_field, lines_of, games_of, IsRankingOf};
 ghost use Rattle.bridge_results.specs.Plays.{plays_of};
 ghost use Rattle.bridge_results.specs.Traveller.{StandsOver, rows_of, traveller};
-ghost use Rattle.bridge_results.specs.ScoreCard.{card_of};
+ghost use Rattle.bridge_results.specs.ScoreCard.{score_card_of};
 
 use crate::card::{ScoreCard, card_lines};
 use crate::compare::games_among;
@@ -80,7 +80,7 @@ impl<'a> Results<'a> {
 
     /// The score card of a pair: a line for each play, by round, then by board. There is none of a pair that has not played.
     pub fn score_card(&self, pair: u8) -> ScoreCard
-        ensures { result.items ≡ card_of self.now pair }
+        ensures { result.items ≡ score_card_of self.now pair }
     {
         let scoring = self.session.config().fields().scoring;
         card_lines(scoring, &self.games, &self.plays, pair)

@@ -3,7 +3,7 @@ ghost use Rattle.std.specs.Prelude.{◌≡◌, ◌≤◌, ◌+◌, ◌-◌, ◌*
 ghost use Rattle.std.specs.Option.{option_copied};
 ghost use Rattle.session_rules.specs.Numbers.{IsRoundNumber, IsTableNumber, IsBoardIndex};
 ghost use Rattle.session_rules.specs.StateRange.{IsSession};
-ghost use Rattle.bridge_results.specs.Plays.{play_by, lead_of, play_at, plays_at, plays_of, HasTricksWithin};
+ghost use Rattle.bridge_results.specs.Plays.{play_by, lead_of, table_play_at, plays_at, plays_of, HasTricksWithin};
 
 use crate::play::{TablePlay, push_play};
 use arrayvec::ArrayVec;
@@ -72,11 +72,11 @@ fn play_id(row: Row, index: u8) -> PlayId
 }
 
 /// The play of the board at an index of a row's set, from 1, if something came of it.
-fn play_at(session: &Session, row: Row, index: u8) -> Option<TablePlay>
+fn table_play_at(session: &Session, row: Row, index: u8) -> Option<TablePlay>
     requires session { IsSession session.now }
     requires row { Contains session.now.configuration.movement.rows row }
     requires index { IsBoardIndex index }
-    ensures play { result ≡ play_at session.now row index }
+    ensures play { result ≡ table_play_at session.now row index }
     ensures tricks { IfSome result HasTricksWithin }
 {
     let board = board_at(session.config().fields().boards, row.set, index);
@@ -95,9 +95,9 @@ fn plays_at(session: &Session, row: Row) -> ArrayVec<TablePlay, 3>
     ensures few { length result.items ≤ 3 }
 {
     let mut plays = ArrayVec::new();
-    push_play(&mut plays, play_at(session, row, 1).as_ref());
-    push_play(&mut plays, play_at(session, row, 2).as_ref());
-    push_play(&mut plays, play_at(session, row, 3).as_ref());
+    push_play(&mut plays, table_play_at(session, row, 1).as_ref());
+    push_play(&mut plays, table_play_at(session, row, 2).as_ref());
+    push_play(&mut plays, table_play_at(session, row, 3).as_ref());
     plays
 }
 

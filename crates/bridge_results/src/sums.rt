@@ -9,12 +9,12 @@ ghost use Rattle.bridge_results.specs.declared.frequency.Frequency.{Frequency as
 ghost use Rattle.bridge_results.specs.declared.traveller.BoardLine.{BoardLine as BoardLineType};
 ghost use Rattle.bridge_results.specs.Traveller.{traveller};
 ghost use Rattle.bridge_results.specs.Frequencies.{has_score, frequencies_of};
-ghost use Rattle.bridge_results.specs.ScoreCard.{card_of};
+ghost use Rattle.bridge_results.specs.ScoreCard.{score_card_of};
 
 /// What a pair gained in the plays of its score card, and what was available to it there, add up to its line in the ranking.
 pub fn a_score_card_adds_up_to_the_ranking()
-    ensures gain { (s : SessionValue) (pair : ℕ) → int_sum_by (λ (line : CardLineType). line.gain) (card_of s pair) ≡ (line_of s.configuration.scoring (games_of s) pair).value }
-    ensures available { (s : SessionValue) (pair : ℕ) → sum_by (λ (line : CardLineType). line.available) (card_of s pair) ≡ (line_of s.configuration.scoring (games_of s) pair).available }
+    ensures gain { (s : SessionValue) (pair : ℕ) → int_sum_by (λ (line : CardLineType). line.gain) (score_card_of s pair) ≡ (line_of s.configuration.scoring (games_of s) pair).value }
+    ensures available { (s : SessionValue) (pair : ℕ) → sum_by (λ (line : CardLineType). line.available) (score_card_of s pair) ≡ (line_of s.configuration.scoring (games_of s) pair).available }
 {}
 
 /// The frequencies of a board count each score that is compared there, once; each counts the lines with its score.

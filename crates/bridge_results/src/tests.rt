@@ -5,7 +5,7 @@ mod script;
 use crate::{BoardLine, CardLine, Frequency, Results, TablePlay, frequencies};
 use bridge_cards::{Card, Side};
 use bridge_ranking::PlayResult;
-use bridge_session::{Action, Average, Field, TrickCount};
+use bridge_session::{Action, Average, Field, Session, TrickCount};
 use script::{DIRECTOR, IMPS, MATCHPOINTS, act, board, dealt, play, round_1, round_2, round_3};
 use std::process::Abort;
 use std::str::FromStr;
@@ -144,20 +144,38 @@ fn rulings(rt: HostRuntime) -> Result<(), Fail> {
     Ok(())
 }
 
+/// The director gives averages for board 2 at table 1 in round 2.
+fn adjust(rt: &impl Abort, session: &mut Session) {
+    let (ns, ew) = (Average::Plus, Average::Minus);
+    let adjusted = Action::Adjust {
+        key: DIRECTOR,
+        play: play(rt, 2, 1),
+        ns,
+        ew,
+    };
+    act(rt, session, adjusted);
+}
+
+/// The director voids board 2 at table 2 in round 1.
+fn void(rt: &impl Abort, session: &mut Session) {
+    let play = play(rt, 1, 2);
+    act(
+        rt,
+        session,
+        Action::Void {
+            key: DIRECTOR,
+            play,
+        },
+    );
+}
+
 #[test]
 fn adjusted_and_void_plays(rt: HostRuntime) -> Result<(), Fail> {
     let mut session = dealt(&rt, rt.alloc(), MATCHPOINTS)?;
     round_1(&rt, &mut session);
     round_2(&rt, &mut session);
     round_3(&rt, &mut session);
-    let (ns, ew) = (Average::Plus, Average::Minus);
-    let adjusted = Action::Adjust {
-        key: DIRECTOR,
-        play: play(&rt, 2, 1),
-        ns,
-        ew,
-    };
-    act(&rt, &mut session, adjusted);
+    adjust(&rt, &mut session);
     let results = Results::new(&session);
     let rows = [
         (1, 2, 2, 5, Some(600), Some((20, 0))),
@@ -165,15 +183,7 @@ fn adjusted_and_void_plays(rt: HostRuntime) -> Result<(), Fail> {
         (2, 1, 1, 6, None, Some((12, 8))),
     ];
     expect_rows(&rt, &results.traveller(board(&rt, 2)), &rows);
-    let play = play(&rt, 1, 2);
-    act(
-        &rt,
-        &mut session,
-        Action::Void {
-            key: DIRECTOR,
-            play,
-        },
-    );
+    void(&rt, &mut session);
     let results = Results::new(&session);
     let rows = [
         (3, 3, 3, 4, Some(-90), Some((0, 0))),

@@ -18,6 +18,6 @@ pub mod scoring_table;
 pub use comparison::{cross_imps, matchpoints};
 pub use imp_scale::imps;
 pub use laws::{cross_imps_shared, matchpoints_shared};
-pub use percent::percent_hundredths;
+pub use percent::{percent_hundredths, share_percent};
 pub use ranking::{Line, MOST_LINES, Ranked, Scoring, rank};
 pub use scoring_table::score;

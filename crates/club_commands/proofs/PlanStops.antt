@@ -4,10 +4,10 @@ use Rattle.line_text.specs.Streams.{Stream, TakesPrefix, Written}
 use Rattle.table_server.specs.declared.fault.ServeFault.TheVariants.{Write}
 use Rattle.club_commands.specs.declared.fault.RunFault.{RunFault}
 use Rattle.club_commands.specs.declared.fault.RunFault.TheVariants.{Stream as StreamFault}
-use Rattle.club_commands.specs.Planned.{IsPlan, IsRefusal, StopsPlanning}
+use Rattle.club_commands.specs.Planned.{IsPlan, IsReasonFor, StopsPlanning}
 
 -- a prefix of what was due is written, and the fault is that of a write
-pub write_stops : (text words : List ℕ) (output : Stream) (fault : RunFault) → IsPlan text words ⊎ IsRefusal text words → TakesPrefix output words → fault ≡ StreamFault Write → StopsPlanning text output fault
+pub write_stops : (text words : List ℕ) (output : Stream) (fault : RunFault) → IsPlan text words ⊎ IsReasonFor text words → TakesPrefix output words → fault ≡ StreamFault Write → StopsPlanning text output fault
 write_stops text words output fault due prefix is =
     subst (StopsPlanning text output) (sym is) (refl, (words, due, prefix))
 

@@ -9,12 +9,12 @@ use Rattle.session_rules.specs.Outcome.{outcome_of}
 use Rattle.session_rules.specs.State.{SessionValue, deal_on, record_of}
 
 -- 1 where the board is dealt, and else 0
-abbrev pub dealt_at : SessionValue → ℕ → ℕ
-dealt_at s board = if is_some (deal_on s.deals board) then 1 else 0
+abbrev pub dealt_boards_at : SessionValue → ℕ → ℕ
+dealt_boards_at s board = if is_some (deal_on s.deals board) then 1 else 0
 
 -- how many boards are dealt
 abbrev pub boards_dealt : SessionValue → ℕ
-boards_dealt s = sum_by (dealt_at s) (range_with_len 1 36)
+boards_dealt s = sum_by (dealt_boards_at s) (range_with_len 1 36)
 
 -- 1 where a play is finished, void or adjusted, and else 0
 abbrev pub done_by : Outcome → ℕ

@@ -20,7 +20,7 @@ pub record IsPlan (text words : List ℕ) : Type 0 where
   pub says : words ≡ plan_text (evening_of configuration)
 
 -- the words say what is wrong with the text, which is no configuration
-pub record IsRefusal (text words : List ℕ) : Type 0 where
+pub record IsReasonFor (text words : List ℕ) : Type 0 where
   pub fault : ConfigFault
   pub refused : ReadsConfiguration text (Err fault)
   pub says : words ≡ fault_text text fault
@@ -32,7 +32,7 @@ Plans text output = (words : List ℕ) × IsPlan text words × Takes output word
 -- A write failed, of the plan or of what is wrong; or the text is refused from this fault, and what is wrong is written.
 abbrev pub StopsPlanning : List ℕ → Stream → RunFault → Type 0
 StopsPlanning text output (StreamFault fault) =
-    (fault ≡ Write) × ((words : List ℕ) × (IsPlan text words ⊎ IsRefusal text words) × TakesPrefix output words)
+    (fault ≡ Write) × ((words : List ℕ) × (IsPlan text words ⊎ IsReasonFor text words) × TakesPrefix output words)
 StopsPlanning text output (Config fault) = ReadsConfiguration text (Err fault) × Takes output (fault_text text fault)
 StopsPlanning text output (Store cause) = ⊥
 

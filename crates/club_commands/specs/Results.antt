@@ -1,5 +1,5 @@
 -- What the commands `rank`, `pbn` and `results` write.
-use Rattle.std.specs.Prelude.{◌≡◌, ◌⊎◌, ◌++◌, [], ℕ, Bool, true, false, List, map, codes, MatchBool, Option, Result, MatchResult}
+use Rattle.std.specs.Prelude.{◌≡◌, ◌⊎◌, ◌++◌, [], ℕ, Bool, true, false, List, map, codes, MatchBool, Result, MatchResult}
 use Rattle.session_store.specs.declared.fault.StoreFault.{StoreFault}
 use Rattle.table_server.specs.declared.fault.ServeFault.TheVariants.{Write}
 use Rattle.line_text.specs.Streams.{Stream, Takes, TakesPrefix, IsUntouched}
@@ -14,7 +14,6 @@ use Rattle.session_rules.specs.State.{SessionValue}
 use Rattle.bridge_pbn.specs.Games.{session_text}
 use Rattle.page_layout.specs.declared.format.Format.{Format}
 use Rattle.page_layout.specs.declared.format.Format.TheVariants.{Plain, Html}
-use Rattle.bridge_results.specs.ResultsText.{IsFieldRanking, page_text}
 use Rattle.line_text.specs.Lines.{lines_text}
 use Rattle.table_server.specs.ReplyTexts.{ranked_line}
 
@@ -44,11 +43,6 @@ IsRankingText s text =
 abbrev pub page_format : Bool → Format
 page_format true = Html
 page_format false = Plain
-
--- the results as a page, with the ranking of each field
-abbrev pub IsPageText : Bool → SessionValue → List ℕ → Type 0
-IsPageText html s text = (first second : Option (List Ranked)) × IsFieldRanking s First first × IsFieldRanking s Second second
-    × (text ≡ page_text (page_format html) s first second)
 
 -- the results in Portable Bridge Notation
 abbrev pub IsPbnText : SessionValue → List ℕ → Type 0

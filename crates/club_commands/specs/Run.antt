@@ -18,7 +18,8 @@ use Rattle.club_commands.specs.OnFile.{HasScripted, StopsScripting, HasServedCon
 use Rattle.club_commands.specs.Web.{HasShownPages, StopsShowingPages}
 use Rattle.club_commands.specs.declared.telling.Told.TheVariants.{Ranking, Games}
 use Rattle.club_commands.specs.Told.{HasTold, StopsTold}
-use Rattle.club_commands.specs.Results.{IsPageText, HasResults, StopsResults}
+use Rattle.bridge_results.specs.ResultsText.{IsPageText}
+use Rattle.club_commands.specs.Results.{page_format, HasResults, StopsResults}
 use Rattle.club_commands.specs.Checked.{HasChecked, StopsCheckingFile}
 use Rattle.club_commands.specs.Planned.{HasPlanned, StopsPlanningFile}
 
@@ -42,7 +43,7 @@ DoesCommand (Serve disk port count) input output = HasServedConnections count ×
 DoesCommand (Web disk host minutes) input output = HasShownPages host output × IsUntouched input
 DoesCommand (Rank disk) input output = HasTold Ranking output × IsUntouched input
 DoesCommand (Pbn disk) input output = HasTold Games output × IsUntouched input
-DoesCommand (Results disk html) input output = HasResults (IsPageText html) output × IsUntouched input
+DoesCommand (Results disk html) input output = HasResults (IsPageText (page_format html)) output × IsUntouched input
 DoesCommand (Check disk) input output = HasChecked output × IsUntouched input
 DoesCommand (Plan config) input output = HasPlanned output × IsUntouched input
 
@@ -56,7 +57,7 @@ StopsBy (Serve disk port count) input output fault =
 StopsBy (Web disk host minutes) input output fault = StopsShowingPages host output fault × IsUntouched input
 StopsBy (Rank disk) input output fault = StopsTold Ranking output fault × IsUntouched input
 StopsBy (Pbn disk) input output fault = StopsTold Games output fault × IsUntouched input
-StopsBy (Results disk html) input output fault = StopsResults (IsPageText html) output fault × IsUntouched input
+StopsBy (Results disk html) input output fault = StopsResults (IsPageText (page_format html)) output fault × IsUntouched input
 StopsBy (Check disk) input output fault = StopsCheckingFile output fault × IsUntouched input
 StopsBy (Plan config) input output fault = StopsPlanningFile output fault × IsUntouched input
 

@@ -1,15 +1,15 @@
 //! How far a session is.
 ghost use Rattle.std.specs.Prelude.{◌≡◌, ◌≤◌};
 ghost use Rattle.session_rules.specs.Numbers.{IsBoardIndex, IsRoundNumber, IsTableNumber};
-ghost use Rattle.club_commands.specs.Counts.{dealt_at, boards_dealt, done_by, done_at, row_done, plays_done};
+ghost use Rattle.club_commands.specs.Counts.{dealt_boards_at, boards_dealt, done_by, done_at, row_done, plays_done};
 
 use bridge_cards::BoardNumber;
 use bridge_movement::Row;
 use bridge_session::{BoardIndex, Outcome, PlayId, RoundNumber, Session, TableNumber};
 
 /// 1 where the board is dealt, and else 0.
-fn dealt_at(session: &Session, board: BoardNumber) -> u16
-    ensures count { result ≡ dealt_at session.now board }
+fn dealt_boards_at(session: &Session, board: BoardNumber) -> u16
+    ensures count { result ≡ dealt_boards_at session.now board }
     ensures most { result ≤ 1 }
 {
     match session.deal(board) {
@@ -25,7 +25,7 @@ pub fn boards_dealt(session: &Session) -> u16
     let mut count = 0;
     for number in 1..37 {
         let board = BoardNumber::new(number).unwrap();
-        count += dealt_at(session, board);
+        count += dealt_boards_at(session, board);
     }
     count
 }

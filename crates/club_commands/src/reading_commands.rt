@@ -4,7 +4,8 @@ ghost use Rattle.std.specs.Prelude.{OnOk, IfOk, IfErr};
 ghost use Rattle.line_text.specs.Streams.{stream};
 ghost use Rattle.club_commands.specs.Checked.{HasChecked, StopsCheckingFile};
 ghost use Rattle.club_commands.specs.Readings.{IsReadOnFile, IsUnreadOnFile};
-ghost use Rattle.club_commands.specs.Results.{IsPageText, TellsRead, StopsTelling, HasResults, StopsResults};
+ghost use Rattle.bridge_results.specs.ResultsText.{IsPageText};
+ghost use Rattle.club_commands.specs.Results.{page_format, TellsRead, StopsTelling, HasResults, StopsResults};
 
 use crate::check::check_disk;
 use crate::disk_lock::lock_to_read;
@@ -37,8 +38,8 @@ fn page_read<W: Write>(
     html: bool,
     output: &mut W,
 ) -> Result<(), RunFault>
-    ensures done { OnOk result (TellsRead (IsPageText html) read (stream W.contents output.old output.new)) }
-    ensures fault { IfErr result (StopsTelling (IsPageText html) read (stream W.contents output.old output.new)) }
+    ensures done { OnOk result (TellsRead (IsPageText (page_format html)) read (stream W.contents output.old output.new)) }
+    ensures fault { IfErr result (StopsTelling (IsPageText (page_format html)) read (stream W.contents output.old output.new)) }
 {
     match read {
         Ok(session) => write_page(&session, html, output),
@@ -54,8 +55,8 @@ pub fn run_results<S: Files<File = File>, W: Write>(
     html: bool,
     output: &mut W,
 ) -> Result<(), RunFault>
-    ensures done { OnOk result (HasResults (IsPageText html) (stream W.contents output.old output.new)) }
-    ensures fault { IfErr result (StopsResults (IsPageText html) (stream W.contents output.old output.new)) }
+    ensures done { OnOk result (HasResults (IsPageText (page_format html)) (stream W.contents output.old output.new)) }
+    ensures fault { IfErr result (StopsResults (IsPageText (page_format html)) (stream W.contents output.old output.new)) }
 {
     let _lock = lock_to_read(rt, disk)?;
     page_read(read_session_on(rt, alloc, disk), html, output)

@@ -3,7 +3,8 @@ ghost use Rattle.std.specs.Prelude.{◌≡◌, ℕ, List, IfErr};
 ghost use Rattle.line_text.specs.Streams.{stream, Written};
 ghost use Rattle.bridge_pbn.specs.Games.{session_text};
 ghost use Rattle.table_server.specs.declared.fault.ServeFault.TheVariants.{Write as WriteFault};
-ghost use Rattle.club_commands.specs.Results.{field_heading, IsFieldText, IsRankingText, page_format, IsPageText};
+ghost use Rattle.bridge_results.specs.ResultsText.{IsPageText};
+ghost use Rattle.club_commands.specs.Results.{field_heading, IsFieldText, IsRankingText, page_format};
 
 use crate::fault::RunFault;
 use crate::output::write_output;
@@ -75,7 +76,7 @@ fn page_format(html: bool) -> Format
 
 /// Writes the results as a page.
 pub fn write_page<W: Write>(session: &Session, html: bool, output: &mut W) -> Result<(), RunFault>
-    ensures written { (text : List ℕ) × IsPageText html session.now text
+    ensures written { (text : List ℕ) × IsPageText (page_format html) session.now text
         × Written (stream W.contents output.old output.new) text result }
     ensures fault { IfErr result (λ fault. fault ≡ RunFault.Stream WriteFault) }
 {

@@ -20,7 +20,7 @@ use Rattle.evening_plan.specs.declared.part.Part.TheVariants.{Keyword, Name, Dat
 use Rattle.evening_plan.specs.declared.part.Check.{Check}
 use Rattle.evening_plan.specs.declared.part.Check.TheVariants.{Form}
 use Rattle.evening_plan.specs.declared.misfit.Misfit.{Misfit}
-use Rattle.evening_plan.specs.Part.{keyword_of, parts_of, is_formed}
+use Rattle.evening_plan.specs.Part.{keyword_of, parts_due, is_formed}
 use Rattle.evening_plan.specs.Misfit.{wrong_at, first_misfit}
 use Rattle.evening_plan.specs.Named.{IsInForm, IsReadAs}
 
@@ -185,7 +185,7 @@ unfolding AreFormed
 never line formed = let some = some_part 32 line in subst (AreFormed []) some.2 formed
 
 -- each kind of line
-read_as : (due : LineKind) (number : ℕ) (earlier line : List ℕ) → is_long line ≡ false → AreFormed (parts_of due) (spaced_words line) → IsReadAs due number earlier line
+read_as : (due : LineKind) (number : ℕ) (earlier line : List ℕ) → is_long line ≡ false → AreFormed (parts_due due) (spaced_words line) → IsReadAs due number earlier line
 read_as kind.Event number earlier line short formed = one_word kind.Event Name line (name_in number) short formed (named number)
 read_as kind.Site number earlier line short formed = one_word kind.Site Name line (name_in number) short formed (named number)
 read_as kind.Date number earlier line short formed = one_word kind.Date Date line (date_in number) short formed (dated number)
@@ -211,6 +211,6 @@ read_as (kind.Pair index) number earlier line short formed =
 read_as kind.End number earlier line short formed = never line formed
 
 -- a line of at most 128 bytes of which no word is named is in form
-pub names_each_fault : (due : LineKind) (number : ℕ) (earlier line : List ℕ) → is_long line ≡ false → first_misfit Form 1 [] (parts_of due) (spaced_words line) ≡ None → IsReadAs due number earlier line
+pub names_each_fault : (due : LineKind) (number : ℕ) (earlier line : List ℕ) → is_long line ≡ false → first_misfit Form 1 [] (parts_due due) (spaced_words line) ≡ None → IsReadAs due number earlier line
 names_each_fault due number earlier line short none =
-    read_as due number earlier line short (are_formed 1 [] (parts_of due) (spaced_words line) none)
+    read_as due number earlier line short (are_formed 1 [] (parts_due due) (spaced_words line) none)

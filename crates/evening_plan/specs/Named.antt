@@ -8,7 +8,7 @@ use Rattle.bridge_config.specs.LineReading.{name_line, date_line, scoring_line, 
 use Rattle.evening_plan.specs.declared.line_kind.LineKind.{LineKind}
 use Rattle.evening_plan.specs.declared.line_kind.LineKind.TheVariants as kind
 use Rattle.evening_plan.specs.declared.part.Check.TheVariants.{Form}
-use Rattle.evening_plan.specs.Part.{parts_of}
+use Rattle.evening_plan.specs.Part.{parts_due}
 use Rattle.evening_plan.specs.Misfit.{first_misfit}
 
 -- what is read of a line, or a fault, but not that it is out of form
@@ -33,4 +33,4 @@ IsReadAs kind.End number earlier line = ⊥
 -- A line of at most 128 bytes that reading finds out of form has a word that is named: where none is, it is in form.
 abbrev pub NamesEachFault : Type 0
 NamesEachFault = (due : LineKind) (number : ℕ) (earlier line : List ℕ) → is_long line ≡ false
-    → first_misfit Form 1 [] (parts_of due) (spaced_words line) ≡ None → IsReadAs due number earlier line
+    → first_misfit Form 1 [] (parts_due due) (spaced_words line) ≡ None → IsReadAs due number earlier line

@@ -3,6 +3,7 @@ use Rattle.std.specs.Prelude.{ℕ, ◌+◌, ◌-◌, ◌*◌, ◌==◌, if◌the
 use Rattle.std.specs.List.{range_with_len}
 use Rattle.std.specs.Fmt.{decimal}
 use Rattle.bridge_movement.specs.declared.row.Row.{Row}
+use Rattle.bridge_config.specs.ConfigValue.{both_names}
 use Rattle.page_layout.specs.declared.format.Format.{Format}
 use Rattle.page_layout.specs.declared.format.Format.TheVariants.{Plain}
 use Rattle.page_layout.specs.Table.{row_text, title_row}
@@ -12,9 +13,7 @@ use Rattle.evening_plan.specs.Seat.{seat_row}
 
 -- the heading of a pair: an empty line, its number and its names
 unfoldable pub pair_words : ℕ → List (List ℕ) → List ℕ
-pair_words pair names =
-    (((((codes "\nPair " ++ decimal pair) ++ codes ": ") ++ slice_index_or names 0 []) ++ codes " and ")
-    ++ slice_index_or names 1 []) ++ codes "\n"
+pair_words pair names = (((codes "\nPair " ++ decimal pair) ++ codes ": ") ++ both_names names) ++ codes "\n"
 
 -- the titles of its rounds
 unfoldable pub round_titles : Format → List ℕ
@@ -39,20 +38,20 @@ unfoldable pub rest_row : ℕ → List ℕ
 rest_row round = row_text Plain REST_COLUMNS (decimal round ∷ codes "sits out" ∷ [])
 
 -- a round, by the row that the pair plays
-abbrev pub place_text : ℕ → ℕ → ℕ → Option Row → List ℕ
-place_text boards pair round None = rest_row round
-place_text boards pair round (Some row) =
+abbrev pub round_row : ℕ → ℕ → ℕ → Option Row → List ℕ
+round_row boards pair round None = rest_row round
+round_row boards pair round (Some row) =
     if row.ns == pair then played_row boards row (codes "NS") row.ew else played_row boards row (codes "EW") row.ns
 
 -- a round of a pair
 abbrev pub round_text : Evening → ℕ → ℕ → List ℕ
-round_text evening pair round = place_text evening.heading.boards pair round (seat_row round pair evening.movement.rows)
+round_text evening pair round = round_row evening.heading.boards pair round (seat_row round pair evening.movement.rows)
 
 -- the rounds of a pair
 unfoldable pub rounds_text : Evening → ℕ → List ℕ
 rounds_text evening pair = flat_map (round_text evening pair) (range_with_len 1 evening.movement.shape.rounds)
 
 -- A pair: its heading, and a row for each round.
-unfoldable pub pair_text : Evening → ℕ → List ℕ
-pair_text evening pair =
+unfoldable pub pair_plan : Evening → ℕ → List ℕ
+pair_plan evening pair =
     pair_words pair (slice_index_or evening.names (pair - 1) []) ++ (round_titles Plain ++ rounds_text evening pair)

@@ -34,19 +34,19 @@ abbrev pub row_part : Part
 row_part = Number 0 255
 
 -- what the words of a line must be, in order
-abbrev pub parts_of : LineKind → List Part
-parts_of kind.Event = Keyword kind.Event ∷ Name ∷ []
-parts_of kind.Site = Keyword kind.Site ∷ Name ∷ []
-parts_of kind.Date = Keyword kind.Date ∷ Date ∷ []
-parts_of kind.Scoring = Keyword kind.Scoring ∷ Scoring ∷ []
-parts_of kind.Boards = Keyword kind.Boards ∷ Number 1 3 ∷ []
-parts_of kind.Mitchell = Keyword kind.Mitchell ∷ Number 2 12 ∷ []
-parts_of kind.Movement =
+abbrev pub parts_due : LineKind → List Part
+parts_due kind.Event = Keyword kind.Event ∷ Name ∷ []
+parts_due kind.Site = Keyword kind.Site ∷ Name ∷ []
+parts_due kind.Date = Keyword kind.Date ∷ Date ∷ []
+parts_due kind.Scoring = Keyword kind.Scoring ∷ Scoring ∷ []
+parts_due kind.Boards = Keyword kind.Boards ∷ Number 1 3 ∷ []
+parts_due kind.Mitchell = Keyword kind.Mitchell ∷ Number 2 12 ∷ []
+parts_due kind.Movement =
     Keyword kind.Movement ∷ Number 2 12 ∷ Number 1 12 ∷ Number 1 12 ∷ Number 2 24 ∷ Split ∷ []
-parts_of kind.Row = Keyword kind.Row ∷ row_part ∷ row_part ∷ row_part ∷ row_part ∷ row_part ∷ []
-parts_of kind.Director = Keyword kind.Director ∷ key_part ∷ []
-parts_of (kind.Pair index) = Keyword (kind.Pair index) ∷ Number index index ∷ Name ∷ key_part ∷ Name ∷ key_part ∷ []
-parts_of kind.End = []
+parts_due kind.Row = Keyword kind.Row ∷ row_part ∷ row_part ∷ row_part ∷ row_part ∷ row_part ∷ []
+parts_due kind.Director = Keyword kind.Director ∷ key_part ∷ []
+parts_due (kind.Pair index) = Keyword (kind.Pair index) ∷ Number index index ∷ Name ∷ key_part ∷ Name ∷ key_part ∷ []
+parts_due kind.End = []
 
 -- the word is in the form of its part
 abbrev pub is_formed : Part → List ℕ → Bool
@@ -58,8 +58,8 @@ is_formed (Number low high) word = is_numeral word
 is_formed Split word = is_numeral word
 
 -- the number that a word is, of four bytes at most
-abbrev pub number_in : List ℕ → Option ℕ
-number_in word = if is_numeral word && nat_le (digits_value 10 word) 4294967295 then Some (digits_value 10 word) else None
+abbrev pub word_number : List ℕ → Option ℕ
+word_number word = if is_numeral word && nat_le (digits_value 10 word) 4294967295 then Some (digits_value 10 word) else None
 
 -- it is a number from the low to the high one
 abbrev pub has_within : ℕ → ℕ → Option ℕ → Bool
@@ -77,8 +77,8 @@ is_ranged previous (Keyword kind) word = true
 is_ranged previous Name word = true
 is_ranged previous Date word = false
 is_ranged previous Scoring word = true
-is_ranged previous (Number low high) word = has_within low high (number_in word)
-is_ranged previous Split word = is_split (number_in previous) (number_in word)
+is_ranged previous (Number low high) word = has_within low high (word_number word)
+is_ranged previous Split word = is_split (word_number previous) (word_number word)
 
 -- the word is what that is asked of
 abbrev pub is_fit : Check → List ℕ → Part → List ℕ → Bool

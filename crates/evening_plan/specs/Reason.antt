@@ -15,7 +15,7 @@ use Rattle.evening_plan.specs.declared.part.Check.{Check}
 use Rattle.evening_plan.specs.declared.part.Check.TheVariants.{Form, Range}
 use Rattle.evening_plan.specs.declared.misfit.Misfit.{Misfit}
 use Rattle.evening_plan.specs.declared.misfit.Misfit.TheVariants.{Lacking, Extra, Empty, Wrong}
-use Rattle.evening_plan.specs.Part.{keyword_of, parts_of}
+use Rattle.evening_plan.specs.Part.{keyword_of, parts_due}
 use Rattle.evening_plan.specs.Misfit.{first_misfit}
 
 -- the keywords that may begin the line
@@ -70,7 +70,7 @@ misfit_words check (Some (Wrong at part)) = word_words at (codes " is not ") ++ 
 
 -- what is wrong with the words of the line
 abbrev pub words_reason : Check → LineKind → List ℕ → List ℕ
-words_reason check kind line = misfit_words check (first_misfit check 1 [] (parts_of kind) (spaced_words line))
+words_reason check kind line = misfit_words check (first_misfit check 1 [] (parts_due kind) (spaced_words line))
 
 -- why a line is out of form: there is none, it is too long or empty, or one of its words is at fault
 abbrev pub form_reason : LineKind → Option (List ℕ) → List ℕ

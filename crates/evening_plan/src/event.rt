@@ -5,19 +5,20 @@ ghost use Rattle.bridge_movement.specs.Shape.{IsShape};
 ghost use Rattle.evening_plan.specs.Evening.{evening_of};
 ghost use Rattle.evening_plan.specs.EventText.{event_line, seat_words, scoring_words, place_words, count_words, board_words, two_fields, field_words, event_text};
 
-use crate::text::{TEXT_BYTES, Text, push_bytes, push_number};
+use crate::text::push_number;
 use bridge_config::Config;
 use bridge_movement::Shape;
 use bridge_score::Scoring;
+use page_layout::{PAGE_BYTES, PageText, push_bytes};
 
 /// The event, on a line of its own.
 #[tactic(auto, unfolding(crate::specs::EventText::event_line))]
-fn event_line(event: &str) -> Text
+fn event_line(event: &str) -> PageText
     requires { length event.now ≤ 24 }
     ensures text { result.items ≡ event_line event.now }
     ensures short { array_vec_len result ≤ 25 }
 {
-    let mut text = Text::new();
+    let mut text = PageText::new();
     push_bytes(&mut text, event.as_bytes());
     push_bytes(&mut text, b"\n");
     text
@@ -45,13 +46,13 @@ fn scoring_words(scoring: Scoring) -> &'static [u8]
 
 /// Where and when the event is played.
 #[tactic(auto, unfolding(crate::specs::EventText::place_words))]
-fn place_words(site: &str, date: &str) -> Text
+fn place_words(site: &str, date: &str) -> PageText
     requires site { length site.now ≤ 24 }
     requires date { length date.now ≤ 10 }
     ensures text { result.items ≡ place_words site.now date.now }
     ensures short { array_vec_len result ≤ 40 }
 {
-    let mut text = Text::new();
+    let mut text = PageText::new();
     push_bytes(&mut text, site.as_bytes());
     push_bytes(&mut text, b", ");
     push_bytes(&mut text, date.as_bytes());
@@ -61,11 +62,11 @@ fn place_words(site: &str, date: &str) -> Text
 
 /// How many tables, rounds and pairs there are.
 #[tactic(auto, unfolding(crate::specs::EventText::count_words))]
-fn count_words(shape: Shape) -> Text
+fn count_words(shape: Shape) -> PageText
     ensures text { result.items ≡ count_words shape }
     ensures short { array_vec_len result ≤ 60 }
 {
-    let mut text = Text::new();
+    let mut text = PageText::new();
     push_bytes(&mut text, b"Tables: ");
     push_number(&mut text, u32::from(shape.tables));
     push_bytes(&mut text, b", rounds: ");
@@ -78,13 +79,13 @@ fn count_words(shape: Shape) -> Text
 
 /// How many sets and boards there are.
 #[tactic(auto, unfolding(crate::specs::EventText::board_words))]
-fn board_words(shape: Shape, boards: u8) -> Text
+fn board_words(shape: Shape, boards: u8) -> PageText
     requires shape { IsShape shape }
     requires boards { boards ≤ 3 }
     ensures text { result.items ≡ board_words shape boards }
     ensures short { array_vec_len result ≤ 80 }
 {
-    let mut text = Text::new();
+    let mut text = PageText::new();
     push_bytes(&mut text, b"Sets: ");
     push_number(&mut text, u32::from(shape.sets));
     push_bytes(&mut text, b", boards in a set: ");
@@ -97,11 +98,11 @@ fn board_words(shape: Shape, boards: u8) -> Text
 
 /// The two fields, whose pairs are ranked apart.
 #[tactic(auto, unfolding(crate::specs::EventText::two_fields))]
-fn two_fields(shape: Shape) -> Text
+fn two_fields(shape: Shape) -> PageText
     ensures text { result.items ≡ two_fields shape }
     ensures short { array_vec_len result ≤ 80 }
 {
-    let mut text = Text::new();
+    let mut text = PageText::new();
     push_bytes(&mut text, b"Ranked: pairs 1 to ");
     push_number(&mut text, u32::from(shape.split));
     push_bytes(&mut text, b" apart from pairs ");
@@ -113,8 +114,8 @@ fn two_fields(shape: Shape) -> Text
 }
 
 /// Adds which pairs are ranked together.
-fn push_fields(text: &mut Text, shape: Shape)
-    requires { array_vec_len text.old + 80 ≤ TEXT_BYTES }
+fn push_fields(text: &mut PageText, shape: Shape)
+    requires { array_vec_len text.old + 80 ≤ PAGE_BYTES }
     ensures text { text.new.items ≡ text.old.items ++ field_words shape }
     ensures room { array_vec_len text.new ≤ array_vec_len text.old + 80 }
 {
@@ -127,13 +128,13 @@ fn push_fields(text: &mut Text, shape: Shape)
 
 /// The head of the plan, a line each: the event, where and when, the scoring, and the numbers.
 #[tactic(auto, unfolding(crate::specs::EventText::event_text))]
-pub fn event_text(config: &Config) -> Text
+pub fn event_text(config: &Config) -> PageText
     ensures { result.items ≡ event_text (evening_of config.now) }
 {
     let fields = config.fields();
     let shape = fields.movement.shape();
     let place = place_words(fields.site.as_str(), fields.date.as_str());
-    let mut text = Text::new();
+    let mut text = PageText::new();
     push_bytes(&mut text, event_line(fields.event.as_str()).as_slice());
     push_bytes(&mut text, place.as_slice());
     push_bytes(&mut text, scoring_words(fields.scoring));

@@ -9,17 +9,17 @@ use crate::line_kind::LineKind;
 use crate::reason::push_reason;
 use crate::rule::rule_of;
 use crate::shown::write_shown;
-use crate::text::{Text, push_bytes};
 use bridge_config::{ConfigFault, ConfigRefused};
 use line_text::write_text;
+use page_layout::{PageText, push_bytes};
 use std::io::{Error, Write};
 
 /// Why a line is refused, on a line of its own.
 #[tactic(auto, unfolding(crate::specs::FaultText::reason_line))]
-fn reason_line(kind: LineKind, line: Option<&[u8]>, cause: ConfigRefused) -> Text
+fn reason_line(kind: LineKind, line: Option<&[u8]>, cause: ConfigRefused) -> PageText
     ensures { result.items ≡ reason_line kind (option_map (λ shown. shown.now) line.entry) cause }
 {
-    let mut text = Text::new();
+    let mut text = PageText::new();
     push_bytes(&mut text, b"refused: ");
     push_reason(&mut text, kind, line, cause);
     push_bytes(&mut text, b"\n");

@@ -5,30 +5,28 @@ ghost use Rattle.line_text.specs.Streams.{stream, Written};
 ghost use Rattle.bridge_config.specs.ConfigValue.{pair_of};
 ghost use Rattle.page_layout.specs.declared.format.Format.TheVariants.{Plain};
 ghost use Rattle.evening_plan.specs.Evening.{evening_of, names_in};
-ghost use Rattle.evening_plan.specs.PairText.{pair_words, round_titles, boards_cell, played_row, rest_row, place_text, round_text, rounds_text, pair_text};
+ghost use Rattle.evening_plan.specs.PairText.{pair_words, round_titles, boards_cell, played_row, rest_row, round_row, round_text, rounds_text, pair_plan};
 
 use crate::columns::{PLAY_COLUMNS, REST_COLUMNS};
 use crate::seat::seat_row;
-use crate::text::{Text, push_bytes, push_number};
+use crate::text::push_number;
 use arrayvec::ArrayString;
 use bridge_config::{Config, PairFields};
 use bridge_movement::Row;
 use line_text::{number_text, write_text};
-use page_layout::{Format, PageText, push_row, push_titles};
+use page_layout::{Format, PageText, push_bytes, push_row, push_titles};
 use std::io::{Error, Write};
 
 /// The heading of a pair: its number and its names.
 #[tactic(auto, unfolding(crate::specs::PairText::pair_words))]
-fn pair_words(pair: u8, players: &PairFields) -> Text
+fn pair_words(pair: u8, players: &PairFields) -> PageText
     ensures { result.items ≡ pair_words pair (names_in (pair_of players.now)) }
 {
-    let mut text = Text::new();
+    let mut text = PageText::new();
     push_bytes(&mut text, b"\nPair ");
     push_number(&mut text, u32::from(pair));
     push_bytes(&mut text, b": ");
-    push_bytes(&mut text, players.names[0].as_str().as_bytes());
-    push_bytes(&mut text, b" and ");
-    push_bytes(&mut text, players.names[1].as_str().as_bytes());
+    push_bytes(&mut text, players.both_names().as_str().as_bytes());
     push_bytes(&mut text, b"\n");
     text
 }
@@ -125,8 +123,8 @@ fn rest_row(round: u8) -> PageText
 }
 
 /// A round, by the row that the pair plays.
-fn place_text(boards: u8, pair: u8, round: u8, seat: Option<Row>) -> PageText
-    ensures { result.items ≡ place_text boards pair round seat }
+fn round_row(boards: u8, pair: u8, round: u8, seat: Option<Row>) -> PageText
+    ensures { result.items ≡ round_row boards pair round seat }
 {
     match seat {
         None => rest_row(round),
@@ -141,7 +139,7 @@ fn write_round<W: Write>(config: &Config, pair: u8, round: u8, writer: &mut W) -
 {
     let fields = config.fields();
     let seat = seat_row(round, pair, fields.movement.rows());
-    let text = place_text(fields.boards, pair, round, seat);
+    let text = round_row(fields.boards, pair, round, seat);
     write_text(writer, text.as_slice())
 }
 
@@ -174,7 +172,7 @@ fn write_rounds<W: Write>(config: &Config, pair: u8, writer: &mut W) -> Result<(
 pub fn write_pair<W: Write>(config: &Config, pair: u8, writer: &mut W) -> Result<(), Error>
     requires least { 1 ≤ pair }
     requires most { pair ≤ config.now.movement.shape.pairs }
-    ensures { Written (stream W.contents writer.old writer.new) (pair_text (evening_of config.now) pair) result }
+    ensures { Written (stream W.contents writer.old writer.new) (pair_plan (evening_of config.now) pair) result }
 {
     write_words(config, pair, writer)?;
     write_titles(writer)?;

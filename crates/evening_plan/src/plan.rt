@@ -4,7 +4,7 @@ ghost use Rattle.std.specs.List.{range_with_len};
 ghost use Rattle.line_text.specs.Streams.{stream, Written};
 ghost use Rattle.evening_plan.specs.Evening.{evening_of};
 ghost use Rattle.evening_plan.specs.EventText.{event_text};
-ghost use Rattle.evening_plan.specs.PairText.{pair_text};
+ghost use Rattle.evening_plan.specs.PairText.{pair_plan};
 ghost use Rattle.evening_plan.specs.PlanText.{pairs_text, plan_text};
 
 use crate::event::event_text;
@@ -25,7 +25,7 @@ fn write_event<W: Write>(config: &Config, writer: &mut W) -> Result<(), Error>
 fn write_first_pairs<W: Write>(config: &Config, pairs: u8, writer: &mut W) -> Result<(), Error>
     requires few { pairs ≤ 24 }
     requires known { pairs ≤ config.now.movement.shape.pairs }
-    ensures { Written (stream W.contents writer.old writer.new) (flat_map (pair_text (evening_of config.now)) (range_with_len 1 pairs)) result }
+    ensures { Written (stream W.contents writer.old writer.new) (flat_map (pair_plan (evening_of config.now)) (range_with_len 1 pairs)) result }
 {
     for pair in 1..pairs + 1 {
         write_pair(config, pair, writer)?;

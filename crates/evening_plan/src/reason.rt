@@ -8,11 +8,12 @@ use crate::compare::first_misfit;
 use crate::line_kind::LineKind;
 use crate::misfit::Misfit;
 use crate::part::{Check, Part};
-use crate::text::{TEXT_BYTES, Text, push_bytes, push_number};
-use crate::word::{keyword_of, parts_of};
+use crate::text::push_number;
+use crate::word::{keyword_of, parts_due};
 use bridge_config::ConfigRefused;
 use bridge_movement::MovementRefused;
 use line_text::LINE_BYTES;
+use page_layout::{PAGE_BYTES, PageText, push_bytes};
 
 /// The keywords that may begin the line.
 fn keyword_words(kind: LineKind) -> &'static [u8]
@@ -40,8 +41,8 @@ fn form_words(part: Part) -> &'static [u8]
 }
 
 /// Adds the numbers from the low to the high one.
-fn push_between(text: &mut Text, low: u32, high: u32)
-    requires { array_vec_len text.old + 60 ≤ TEXT_BYTES }
+fn push_between(text: &mut PageText, low: u32, high: u32)
+    requires { array_vec_len text.old + 60 ≤ PAGE_BYTES }
     ensures text { text.new.items ≡ text.old.items ++ between_words low high }
     ensures room { array_vec_len text.new ≤ array_vec_len text.old + 60 }
 {
@@ -57,8 +58,8 @@ fn push_between(text: &mut Text, low: u32, high: u32)
 }
 
 /// Adds the range of a word.
-fn push_range(text: &mut Text, part: Part)
-    requires { array_vec_len text.old + 60 ≤ TEXT_BYTES }
+fn push_range(text: &mut PageText, part: Part)
+    requires { array_vec_len text.old + 60 ≤ PAGE_BYTES }
     ensures text { text.new.items ≡ text.old.items ++ range_words part }
     ensures room { array_vec_len text.new ≤ array_vec_len text.old + 60 }
 {
@@ -74,8 +75,8 @@ fn push_range(text: &mut Text, part: Part)
 }
 
 /// Adds what a word must be.
-fn push_part(text: &mut Text, check: Check, part: Part)
-    requires { array_vec_len text.old + 60 ≤ TEXT_BYTES }
+fn push_part(text: &mut PageText, check: Check, part: Part)
+    requires { array_vec_len text.old + 60 ≤ PAGE_BYTES }
     ensures text { text.new.items ≡ text.old.items ++ part_words check part }
     ensures room { array_vec_len text.new ≤ array_vec_len text.old + 60 }
 {
@@ -86,9 +87,9 @@ fn push_part(text: &mut Text, check: Check, part: Part)
 }
 
 /// Adds the number of a word, and words of it.
-fn push_word(text: &mut Text, at: u32, words: &[u8])
+fn push_word(text: &mut PageText, at: u32, words: &[u8])
     requires words { length words.now ≤ 80 }
-    requires room { array_vec_len text.old + 95 ≤ TEXT_BYTES }
+    requires room { array_vec_len text.old + 95 ≤ PAGE_BYTES }
     ensures text { text.new.items ≡ text.old.items ++ word_words at words.now }
     ensures room { array_vec_len text.new ≤ array_vec_len text.old + 95 }
 {
@@ -98,8 +99,8 @@ fn push_word(text: &mut Text, at: u32, words: &[u8])
 }
 
 /// Adds that for a word nothing is due; where it is the first, its line is one too many.
-fn push_extra(text: &mut Text, at: u32)
-    requires { array_vec_len text.old + 95 ≤ TEXT_BYTES }
+fn push_extra(text: &mut PageText, at: u32)
+    requires { array_vec_len text.old + 95 ≤ PAGE_BYTES }
     ensures text { text.new.items ≡ text.old.items ++ extra_words at }
     ensures room { array_vec_len text.new ≤ array_vec_len text.old + 95 }
 {
@@ -111,8 +112,8 @@ fn push_extra(text: &mut Text, at: u32)
 }
 
 /// Adds what is wrong with a word.
-fn push_misfit(text: &mut Text, check: Check, misfit: Option<Misfit>)
-    requires { array_vec_len text.old + 155 ≤ TEXT_BYTES }
+fn push_misfit(text: &mut PageText, check: Check, misfit: Option<Misfit>)
+    requires { array_vec_len text.old + 155 ≤ PAGE_BYTES }
     ensures text { text.new.items ≡ text.old.items ++ misfit_words check misfit }
     ensures room { array_vec_len text.new ≤ array_vec_len text.old + 155 }
 {
@@ -133,18 +134,18 @@ fn push_misfit(text: &mut Text, check: Check, misfit: Option<Misfit>)
 }
 
 /// Adds what is wrong with the words of the line.
-fn push_words_reason(text: &mut Text, check: Check, kind: LineKind, line: &[u8])
-    requires { array_vec_len text.old + 155 ≤ TEXT_BYTES }
+fn push_words_reason(text: &mut PageText, check: Check, kind: LineKind, line: &[u8])
+    requires { array_vec_len text.old + 155 ≤ PAGE_BYTES }
     ensures text { text.new.items ≡ text.old.items ++ words_reason check kind line.now }
     ensures room { array_vec_len text.new ≤ array_vec_len text.old + 155 }
 {
-    let parts = parts_of(kind);
+    let parts = parts_due(kind);
     push_misfit(text, check, first_misfit(check, parts.as_slice(), line));
 }
 
 /// Adds why a line is out of form.
-fn push_form_reason(text: &mut Text, kind: LineKind, line: Option<&[u8]>)
-    requires { array_vec_len text.old + 155 ≤ TEXT_BYTES }
+fn push_form_reason(text: &mut PageText, kind: LineKind, line: Option<&[u8]>)
+    requires { array_vec_len text.old + 155 ≤ PAGE_BYTES }
     ensures text { text.new.items ≡ text.old.items ++ form_reason kind (option_map (λ shown. shown.now) line.entry) }
     ensures room { array_vec_len text.new ≤ array_vec_len text.old + 155 }
 {
@@ -159,8 +160,8 @@ fn push_form_reason(text: &mut Text, kind: LineKind, line: Option<&[u8]>)
 }
 
 /// Adds which word is out of range.
-fn push_range_reason(text: &mut Text, kind: LineKind, line: Option<&[u8]>)
-    requires { array_vec_len text.old + 155 ≤ TEXT_BYTES }
+fn push_range_reason(text: &mut PageText, kind: LineKind, line: Option<&[u8]>)
+    requires { array_vec_len text.old + 155 ≤ PAGE_BYTES }
     ensures text { text.new.items ≡ text.old.items ++ range_reason kind (option_map (λ shown. shown.now) line.entry) }
     ensures room { array_vec_len text.new ≤ array_vec_len text.old + 155 }
 {
@@ -190,12 +191,13 @@ fn movement_reason(refused: MovementRefused) -> &'static [u8]
 }
 
 /// Adds why that line is refused.
-pub fn push_reason(text: &mut Text, kind: LineKind, line: Option<&[u8]>, cause: ConfigRefused)
-    requires { array_vec_len text.old + 155 ≤ TEXT_BYTES }
+pub fn push_reason(text: &mut PageText, kind: LineKind, line: Option<&[u8]>, cause: ConfigRefused)
+    requires { array_vec_len text.old + 155 ≤ PAGE_BYTES }
     ensures text { text.new.items ≡ text.old.items ++ reason_of kind (option_map (λ shown. shown.now) line.entry) cause }
     ensures room { array_vec_len text.new ≤ array_vec_len text.old + 155 }
 {
     match cause {
+        // Never met: of a text that is too long no line is shown, so `write_fault` says it without one.
         ConfigRefused::TooLong => push_bytes(text, b"the text has more than 16384 characters"),
         ConfigRefused::Form => push_form_reason(text, kind, line),
         ConfigRefused::Range => push_range_reason(text, kind, line),

@@ -5,8 +5,9 @@ ghost use Rattle.arrayvec.specs.ArrayVec.{array_vec_len};
 ghost use Rattle.line_text.specs.Streams.{stream, Written};
 ghost use Rattle.evening_plan.specs.Shown.{hex_digit, shown_byte, shown_text, shown_words, shown_line};
 
-use crate::text::{TEXT_BYTES, Text, push_bytes, push_number};
+use crate::text::push_number;
 use line_text::write_text;
+use page_layout::{PAGE_BYTES, PageText, push_bytes};
 use std::io::{Error, Write};
 
 /// The most bytes of a line that are shown.
@@ -21,8 +22,8 @@ fn hex_digit(digit: u8) -> u8
 }
 
 /// Adds a printable byte of ASCII as it is, and any other as its number in base 16, as `<0D>`.
-fn push_shown_byte(text: &mut Text, byte: u8)
-    requires { array_vec_len text.old + 4 ≤ TEXT_BYTES }
+fn push_shown_byte(text: &mut PageText, byte: u8)
+    requires { array_vec_len text.old + 4 ≤ PAGE_BYTES }
     ensures text { text.new.items ≡ text.old.items ++ shown_byte byte }
     ensures room { array_vec_len text.new ≤ array_vec_len text.old + 4 }
 {
@@ -37,8 +38,8 @@ fn push_shown_byte(text: &mut Text, byte: u8)
 }
 
 /// Adds bytes as they can be shown.
-fn push_shown_bytes(text: &mut Text, bytes: &[u8])
-    requires { array_vec_len text.old + 4 * length bytes.now ≤ TEXT_BYTES }
+fn push_shown_bytes(text: &mut PageText, bytes: &[u8])
+    requires { array_vec_len text.old + 4 * length bytes.now ≤ PAGE_BYTES }
     ensures text { text.new.items ≡ text.old.items ++ flat_map shown_byte bytes.now }
     ensures room { array_vec_len text.new ≤ array_vec_len text.old + 4 * length bytes.now }
 {
@@ -48,8 +49,8 @@ fn push_shown_bytes(text: &mut Text, bytes: &[u8])
 }
 
 /// Adds the first 80 bytes of a line, and a mark where there are more.
-fn push_shown_text(text: &mut Text, line: &[u8])
-    requires { array_vec_len text.old + 323 ≤ TEXT_BYTES }
+fn push_shown_text(text: &mut PageText, line: &[u8])
+    requires { array_vec_len text.old + 323 ≤ PAGE_BYTES }
     ensures text { text.new.items ≡ text.old.items ++ shown_text line.now }
     ensures room { array_vec_len text.new ≤ array_vec_len text.old + 323 }
 {
@@ -60,8 +61,8 @@ fn push_shown_text(text: &mut Text, line: &[u8])
 }
 
 /// Adds the line itself, where there is one.
-fn push_shown_words(text: &mut Text, line: Option<&[u8]>)
-    requires { array_vec_len text.old + 323 ≤ TEXT_BYTES }
+fn push_shown_words(text: &mut PageText, line: Option<&[u8]>)
+    requires { array_vec_len text.old + 323 ≤ PAGE_BYTES }
     ensures text { text.new.items ≡ text.old.items ++ shown_words (option_map (λ shown. shown.now) line.entry) }
     ensures room { array_vec_len text.new ≤ array_vec_len text.old + 323 }
 {
@@ -73,10 +74,10 @@ fn push_shown_words(text: &mut Text, line: Option<&[u8]>)
 
 /// The line of that number.
 #[tactic(auto, unfolding(crate::specs::Shown::shown_line))]
-fn shown_line(number: u32, line: Option<&[u8]>) -> Text
+fn shown_line(number: u32, line: Option<&[u8]>) -> PageText
     ensures { result.items ≡ shown_line number (option_map (λ shown. shown.now) line.entry) }
 {
-    let mut text = Text::new();
+    let mut text = PageText::new();
     push_bytes(&mut text, b"line ");
     push_number(&mut text, number);
     push_bytes(&mut text, b": ");

@@ -2,6 +2,7 @@
 use crate::{write_fault, write_plan};
 use arrayvec::ArrayVec;
 use bridge_config::read_config;
+use std::process::Abort;
 
 const EVENING: &str = "EVENT Club-Night
 SITE Town-Hall
@@ -74,8 +75,22 @@ fn with_line(number: usize, line: &str) -> ArrayVec<u8, 1024> {
     text
 }
 
+/// Fails where another reason is given for a line that stands in place of one than the one that is due.
+fn expect_refused(rt: &impl Abort, number: usize, line: &str, reason: &str) {
+    let written = words_of(with_line(number, line).as_slice());
+    let mut wanted = ArrayVec::<u8, 256>::new();
+    let _ = wanted.try_extend_from_slice(b"\nrefused: ");
+    let _ = wanted.try_extend_from_slice(reason.as_bytes());
+    let _ = wanted.try_extend_from_slice(b"\n");
+    assert!(rt;
+        written.as_slice().ends_with(wanted.as_slice()),
+        "{line:?}: {:?}",
+        str::from_utf8(written.as_slice())
+    );
+}
+
 #[test]
-fn lines_that_are_refused(rt: HostRuntime) {
+fn lines_of_another_form(rt: HostRuntime) {
     let long =
         "EVENT aaaaaaaaaaaaaaaaaaaaaaaaaaaaaaaaaaaaaaaaaaaaaaaaaaaaaaaaaaaaaaaaaaaaaaaaaaaaaaaaaaaaaaaaaaaaaaaaaaaaaaaaaaaaaaaaaaaaaaaaaaa";
     let rows = [
@@ -88,6 +103,22 @@ fn lines_that_are_refused(rt: HostRuntime) {
         ),
         (6, "MITCHEL 7", "word 1 is not MITCHELL or MOVEMENT"),
         (6, "MITCHELL 7 7", "word 3 is one too many"),
+        (11, "PAIR 1 Ann 10011 Bob 10012", "word 1 is not DIRECTOR"),
+        (12, "PAIR 1 Ann 10011 Bob", "word 6 is missing"),
+        (
+            13,
+            "PAIR 02 Cat 10021 Dan 10022",
+            "word 2 is not a number in digits alone, without a 0 in front",
+        ),
+    ];
+    for (number, line, reason) in rows {
+        expect_refused(&rt, number, line, reason);
+    }
+}
+
+#[test]
+fn numbers_that_cannot_stand(rt: HostRuntime) {
+    let rows = [
         (6, "MOVEMENT 2 2 13 3 3", "word 4 is not from 1 to 12"),
         (
             7,
@@ -104,13 +135,6 @@ fn lines_that_are_refused(rt: HostRuntime) {
             "ROW 1 1 1 2 3",
             "the set is 0, or above the number of sets in line 6",
         ),
-        (11, "PAIR 1 Ann 10011 Bob 10012", "word 1 is not DIRECTOR"),
-        (12, "PAIR 1 Ann 10011 Bob", "word 6 is missing"),
-        (
-            13,
-            "PAIR 02 Cat 10021 Dan 10022",
-            "word 2 is not a number in digits alone, without a 0 in front",
-        ),
         (
             14,
             "PAIR 3 Eve 10012 Fay 10032",
@@ -118,15 +142,6 @@ fn lines_that_are_refused(rt: HostRuntime) {
         ),
     ];
     for (number, line, reason) in rows {
-        let written = words_of(with_line(number, line).as_slice());
-        let mut wanted = ArrayVec::<u8, 256>::new();
-        let _ = wanted.try_extend_from_slice(b"\nrefused: ");
-        let _ = wanted.try_extend_from_slice(reason.as_bytes());
-        let _ = wanted.try_extend_from_slice(b"\n");
-        assert!(&rt;
-            written.as_slice().ends_with(wanted.as_slice()),
-            "{line:?}: {:?}",
-            str::from_utf8(written.as_slice())
-        );
+        expect_refused(&rt, number, line, reason);
     }
 }

@@ -1,29 +1,14 @@
-//! A part of a text, made inline before it is written.
-ghost use Rattle.std.specs.Prelude.{◌≡◌, ◌+◌, ◌≤◌, ◌++◌, length};
+//! Numbers in a part of a text.
+ghost use Rattle.std.specs.Prelude.{◌≡◌, ◌+◌, ◌≤◌, ◌++◌};
 ghost use Rattle.std.specs.Fmt.{decimal};
 ghost use Rattle.arrayvec.specs.ArrayVec.{array_vec_len};
 
-use arrayvec::ArrayVec;
 use itoa::Buffer;
-
-/// The room for a part of a text, in bytes.
-pub const TEXT_BYTES: usize = 512;
-
-/// The bytes of a part of a text.
-pub type Text = ArrayVec<u8, TEXT_BYTES>;
-
-/// Adds bytes.
-pub fn push_bytes(text: &mut Text, bytes: &[u8])
-    requires { array_vec_len text.old + length bytes.now ≤ TEXT_BYTES }
-    ensures text { text.new.items ≡ text.old.items ++ bytes.now }
-    ensures room { array_vec_len text.new ≡ array_vec_len text.old + length bytes.now }
-{
-    text.try_extend_from_slice(bytes).unwrap();
-}
+use page_layout::{PAGE_BYTES, PageText, push_bytes};
 
 /// Adds a number in decimal digits.
-pub fn push_number(text: &mut Text, number: u32)
-    requires { array_vec_len text.old + 10 ≤ TEXT_BYTES }
+pub fn push_number(text: &mut PageText, number: u32)
+    requires { array_vec_len text.old + 10 ≤ PAGE_BYTES }
     ensures text { text.new.items ≡ text.old.items ++ decimal number }
     ensures room { array_vec_len text.new ≤ array_vec_len text.old + 10 }
 {

@@ -1,6 +1,6 @@
 //! Whether a word is as it must be.
 ghost use Rattle.std.specs.Prelude.{◌≡◌, ◌≤◌, length};
-ghost use Rattle.evening_plan.specs.Part.{keyword_of, parts_of, is_formed, number_in, has_within, is_split, is_ranged, is_fit};
+ghost use Rattle.evening_plan.specs.Part.{keyword_of, parts_due, is_formed, word_number, has_within, is_split, is_ranged, is_fit};
 
 use crate::line_kind::LineKind;
 use crate::part::{Check, Part};
@@ -51,8 +51,8 @@ fn inline_parts(parts: &[Part]) -> Parts
 }
 
 /// What the words of a line must be, in order.
-pub fn parts_of(kind: LineKind) -> Parts
-    ensures { result.items ≡ parts_of kind }
+pub fn parts_due(kind: LineKind) -> Parts
+    ensures { result.items ≡ parts_due kind }
 {
     let keyword = Part::Keyword(kind);
     match kind {
@@ -97,8 +97,8 @@ fn is_formed(part: Part, word: &[u8]) -> bool
 }
 
 /// The number that a word is; `None` where it is none of four bytes at most.
-fn number_in(word: &[u8]) -> Option<u32>
-    ensures { result ≡ number_in word.now }
+fn word_number(word: &[u8]) -> Option<u32>
+    ensures { result ≡ word_number word.now }
 {
     if is_numeral(word) {
         value_of(word)
@@ -135,8 +135,8 @@ fn is_ranged(previous: &[u8], part: Part, word: &[u8]) -> bool
     match part {
         Part::Keyword(_) | Part::Name | Part::Scoring => true,
         Part::Date => false,
-        Part::Number(low, high) => has_within(low, high, number_in(word)),
-        Part::Split => is_split(number_in(previous), number_in(word)),
+        Part::Number(low, high) => has_within(low, high, word_number(word)),
+        Part::Split => is_split(word_number(previous), word_number(word)),
     }
 }
 

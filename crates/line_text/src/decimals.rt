@@ -1,7 +1,7 @@
 //! Numbers as texts.
 ghost use Rattle.std.specs.Prelude.{◌≡◌, ◌+◌, ◌/◌, ◌%◌, ◌<◌, ◌≤◌, ◌∷◌, ◌++◌, [], codes, length};
 ghost use Rattle.std.specs.Fmt.{decimal, signed_decimal};
-ghost use Rattle.line_text.specs.Decimals.{two_digits, tenths_text, hundredths_text};
+ghost use Rattle.line_text.specs.Decimals.{two_digits, tenths_text, hundredths_text, percent_text};
 
 use arrayvec::ArrayString;
 use itoa::Buffer;
@@ -64,4 +64,19 @@ pub fn hundredths_text(hundredths: u32) -> NumberText
     text.push_str(".");
     push_two_digits(&mut text, hundredths % 100);
     text
+}
+
+/// A percentage of so many hundredths with two decimals, as `33.33`, or `-` where there is none.
+pub fn percent_text(hundredths: Option<u32>) -> NumberText
+    ensures text { result.bytes ≡ percent_text hundredths }
+    ensures short { length result.bytes ≤ 13 }
+{
+    match hundredths {
+        Some(hundredths) => hundredths_text(hundredths),
+        None => {
+            let mut text = NumberText::new();
+            text.push_str("-");
+            text
+        }
+    }
 }

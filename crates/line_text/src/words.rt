@@ -78,7 +78,7 @@ pub fn five_after<'a>(keyword: &[u8], line: &'a [u8]) -> Option<Five<'a>>
 }
 
 /// The words of a text of five words.
-pub fn five_words(text: &[u8]) -> Option<Five<'_>>
+fn five_words(text: &[u8]) -> Option<Five<'_>>
     ensures { option_map view_of_five result ≡ five_words (spaced_words text.now) }
 {
     let (first, rest) = first_word(text)?;

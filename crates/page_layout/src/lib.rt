@@ -11,6 +11,7 @@
 
 mod block;
 mod cell;
+pub mod columns;
 mod escape;
 mod format;
 mod page;
@@ -23,6 +24,5 @@ mod text;
 pub use block::{push_heading, push_paragraph};
 pub use format::{Align, Column, Content, Format, Level, Section};
 pub use page::{push_page_end, push_page_start, push_section_end, push_section_start};
-pub use style::{PAGE_START, PAGE_STYLE};
 pub use table::{push_row, push_table_end, push_table_start, push_titles};
-pub use text::{PAGE_BYTES, PageText};
+pub use text::{PAGE_BYTES, PageText, push_bytes};

@@ -1,7 +1,8 @@
 //! A small page, as it was written by hand in either format, and what no page may hold.
+use super::style::{PAGE_START, PAGE_STYLE};
 use crate::{
-    Align, Column, Content, Format, Level, PAGE_START, PAGE_STYLE, PageText, Section, push_heading,
-    push_page_end, push_page_start, push_paragraph, push_row, push_section_end, push_section_start,
+    Align, Column, Content, Format, Level, PageText, Section, push_heading, push_page_end,
+    push_page_start, push_paragraph, push_row, push_section_end, push_section_start,
     push_table_end, push_table_start, push_titles,
 };
 

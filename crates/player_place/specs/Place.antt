@@ -23,13 +23,13 @@ abbrev pub nothing : List (List ℕ)
 nothing = codes "-" ∷ []
 
 -- the name of a pair's first or second player
-abbrev pub name_in : List Pair → ℕ → Bool → List ℕ
-name_in pairs pair first =
+abbrev pub name_at : List Pair → ℕ → Bool → List ℕ
+name_at pairs pair first =
     option_map_or (λ (found : Pair). slice_index_or found.names (if first then 0 else 1) []) (slice_get pairs (pair - 1)) []
 
 -- the names in North, East, South and West: a pair's first player sits North or East, the second South or West
 abbrev pub names_at : List Pair → Row → List (List ℕ)
-names_at pairs row = name_in pairs row.ns true ∷ name_in pairs row.ew true ∷ name_in pairs row.ns false ∷ name_in pairs row.ew false ∷ []
+names_at pairs row = name_at pairs row.ns true ∷ name_at pairs row.ew true ∷ name_at pairs row.ns false ∷ name_at pairs row.ew false ∷ []
 
 -- the names at the table of the row of that index
 abbrev pub names_of_row : List Pair → Option Row → List (List ℕ)
@@ -48,7 +48,7 @@ round_line configuration round = spaced_line (codes "ROUND") (decimal round ∷ 
 -- the pair's number and the player's name
 abbrev pub player_line : ConfigValue → Player → List ℕ
 player_line configuration player =
-    spaced_line (codes "PLAYER") (decimal player.pair ∷ name_in configuration.pairs player.pair player.first ∷ [])
+    spaced_line (codes "PLAYER") (decimal player.pair ∷ name_at configuration.pairs player.pair player.first ∷ [])
 
 -- the table, the seat, and the first and the last board of the table's set
 abbrev pub table_words : ℕ → Result Seating SessionRefused → List (List ℕ)

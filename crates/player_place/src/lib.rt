@@ -11,5 +11,5 @@ mod lines;
 mod names;
 mod place;
 
-pub use lines::push_round_line;
+pub use lines::{ROUND_BYTES, push_round_line};
 pub use place::{places_show_no_hidden_card, push_place};

@@ -5,7 +5,7 @@ ghost use Rattle.bridge_config.specs.ConfigValue.{configuration_of};
 ghost use Rattle.table_server.specs.ReplyTexts.{spaced_line, each_spaced};
 ghost use Rattle.player_place.specs.Place.{round_line, player_line, table_words, names_words, contract_words, contract_seen, answer_words, answer_seen};
 
-use crate::names::{name_of, push_names};
+use crate::names::{NAMES_BYTES, name_of, push_names};
 use bridge_auction::{Contract, doubling_text, print_bid};
 use bridge_cards::seat_text;
 use bridge_config::ConfigFields;
@@ -13,11 +13,38 @@ use session_rules::{Player, Refused, Seating, Stage};
 use table_server::ReplyText;
 use table_server::reply_text::{REPLY_BYTES, push_number, push_word};
 
+/// The room in bytes for the line of the round: `ROUND`, two numbers of at most 10 digits, each behind a space, and the
+/// line's end.
+pub const ROUND_BYTES: usize = 28;
+
+/// The room in bytes for the line of the player: `PLAYER`, a number of at most 10 digits and a name of at most 24 bytes, each
+/// behind a space, and the line's end.
+pub const PLAYER_BYTES: usize = 43;
+
+/// The room in bytes for a seating: three numbers of at most 10 digits and a seat's letter, each behind a space.
+const SEATING_BYTES: usize = 35;
+
+/// The room in bytes for the line of a seat: a first word of at most 5 bytes, the seating, and the line's end.
+pub const SEAT_LINE_BYTES: usize = 5 + SEATING_BYTES + 1;
+
+/// The room in bytes for the line of the names: `NAMES`, the names, and the line's end.
+pub const NAMES_LINE_BYTES: usize = 5 + NAMES_BYTES + 1;
+
+/// The room in bytes for a contract: a bid of at most 3 bytes with a doubling of at most 2, and declarer's letter, each of
+/// the two behind a space.
+const CONTRACT_BYTES: usize = 8;
+
+/// The room in bytes for the line of the contract: `CONTRACT`, the contract, and the line's end.
+pub const CONTRACT_LINE_BYTES: usize = 8 + CONTRACT_BYTES + 1;
+
+/// The room in bytes for the line of an answer: `ANSWER`, a word of at most 3 bytes behind a space, and the line's end.
+pub const ANSWER_BYTES: usize = 11;
+
 /// Adds the round and how many there are.
 pub fn push_round_line(text: &mut ReplyText, fields: &ConfigFields, round: u8)
-    requires { array_string_len text.old + 28 ≤ REPLY_BYTES }
+    requires { array_string_len text.old + ROUND_BYTES ≤ REPLY_BYTES }
     ensures line { text.new.bytes ≡ text.old.bytes ++ (round_line (configuration_of fields.now) round ++ 10 ∷ []) }
-    ensures room { array_string_len text.new ≤ array_string_len text.old + 28 }
+    ensures room { array_string_len text.new ≤ array_string_len text.old + ROUND_BYTES }
 {
     text.push_str("ROUND");
     push_number(text, u32::from(round));
@@ -27,9 +54,9 @@ pub fn push_round_line(text: &mut ReplyText, fields: &ConfigFields, round: u8)
 
 /// Adds the pair's number and the player's name.
 pub fn push_player_line(text: &mut ReplyText, fields: &ConfigFields, player: Player)
-    requires { array_string_len text.old + 43 ≤ REPLY_BYTES }
+    requires { array_string_len text.old + PLAYER_BYTES ≤ REPLY_BYTES }
     ensures line { text.new.bytes ≡ text.old.bytes ++ (player_line (configuration_of fields.now) player ++ 10 ∷ []) }
-    ensures room { array_string_len text.new ≤ array_string_len text.old + 43 }
+    ensures room { array_string_len text.new ≤ array_string_len text.old + PLAYER_BYTES }
 {
     text.push_str("PLAYER");
     push_number(text, u32::from(player.pair));
@@ -39,9 +66,9 @@ pub fn push_player_line(text: &mut ReplyText, fields: &ConfigFields, player: Pla
 
 /// Adds the table, the seat, and the first and last board of the table's set, or `-`.
 fn push_seating(text: &mut ReplyText, boards: u8, seating: Result<Seating, Refused>)
-    requires { array_string_len text.old + 35 ≤ REPLY_BYTES }
+    requires { array_string_len text.old + SEATING_BYTES ≤ REPLY_BYTES }
     ensures text { text.new.bytes ≡ text.old.bytes ++ each_spaced (table_words boards seating) }
-    ensures room { array_string_len text.new ≤ array_string_len text.old + 35 }
+    ensures room { array_string_len text.new ≤ array_string_len text.old + SEATING_BYTES }
 {
     match seating {
         Ok(seating) => {
@@ -63,9 +90,9 @@ pub fn push_seat_line(
     seating: Result<Seating, Refused>,
 )
     requires first { length first.now ≤ 5 }
-    requires room { array_string_len text.old + 41 ≤ REPLY_BYTES }
+    requires room { array_string_len text.old + SEAT_LINE_BYTES ≤ REPLY_BYTES }
     ensures line { text.new.bytes ≡ text.old.bytes ++ (spaced_line first.now (table_words boards seating) ++ 10 ∷ []) }
-    ensures room { array_string_len text.new ≤ array_string_len text.old + 41 }
+    ensures room { array_string_len text.new ≤ array_string_len text.old + SEAT_LINE_BYTES }
 {
     text.push_str(first);
     push_seating(text, boards, seating);
@@ -74,9 +101,9 @@ pub fn push_seat_line(
 
 /// Adds the names at the table where the player sits, or `-`.
 fn push_table_names(text: &mut ReplyText, fields: &ConfigFields, seating: Result<Seating, Refused>)
-    requires { array_string_len text.old + 100 ≤ REPLY_BYTES }
+    requires { array_string_len text.old + NAMES_BYTES ≤ REPLY_BYTES }
     ensures text { text.new.bytes ≡ text.old.bytes ++ each_spaced (names_words (configuration_of fields.now) seating) }
-    ensures room { array_string_len text.new ≤ array_string_len text.old + 100 }
+    ensures room { array_string_len text.new ≤ array_string_len text.old + NAMES_BYTES }
 {
     match seating {
         Ok(seating) => match fields.movement.rows().get(seating.row) {
@@ -93,9 +120,9 @@ pub fn push_names_line(
     fields: &ConfigFields,
     seating: Result<Seating, Refused>,
 )
-    requires { array_string_len text.old + 106 ≤ REPLY_BYTES }
+    requires { array_string_len text.old + NAMES_LINE_BYTES ≤ REPLY_BYTES }
     ensures line { text.new.bytes ≡ text.old.bytes ++ (spaced_line (codes "NAMES") (names_words (configuration_of fields.now) seating) ++ 10 ∷ []) }
-    ensures room { array_string_len text.new ≤ array_string_len text.old + 106 }
+    ensures room { array_string_len text.new ≤ array_string_len text.old + NAMES_LINE_BYTES }
 {
     text.push_str("NAMES");
     push_table_names(text, fields, seating);
@@ -104,9 +131,9 @@ pub fn push_names_line(
 
 /// Adds the bid with its doubling, and declarer.
 fn push_contract(text: &mut ReplyText, contract: Contract)
-    requires { array_string_len text.old + 8 ≤ REPLY_BYTES }
+    requires { array_string_len text.old + CONTRACT_BYTES ≤ REPLY_BYTES }
     ensures text { text.new.bytes ≡ text.old.bytes ++ each_spaced (contract_words (Some contract)) }
-    ensures room { array_string_len text.new ≤ array_string_len text.old + 8 }
+    ensures room { array_string_len text.new ≤ array_string_len text.old + CONTRACT_BYTES }
 {
     text.push_str(" ");
     print_bid(contract.bid, text);
@@ -116,9 +143,9 @@ fn push_contract(text: &mut ReplyText, contract: Contract)
 
 /// Adds the contract, or `-`.
 fn push_contract_if(text: &mut ReplyText, contract: Option<Contract>)
-    requires { array_string_len text.old + 8 ≤ REPLY_BYTES }
+    requires { array_string_len text.old + CONTRACT_BYTES ≤ REPLY_BYTES }
     ensures text { text.new.bytes ≡ text.old.bytes ++ each_spaced (contract_words contract) }
-    ensures room { array_string_len text.new ≤ array_string_len text.old + 8 }
+    ensures room { array_string_len text.new ≤ array_string_len text.old + CONTRACT_BYTES }
 {
     match contract {
         Some(contract) => push_contract(text, contract),
@@ -128,9 +155,9 @@ fn push_contract_if(text: &mut ReplyText, contract: Option<Contract>)
 
 /// Adds the line of the contract.
 pub fn push_contract_line(text: &mut ReplyText, stage: Result<Stage, Refused>)
-    requires { array_string_len text.old + 17 ≤ REPLY_BYTES }
+    requires { array_string_len text.old + CONTRACT_LINE_BYTES ≤ REPLY_BYTES }
     ensures line { text.new.bytes ≡ text.old.bytes ++ (spaced_line (codes "CONTRACT") (contract_words (contract_seen stage)) ++ 10 ∷ []) }
-    ensures room { array_string_len text.new ≤ array_string_len text.old + 17 }
+    ensures room { array_string_len text.new ≤ array_string_len text.old + CONTRACT_LINE_BYTES }
 {
     text.push_str("CONTRACT");
     match stage {
@@ -152,9 +179,9 @@ fn answer_text(stage: Result<Stage, Refused>) -> &'static str
 
 /// Adds the line that says whether an answer to a claim is due.
 pub fn push_answer_line(text: &mut ReplyText, stage: Result<Stage, Refused>)
-    requires { array_string_len text.old + 11 ≤ REPLY_BYTES }
+    requires { array_string_len text.old + ANSWER_BYTES ≤ REPLY_BYTES }
     ensures line { text.new.bytes ≡ text.old.bytes ++ (spaced_line (codes "ANSWER") (answer_words (answer_seen stage)) ++ 10 ∷ []) }
-    ensures room { array_string_len text.new ≤ array_string_len text.old + 11 }
+    ensures room { array_string_len text.new ≤ array_string_len text.old + ANSWER_BYTES }
 {
     text.push_str("ANSWER");
     push_word(text, answer_text(stage));

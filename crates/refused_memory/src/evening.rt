@@ -1,5 +1,5 @@
 //! Lines served over a disk in memory, of which one call may find no memory.
-use super::club::{COUNT, LINES, QUESTION, opening};
+use super::club::{COUNT, QUESTION, opening};
 use super::outcome::{Outcome, Refusals, room};
 use bridge_endings::Cache;
 use bridge_session::Session;
@@ -96,7 +96,7 @@ fn opened_after_cut(
 /// Serves the lines; how many were answered before a fault of the disk. Those of an earlier run are refused.
 fn serve_lines(alloc: Global, store: &mut ClubStore, refusals: &mut Refusals) -> Outcome<usize> {
     let mut written = room(alloc, refusals)?;
-    let mut lines = LINES.as_bytes();
+    let mut lines = SEVEN_TRICKS.as_bytes();
     let _ = store.confirm();
     let served = serve(store, None, &mut lines, &mut written).map_err(|_| "a fault of a stream")?;
     let mut confirmed: usize = 0;
@@ -145,7 +145,7 @@ fn is_after_some(
     let mut twin = opening(alloc, refusals)?;
     let mut is_found = false;
     let mut taken: usize = 0;
-    for line in LINES.lines() {
+    for line in SEVEN_TRICKS.lines() {
         is_found = is_found || taken >= least && is_same_state(&twin, session);
         if let Asked::Change(action) = asked_by(line.as_bytes()) {
             twin.step(&action).map_err(|_| "a line is refused")?;

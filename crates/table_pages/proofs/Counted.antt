@@ -3,7 +3,7 @@ use Rattle.std.proofs.Common.{◌≡◌, ℕ, ◌+◌, ◌<◌, ◌^◌, Bool, c
 use Rattle.std.proofs.lemmas.Bool.{true≢false}
 use Rattle.http_server.specs.declared.response.Response.{Response}
 use Rattle.web_requests.specs.declared.route.Refusal.{Refusal}
-use Rattle.web_requests.specs.Filled.{IsRefusal}
+use Rattle.web_requests.specs.Filled.{IsRefused}
 use Rattle.table_pages.specs.WrongKeys.{begins_wrong_key, wrong_keys_from, wrong_keys, with_more}
 
 -- what is left from a byte on, counted at that byte
@@ -16,7 +16,7 @@ pub none_counted : (count : ℕ) (bytes : List ℕ) → count < 2 ^ 64 → bytes
 none_counted count bytes fits empty = subst (λ (b : List ℕ). count ≡ with_more count (wrong_keys b)) (sym empty) (omega arith)
 
 -- and so of a refusal, if it could be filled
-pub none_counted_of : {E : Type 0} (refusal : Refusal) (r : Result (Unit {0}) E) (count : ℕ) (response : Response) → count < 2 ^ 64 → OnOk r (IsRefusal refusal response)
+pub none_counted_of : {E : Type 0} (refusal : Refusal) (r : Result (Unit {0}) E) (count : ℕ) (response : Response) → count < 2 ^ 64 → OnOk r (IsRefused refusal response)
     → OnOk r (count ≡ with_more count (wrong_keys response.body.items))
 none_counted_of refusal (Ok x) count response fits filled = none_counted count response.body.items fits filled.body
 none_counted_of refusal (Err e) count response fits filled = tt

@@ -8,7 +8,7 @@ use Rattle.web_requests.specs.declared.route.Route.{Route}
 use Rattle.web_requests.specs.declared.route.Route.TheVariants.{Page, Script, DirectorScript, Style, Lines, Place, Tables, Results, Refused}
 use Rattle.web_requests.specs.declared.route.Refusal.TheVariants.{TooLong}
 use Rattle.web_requests.specs.Route.{route_for}
-use Rattle.web_requests.specs.Filled.{IsText, IsRefusal, IsUnavailable}
+use Rattle.web_requests.specs.Filled.{IsText, IsRefused, IsUnavailable}
 use Rattle.table_pages.specs.declared.director_script.TheConstants.{DIRECTOR_SCRIPT}
 use Rattle.table_pages.specs.declared.page.TheConstants.{PAGE}
 use Rattle.table_pages.specs.declared.script.TheConstants.{SCRIPT}
@@ -25,7 +25,7 @@ module _ {T : Type 0} (answers : T → List ℕ → Option (List ℕ) → T → 
   -- a body of 65,536 bytes or more is refused
   abbrev pub TellsShort : Bool → T → List ℕ → Response → T → Type 0
   TellsShort true old body response new = TellsLines old body response new
-  TellsShort false old body response new = IsRefusal TooLong response × (new ≡ old)
+  TellsShort false old body response new = IsRefused TooLong response × (new ≡ old)
 
   module _ (places tables : T → List ℕ → List ℕ) (results : T → List ℕ → List ℕ → Type 0) where
     -- the response to a request on this route: the same to everybody, the replies to its lines, or what is told to the holder
@@ -39,7 +39,7 @@ module _ {T : Type 0} (answers : T → List ℕ → Option (List ℕ) → T → 
     Responds Place old body response new = IsText kind.Lines (places old body) response × (new ≡ old)
     Responds Tables old body response new = IsText kind.Lines (tables old body) response × (new ≡ old)
     Responds Results old body response new = ((text : List ℕ) × results old body text × IsText kind.Lines text response) × (new ≡ old)
-    Responds (Refused why) old body response new = IsRefusal why response × (new ≡ old)
+    Responds (Refused why) old body response new = IsRefused why response × (new ≡ old)
 
     -- the response to a request at a server of these two names
     abbrev pub Answering : List ℕ → List ℕ → T → Request (List ℕ) → Response → T → Type 0

@@ -1,9 +1,7 @@
 -- The results of a session, told to who may see its rankings.
 use Rattle.std.specs.Prelude.{◌≡◌, ℕ, List, Option, Some, None, Result, Ok, Err}
 use Rattle.bridge_config.specs.declared.fields.Key.{Key}
-use Rattle.bridge_ranking.specs.declared.field.Field.TheVariants.{First, Second}
-use Rattle.bridge_results.specs.ResultsText.{IsFieldRanking, page_text}
-use Rattle.bridge_score.specs.declared.ranking.Ranked.{Ranked}
+use Rattle.bridge_results.specs.ResultsText.{IsPageText}
 use Rattle.page_layout.specs.declared.format.Format.TheVariants.{Plain}
 use Rattle.session_rules.specs.Answer.{Answer}
 use Rattle.session_rules.specs.State.{SessionValue, ranking_asker}
@@ -13,14 +11,9 @@ use Rattle.table_server.specs.declared.short_reply.ShortReply.TheVariants.{Refus
 use Rattle.table_server.specs.LineWords.{key_of_word}
 use Rattle.table_server.specs.ReplyTexts.{short_text}
 
--- the text is the results of the session, with its rankings
-abbrev pub AreResults : SessionValue → List ℕ → Type 0
-AreResults s text = (first : Option (List Ranked)) × (second : Option (List Ranked)) × IsFieldRanking s First first
-    × IsFieldRanking s Second second × (text ≡ page_text Plain s first second)
-
 -- the results for one who may see the rankings, or the refusal
 abbrev pub ResultsBy : SessionValue → Answer → List ℕ → Type 0
-ResultsBy s (Ok _) text = AreResults s text
+ResultsBy s (Ok _) text = IsPageText Plain s text
 ResultsBy s (Err refused) text = text ≡ short_text (Refused refused)
 
 -- what is told to the holder of the key, if it is one

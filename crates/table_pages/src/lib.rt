@@ -10,12 +10,14 @@
 mod answering;
 mod counting;
 mod director_script;
+mod director_script_rulings;
 mod host_names;
 mod line_server;
 mod page;
 mod pages;
 mod results_reply;
 mod script;
+mod script_play;
 mod showing;
 mod style;
 
@@ -26,7 +28,6 @@ pub use host_names::HostNames;
 pub use line_server::LineServer;
 pub use page::PAGE;
 pub use pages::TablePages;
-pub use results_reply::told_results;
 pub use script::SCRIPT;
 pub use showing::{limits, show_minutes};
 pub use style::STYLE;

@@ -4,7 +4,9 @@ ghost use Rattle.line_text.specs.Streams.{stream, Written};
 ghost use Rattle.session_rules.specs.State.{ranking_asker};
 ghost use Rattle.table_server.specs.ReplyTexts.{short_text};
 ghost use Rattle.table_server.specs.LineWords.{key_of_word};
-ghost use Rattle.table_pages.specs.ToldResults.{AreResults, ResultsBy, ResultsTo};
+ghost use Rattle.page_layout.specs.declared.format.Format.TheVariants.{Plain};
+ghost use Rattle.bridge_results.specs.ResultsText.{IsPageText};
+ghost use Rattle.table_pages.specs.ToldResults.{ResultsBy, ResultsTo};
 
 use bridge_config::Key;
 use bridge_results::write_results;
@@ -27,7 +29,7 @@ fn write_short<W: Write>(reply: ShortReply, writer: &mut W) -> Result<(), Error>
 
 /// Writes the results.
 fn write_all<W: Write>(session: &Session, writer: &mut W) -> Result<(), Error>
-    ensures { (text : List ℕ) × AreResults session.now text × Written (stream W.contents writer.old writer.new) text result }
+    ensures { (text : List ℕ) × IsPageText Plain session.now text × Written (stream W.contents writer.old writer.new) text result }
 {
     write_results(session, Format::Plain, writer)
 }

@@ -1,13 +1,13 @@
 -- The replies of the protocol as text. Each line ends with a line feed.
 use Rattle.std.specs.Prelude.{ℕ, ◌/◌, ◌%◌, ◌+◌, List, [], ◌∷◌, ◌++◌, codes, map, flat_map, unsigned_abs, int_le, nat_le, pos, Bool, ◌&&◌, if◌then◌else◌, Option, Some, None}
 use Rattle.std.specs.Fmt.{decimal, signed_decimal}
-use Rattle.line_text.specs.Decimals.{tenths_text, hundredths_text}
+use Rattle.line_text.specs.Decimals.{tenths_text, percent_text}
 use Rattle.line_text.specs.Refusal.{refusal_line}
 use Rattle.bridge_auction.specs.Refused.{refusal_number as call_refusal_number, refusal_name as call_refusal_name}
 use Rattle.bridge_score.specs.declared.ranking.Ranked.{Ranked}
 use Rattle.bridge_score.specs.declared.ranking.Scoring.{Scoring}
 use Rattle.bridge_score.specs.declared.ranking.Scoring.TheVariants.{MatchPoints, Imps}
-use Rattle.bridge_score.specs.Percent.{percent_hundredths_of}
+use Rattle.bridge_score.specs.Percent.{share_percent}
 use Rattle.line_text.specs.Lines.{lines_text}
 use Rattle.session_rules.specs.Refused.{refusal_number, refusal_name}
 use Rattle.table_server.specs.declared.short_reply.ShortReply.{ShortReply}
@@ -39,24 +39,9 @@ listed_text lines = lines_text (codes "OK" ∷ (lines ++ codes "." ∷ []))
 abbrev pub solved_text : ℕ → ℕ → List ℕ
 solved_text ns ew = lines_text (spaced_line (codes "OK") (decimal ns ∷ decimal ew ∷ []) ∷ [])
 
--- a percentage with two decimals, as `33.33`, or `-` where nothing was available
-abbrev pub percent_text : Option ℕ → List ℕ
-percent_text None = codes "-"
-percent_text (Some hundredths) = hundredths_text hundredths
-
 -- what a pair gained in matchpoints, which are never below 0, of what was available to it
 abbrev pub share_text : Ranked → List ℕ
 share_text ranked = (tenths_text (unsigned_abs ranked.value) ++ codes "/") ++ tenths_text ranked.available
-
--- what was gained lies between nothing and all that was available
-abbrev pub is_share : Ranked → Bool
-is_share ranked =
-    int_le (pos 0) ranked.value && nat_le (unsigned_abs ranked.value) ranked.available && nat_le ranked.available 10000000
-
--- the share in hundredths of a per cent, where it is one
-abbrev pub share_percent : Ranked → Option ℕ
-share_percent ranked =
-    if is_share ranked then percent_hundredths_of (unsigned_abs ranked.value) ranked.available else None
 
 -- under matchpoints the share, and the same as a percentage; under IMPs the sum
 abbrev pub gain_words : Scoring → Ranked → List (List ℕ)

@@ -3,42 +3,15 @@ ghost use Rattle.std.specs.Prelude.{◌≡◌, ◌+◌, ◌*◌, ◌≤◌, ◌�
 ghost use Rattle.arrayvec.specs.ArrayString.{array_string_len};
 ghost use Rattle.line_text.specs.Lines.{lines_text};
 ghost use Rattle.bridge_score.specs.declared.ranking.Scoring.TheVariants.{MatchPoints};
-ghost use Rattle.table_server.specs.ReplyTexts.{percent_text, each_spaced, gain_words, ranked_line, ranking_text, share_percent};
+ghost use Rattle.table_server.specs.ReplyTexts.{each_spaced, gain_words, ranked_line, ranking_text};
 
 use crate::reply_text::{REPLY_BYTES, ReplyText, push_word};
-use bridge_score::{Ranked, Scoring, percent_hundredths};
+use bridge_score::{Ranked, Scoring, share_percent};
 use itoa::Buffer;
-use line_text::{hundredths_text, tenths_text};
+use line_text::{percent_text, tenths_text};
 
 /// The room for a line of a ranking.
 pub const RANK_BYTES: usize = 80;
-
-/// The most that may be available to a pair.
-const MOST_AVAILABLE: u32 = 10_000_000;
-
-/// Adds a percentage with two decimals, or `-` where there is none.
-fn push_percent(text: &mut ReplyText, hundredths: Option<u32>)
-    requires { array_string_len text.old + 13 ≤ REPLY_BYTES }
-    ensures text { text.new.bytes ≡ text.old.bytes ++ percent_text hundredths }
-    ensures room { array_string_len text.new ≤ array_string_len text.old + 13 }
-{
-    match hundredths {
-        None => text.push_str("-"),
-        Some(hundredths) => text.push_str(hundredths_text(hundredths).as_str()),
-    }
-}
-
-/// The share of a pair in hundredths of a per cent. `None` where nothing was available, or the share is none.
-fn share_percent(ranked: &Ranked) -> Option<u32>
-    ensures { result ≡ share_percent ranked.now }
-{
-    let earned = ranked.value.unsigned_abs();
-    if ranked.value >= 0 && earned <= ranked.available && ranked.available <= MOST_AVAILABLE {
-        percent_hundredths(earned, ranked.available)
-    } else {
-        None
-    }
-}
 
 /// Adds the share of a pair: its matchpoints, those available to it, and the percentage.
 fn push_share(text: &mut ReplyText, ranked: &Ranked)
@@ -51,7 +24,7 @@ fn push_share(text: &mut ReplyText, ranked: &Ranked)
     text.push_str("/");
     text.push_str(tenths_text(u64::from(ranked.available)).as_str());
     text.push_str(" ");
-    push_percent(text, share_percent(ranked));
+    text.push_str(percent_text(share_percent(ranked)).as_str());
 }
 
 /// Adds what a pair gained.

@@ -43,8 +43,8 @@ abbrev pub waits : ℕ → ℕ → List Guesser → Bool
 waits address at known = list_any (is_waiting address at) known
 
 -- an address from which no wrong key came
-abbrev pub IsNew : ℕ → Guesser → Type 0
-IsNew address guesser = (guesser.address ≡ address) × (guesser.times.items ≡ []) × (guesser.until ≡ 0)
+abbrev pub HasNoWrongKey : ℕ → Guesser → Type 0
+HasNoWrongKey address guesser = (guesser.address ≡ address) × (guesser.times.items ≡ []) × (guesser.until ≡ 0)
 
 -- after a request that was answered with so many wrong keys: where ten came within the last minute, the address waits
 pub record IsAfter (wrong at : ℕ) (old new : Guesser) : Type 0 where
@@ -53,14 +53,14 @@ pub record IsAfter (wrong at : ℕ) (old new : Guesser) : Type 0 where
   pub until : new.until ≡ (if is_slowed at new.times.items then min (at + wait_for wrong) 18446744073709551615 else old.until)
 
 -- the address is kept so as the last of at most 128, for which the first makes room
-abbrev pub IsKept : ℕ → ℕ → Guesser → List Guesser → List Guesser → Type 0
-IsKept wrong at guesser old new =
+abbrev pub IsRemembered : ℕ → ℕ → Guesser → List Guesser → List Guesser → Type 0
+IsRemembered wrong at guesser old new =
     (after : Guesser) × IsAfter wrong at guesser after × (new ≡ (if nat_lt (length old) 128 then old else drop 1 old) ++ after ∷ [])
 
 -- A request of an address was answered with so many wrong keys: the address is kept, whether it had a place or is new; an
 -- address without one, and without a wrong key, gets none.
 abbrev pub IsNoted : ℕ → ℕ → ℕ → List Guesser → List Guesser → Type 0
 IsNoted address wrong at old new =
-    ((index : ℕ) × (guesser : Guesser) × (index < length old) × (slice_index_or old index guesser ≡ guesser) × (guesser.address ≡ address) × IsKept wrong at guesser (remove old index) new)
-    ⊎ (((guesser : Guesser) × (0 < wrong) × All (λ other. other.address ≢ address) old × IsNew address guesser × IsKept wrong at guesser old new)
+    ((index : ℕ) × (guesser : Guesser) × (index < length old) × (slice_index_or old index guesser ≡ guesser) × (guesser.address ≡ address) × IsRemembered wrong at guesser (remove old index) new)
+    ⊎ (((guesser : Guesser) × (0 < wrong) × All (λ other. other.address ≢ address) old × HasNoWrongKey address guesser × IsRemembered wrong at guesser old new)
     ⊎ (All (λ other. other.address ≢ address) old × (wrong ≡ 0) × (new ≡ old)))

@@ -8,6 +8,9 @@ use arrayvec::ArrayVec;
 /// So many wrong keys within a minute slow an address.
 const MOST_WRONG_KEYS: usize = 10;
 
+/// A second, in milliseconds.
+const SECOND: u64 = 1000;
+
 /// A minute, in milliseconds.
 const MINUTE: u64 = 60_000;
 
@@ -77,7 +80,7 @@ impl Guesser {
     {
         self.add_all(wrong.min(MOST_WRONG_KEYS as u64), at);
         if self.is_slowed(at) {
-            self.until = at.saturating_add(1000 * wrong.min(LONGEST_WAIT).max(1));
+            self.until = at.saturating_add(SECOND * wrong.min(LONGEST_WAIT).max(1));
         }
     }
 }

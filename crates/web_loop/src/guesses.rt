@@ -1,7 +1,7 @@
 //! The addresses from which wrong keys came.
 ghost use Rattle.std.specs.Prelude.{◌≡◌, ◌≢◌, ◌<◌, [], length, IfSome, IfNone};
 ghost use Rattle.std.specs.List.{All, HoldsAt};
-ghost use Rattle.web_loop.specs.Guesses.{address_number, millis, waits, IsKept, IsNoted};
+ghost use Rattle.web_loop.specs.Guesses.{address_number, millis, waits, IsRemembered, IsNoted};
 
 use crate::guesser::Guesser;
 use arrayvec::ArrayVec;
@@ -92,7 +92,7 @@ impl Guesses {
 
     /// Keeps an address, once a request of it is taken into account.
     fn keep(&mut self, mut guesser: Guesser, wrong: u64, at: u64)
-        ensures table { IsKept wrong at guesser self.old.known.items self.new.known.items }
+        ensures table { IsRemembered wrong at guesser self.old.known.items self.new.known.items }
         ensures begun { self.new.begun ≡ self.old.begun }
     {
         guesser.note(wrong, at);

@@ -15,8 +15,7 @@ mod service;
 mod serving;
 mod turn;
 
-pub use client::Client;
-pub use clients::{Clients, MOST_CLIENTS};
+pub use clients::Clients;
 pub use guesses::Guesses;
 pub use service::LastingService;
 pub use serving::serve_minutes;

@@ -57,8 +57,8 @@ allow_fields WrongType = []
 allow_fields TooLong = []
 
 -- a refusal, without a body
-abbrev pub IsRefusal : Refusal → Response → Type 0
-IsRefusal refusal = IsResponse (status_of refusal) (guard_fields ++ allow_fields refusal) []
+abbrev pub IsRefused : Refusal → Response → Type 0
+IsRefused refusal = IsResponse (status_of refusal) (guard_fields ++ allow_fields refusal) []
 
 -- the answer where memory was refused: 503, and nothing more
 abbrev pub IsUnavailable : Response → Type 0

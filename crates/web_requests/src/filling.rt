@@ -2,7 +2,7 @@
 ghost use Rattle.std.specs.Prelude.{◌≡◌, [], ◌∷◌, ◌++◌, OnOk, IsTrue};
 ghost use Rattle.http_header.specs.FieldValue.{is_visible_text};
 ghost use Rattle.http_server.specs.Response.{IsBlank, fields_of};
-ghost use Rattle.web_requests.specs.Filled.{guard_fields, text_fields, status_of, IsText, IsRefusal, IsUnavailable};
+ghost use Rattle.web_requests.specs.Filled.{guard_fields, text_fields, status_of, IsText, IsRefused, IsUnavailable};
 
 use crate::kind::Kind;
 use crate::route::Refusal;
@@ -80,7 +80,7 @@ pub fn put_text(response: &mut Response, kind: Kind, text: &[u8]) -> Result<(), 
 /// Fills a response with a refusal, which has no body.
 pub fn put_refusal(response: &mut Response, refusal: Refusal) -> Result<(), AllocError>
     requires { IsBlank response.old }
-    ensures { OnOk result (IsRefusal refusal response.new) }
+    ensures { OnOk result (IsRefused refusal response.new) }
 {
     response.status = status_code(refusal);
     guard(response)?;

@@ -5,7 +5,7 @@ ghost use Rattle.line_text.specs.Streams.{stream, Written};
 ghost use Rattle.page_layout.specs.Page.{section_end};
 ghost use Rattle.page_layout.specs.Table.{table_end};
 ghost use Rattle.bridge_results.specs.Frequencies.{frequencies_of};
-ghost use Rattle.bridge_results.specs.BoardText.{board_words, deal_words, board_head, side_gain, line_row, line_titles, lines_text, frequency_row, frequency_titles, frequencies_text, hands_text, tables_text, board_text};
+ghost use Rattle.bridge_results.specs.BoardText.{board_words, deal_words, board_head, side_gain, line_row, line_titles, traveller_text, frequency_row, frequency_titles, frequencies_text, hands_text, board_tables, board_text};
 
 use crate::compare::Comparison;
 use crate::frequency::{Frequency, frequencies};
@@ -175,7 +175,7 @@ fn write_lines<W: Write>(
     lines: &[BoardLine],
     writer: &mut W,
 ) -> Result<(), Error>
-    ensures { Written (stream W.contents writer.old writer.new) (lines_text format scoring lines.now) result }
+    ensures { Written (stream W.contents writer.old writer.new) (traveller_text format scoring lines.now) result }
 {
     write_line_titles(format, writer)?;
     write_line_rows(format, scoring, lines, writer)?;
@@ -293,7 +293,7 @@ fn write_tables<W: Write>(
     writer: &mut W,
 ) -> Result<(), Error>
     requires { length lines.now ≤ 144 }
-    ensures { Written (stream W.contents writer.old writer.new) (tables_text format scoring lines.now) result }
+    ensures { Written (stream W.contents writer.old writer.new) (board_tables format scoring lines.now) result }
 {
     write_lines(format, scoring, lines, writer)?;
     write_frequencies_of(format, scoring, lines, writer)?;

@@ -5,21 +5,8 @@ ghost use Rattle.page_layout.specs.declared.format.Content.TheVariants.{Words, C
 ghost use Rattle.bridge_results.specs.declared.pages.columns.TheConstants.{SHARE_COLUMNS as share_columns, SUM_COLUMNS as sum_columns, LINE_COLUMNS as line_columns, FREQUENCY_COLUMNS as frequency_columns, CARD_COLUMNS as card_columns, HAND_COLUMNS as hand_columns};
 ghost use Rattle.bridge_results.specs.Columns.{width_of};
 
+use page_layout::columns::{LETTERS, NUMBER, SMALL};
 use page_layout::{Align, Column, Content};
-
-/// A number of at most two digits.
-const SMALL: Column = Column {
-    width: 5,
-    align: Align::Right,
-    content: Content::Words,
-};
-
-/// A number of two digits under a longer title, or a percentage.
-const NUMBER: Column = Column {
-    width: 7,
-    align: Align::Right,
-    content: Content::Words,
-};
 
 /// A number of at most seven characters, which may have decimals.
 const VALUE: Column = Column {
@@ -31,13 +18,6 @@ const VALUE: Column = Column {
 /// The names of a pair.
 const NAMES: Column = Column {
     width: 53,
-    align: Align::Left,
-    content: Content::Words,
-};
-
-/// The letter of a seat, or of a side.
-const LETTERS: Column = Column {
-    width: 4,
     align: Align::Left,
     content: Content::Words,
 };

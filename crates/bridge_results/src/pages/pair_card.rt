@@ -3,7 +3,7 @@ ghost use Rattle.std.specs.Prelude.{◌≡◌, ◌≤◌, length, map, flat_map,
 ghost use Rattle.line_text.specs.Streams.{stream, Written};
 ghost use Rattle.bridge_score.specs.Comparison.{int_sum_by};
 ghost use Rattle.bridge_config.specs.ConfigValue.{pair_of};
-ghost use Rattle.bridge_results.specs.CardText.{pair_words, card_head, side_words, counted_gain, card_row, total_words, card_end, card_text};
+ghost use Rattle.bridge_results.specs.CardText.{pair_words, card_head, side_words, counted_gain, card_row, total_words, card_end, score_card_text};
 
 use crate::card::CardLine;
 use crate::pages::cells::{
@@ -201,7 +201,7 @@ pub fn write_card<W: Write>(
     writer: &mut W,
 ) -> Result<(), Error>
     requires { length lines.now ≤ 36 }
-    ensures { Written (stream W.contents writer.old writer.new) (card_text format scoring (map pair_of pairs.now) pair lines.now) result }
+    ensures { Written (stream W.contents writer.old writer.new) (score_card_text format scoring (map pair_of pairs.now) pair lines.now) result }
 {
     write_head(format, pairs, pair, writer)?;
     write_rows(format, scoring, lines, writer)?;

@@ -4,49 +4,19 @@ ghost use Rattle.line_text.specs.Streams.{stream, Written};
 ghost use Rattle.bridge_config.specs.ConfigValue.{pair_of};
 ghost use Rattle.page_layout.specs.Page.{section_end};
 ghost use Rattle.page_layout.specs.Table.{table_end};
-ghost use Rattle.bridge_results.specs.RankingText.{share_percent, percent_cell, field_words, share_row, sum_row, ranked_row, ranked_titles, field_head, field_text};
+ghost use Rattle.bridge_results.specs.RankingText.{field_words, share_row, sum_row, ranked_row, ranked_titles, field_head, field_text};
 
 use crate::pages::columns::{SHARE_COLUMNS, SUM_COLUMNS};
 use crate::pages::names::pair_names;
 use bridge_config::PairFields;
 use bridge_ranking::Field;
-use bridge_score::{Ranked, Scoring, percent_hundredths};
-use line_text::{NumberText, hundredths_text, number_text, signed_text, tenths_text, write_text};
+use bridge_score::{Ranked, Scoring, share_percent};
+use line_text::{number_text, percent_text, signed_text, tenths_text, write_text};
 use page_layout::{
     Format, Level, PageText, Section, push_heading, push_row, push_section_end, push_section_start,
     push_table_end, push_table_start, push_titles,
 };
 use std::io::{Error, Write};
-
-/// The most that may be available to a pair.
-const MOST_AVAILABLE: u32 = 10_000_000;
-
-/// The share of a pair in hundredths of a per cent. `None` where nothing was available, or the share is none.
-fn share_percent(ranked: &Ranked) -> Option<u32>
-    ensures { result ≡ share_percent ranked.now }
-{
-    let earned = ranked.value.unsigned_abs();
-    if ranked.value >= 0 && earned <= ranked.available && ranked.available <= MOST_AVAILABLE {
-        percent_hundredths(earned, ranked.available)
-    } else {
-        None
-    }
-}
-
-/// A percentage with two decimals, or `-` where there is none.
-fn percent_cell(hundredths: Option<u32>) -> NumberText
-    ensures text { result.bytes ≡ percent_cell hundredths }
-    ensures short { length result.bytes ≤ 22 }
-{
-    match hundredths {
-        Some(hundredths) => hundredths_text(hundredths),
-        None => {
-            let mut text = NumberText::new();
-            text.push_str("-");
-            text
-        }
-    }
-}
 
 /// The row of a pair by matchpoints.
 fn share_row(format: Format, names: &str, ranked: &Ranked) -> PageText
@@ -57,7 +27,7 @@ fn share_row(format: Format, names: &str, ranked: &Ranked) -> PageText
     let pair = number_text(u32::from(ranked.pair));
     let value = tenths_text(u64::from(ranked.value.unsigned_abs()));
     let available = tenths_text(u64::from(ranked.available));
-    let percent = percent_cell(share_percent(ranked));
+    let percent = percent_text(share_percent(ranked));
     let cells = [
         place.as_str().as_bytes(),
         pair.as_str().as_bytes(),

@@ -1,5 +1,5 @@
 //! Connections to a listener of the same process.
-use super::script::{SOLVED_BOARD, failing_disk};
+use super::script::{failing_disk, solved_board};
 use super::{MOVEMENT, expect_eq, expect_formatted, expect_run};
 use bridge_endings::Cache;
 use club_commands::{RunFault, open_session, serve_connections};
@@ -95,7 +95,7 @@ fn a_store_that_fails_ends_the_run(rt: HostRuntime) -> Result<(), Fail> {
 fn a_connection_uses_the_cache(rt: HostRuntime) -> Result<(), Fail> {
     let alloc = rt.alloc();
     let listener = listening(&rt)?;
-    let client = sent(&rt, &listener, SOLVED_BOARD)?;
+    let client = sent(&rt, &listener, solved_board(alloc)?.as_str())?;
     let mut cache = Cache::new(alloc, 1)?;
     let Ok(mut store) = open_session(alloc, failing_disk(&rt, alloc, u64::MAX)?) else {
         return Err(Fail::from("a session"));

@@ -11,9 +11,8 @@ use std::rt::Files;
 use std::test::Fail;
 use std::time::Clock;
 
-// The disk is neither made nor touched where the configuration is refused.
 #[test]
-fn a_bad_configuration_leaves_the_disk(rt: HostRuntime) -> Result<(), Fail> {
+fn a_bad_configuration_makes_no_disk(rt: HostRuntime) -> Result<(), Fail> {
     let (disk, config) = ("bridge_club_bad.disk", "bridge_club_bad.txt");
     let words = ["format", disk, config];
     let words = words.as_slice();
@@ -37,6 +36,15 @@ fn a_bad_configuration_leaves_the_disk(rt: HostRuntime) -> Result<(), Fail> {
     }
     fs::write(&rt, config, b"")?;
     expect_run(&rt, rt.alloc(), words, "", (3, "", "config line 1: Form\n"));
+    fs::remove_file(&rt, config)?;
+    Ok(())
+}
+
+#[test]
+fn a_bad_configuration_leaves_the_disk(rt: HostRuntime) -> Result<(), Fail> {
+    let (disk, config) = ("bridge_club_kept.disk", "bridge_club_kept.txt");
+    let words = ["format", disk, config];
+    let words = words.as_slice();
     fs::write(&rt, disk, b"kept")?;
     let mut text = club_with(rt.alloc(), MOVEMENT)?;
     text.push_str("PAIR 5 Ida 51 Jan 52\n")?;

@@ -9,44 +9,18 @@ use std::alloc::{AllocError, Global};
 use std::io::Write;
 use std::process::Abort;
 use std::test::Fail;
+use test_texts::SEVEN_TRICKS;
 
-/// A board of one suit to each hand, seven spades by North, seven tricks of the highest cards, and what is left solved.
-pub const SOLVED_BOARD: &str =
-    "DEAL 100 1 N:AKQJT98765432... .AKQJT98765432.. ..AKQJT98765432. ...AKQJT98765432
-CALL 11 1 0 7S
-CALL 31 1 1 PASS
-CALL 12 1 2 PASS
-CALL 32 1 3 PASS
-CARD 31 1 0 HA
-CARD 11 1 1 DA
-CARD 32 1 2 CA
-CARD 11 1 3 SA
-CARD 11 1 4 SK
-CARD 31 1 5 HK
-CARD 11 1 6 DK
-CARD 32 1 7 CK
-CARD 11 1 8 SQ
-CARD 31 1 9 HQ
-CARD 11 1 10 DQ
-CARD 32 1 11 CQ
-CARD 11 1 12 SJ
-CARD 31 1 13 HJ
-CARD 11 1 14 DJ
-CARD 32 1 15 CJ
-CARD 11 1 16 ST
-CARD 31 1 17 HT
-CARD 11 1 18 DT
-CARD 32 1 19 CT
-CARD 11 1 20 S9
-CARD 31 1 21 H9
-CARD 11 1 22 D9
-CARD 32 1 23 C9
-CARD 11 1 24 S8
-CARD 31 1 25 H8
-CARD 11 1 26 D8
-CARD 32 1 27 C8
-SOLVE 100 1 1 1 28
-";
+/// Lines of a board, and what is left solved.
+pub fn solved_board(alloc: Global) -> Result<String, AllocError> {
+    let mut text = String::new(alloc);
+    text.push_str(SEVEN_TRICKS)?;
+    text.push_str(
+        "SOLVE 100 1 1 1 28
+",
+    )?;
+    Ok(text)
+}
 
 // What is left is solved with the cache.
 #[test]
@@ -56,7 +30,8 @@ fn a_script_uses_the_cache(rt: HostRuntime) -> Result<(), Fail> {
     let Ok(mut store) = open_session(alloc, failing_disk(&rt, alloc, u64::MAX)?) else {
         return Err(Fail::from("a session"));
     };
-    let mut input = SOLVED_BOARD.as_bytes();
+    let lines = solved_board(alloc)?;
+    let mut input = lines.as_bytes();
     let mut output = Vec::new(alloc);
     let result = serve_store(&mut store, &mut cache, &mut input, &mut output);
     expect_eq(&rt, result, Ok(()), "served");

@@ -11,22 +11,6 @@ use std::process::Abort;
 use std::test::Fail;
 use table_server::{ServeFault, Served, a_power_cut_keeps_what_is_answered, serve};
 
-/// Two tables, one round, one board: pairs 1 and 3 at table 1, pairs 2 and 4 at table 2.
-pub const CLUB: &str = "EVENT Club-Night
-SITE Town-Hall
-DATE 2026.03.14
-SCORING MP
-BOARDS 1
-MOVEMENT 2 1 1 4 2
-ROW 1 1 1 3 1
-ROW 1 2 2 4 1
-DIRECTOR 100
-PAIR 1 Ann 11 Bob 12
-PAIR 2 Cat 21 Dan 22
-PAIR 3 Eve 31 Fay 32
-PAIR 4 Gus 41 Hal 42
-";
-
 /// A store over a disk of which one call may fail.
 pub type ClubStore = Store<Fuse<MemoryDisk>, Session>;
 

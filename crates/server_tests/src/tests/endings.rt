@@ -1,46 +1,13 @@
 //! The worth of endings, asked over a store with a cache and without.
-use super::disk::{CLUB, ClubStore, answers, opened, serve_with, served};
+use super::disk::{ClubStore, answers, opened, serve_with, served};
 use super::expect_eq;
 use bridge_endings::Cache;
 use std::alloc::Global;
 use std::test::Fail;
+use test_texts::{SEVEN_TRICKS, TWO_TABLES};
 
-/// A deal of one suit to each hand, seven spades by North, and eight tricks of the highest cards.
-const EIGHT_TRICKS: &str =
-    "DEAL 100 1 N:AKQJT98765432... .AKQJT98765432.. ..AKQJT98765432. ...AKQJT98765432
-CALL 11 1 0 7S
-CALL 31 1 1 PASS
-CALL 12 1 2 PASS
-CALL 32 1 3 PASS
-CARD 31 1 0 HA
-CARD 11 1 1 DA
-CARD 32 1 2 CA
-CARD 11 1 3 SA
-CARD 11 1 4 SK
-CARD 31 1 5 HK
-CARD 11 1 6 DK
-CARD 32 1 7 CK
-CARD 11 1 8 SQ
-CARD 31 1 9 HQ
-CARD 11 1 10 DQ
-CARD 32 1 11 CQ
-CARD 11 1 12 SJ
-CARD 31 1 13 HJ
-CARD 11 1 14 DJ
-CARD 32 1 15 CJ
-CARD 11 1 16 ST
-CARD 31 1 17 HT
-CARD 11 1 18 DT
-CARD 32 1 19 CT
-CARD 11 1 20 S9
-CARD 31 1 21 H9
-CARD 11 1 22 D9
-CARD 32 1 23 C9
-CARD 11 1 24 S8
-CARD 31 1 25 H8
-CARD 11 1 26 D8
-CARD 32 1 27 C8
-CARD 11 1 28 S7
+/// The eighth trick at table 1.
+const EIGHTH_TRICK: &[u8] = b"CARD 11 1 28 S7
 CARD 31 1 29 H7
 CARD 11 1 30 D7
 CARD 32 1 31 C7
@@ -48,9 +15,10 @@ CARD 32 1 31 C7
 
 /// A store in which eight tricks were played.
 fn played(alloc: Global) -> Result<ClubStore, Fail> {
-    let mut store = opened(alloc, CLUB, u64::MAX)?;
-    let (_, result) = answers(alloc, &mut store, EIGHT_TRICKS.as_bytes());
-    if result != Ok(served(37, 37)) {
+    let mut store = opened(alloc, TWO_TABLES, u64::MAX)?;
+    let (_, seven) = answers(alloc, &mut store, SEVEN_TRICKS.as_bytes());
+    let (_, eighth) = answers(alloc, &mut store, EIGHTH_TRICK);
+    if seven != Ok(served(37, 37)) || eighth != Ok(served(4, 4)) {
         return Err(Fail::from("eight tricks"));
     }
     Ok(store)

@@ -1,7 +1,7 @@
 //! Streams and disks that fail while lines are served.
 use super::disk::{
-    CLUB, ClubStore, DEAL, DEAL_AND_CALL, OPENING_CALLS, after_power_cut, answers, opened,
-    serve_all, served,
+    ClubStore, DEAL, DEAL_AND_CALL, OPENING_CALLS, after_power_cut, answers, opened, serve_all,
+    served,
 };
 use super::expect_eq;
 use super::streams::{Drops, Failing, FullOnce, Pen, Pieces};
@@ -11,6 +11,7 @@ use std::cell::Cell;
 use std::process::Abort;
 use std::test::Fail;
 use table_server::{ServeFault, Served, run_auction};
+use test_texts::TWO_TABLES;
 
 /// The deal and the call are there after a power cut.
 fn expect_confirmed(rt: &impl Abort, alloc: Global, store: ClubStore) -> Result<(), Fail> {
@@ -26,7 +27,7 @@ fn expect_confirmed(rt: &impl Abort, alloc: Global, store: ClubStore) -> Result<
 #[test]
 fn a_write_that_fails(rt: HostRuntime) -> Result<(), Fail> {
     for failing in [Failing::Refuses, Failing::TakesNone] {
-        let mut store = opened(rt.alloc(), CLUB, u64::MAX)?;
+        let mut store = opened(rt.alloc(), TWO_TABLES, u64::MAX)?;
         let shown = Cell::new(0);
         let mut writer = FullOnce {
             bytes: Vec::new(rt.alloc()),
@@ -102,7 +103,7 @@ OK
 // However slowly lines come in, each has the reply that it has where they come in one piece.
 #[test]
 fn lines_that_come_byte_by_byte(rt: HostRuntime) -> Result<(), Fail> {
-    let mut store = opened(rt.alloc(), CLUB, u64::MAX)?;
+    let mut store = opened(rt.alloc(), TWO_TABLES, u64::MAX)?;
     let mut drops = Drops {
         text: LINES.as_bytes(),
     };
@@ -116,7 +117,7 @@ fn lines_that_come_byte_by_byte(rt: HostRuntime) -> Result<(), Fail> {
 // A write that takes a part of what it is given is no fault: the rest is written next.
 #[test]
 fn writes_that_take_two_bytes(rt: HostRuntime) -> Result<(), Fail> {
-    let mut store = opened(rt.alloc(), CLUB, u64::MAX)?;
+    let mut store = opened(rt.alloc(), TWO_TABLES, u64::MAX)?;
     let mut pen = Pen {
         bytes: Vec::new(rt.alloc()),
     };
@@ -135,7 +136,7 @@ fn writes_that_take_two_bytes(rt: HostRuntime) -> Result<(), Fail> {
 // The replies to the lines before the fault are written, and what they accepted is confirmed.
 #[test]
 fn a_read_that_fails(rt: HostRuntime) -> Result<(), Fail> {
-    let mut store = opened(rt.alloc(), CLUB, u64::MAX)?;
+    let mut store = opened(rt.alloc(), TWO_TABLES, u64::MAX)?;
     let shown = Cell::new(0);
     let mut reader = Pieces {
         pieces: &[DEAL_AND_CALL, "", "SYNC\n"],
@@ -154,7 +155,7 @@ fn a_read_that_fails(rt: HostRuntime) -> Result<(), Fail> {
 // The record of the deal is written and synced, and that of the call written: the sync after it fails.
 #[test]
 fn a_sync_that_fails(rt: HostRuntime) -> Result<(), Fail> {
-    let mut store = opened(rt.alloc(), CLUB, OPENING_CALLS + 3)?;
+    let mut store = opened(rt.alloc(), TWO_TABLES, OPENING_CALLS + 3)?;
     let (written, _) = answers(rt.alloc(), &mut store, DEAL.as_bytes());
     expect_eq(&rt, written.as_slice(), b"OK\n".as_slice(), "the deal");
     for (text, lines, accepted) in [("CALL 11 1 0 7S\nSYNC\nSEE 11\n", 3, 1), ("SYNC\n", 1, 0)] {
@@ -174,7 +175,7 @@ fn a_sync_that_fails(rt: HostRuntime) -> Result<(), Fail> {
 // Two changes that come together take three calls of the disk: a record each, and one sync. The fourth call fails.
 #[test]
 fn changes_are_synced_together(rt: HostRuntime) -> Result<(), Fail> {
-    let mut store = opened(rt.alloc(), CLUB, OPENING_CALLS + 3)?;
+    let mut store = opened(rt.alloc(), TWO_TABLES, OPENING_CALLS + 3)?;
     for (text, due) in [
         (DEAL_AND_CALL, "OK\nOK\n"),
         ("CALL 31 1 1 PASS\n", "ERR 40 Disk\n"),
@@ -188,7 +189,7 @@ fn changes_are_synced_together(rt: HostRuntime) -> Result<(), Fail> {
 // The write of the second record fails: the first of the two lines that are held is not answered `OK` either.
 #[test]
 fn a_write_of_a_record_that_fails(rt: HostRuntime) -> Result<(), Fail> {
-    let mut store = opened(rt.alloc(), CLUB, OPENING_CALLS + 1)?;
+    let mut store = opened(rt.alloc(), TWO_TABLES, OPENING_CALLS + 1)?;
     let (written, _) = answers(rt.alloc(), &mut store, DEAL_AND_CALL.as_bytes());
     let due = b"ERR 40 Disk\nERR 40 Disk\n".as_slice();
     expect_eq(&rt, written.as_slice(), due, "both lines");
@@ -200,7 +201,7 @@ fn shown_before_reads(
     rt: &HostRuntime,
     pieces: &[&'static str],
 ) -> Result<(Vec<usize>, usize), Fail> {
-    let mut store = opened(rt.alloc(), CLUB, u64::MAX)?;
+    let mut store = opened(rt.alloc(), TWO_TABLES, u64::MAX)?;
     let shown = Cell::new(0);
     let mut reader = Pieces {
         pieces,

@@ -1,10 +1,11 @@
 //! A store in the last epoch, and a board that is shuffled.
-use super::disk::{CLUB, ClubStore, answers, opened, reopened, served};
+use super::disk::{ClubStore, answers, opened, reopened, served};
 use super::expect_eq;
 use bridge_cards::{BoardNumber, deal_board};
 use sector_disk::{MemoryDisk, SectorDisk};
 use std::alloc::Global;
 use std::test::Fail;
+use test_texts::TWO_TABLES;
 
 /// Writes this epoch into a header or a part.
 fn put_epoch(disk: &mut MemoryDisk, at: u32, epoch: u64) -> Result<(), Fail> {
@@ -22,7 +23,9 @@ fn put_epoch(disk: &mut MemoryDisk, at: u32, epoch: u64) -> Result<(), Fail> {
 /// A store of a new session in the last epoch: the snapshot of epoch 2 is made one of the last epoch but one, of the same
 /// parity, and is then the later one.
 fn in_the_last_epoch(alloc: Global) -> Result<ClubStore, Fail> {
-    let mut disk = opened(alloc, CLUB, u64::MAX)?.into_disk().into_inner();
+    let mut disk = opened(alloc, TWO_TABLES, u64::MAX)?
+        .into_disk()
+        .into_inner();
     for at in 512..522 {
         put_epoch(&mut disk, at, u64::MAX - 1)?;
     }
@@ -48,7 +51,7 @@ fn once_the_epochs_are_spent(rt: HostRuntime) -> Result<(), Fail> {
 
 #[test]
 fn a_board_is_dealt_from_its_seed(rt: HostRuntime) -> Result<(), Fail> {
-    let mut store = opened(rt.alloc(), CLUB, u64::MAX)?;
+    let mut store = opened(rt.alloc(), TWO_TABLES, u64::MAX)?;
     let line = "SHUFFLE 100 1 00000000000000000000000000000000000000000000000000000000000000ff\n";
     let (written, _) = answers(rt.alloc(), &mut store, line.as_bytes());
     expect_eq(&rt, written.as_slice(), b"OK\n".as_slice(), "shuffled");

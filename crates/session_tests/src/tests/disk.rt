@@ -1,6 +1,6 @@
 //! A session's store on a disk: worked power cuts, disks that are refused, and a disk in a file.
 use super::expect_eq;
-use super::script::{CLUB, action, after, session_of, written};
+use super::script::{action, after, session_of, written};
 use bridge_session::{Action, Session};
 use sector_disk::{Fail as FailOf, FileDisk, Fuse, MemoryDisk, SectorDisk};
 use session_store::{Store, StoreFault, SubmitFault, format};
@@ -8,6 +8,7 @@ use std::alloc::{AllocError, Global};
 use std::fs;
 use std::process::Abort;
 use std::test::Fail;
+use test_texts::TWO_TABLES;
 
 /// A store over a disk whose calls may fail from one on.
 pub type ClubStore = Store<Fuse<MemoryDisk>, Session>;
@@ -25,7 +26,7 @@ pub fn with_format(rt: &impl Abort, disk: MemoryDisk, session: &Session) -> Memo
 
 /// A disk of 2,048 sectors with the club's opening session.
 pub fn formatted(rt: &impl Abort, alloc: Global) -> Result<MemoryDisk, AllocError> {
-    let session = session_of(rt, alloc, CLUB)?;
+    let session = session_of(rt, alloc, TWO_TABLES)?;
     Ok(with_format(rt, MemoryDisk::new(alloc, 2048)?, &session))
 }
 
@@ -103,7 +104,7 @@ pub fn expect_sector(
 // 2,048 writes, a sync, 9 writes, a sync, a write and a sync.
 #[test]
 fn formatting_takes_2061_calls(rt: HostRuntime) -> Result<(), Fail> {
-    let session = session_of(&rt, rt.alloc(), CLUB)?;
+    let session = session_of(&rt, rt.alloc(), TWO_TABLES)?;
     for (passes, is_done) in [(2060, false), (2061, true)] {
         let disk = MemoryDisk::new(rt.alloc(), 2048)?;
         let fuse = Fuse::new(disk, passes, FailOf::Always, false);
@@ -252,7 +253,7 @@ fn disks_that_are_not_opened(rt: HostRuntime) -> Result<(), Fail> {
         expect_eq(&rt, fault, Some(due), due);
     }
     let disk = MemoryDisk::new(rt.alloc(), 2047)?;
-    let fault = format(disk, &session_of(&rt, rt.alloc(), CLUB)?).err();
+    let fault = format(disk, &session_of(&rt, rt.alloc(), TWO_TABLES)?).err();
     let fault = fault.map(|(_, fault)| fault);
     expect_eq(&rt, fault, Some(StoreFault::TooSmall), "format");
     Ok(())
@@ -261,7 +262,7 @@ fn disks_that_are_not_opened(rt: HostRuntime) -> Result<(), Fail> {
 // The file is made, formatted, opened twice and taken away.
 #[test]
 fn a_session_is_kept_in_a_file(rt: HostRuntime) -> Result<(), Fail> {
-    let session = session_of(&rt, rt.alloc(), CLUB)?;
+    let session = session_of(&rt, rt.alloc(), TWO_TABLES)?;
     let name = "bridge_session_test.disk";
     let disk = FileDisk::create(&rt, name)?;
     drop(format(disk, &session).ok().expect(&rt, "a formatted file"));

@@ -1,13 +1,14 @@
 //! A fault and a power cut at every call of the disk while the first actions of a worked session are taken.
 use super::disk::{formatted, opened, picks, with_format};
 use super::expect_eq;
-use super::script::{CLUB, action, run, session_of, written};
+use super::script::{action, run, session_of, written};
 use bridge_session::Session;
 use sector_disk::{Fail as FailOf, Fuse, MemoryDisk, SectorDisk};
 use session_store::{CheckpointFault, ConfirmFault, Store, StoreFault, SubmitFault, format};
 use std::alloc::{AllocError, Global};
 use std::process::Abort;
 use std::test::Fail;
+use test_texts::TWO_TABLES;
 
 /// What stands on the disk from an epoch before.
 const FIRST: &str =
@@ -128,7 +129,7 @@ fn go_on(rt: &impl Abort, alloc: Global, disk: Fuse<MemoryDisk>, tally: &mut Tal
 
 /// The session after so many of the actions.
 fn after_first(rt: &impl Abort, alloc: Global, count: usize) -> Result<Session, AllocError> {
-    let mut session = session_of(rt, alloc, CLUB)?;
+    let mut session = session_of(rt, alloc, TWO_TABLES)?;
     let mut taken = 0;
     for line in FIRST.split('/').chain(THEN.split('/')) {
         let is_action = line != "CONFIRM" && line != "CHECKPOINT";
@@ -224,7 +225,7 @@ fn fail_formatting(
     from: usize,
     to: usize,
 ) -> Result<(), AllocError> {
-    let session = session_of(rt, alloc, CLUB)?;
+    let session = session_of(rt, alloc, TWO_TABLES)?;
     let due = written(alloc, &session)?;
     let mut disk = prepared(rt, alloc)?.0;
     for calls in from..to {

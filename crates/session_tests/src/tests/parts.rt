@@ -1,10 +1,11 @@
 //! The parts of a session, byte for byte.
 use super::expect_eq;
-use super::script::{A_SLAM, CLUB, after, run, session_of};
+use super::script::{A_SLAM, after, run, session_of};
 use arrayvec::ArrayVec;
 use bridge_session::Session;
 use std::process::Abort;
 use std::test::Fail;
+use test_texts::TWO_TABLES;
 
 /// Fails where the part of that index has other bytes.
 fn expect_part(rt: &impl Abort, session: &Session, index: u32, bytes: &[u8]) -> Result<(), Fail> {
@@ -19,7 +20,7 @@ fn expect_part(rt: &impl Abort, session: &Session, index: u32, bytes: &[u8]) -> 
 
 #[test]
 fn parts_of_a_new_session(rt: HostRuntime) -> Result<(), Fail> {
-    let session = session_of(&rt, rt.alloc(), CLUB)?;
+    let session = session_of(&rt, rt.alloc(), TWO_TABLES)?;
     expect_eq(&rt, session.parts(), 9, "parts");
     for (index, bytes) in [
         (1, b"\x01\x03\x01\x02\x04\x01".as_slice()),

@@ -6,22 +6,7 @@ use bridge_session::{Action, Session};
 use std::alloc::{AllocError, Global};
 use std::process::Abort;
 use table_server::{Asked, asked_by};
-
-/// Two tables, one round, one board: pairs 1 and 3 at table 1, pairs 2 and 4 at table 2.
-pub const CLUB: &str = "EVENT Club-Night
-SITE Town-Hall
-DATE 2026.03.14
-SCORING MP
-BOARDS 1
-MOVEMENT 2 1 1 4 2
-ROW 1 1 1 3 1
-ROW 1 2 2 4 1
-DIRECTOR 100
-PAIR 1 Ann 11 Bob 12
-PAIR 2 Cat 21 Dan 22
-PAIR 3 Eve 31 Fay 32
-PAIR 4 Gus 41 Hal 42
-";
+use test_texts::TWO_TABLES;
 
 /// North of pair 1 bids a grand slam in spades, one suit in each hand.
 pub const A_SLAM: &str =
@@ -59,7 +44,7 @@ pub fn run(rt: &impl Abort, session: &mut Session, texts: &[&str]) {
 
 /// The session of the club after those actions.
 pub fn after(rt: &impl Abort, alloc: Global, texts: &[&str]) -> Result<Session, AllocError> {
-    let mut session = session_of(rt, alloc, CLUB)?;
+    let mut session = session_of(rt, alloc, TWO_TABLES)?;
     run(rt, &mut session, texts);
     Ok(session)
 }

@@ -14,23 +14,8 @@ use std::io::{Error, ErrorKind, Read, Result};
 use std::random::RandomSource;
 use std::test::Fail;
 use table_pages::{HostNames, TablePages, limits};
+use test_texts::TWO_TABLES;
 use web_loop::{Turn, take_turn};
-
-/// Two tables, one round, one board.
-const CLUB: &str = "EVENT Club-Night
-SITE Town-Hall
-DATE 2026.03.14
-SCORING MP
-BOARDS 1
-MOVEMENT 2 1 1 4 2
-ROW 1 1 1 3 1
-ROW 1 2 2 4 1
-DIRECTOR 100
-PAIR 1 Ann 11 Bob 12
-PAIR 2 Cat 21 Dan 22
-PAIR 3 Eve 31 Fay 32
-PAIR 4 Gus 41 Hal 42
-";
 
 /// A store of a session on a disk in memory.
 pub type ClubStore = Store<MemoryDisk, Session>;
@@ -49,7 +34,7 @@ fn open(alloc: Global, disk: MemoryDisk) -> Option<ClubStore>
 pub fn opened(alloc: Global) -> std::result::Result<ClubStore, Fail>
     ensures { IfOk result (λ store. is_settled store.failed store.pending ≡ true) }
 {
-    let Ok(config) = read_config(CLUB.as_bytes()) else {
+    let Ok(config) = read_config(TWO_TABLES.as_bytes()) else {
         return Err(Fail::from("a configuration"));
     };
     let session = Session::new(alloc, config)?;

@@ -1,9 +1,10 @@
 //! Two texts with one byte changed. How many of them are accepted was counted outside this repository, by a reader
 //! written from `docs/FORMATS.md` alone.
-use super::texts::{MITCHELL, ROWS};
+use super::texts::MITCHELL;
 use crate::tests::expect_eq;
 use bridge_config::read_config;
 use std::alloc::{AllocError, Global};
+use test_texts::TWO_TABLES;
 
 /// What stands for a byte, beside the byte that is one greater.
 const BYTES: [u8; 8] = [b' ', b'0', b'9', b'A', b'.', b'\n', b'\r', 200];
@@ -30,7 +31,7 @@ fn accepted_bytes(alloc: Global, text: &str) -> Result<usize, AllocError> {
 
 #[test]
 fn bytes_changed(rt: HostRuntime) -> Result<(), AllocError> {
-    for (text, due) in [(ROWS, 352), (MITCHELL, 329)] {
+    for (text, due) in [(TWO_TABLES, 352), (MITCHELL, 329)] {
         let accepted = accepted_bytes(rt.alloc(), text)?;
         expect_eq(&rt, accepted, due, text);
     }

@@ -1,13 +1,13 @@
 //! The text of two tables, `examples/rows.txt`. Changes of it that are refused stand in `examples/refused_rows.txt`.
-use super::texts::ROWS;
 use crate::tests::expect_eq;
 use bridge_config::{Key, read_config};
 use bridge_movement::{Row, Shape};
 use std::test::Fail;
+use test_texts::TWO_TABLES;
 
 #[test]
 fn no_change(rt: HostRuntime) -> Result<(), Fail> {
-    let config = read_config(ROWS.as_bytes())?;
+    let config = read_config(TWO_TABLES.as_bytes())?;
     let fields = config.fields();
     let shape = Shape {
         tables: 2,

@@ -2,13 +2,13 @@ use Rattle.std.proofs.Common.{◌++◌}
 use Rattle.std.specs.Option.{option_copied}
 use Rattle.line_text.specs.Streams.{between}
 use Rattle.line_text.proofs.Streams.{takes_prefix, prefix_longer, written_error}
-use Rattle.bridge_results.specs.BoardText.{board_head, hands_text, tables_text, board_text}
+use Rattle.bridge_results.specs.BoardText.{board_head, hands_text, board_tables, board_text}
 use Rattle.bridge_results.proofs.pages.board.write_board.Goals as goal
 
 pub returns-in_err-write_hands : goal.returns-in_err-write_hands
 returns-in_err-write_hands g c =
     let deal = option_copied c.args.deal in
-    let tables = tables_text c.args.format c.args.scoring c.args.lines.now in
+    let tables = board_tables c.args.format c.args.scoring c.args.lines.now in
     let before = g.W.Write.contents c.args.writer.now in
     let between_them = g.W.Write.contents c.write_head.new.writer in
     let after = g.W.Write.contents c.write_hands.new.writer in

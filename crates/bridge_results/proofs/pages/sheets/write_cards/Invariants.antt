@@ -3,7 +3,7 @@ use Rattle.std.specs.Prelude.{flat_map}
 use Rattle.std.specs.List.{range_with_len}
 use Rattle.line_text.specs.Streams.{between, Takes}
 use Rattle.bridge_results.specs.ResultsText.{card_on}
-use Rattle.bridge_results.proofs.pages.page.write_cards.Given as goal
+use Rattle.bridge_results.proofs.pages.sheets.write_cards.Given as goal
 
 abbrev pub invariant-loop-pair : goal.invariant-loop-pair
 invariant-loop-pair g l = record {

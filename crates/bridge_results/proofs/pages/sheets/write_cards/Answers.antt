@@ -1,7 +1,7 @@
 use Rattle.std.proofs.Common.{arith}
 use Rattle.bridge_results.specs.ResultsText.{card_on}
 use Rattle.bridge_results.proofs.WrittenRows.{number_taken, number_failed, numbers_taken}
-use Rattle.bridge_results.proofs.pages.page.write_cards.Goals as goal
+use Rattle.bridge_results.proofs.pages.sheets.write_cards.Goals as goal
 
 pub returns-in_err-write_card_of : goal.returns-in_err-write_card_of
 returns-in_err-write_card_of g c =

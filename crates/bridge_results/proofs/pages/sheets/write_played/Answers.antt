@@ -1,7 +1,7 @@
 use Rattle.std.proofs.Common.{sym, ap, ◌∙◌}
 use Rattle.bridge_config.specs.ConfigValue.{ConfigValue}
 use Rattle.bridge_results.proofs.PageParts.{played_some}
-use Rattle.bridge_results.proofs.pages.page.write_played.Goals as goal
+use Rattle.bridge_results.proofs.pages.sheets.write_played.Goals as goal
 
 pub returns : goal.returns
 returns g c =

@@ -1,6 +1,6 @@
 use Rattle.page_layout.proofs.Walk.{then_written}
 use Rattle.bridge_results.proofs.PageParts.{then_failed}
-use Rattle.bridge_results.proofs.pages.page.write_card_sheet.Goals as goal
+use Rattle.bridge_results.proofs.pages.sheets.write_card_sheet.Goals as goal
 
 pub returns-in_err-write_all_cards : goal.returns-in_err-write_all_cards
 returns-in_err-write_all_cards g c =

@@ -3,7 +3,7 @@ use Rattle.std.specs.Prelude.{flat_map}
 use Rattle.std.specs.List.{range_with_len}
 use Rattle.line_text.specs.Streams.{between, Takes}
 use Rattle.bridge_results.specs.ResultsText.{board_on}
-use Rattle.bridge_results.proofs.pages.page.write_boards.Given as goal
+use Rattle.bridge_results.proofs.pages.sheets.write_boards.Given as goal
 
 abbrev pub invariant-loop-number : goal.invariant-loop-number
 invariant-loop-number g l = record {

@@ -1,7 +1,7 @@
 use Rattle.std.proofs.Common.{ap, ◌∙◌}
 use Rattle.bridge_config.specs.ConfigValue.{ConfigValue}
 use Rattle.bridge_results.specs.ResultsText.{all_cards}
-use Rattle.bridge_results.proofs.pages.page.write_all_cards.Goals as goal
+use Rattle.bridge_results.proofs.pages.sheets.write_all_cards.Goals as goal
 
 pub returns : goal.returns
 unfolding all_cards

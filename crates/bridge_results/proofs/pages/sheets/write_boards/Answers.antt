@@ -1,7 +1,7 @@
 use Rattle.std.proofs.Common.{arith}
 use Rattle.bridge_results.specs.ResultsText.{board_on, all_boards}
 use Rattle.bridge_results.proofs.WrittenRows.{number_taken, number_failed, numbers_taken}
-use Rattle.bridge_results.proofs.pages.page.write_boards.Goals as goal
+use Rattle.bridge_results.proofs.pages.sheets.write_boards.Goals as goal
 
 pub returns-in_err-write_board_of : goal.returns-in_err-write_board_of
 unfolding all_boards
