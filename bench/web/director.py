@@ -8,6 +8,7 @@ killed, that the ranking and the results shown in the end are what `rank` and `r
 ranking, results and games of all lines that were sent, and that nothing of the director's comes to a player."""
 import os
 import random
+import re
 import subprocess
 import sys
 import tempfile
@@ -369,6 +370,18 @@ def told_by(disk, *words):
     return subprocess.run([PROGRAM, words[0], disk, *words[1:]], check=True, stdout=subprocess.PIPE).stdout.decode()
 
 
+def are_shuffled(page, evening):
+    """Boards that one click shuffles have deals of their own, and each click draws a seed of its own."""
+    assert page.window.value("drawSeed() !== drawSeed() && /^[0-9a-f]{64}$/.test(drawSeed())"), "two seeds are one"
+    deals = {}
+    for board, first, hands in re.findall(r'\[Board "(\d+)"\].*?\[Deal "(\w):([^"]*)"\]', told_by(evening.disk, "pbn"), re.DOTALL):
+        from_first = hands.split(" ")
+        turns = "NESW".index(first)
+        deals[int(board)] = tuple(from_first[(seat - turns) % 4] for seat in range(4))
+    shuffled = [hands for board, hands in deals.items() if board > 2]
+    assert len(shuffled) > 1 and len(set(shuffled)) == len(shuffled), "two shuffled boards have one deal"
+
+
 def printed(evening):
     """The lines of each field as `rank` prints them."""
     return [part.splitlines()[1:] for part in told_by(evening.disk, "rank").split("FIELD ")[1:]]
@@ -416,6 +429,7 @@ def main():
             page.goes_on()
             assert not complaints(evening.windows), complaints(evening.windows)
             evening.server.kill()
+            are_shuffled(page, evening)
             assert shown == printed(evening), f"{shown} in place of {printed(evening)}"
             assert text == told_by(evening.disk, "results"), "the results shown are not those of the command"
             other = by_script(evening, work)

@@ -175,6 +175,18 @@ def other_sites(browser, disk):
     site.shutdown()
 
 
+def leaves(window):
+    """Who leaves is asked for a key, in the next seconds too and on a page loaded anew, and the window keeps none."""
+    window.click("#leave")
+    for is_loaded_anew in [False, True]:
+        if is_loaded_anew:
+            window.go(f"http://127.0.0.1:{PORT}/")
+        window.wait("document.getElementById('key')")
+        time.sleep(2.5)
+        assert window.value("document.getElementById('key') && document.getElementById('key').value === ''"), "who left is shown a table"
+        assert window.value("sessionStorage.length + localStorage.length + document.cookie.length") == 0, "a key is kept"
+
+
 def main():
     config = [line.split(" ") for line in lines_of("rows.txt")]
     keys = {line[1]: (line[3], line[5]) for line in config if line[0] == "PAIR"}
@@ -238,6 +250,7 @@ def main():
             windows["11"].wait("document.getElementById('main').innerText.includes('Ranking')")
             picture(windows["11"], "closed")
             picture(windows["100"], "director")
+            leaves(windows["12"])
             assert not complaints(windows), complaints(windows)
             other_sites(browser, disk)
         finally:

@@ -3,6 +3,7 @@ mod guesses;
 mod peer;
 mod posted;
 mod requests;
+mod turns;
 
 use std::fmt::Debug;
 use std::process::Abort;

@@ -1,0 +1,144 @@
+//! How a turn ends, by what the peer gives and takes.
+use super::expect_eq;
+use super::peer::pages;
+use http_server::Connection;
+use std::hash::RandomState;
+use std::io::{Error, ErrorKind, Read, Result, Write};
+use std::test::Fail;
+use table_pages::limits;
+use web_loop::{Turn, take_turn};
+
+/// The bytes of one of two requests.
+const REQUEST_BYTES: usize = 40;
+
+/// Two requests.
+const REQUESTS: &[u8] =
+    b"GET / HTTP/1.1\r\nHost: localhost:4000\r\n\r\nGET / HTTP/1.1\r\nHost: localhost:4000\r\n\r\n";
+
+/// The key 7, which nobody has, posted twice.
+const GUESSES: &[u8] =
+    b"POST /place HTTP/1.1\r\nHost: localhost:4000\r\nContent-Type: application/x-table-lines\r\nContent-Length: 1\r\n\r\n7POST /place HTTP/1.1\r\nHost: localhost:4000\r\nContent-Type: application/x-table-lines\r\nContent-Length: 1\r\n\r\n7";
+
+/// Fails so at its first read, gives so many bytes at each other, and blocks once all are given.
+#[derive(Drop)]
+struct Giver {
+    fails: Option<ErrorKind>,
+    piece: usize,
+    unread: &'static [u8],
+}
+
+impl Read for Giver {
+    fn read(&mut self, buf: &mut [u8]) -> Result<usize> {
+        if let Some(kind) = self.fails.take() {
+            return Err(Error::from(kind));
+        }
+        if self.unread.is_empty() {
+            return Err(Error::from(ErrorKind::WouldBlock));
+        }
+        let most = buf.len().min(self.piece);
+        self.unread.read(&mut buf[..most])
+    }
+}
+
+/// What a write does.
+#[derive(Clone, Copy)]
+enum Taking {
+    All,
+    Nothing,
+    Fails(ErrorKind),
+}
+
+/// Takes so at its first write, and all at each other.
+#[derive(Drop)]
+struct Taker {
+    first: Taking,
+    taken: usize,
+}
+
+impl Write for Taker {
+    fn write(&mut self, buf: &[u8]) -> Result<usize> {
+        let taking = self.first;
+        self.first = Taking::All;
+        match taking {
+            Taking::All => {
+                self.taken = self.taken.saturating_add(buf.len());
+                Ok(buf.len())
+            }
+            Taking::Nothing => Ok(0),
+            Taking::Fails(kind) => Err(Error::from(kind)),
+        }
+    }
+
+    fn flush(&mut self) -> Result<()> {
+        Ok(())
+    }
+}
+
+// A peer that gives or takes nothing now is waited for, and one that is gone is not; an interruption ends nothing; what is
+// pending goes out before more is read; and a turn ends after 64 steps.
+#[test]
+fn turns_end_as_the_peer_has_it(rt: HostRuntime) -> std::result::Result<(), Fail> {
+    let alloc = rt.alloc();
+    let (waits, idle) = (Turn::Waits { moved: true }, Turn::Waits { moved: false });
+    let whole = REQUEST_BYTES;
+    for (row, (fails, piece, first, due, left)) in [
+        (None, whole, Taking::All, waits, 0),
+        (Some(ErrorKind::WouldBlock), whole, Taking::All, idle, 80),
+        (Some(ErrorKind::Interrupted), whole, Taking::All, waits, 0),
+        (
+            Some(ErrorKind::ConnectionReset),
+            whole,
+            Taking::All,
+            Turn::Closes,
+            80,
+        ),
+        (None, whole, Taking::Fails(ErrorKind::WouldBlock), waits, 40),
+        (None, whole, Taking::Fails(ErrorKind::Interrupted), waits, 0),
+        (
+            None,
+            whole,
+            Taking::Fails(ErrorKind::BrokenPipe),
+            Turn::Closes,
+            40,
+        ),
+        (None, whole, Taking::Nothing, Turn::Closes, 40),
+        (None, 1, Taking::All, Turn::GoesOn, 17),
+    ]
+    .into_iter()
+    .enumerate()
+    {
+        let mut pages = pages(alloc)?;
+        let mut connection = Connection::new(alloc, RandomState::new(&rt)?, limits());
+        let mut giver = Giver {
+            fails,
+            piece,
+            unread: REQUESTS,
+        };
+        let mut taker = Taker { first, taken: 0 };
+        let turn = take_turn(&mut connection, &mut pages, &mut giver, &mut taker);
+        expect_eq(&rt, turn, due, row);
+        expect_eq(&rt, giver.unread.len(), left, row);
+    }
+    Ok(())
+}
+
+// A turn ends behind the answer to a key that nobody has, and the next request waits for another turn.
+#[test]
+fn a_wrong_key_ends_the_turn_once_it_is_answered(rt: HostRuntime) -> std::result::Result<(), Fail> {
+    let mut pages = pages(rt.alloc())?;
+    let mut connection = Connection::new(rt.alloc(), RandomState::new(&rt)?, limits());
+    let mut giver = Giver {
+        fails: None,
+        piece: GUESSES.len() / 2,
+        unread: GUESSES,
+    };
+    let mut taker = Taker {
+        first: Taking::All,
+        taken: 0,
+    };
+    let turn = take_turn(&mut connection, &mut pages, &mut giver, &mut taker);
+    expect_eq(&rt, turn, Turn::GoesOn, "turn");
+    expect_eq(&rt, giver.unread.len(), GUESSES.len() / 2, "unread");
+    expect_eq(&rt, taker.taken > 0, true, "answered");
+    Ok(())
+}
