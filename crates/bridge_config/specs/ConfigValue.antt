@@ -30,7 +30,7 @@ key_number key = key.0
 abbrev pub pair_of : PairFields → Pair
 pair_of pair = record { names = map (λ name. name.bytes) pair.names; keys = map key_number pair.keys }
 
--- of a pair's names both, as `Anna and Berta`
+-- both of a pair's names, as `Anna and Berta`
 abbrev pub both_names : List (List ℕ) → List ℕ
 both_names names = (slice_index_or names 0 [] ++ codes " and ") ++ slice_index_or names 1 []
 

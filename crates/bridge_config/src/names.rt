@@ -2,11 +2,11 @@
 ghost use Rattle.std.specs.Prelude.{◌≡◌, ◌≤◌, length};
 ghost use Rattle.bridge_config.specs.ConfigValue.{pair_of, both_names};
 
-use crate::fields::PairFields;
+use crate::fields::{NAME_BYTES, PairFields};
 use arrayvec::ArrayString;
 
-/// The room for both names of a pair, of 24 bytes each, and ` and ` between them.
-pub const NAMES_BYTES: usize = 53;
+/// The room in bytes for both names of a pair, and ` and ` between them.
+pub const NAMES_BYTES: usize = 2 * NAME_BYTES + 5;
 
 /// Both names of a pair.
 pub type NamesText = ArrayString<NAMES_BYTES>;

@@ -6,7 +6,7 @@ use Rattle.bridge_table.specs.declared.record.Record.{Record}
 use Rattle.bridge_movement.specs.declared.row.Row.{Row}
 use Rattle.bridge_ranking.specs.declared.game.Game.{Game}
 use Rattle.bridge_ranking.specs.declared.game.PlayResult.{PlayResult}
-use Rattle.bridge_ranking.specs.declared.game.PlayResult.TheVariants.{Score, Averages}
+use Rattle.bridge_ranking.specs.declared.game.PlayResult.TheVariants.{Score}
 use Rattle.session_rules.specs.Outcome.{outcome_by}
 use Rattle.bridge_table.specs.Kept.{course_kept}
 use Rattle.bridge_ranking.specs.Ranking.{game_by}

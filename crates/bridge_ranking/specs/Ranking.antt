@@ -1,6 +1,6 @@
 -- The ranking of a session: which plays are compared, what a pair gains in them, and the pairs of a field in order (Laws 12C2,
 -- 78). Matchpoints, and what is available, are in tenths.
-use Rattle.std.specs.Prelude.{◌≡◌, ℕ, ◌+◌, ◌-◌, ◌*◌, ◌/◌, ◌==◌, nat_lt, Bool, true, if◌then◌else◌, List, length, map, position, sum_by, flat_map, zip, ℤ, pos, neg_ℤ, Option, Some, None, Result, Ok, Err, AllPairs, IsPermutation}
+use Rattle.std.specs.Prelude.{◌≡◌, ℕ, ◌+◌, ◌-◌, ◌*◌, ◌/◌, ◌==◌, nat_lt, Bool, true, if◌then◌else◌, List, length, map, position, sum_by, flat_map, zip, ℤ, pos, neg_ℤ, Option, Some, None, Ok, Err, AllPairs, IsPermutation}
 use Rattle.std.specs.List.{filter_map, range_with_len}
 use Rattle.std.specs.Option.{option_map, option_map_or}
 use Rattle.std.specs.Ordering.{int_eq}
@@ -27,7 +27,7 @@ use Rattle.bridge_ranking.specs.declared.game.PlayResult.TheVariants.{Score, Ave
 use Rattle.session_rules.specs.declared.average.Average.{Average}
 use Rattle.session_rules.specs.Average.{percent_of}
 use Rattle.session_rules.specs.declared.outcome.Outcome.{Outcome}
-use Rattle.session_rules.specs.declared.outcome.Outcome.TheVariants.{Unfinished, PassedOut, Played, Voided, Adjusted}
+use Rattle.session_rules.specs.declared.outcome.Outcome.TheVariants.{PassedOut, Played, Adjusted}
 use Rattle.session_rules.specs.Answer.{Answer}
 use Rattle.session_rules.specs.declared.refused.Refused.TheVariants.{NoSuchPlay}
 use Rattle.session_rules.specs.Record.{PlainRecord}

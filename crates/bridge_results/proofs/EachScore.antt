@@ -1,5 +1,5 @@
 -- Each frequency counts the lines with its score.
-use Rattle.std.proofs.Common.{◌≡◌, ◌≢◌, ◌+◌, ℕ, zero, suc, Bool, true, false, cond, List, [], ◌∷◌, length, filter, Option, Some, None, refl, sym, ap, ◌∙◌, arith, sum_by, ℤ, get_or, ◌<◌}
+use Rattle.std.proofs.Common.{◌≡◌, ◌≢◌, ◌+◌, ℕ, zero, suc, Bool, true, false, cond, List, [], ◌∷◌, length, filter, Option, Some, None, refl, sym, ap, arith, sum_by, ℤ, get_or}
 use Rattle.std.specs.Prelude.{option_and_then, All, AllPairs}
 use Rattle.std.specs.Bool.{Decides}
 use Rattle.std.specs.List.{cons_option, filter_map, fold}

@@ -12,7 +12,7 @@ pub record IsNearest (earned available hundredths : ℕ) : Type 0 where
   pub above : hundredths * (2 * available) ≤ 20000 * earned + available
   pub below : 20000 * earned < hundredths * (2 * available) + available
 
--- what a pair gained lies between nothing and all that was available to it
+-- what a pair gained lies between nothing and all that was available to it, which is at most 10,000,000
 abbrev pub is_share : Ranked → Bool
 is_share ranked =
     int_le (pos 0) ranked.value && nat_le (unsigned_abs ranked.value) ranked.available && nat_le ranked.available 10000000

@@ -25,7 +25,7 @@ pub fn percent_hundredths(earned: u32, available: u32) -> Option<u32>
 }
 
 /// The share of a pair in hundredths of a per cent, 0 to 10000: what it gained of what was available to it. `None` where
-/// nothing was available, or where what it gained is no share: below 0, or above what was available.
+/// nothing or more than 10,000,000 was available, or where what it gained lies below 0 or above what was available.
 pub fn share_percent(ranked: &Ranked) -> Option<u32>
     ensures { result ≡ share_percent ranked.now }
 {

@@ -1,15 +1,12 @@
 -- How far the current play is, by what each test found.
-use Rattle.std.proofs.Common.{◌≡◌, ℕ, List, Option, Some, None, Result, Ok, refl, sym, ap, ◌∙◌}
-use Rattle.std.specs.Prelude.{ok_or}
+use Rattle.std.proofs.Common.{◌≡◌, ℕ, List, Option, Some, None, Result, Ok, refl}
 use Rattle.bridge_cards.specs.declared.seat.Seat.{Seat}
 use Rattle.bridge_auction.specs.declared.contract.Contract.{Contract}
-use Rattle.bridge_play.specs.Play.{PlayValue}
 use Rattle.session_rules.specs.declared.refused.Refused.{Refused}
-use Rattle.session_rules.specs.declared.refused.Refused.TheVariants.{NotCurrent, NotDealt}
 use Rattle.session_rules.specs.declared.stage.Stage.{Stage}
 use Rattle.bridge_config.specs.Then.{◌>>=◌}
-use Rattle.session_rules.specs.Record.{PlainRecord, contract_in, play_of, playing_in}
-use Rattle.session_rules.specs.See.{shown_of, shown_with}
+use Rattle.session_rules.specs.Record.{PlainRecord, contract_in, play_of}
+use Rattle.session_rules.specs.See.{shown_of}
 use Rattle.session_rules.specs.Stage.{stage_of}
 use Rattle.session_rules.specs.State.{Deals}
 use Rattle.session_rules.proofs.Shown.{shown_current, shown_dealt}

@@ -2,7 +2,7 @@
 use Rattle.std.specs.Prelude.{◌≡◌, ◌⊎◌, ℕ, List, Option, Some, None, Result, Ok, Err, MatchResult}
 use Rattle.std.specs.declared.fs.File.{File}
 use Rattle.std.specs.declared.net.tcp.TcpStream.{TcpStream}
-use Rattle.line_text.specs.Streams.{Stream, Takes, TakesPrefix, IsUntouched}
+use Rattle.line_text.specs.Streams.{Stream, IsUntouched}
 use Rattle.sector_disk.specs.declared.file.FileDisk.{FileDisk}
 use Rattle.sector_disk.specs.declared.system_file.SystemFile.{SystemFile}
 use Rattle.sector_disk.specs.File.{file_disk}
@@ -11,7 +11,7 @@ use Rattle.session_store.specs.declared.fault.StoreFault.TheVariants.{Disk as Di
 use Rattle.session_store.specs.Value.{StoreValue}
 use Rattle.session_rules.specs.declared.action.Action.{Action}
 use Rattle.session_rules.specs.State.{SessionValue}
-use Rattle.table_server.specs.declared.fault.ServeFault.TheVariants.{Write, Accept}
+use Rattle.table_server.specs.declared.fault.ServeFault.TheVariants.{Accept}
 use Rattle.club_commands.specs.declared.fault.RunFault.{RunFault}
 use Rattle.club_commands.specs.declared.fault.RunFault.TheVariants.{Stream as StreamFault, Store}
 use Rattle.club_commands.specs.Connections.{ServesAllConnections, StopsConnections}

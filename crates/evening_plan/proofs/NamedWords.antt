@@ -17,7 +17,6 @@ use Rattle.evening_plan.specs.declared.line_kind.LineKind.{LineKind}
 use Rattle.evening_plan.specs.declared.line_kind.LineKind.TheVariants as kind
 use Rattle.evening_plan.specs.declared.part.Part.{Part}
 use Rattle.evening_plan.specs.declared.part.Part.TheVariants.{Keyword, Name, Date, Scoring as ScoringPart, Number, Split}
-use Rattle.evening_plan.specs.declared.part.Check.{Check}
 use Rattle.evening_plan.specs.declared.part.Check.TheVariants.{Form}
 use Rattle.evening_plan.specs.declared.misfit.Misfit.{Misfit}
 use Rattle.evening_plan.specs.Part.{keyword_of, parts_due, is_formed}

@@ -197,7 +197,7 @@ pub fn push_reason(text: &mut PageText, kind: LineKind, line: Option<&[u8]>, cau
     ensures room { array_vec_len text.new ≤ array_vec_len text.old + 155 }
 {
     match cause {
-        // Never met: of a text that is too long no line is shown, so `write_fault` says it without one.
+        // Never met: `write_fault` says it itself, since of a text that is too long no line is shown.
         ConfigRefused::TooLong => push_bytes(text, b"the text has more than 16384 characters"),
         ConfigRefused::Form => push_form_reason(text, kind, line),
         ConfigRefused::Range => push_range_reason(text, kind, line),

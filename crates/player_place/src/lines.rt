@@ -5,7 +5,7 @@ ghost use Rattle.bridge_config.specs.ConfigValue.{configuration_of};
 ghost use Rattle.table_server.specs.ReplyTexts.{spaced_line, each_spaced};
 ghost use Rattle.player_place.specs.Place.{round_line, player_line, table_words, names_words, contract_words, contract_seen, answer_words, answer_seen};
 
-use crate::names::{NAMES_BYTES, name_of, push_names};
+use crate::names::{TABLE_NAMES_BYTES, name_of, push_names};
 use bridge_auction::{Contract, doubling_text, print_bid};
 use bridge_cards::seat_text;
 use bridge_config::ConfigFields;
@@ -28,7 +28,7 @@ const SEATING_BYTES: usize = 35;
 pub const SEAT_LINE_BYTES: usize = 5 + SEATING_BYTES + 1;
 
 /// The room in bytes for the line of the names: `NAMES`, the names, and the line's end.
-pub const NAMES_LINE_BYTES: usize = 5 + NAMES_BYTES + 1;
+pub const NAMES_LINE_BYTES: usize = 5 + TABLE_NAMES_BYTES + 1;
 
 /// The room in bytes for a contract: a bid of at most 3 bytes with a doubling of at most 2, and declarer's letter, each of
 /// the two behind a space.
@@ -101,9 +101,9 @@ pub fn push_seat_line(
 
 /// Adds the names at the table where the player sits, or `-`.
 fn push_table_names(text: &mut ReplyText, fields: &ConfigFields, seating: Result<Seating, Refused>)
-    requires { array_string_len text.old + NAMES_BYTES ≤ REPLY_BYTES }
+    requires { array_string_len text.old + TABLE_NAMES_BYTES ≤ REPLY_BYTES }
     ensures text { text.new.bytes ≡ text.old.bytes ++ each_spaced (names_words (configuration_of fields.now) seating) }
-    ensures room { array_string_len text.new ≤ array_string_len text.old + NAMES_BYTES }
+    ensures room { array_string_len text.new ≤ array_string_len text.old + TABLE_NAMES_BYTES }
 {
     match seating {
         Ok(seating) => match fields.movement.rows().get(seating.row) {

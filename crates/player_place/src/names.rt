@@ -11,7 +11,7 @@ use table_server::ReplyText;
 use table_server::reply_text::{REPLY_BYTES, push_word};
 
 /// The room in bytes for the names at a table: four, each behind a space.
-pub const NAMES_BYTES: usize = 4 * (1 + NAME_BYTES);
+pub const TABLE_NAMES_BYTES: usize = 4 * (1 + NAME_BYTES);
 
 /// The name of the first or second player of a pair, from 1; none above the last pair.
 pub fn name_of(fields: &ConfigFields, pair: u8, first: bool) -> &str
@@ -27,9 +27,9 @@ pub fn name_of(fields: &ConfigFields, pair: u8, first: bool) -> &str
 
 /// Adds the names of the players in North, East, South and West at the table of a row.
 pub fn push_names(text: &mut ReplyText, fields: &ConfigFields, row: Row)
-    requires { array_string_len text.old + NAMES_BYTES ≤ REPLY_BYTES }
+    requires { array_string_len text.old + TABLE_NAMES_BYTES ≤ REPLY_BYTES }
     ensures text { text.new.bytes ≡ text.old.bytes ++ each_spaced (names_at (configuration_of fields.now).pairs row) }
-    ensures room { array_string_len text.new ≤ array_string_len text.old + NAMES_BYTES }
+    ensures room { array_string_len text.new ≤ array_string_len text.old + TABLE_NAMES_BYTES }
 {
     push_word(text, name_of(fields, row.ns, true));
     push_word(text, name_of(fields, row.ew, true));

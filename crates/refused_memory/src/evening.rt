@@ -7,6 +7,7 @@ use sector_disk::{MemoryDisk, SectorDisk};
 use session_store::{Store, StoreFault, format, is_same_state};
 use std::alloc::Global;
 use table_server::{Asked, asked_by, serve};
+use test_texts::SEVEN_TRICKS;
 
 type ClubStore = Store<MemoryDisk, Session>;
 

@@ -1,5 +1,5 @@
 -- The records of a row and of all rows, one after the other.
-use Rattle.std.proofs.Common.{◌≡◌, ◌+◌, ◌-◌, ◌*◌, ◌<◌, ◌==◌, ℕ, zero, suc, true, false, cond, Result, Ok, Err, List, [], ◌∷◌, ◌++◌, length, get_or, map, take, drop, Option, Some, None, refl, sym, ap, ◌∙◌, subst, arith, add-one, length-append}
+use Rattle.std.proofs.Common.{◌≡◌, ◌+◌, ◌-◌, ◌*◌, ◌<◌, ◌==◌, ℕ, zero, suc, true, false, cond, List, [], ◌∷◌, ◌++◌, length, get_or, map, take, drop, Option, Some, None, refl, sym, ap, ◌∙◌, subst, arith, length-append}
 use Rattle.std.specs.Prelude.{All, IfSome, IfNone, OnSome, slice_get, flat_map, replicate, unwrap_or}
 use Rattle.arrayvec.specs.ArrayVec.{ArrayVec}
 use Rattle.std.specs.List.{range_with_len, list_all}
@@ -10,7 +10,7 @@ use Rattle.std.proofs.lemmas.List.{map-append, length-map, drop_at}
 use Rattle.std.proofs.lemmas.List.FromFn.{length-range_with_len, length-map-range_with_len}
 use Rattle.std.proofs.lemmas.Simd.{map-map}
 use Rattle.std.proofs.lemmas.List.Elements.{All-nil, All-push}
-use Rattle.std.proofs.lemmas.Option.{slice_get_within, slice_get_read, slice_get-map, slice_get_past, get_or_from_slice_get}
+use Rattle.std.proofs.lemmas.Option.{slice_get_read, slice_get-map, slice_get_past, get_or_from_slice_get}
 use Rattle.bridge_movement.specs.declared.row.Row.{Row}
 use Rattle.bridge_movement.specs.Row.{is_live}
 use Rattle.bridge_score.specs.declared.ranking.Scoring.{Scoring}

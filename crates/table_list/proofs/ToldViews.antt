@@ -1,11 +1,10 @@
 -- A view tells how far its table is.
-use Rattle.std.proofs.Common.{◌≡◌, ℕ, Option, Some, None, ok_or, Ok, ap, ◌∙◌, sym}
+use Rattle.std.proofs.Common.{◌≡◌, ℕ}
 use Rattle.session_rules.specs.declared.view.View.{View}
-use Rattle.bridge_movement.specs.declared.row.Row.{Row}
-use Rattle.session_rules.specs.See.{Shown, shown_to}
+use Rattle.session_rules.specs.See.{shown_to}
 use Rattle.session_rules.specs.State.{SessionValue}
 use Rattle.session_rules.specs.Views.{IsViewTo}
-use Rattle.table_list.specs.Tables.{first_key, shown_at, progress_words, view_words}
+use Rattle.table_list.specs.Tables.{progress_words, view_words}
 
 -- the words of a view are those of what it shows
 pub view_tells : (s : SessionValue) (key : ℕ) (view : View) → IsViewTo s key view → view_words view ≡ progress_words (shown_to s key)

@@ -1,5 +1,5 @@
 -- What the director is told of all tables, line by line: no card is among it.
-use Rattle.std.specs.Prelude.{ℕ, ◌-◌, ◌*◌, ◌==◌, if◌then◌else◌, is_some, ok_or, List, [], ◌∷◌, ◌++◌, codes, length, map, slice_get, slice_index_or, Option, None, Some, Result, Ok, Err}
+use Rattle.std.specs.Prelude.{ℕ, ◌-◌, ◌*◌, ◌==◌, if◌then◌else◌, is_some, ok_or, List, [], ◌∷◌, codes, length, map, slice_get, slice_index_or, Option, None, Result, Ok, Err}
 use Rattle.std.specs.List.{range_with_len}
 use Rattle.std.specs.Option.{option_map, option_map_or}
 use Rattle.std.specs.Fmt.{decimal}

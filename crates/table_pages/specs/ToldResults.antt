@@ -1,5 +1,5 @@
 -- The results of a session, told to who may see its rankings.
-use Rattle.std.specs.Prelude.{◌≡◌, ℕ, List, Option, Some, None, Result, Ok, Err}
+use Rattle.std.specs.Prelude.{◌≡◌, ℕ, List, Option, Some, None, Ok, Err}
 use Rattle.bridge_config.specs.declared.fields.Key.{Key}
 use Rattle.bridge_results.specs.ResultsText.{IsPageText}
 use Rattle.page_layout.specs.declared.format.Format.TheVariants.{Plain}

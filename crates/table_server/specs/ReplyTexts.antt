@@ -1,5 +1,5 @@
 -- The replies of the protocol as text. Each line ends with a line feed.
-use Rattle.std.specs.Prelude.{ℕ, ◌/◌, ◌%◌, ◌+◌, List, [], ◌∷◌, ◌++◌, codes, map, flat_map, unsigned_abs, int_le, nat_le, pos, Bool, ◌&&◌, if◌then◌else◌, Option, Some, None}
+use Rattle.std.specs.Prelude.{ℕ, List, [], ◌∷◌, ◌++◌, codes, map, flat_map, unsigned_abs}
 use Rattle.std.specs.Fmt.{decimal, signed_decimal}
 use Rattle.line_text.specs.Decimals.{tenths_text, percent_text}
 use Rattle.line_text.specs.Refusal.{refusal_line}

@@ -1,5 +1,5 @@
 -- Wrong keys, by the addresses that guessed them.
-use Rattle.std.specs.Prelude.{◌≡◌, ◌≢◌, ◌⊎◌, ◌<◌, slice_index_or, ℕ, ◌+◌, ◌*◌, ◌-◌, ◌/◌, Bool, ◌&&◌, ◌==◌, nat_le, nat_lt, if◌then◌else◌, min, max, List, [], ◌∷◌, ◌++◌, length, drop, slice_index, zero, suc}
+use Rattle.std.specs.Prelude.{◌≡◌, ◌≢◌, ◌⊎◌, ◌<◌, slice_index_or, ℕ, ◌+◌, ◌*◌, ◌-◌, ◌/◌, Bool, ◌&&◌, ◌==◌, nat_lt, if◌then◌else◌, min, max, List, [], ◌∷◌, ◌++◌, length, drop, slice_index, zero, suc}
 use Rattle.std.specs.List.{All, list_any, remove}
 use Rattle.std.specs.Time.{instant_nanos}
 use Rattle.std.specs.Net.Addr.{ipv4_bits, ipv6_bits}

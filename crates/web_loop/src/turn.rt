@@ -19,7 +19,7 @@ pub enum Turn {
         /// Whether bytes were read or written before.
         moved: bool,
     },
-    /// It took as many steps as a turn may, and has more to do.
+    /// It took as many steps as a turn may, or answered a wrong key, and has more to do.
     GoesOn,
     /// It is done, or its peer is gone.
     Closes,

@@ -11,14 +11,11 @@ use std::process::Abort;
 use std::test::Fail;
 use test_texts::SEVEN_TRICKS;
 
-/// Lines of a board, and what is left solved.
+/// The lines of `SEVEN_TRICKS`, and what is left of the board solved.
 pub fn solved_board(alloc: Global) -> Result<String, AllocError> {
     let mut text = String::new(alloc);
     text.push_str(SEVEN_TRICKS)?;
-    text.push_str(
-        "SOLVE 100 1 1 1 28
-",
-    )?;
+    text.push_str("SOLVE 100 1 1 1 28\n")?;
     Ok(text)
 }
 

@@ -16,7 +16,7 @@ const GOOD: [[u8; 5]; 4] = [
     [2, 2, 2, 3, 4],
 ];
 
-const TWO_TABLES: Shape = Shape {
+const TWO_TABLE_SHAPE: Shape = Shape {
     tables: 2,
     rounds: 2,
     sets: 4,
@@ -138,7 +138,7 @@ fn mitchell_moves_pairs_and_sets(rt: HostRuntime) {
 fn rows_at_fault_are_refused(rt: HostRuntime) {
     for (changes, refused) in REFUSED {
         let rows = changed(changes);
-        expect_eq(&rt, refusal(TWO_TABLES, &rows), Some(refused), rows);
+        expect_eq(&rt, refusal(TWO_TABLE_SHAPE, &rows), Some(refused), rows);
     }
 }
 
@@ -147,14 +147,19 @@ fn rows_lacking_or_left_over_are_refused(rt: HostRuntime) {
     let rows = GOOD.map(row);
     for count in 0..4 {
         let refused = MovementRefused::MissingRow(count as u16 + 1);
-        let found = refusal(TWO_TABLES, &rows[..count]);
+        let found = refusal(TWO_TABLE_SHAPE, &rows[..count]);
         expect_eq(&rt, found, Some(refused), count);
         expect_eq(&rt, usize::from(refused.row_number()), count + 1, count);
     }
-    expect_eq(&rt, refusal(TWO_TABLES, &rows), None, "all rows");
+    expect_eq(&rt, refusal(TWO_TABLE_SHAPE, &rows), None, "all rows");
     let more = [rows[0], rows[1], rows[2], rows[3], rows[3]];
     let refused = MovementRefused::MissingRow(5);
-    expect_eq(&rt, refusal(TWO_TABLES, &more), Some(refused), "one more");
+    expect_eq(
+        &rt,
+        refusal(TWO_TABLE_SHAPE, &more),
+        Some(refused),
+        "one more",
+    );
 }
 
 #[test]

@@ -74,39 +74,80 @@ impl Write for Taker {
     }
 }
 
+/// What the first read fails with, the bytes of each other, what the first write does, how the turn then ends, how many bytes
+/// are left unread, and whether any are written.
+type Row = (Option<ErrorKind>, usize, Taking, Turn, usize, bool);
+
+const WAITS: Turn = Turn::Waits { moved: true };
+
+const IDLE: Turn = Turn::Waits { moved: false };
+
+const BLOCKS: ErrorKind = ErrorKind::WouldBlock;
+
+const INTERRUPTED: ErrorKind = ErrorKind::Interrupted;
+
+const BOTH: usize = 2 * REQUEST_BYTES;
+
+const ROWS: [Row; 9] = [
+    (None, REQUEST_BYTES, Taking::All, WAITS, 0, true),
+    (Some(BLOCKS), REQUEST_BYTES, Taking::All, IDLE, BOTH, false),
+    (
+        Some(INTERRUPTED),
+        REQUEST_BYTES,
+        Taking::All,
+        WAITS,
+        0,
+        true,
+    ),
+    (
+        Some(ErrorKind::ConnectionReset),
+        REQUEST_BYTES,
+        Taking::All,
+        Turn::Closes,
+        BOTH,
+        false,
+    ),
+    (
+        None,
+        REQUEST_BYTES,
+        Taking::Fails(BLOCKS),
+        WAITS,
+        REQUEST_BYTES,
+        false,
+    ),
+    (
+        None,
+        REQUEST_BYTES,
+        Taking::Fails(INTERRUPTED),
+        WAITS,
+        0,
+        true,
+    ),
+    (
+        None,
+        REQUEST_BYTES,
+        Taking::Fails(ErrorKind::BrokenPipe),
+        Turn::Closes,
+        REQUEST_BYTES,
+        false,
+    ),
+    (
+        None,
+        REQUEST_BYTES,
+        Taking::Nothing,
+        Turn::Closes,
+        REQUEST_BYTES,
+        false,
+    ),
+    (None, 1, Taking::All, Turn::GoesOn, BOTH - 63, true),
+];
+
 // A peer that gives or takes nothing now is waited for, and one that is gone is not; an interruption ends nothing; what is
-// pending goes out before more is read; and a turn ends after 64 steps.
+// pending goes out before more is read; and a turn ends after 64 steps, here 63 reads of a byte and a write.
 #[test]
 fn turns_end_as_the_peer_has_it(rt: HostRuntime) -> std::result::Result<(), Fail> {
     let alloc = rt.alloc();
-    let (waits, idle) = (Turn::Waits { moved: true }, Turn::Waits { moved: false });
-    let whole = REQUEST_BYTES;
-    for (row, (fails, piece, first, due, left)) in [
-        (None, whole, Taking::All, waits, 0),
-        (Some(ErrorKind::WouldBlock), whole, Taking::All, idle, 80),
-        (Some(ErrorKind::Interrupted), whole, Taking::All, waits, 0),
-        (
-            Some(ErrorKind::ConnectionReset),
-            whole,
-            Taking::All,
-            Turn::Closes,
-            80,
-        ),
-        (None, whole, Taking::Fails(ErrorKind::WouldBlock), waits, 40),
-        (None, whole, Taking::Fails(ErrorKind::Interrupted), waits, 0),
-        (
-            None,
-            whole,
-            Taking::Fails(ErrorKind::BrokenPipe),
-            Turn::Closes,
-            40,
-        ),
-        (None, whole, Taking::Nothing, Turn::Closes, 40),
-        (None, 1, Taking::All, Turn::GoesOn, 17),
-    ]
-    .into_iter()
-    .enumerate()
-    {
+    for (row, (fails, piece, first, due, left, is_written)) in ROWS.into_iter().enumerate() {
         let mut pages = pages(alloc)?;
         let mut connection = Connection::new(alloc, RandomState::new(&rt)?, limits());
         let mut giver = Giver {
@@ -118,6 +159,7 @@ fn turns_end_as_the_peer_has_it(rt: HostRuntime) -> std::result::Result<(), Fail
         let turn = take_turn(&mut connection, &mut pages, &mut giver, &mut taker);
         expect_eq(&rt, turn, due, row);
         expect_eq(&rt, giver.unread.len(), left, row);
+        expect_eq(&rt, taker.taken > 0, is_written, row);
     }
     Ok(())
 }

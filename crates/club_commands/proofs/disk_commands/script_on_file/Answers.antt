@@ -1,5 +1,4 @@
 use Rattle.line_text.specs.Streams.{stream}
-use Rattle.std.proofs.Common.{inl}
 use Rattle.club_commands.proofs.Opened.{has_scripted, stops_scripting}
 use Rattle.club_commands.proofs.disk_commands.script_on_file.Goals as goal
 

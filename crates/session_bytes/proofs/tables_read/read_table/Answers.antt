@@ -1,11 +1,10 @@
-use Rattle.std.proofs.Common.{◌≡◌, ◌∙◌, [], ℕ, List, length, map, sym, ap, subst, rules}
+use Rattle.std.proofs.Common.{◌≡◌, ◌∙◌, [], ℕ, List, map, sym, ap, subst}
 use Rattle.std.proofs.lemmas.Bool.{false≢true}
 use Rattle.std.proofs.lemmas.List.{length-map}
 use Rattle.bridge_table.specs.declared.record.Record.{Record}
 use Rattle.bridge_table.specs.Kept.{plain_of, board_kept}
-use Rattle.session_rules.specs.State.{row_boards}
 use Rattle.session_bytes.specs.Parts.{row_parts}
-use Rattle.session_bytes.specs.Reading.{items_of, part_kept, AreRecords, IsRowOf}
+use Rattle.session_bytes.specs.Reading.{items_of, AreRecords, IsRowOf}
 use Rattle.session_bytes.proofs.TablesBack.{full_parts}
 use Rattle.session_bytes.proofs.ReadTables.{records_count, live_count, other_none, other_boards, kept_parts, unplayed_row, row_unplayed, no_records, no_rows, found_both, found_none}
 use Rattle.session_bytes.proofs.tables_read.read_table.Goals as goal

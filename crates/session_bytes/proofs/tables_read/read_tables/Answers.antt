@@ -1,8 +1,8 @@
-use Rattle.std.proofs.Common.{Vec, Global, ◌≡◌, ◌+◌, ◌<◌, ◌≤◌, ◌++◌, ◌∷◌, ◌∙◌, [], ℕ, List, length, get_or, map, take, sym, ap, subst, arith, append_assoc}
+use Rattle.std.proofs.Common.{Vec, Global, ◌≡◌, ◌+◌, ◌<◌, ◌++◌, ◌∷◌, ◌∙◌, [], List, length, get_or, map, take, sym, ap, subst, arith, append_assoc}
 use Rattle.std.specs.Prelude.{All, flat_map, slice_set}
 use Rattle.std.specs.List.{take-map}
 use Rattle.std.specs.Vec.{with_items}
-use Rattle.std.proofs.lemmas.List.{map-append, length-take, length-map, take-append-drop, take_all, append-nil, with_items_is}
+use Rattle.std.proofs.lemmas.List.{map-append, length-take, take-append-drop, take_all, append-nil, with_items_is}
 use Rattle.std.proofs.lemmas.Option.{slice_get-get_or}
 use Rattle.std.proofs.lemmas.List.Elements.{All-push}
 use Rattle.std.proofs.lemmas.Grind.{flat_map-append}

@@ -1,4 +1,4 @@
-use Rattle.std.proofs.Common.{◌≡◌, ℕ, List, Err, refl, sym, subst}
+use Rattle.std.proofs.Common.{◌≡◌, Err, refl, sym, subst}
 use Rattle.session_rules.specs.Answer.{Answer}
 use Rattle.session_rules.specs.State.{ranking_asker}
 use Rattle.table_server.specs.declared.short_reply.ShortReply.TheVariants.{Refused}

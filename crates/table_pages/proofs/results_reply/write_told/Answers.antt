@@ -1,4 +1,4 @@
-use Rattle.std.proofs.Common.{◌≡◌, ℕ, List, Option, None, refl, sym, subst}
+use Rattle.std.proofs.Common.{◌≡◌, Option, None, refl, sym, subst}
 use Rattle.bridge_config.specs.declared.fields.Key.{Key}
 use Rattle.table_server.specs.declared.short_reply.ShortReply.TheVariants.{BadLine}
 use Rattle.table_server.specs.LineWords.{key_of_word}
