@@ -116,10 +116,8 @@ fn three_rounds_by_imps(rt: HostRuntime) -> Result<(), Fail> {
     Ok(())
 }
 
-// Equal scores stand by round, adjusted plays below all scores, void ones last. Averages are of what is available: 20 where
-// two scores are left.
 #[test]
-fn rulings(rt: HostRuntime) -> Result<(), Fail> {
+fn equal_scores_stand_by_round(rt: HostRuntime) -> Result<(), Fail> {
     let mut session = dealt(&rt, rt.alloc(), MATCHPOINTS)?;
     round_1(&rt, &mut session);
     round_2(&rt, &mut session);
@@ -169,6 +167,7 @@ fn void(rt: &impl Abort, session: &mut Session) {
     );
 }
 
+// Adjusted plays stand below all scores, void ones last. Averages are of what is available: 20 where two scores are left.
 #[test]
 fn adjusted_and_void_plays(rt: HostRuntime) -> Result<(), Fail> {
     let mut session = dealt(&rt, rt.alloc(), MATCHPOINTS)?;

@@ -5,9 +5,8 @@ mod evening;
 mod refused;
 mod script;
 
-use bridge_cards::BoardNumber;
 use club_commands::{refuse, run_words, status_of};
-use command_line::{Command, WebHost, WordsFault, read_words};
+use command_line::{WordsFault, read_words};
 use std::alloc::{AllocError, Global};
 use std::fmt::Debug;
 use std::fs;
@@ -19,28 +18,7 @@ use std::random::RandomSource;
 use std::rt::Files;
 use std::test::Fail;
 use std::time::Clock;
-
-/// The first lines of a configuration of two tables, one round and one board.
-pub const HEADING: &str = "EVENT Club-Night
-SITE Town-Hall
-DATE 2026.03.14
-SCORING MP
-BOARDS 1
-";
-
-/// Its movement, of two fields.
-pub const MOVEMENT: &str = "MOVEMENT 2 1 1 4 2
-ROW 1 1 1 3 1
-ROW 1 2 2 4 1
-";
-
-/// Its people.
-pub const PEOPLE: &str = "DIRECTOR 100
-PAIR 1 Ann 11 Bob 12
-PAIR 2 Cat 21 Dan 22
-PAIR 3 Eve 31 Fay 32
-PAIR 4 Gus 41 Hal 42
-";
+use test_texts::TWO_TABLES;
 
 /// Fails with the row where a value is not the one that is due.
 fn expect_eq<T: PartialEq + Debug + Drop>(
@@ -69,35 +47,15 @@ fn expect_run<
     expect_eq(rt, status, due.0, words);
 }
 
-/// The text of a configuration with this movement.
-pub fn club_with(alloc: Global, movement: &str) -> Result<String, AllocError> {
-    let mut text = String::new(alloc);
-    for part in [HEADING, movement, PEOPLE] {
-        text.push_str(part)?;
-    }
-    Ok(text)
-}
-
-/// Writes a configuration with this movement to a file.
-fn write_config<T: Files<File = File>>(
-    rt: &T,
-    alloc: Global,
-    config: &str,
-    movement: &str,
-) -> Result<(), Fail> {
-    fs::write(rt, config, club_with(alloc, movement)?)?;
-    Ok(())
-}
-
-/// Formats a disk with a configuration of this movement.
+/// Formats a disk with the configuration of two tables, which is written to a file.
 fn expect_formatted<
     T: Abort
         + Files<File = File>
         + Net<Listener = TcpListener, Stream = TcpStream>
         + Clock
         + RandomSource,
->(rt: &T, alloc: Global, disk: &str, config: &str, movement: &str) -> Result<(), Fail> {
-    write_config(rt, alloc, config, movement)?;
+>(rt: &T, alloc: Global, disk: &str, config: &str) -> Result<(), Fail> {
+    fs::write(rt, config, TWO_TABLES)?;
     let words = ["format", disk, config];
     expect_run(rt, alloc, &words, "", (0, "formatted\n", ""));
     Ok(())
@@ -123,104 +81,47 @@ impl Write for Broken {
     }
 }
 
-// Numbers are what clap's reader takes, a sign and zeros before them too.
-#[test]
-fn boards_are_read(rt: HostRuntime) -> Result<(), Fail> {
-    let board = BoardNumber::new(7).ok_or("a board")?;
-    for text in ["7", "+7", "007"] {
-        let words = ["auction", text];
-        match read_words(rt.alloc(), words.as_slice()) {
-            Ok(command) => expect_eq(&rt, command, Command::Auction(board), text),
-            Err(_) => return Err(Fail::from("a command")),
-        }
+/// The words of a text, between which single spaces stand.
+fn words_of(alloc: Global, text: &str) -> Result<Vec<&str>, AllocError> {
+    let mut words = Vec::new(alloc);
+    for word in text.split_whitespace() {
+        words.push(word)?;
     }
-    Ok(())
+    Ok(words)
 }
 
-// The largest port and count are taken.
+/// Each command with its words. Numbers are taken from the least to the most, a sign and zeros before them too, and the
+/// options before, between and behind the other words.
+const COMMANDS: [&str; 21] = [
+    "auction 1",
+    "auction 36",
+    "auction +7",
+    "auction 007",
+    "format club.disk club.txt",
+    "script club.disk",
+    "serve club.disk 1 1",
+    "serve club.disk 65535 1000",
+    "serve club.disk +4000 012",
+    "web club.disk 1 1",
+    "web club.disk 65535 1440",
+    "web --address 192.168.4.1 club.disk 4000 60",
+    "web club.disk 4000 --name club.test 60",
+    "web club.disk 4000 60 --name=b --address=a",
+    "rank club.disk",
+    "pbn club.disk",
+    "results club.disk",
+    "results club.disk --html",
+    "results --html club.disk",
+    "check club.disk",
+    "plan club.txt",
+];
+
 #[test]
-fn ports_and_counts_are_read(rt: HostRuntime) -> Result<(), Fail> {
-    let disk = "club.disk";
-    for (port_text, count_text, port, count) in [
-        ("65535", "1000", 65_535, 1000),
-        ("+4000", "012", 4000, 12),
-    ] {
-        let words = ["serve", disk, port_text, count_text];
-        match read_words(rt.alloc(), words.as_slice()) {
-            Ok(command) => expect_eq(&rt, command, Command::Serve { disk, port, count }, port),
-            Err(_) => return Err(Fail::from("a command")),
-        }
-    }
-    Ok(())
-}
-
-/// Fails where the words are no command; which it is, is proved.
-fn expect_command(rt: &impl Abort, alloc: Global, words: &[&str]) {
-    expect_eq(rt, read_words(alloc, words).is_ok(), true, words.last());
-}
-
-// Every board, every count and every number of minutes is taken, and ports all over their range.
-#[test]
-fn every_number_is_read(rt: HostRuntime) -> Result<(), Fail> {
-    let alloc = rt.alloc();
-    for number in 1..1441u32 {
-        let text = format!(in alloc; "{number}")?;
-        let port = format!(in alloc; "{}", 45 * number)?;
-        expect_command(
-            &rt,
-            alloc,
-            &["web", "club.disk", port.as_str(), text.as_str()],
-        );
-        if number <= 1000 {
-            expect_command(&rt, alloc, &["serve", "club.disk", "4000", text.as_str()]);
-        }
-        if number <= 36 {
-            expect_command(&rt, alloc, &["auction", text.as_str()]);
-        }
-    }
-    Ok(())
-}
-
-// Where pages are shown is what the options say, before, behind or between the other words.
-#[test]
-fn hosts_are_read(rt: HostRuntime) -> Result<(), Fail> {
-    let rows: [(&str, Option<&str>, Option<&str>); 4] = [
-        ("web club.disk 65535 1440", None, None),
-        (
-            "web --address 192.168.4.1 club.disk 65535 1440",
-            Some("192.168.4.1"),
-            None,
-        ),
-        (
-            "web club.disk 65535 --name club.test 1440",
-            None,
-            Some("club.test"),
-        ),
-        (
-            "web club.disk 65535 1440 --name=b --address=a",
-            Some("a"),
-            Some("b"),
-        ),
-    ];
-    for (text, address, name) in rows {
-        let mut words = Vec::new(rt.alloc());
-        for word in text.split_whitespace() {
-            words.push(word)?;
-        }
-        let host = WebHost {
-            port: 65_535,
-            address,
-            name,
-        };
-        let due = Command::Web {
-            disk: "club.disk",
-            host,
-            minutes: 1440,
-        };
-        match read_words(rt.alloc(), words.as_slice()) {
-            Ok(command) => expect_eq(&rt, command, due, text),
-            Err(_) => return Err(Fail::from("a command")),
-        }
+fn words_of_commands_are_taken(rt: HostRuntime) -> Result<(), Fail> {
+    for text in COMMANDS {
+        let words = words_of(rt.alloc(), text)?;
+        let is_taken = read_words(rt.alloc(), words.as_slice()).is_ok();
+        expect_eq(&rt, is_taken, true, text);
     }
     Ok(())
 }
@@ -255,10 +156,7 @@ const OTHER_WORDS: [&str; 22] = [
 fn other_words_are_usage(rt: HostRuntime) -> Result<(), Fail> {
     for row in OTHER_WORDS {
         let (text, begins) = row.split_once(": ").ok_or("words and a text")?;
-        let mut words = Vec::new(rt.alloc());
-        for word in text.split_whitespace() {
-            words.push(word)?;
-        }
+        let words = words_of(rt.alloc(), text)?;
         let mut errors = Vec::new(rt.alloc());
         let (mut input, mut output) = (Broken, Broken);
         let words = words.as_slice();

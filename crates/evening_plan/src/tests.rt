@@ -95,21 +95,13 @@ fn lines_of_another_form(rt: HostRuntime) {
         "EVENT aaaaaaaaaaaaaaaaaaaaaaaaaaaaaaaaaaaaaaaaaaaaaaaaaaaaaaaaaaaaaaaaaaaaaaaaaaaaaaaaaaaaaaaaaaaaaaaaaaaaaaaaaaaaaaaaaaaaaaaaaaa";
     let rows = [
         (1, long, "the line has more than 128 characters"),
-        (2, "", "the line is empty"),
         (
             2,
             "SITE Town ",
             "word 3 is empty: one space stands between two words, and none at the end",
         ),
         (6, "MITCHEL 7", "word 1 is not MITCHELL or MOVEMENT"),
-        (6, "MITCHELL 7 7", "word 3 is one too many"),
         (11, "PAIR 1 Ann 10011 Bob 10012", "word 1 is not DIRECTOR"),
-        (12, "PAIR 1 Ann 10011 Bob", "word 6 is missing"),
-        (
-            13,
-            "PAIR 02 Cat 10021 Dan 10022",
-            "word 2 is not a number in digits alone, without a 0 in front",
-        ),
     ];
     for (number, line, reason) in rows {
         expect_refused(&rt, number, line, reason);
@@ -134,11 +126,6 @@ fn numbers_that_cannot_stand(rt: HostRuntime) {
             7,
             "ROW 1 1 1 2 3",
             "the set is 0, or above the number of sets in line 6",
-        ),
-        (
-            14,
-            "PAIR 3 Eve 10012 Fay 10032",
-            "one of its keys stands earlier in the text",
         ),
     ];
     for (number, line, reason) in rows {

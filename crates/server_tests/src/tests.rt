@@ -1,10 +1,9 @@
-//! The forms of a line, endings and their cache, seeds and epochs. When what is written is shown, over a store and for an
+//! The forms of a line, endings and their cache, and the last epoch. When what is written is shown, over a store and for an
 //! auction, and streams and disks that fail. Worked lines with their replies stand in examples/sessions.
 mod commands;
 mod disk;
 mod endings;
 mod faults;
-mod shares;
 mod shown;
 mod spent;
 mod streams;

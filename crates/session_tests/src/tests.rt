@@ -3,8 +3,6 @@
 mod action_bytes;
 mod disk;
 mod faults;
-mod largest;
-mod laws;
 mod old_disk;
 mod parts;
 mod random_actions;

@@ -4,7 +4,6 @@ mod counter;
 mod disks;
 mod epochs;
 mod faults;
-mod formats;
 mod formatting;
 mod rows;
 
@@ -131,11 +130,11 @@ pub fn put_snapshot(
     Ok(())
 }
 
-/// Writes that many records of epoch 1, each of which adds 1.
-pub fn put_records(disk: &mut MemoryDisk, format: DiskFormat, count: u32) -> Result<(), DiskFault> {
+/// Writes that many records of the second format and epoch 1, each of which adds 1.
+pub fn put_records(disk: &mut MemoryDisk, count: u32) -> Result<(), DiskFault> {
     for k in 0..count {
         let at = 1024u32.saturating_add(k);
-        put(disk, format, at, 1, Content::Record(k, 1))?;
+        put(disk, DiskFormat::Two, at, 1, Content::Record(k, 1))?;
     }
     Ok(())
 }

@@ -14,15 +14,21 @@ use std::test::Fail;
 /// The director.
 pub const DIRECTOR: Key = Key(100);
 
-/// Three tables, three rounds, three boards, by matchpoints.
-pub const MATCHPOINTS: &[u8] = b"EVENT Club-Night\nSITE Town-Hall\nDATE 2026.03.14\nSCORING MP
-BOARDS 1\nMITCHELL 3\nDIRECTOR 100\nPAIR 1 Ann 11 Bob 12\nPAIR 2 Cat 21 Dan 22\nPAIR 3 Eve 31 Fay 32
-PAIR 4 Gus 41 Hal 42\nPAIR 5 Ida 51 Jan 52\nPAIR 6 Kim 61 Lea 62\n";
+/// Three tables, three rounds, three boards, scored as this word says.
+macro_rules! three_tables {
+    ($scoring:literal) => {
+        concat!(
+            "EVENT Club-Night\nSITE Town-Hall\nDATE 2026.03.14\nSCORING ",
+            $scoring,
+            "\nBOARDS 1\nMITCHELL 3\nDIRECTOR 100\nPAIR 1 Ann 11 Bob 12\nPAIR 2 Cat 21 Dan 22\nPAIR 3 Eve 31 Fay 32
+PAIR 4 Gus 41 Hal 42\nPAIR 5 Ida 51 Jan 52\nPAIR 6 Kim 61 Lea 62\n",
+        )
+    };
+}
 
-/// The same by IMPs.
-pub const IMPS: &[u8] = b"EVENT Club-Night\nSITE Town-Hall\nDATE 2026.03.14\nSCORING IMP
-BOARDS 1\nMITCHELL 3\nDIRECTOR 100\nPAIR 1 Ann 11 Bob 12\nPAIR 2 Cat 21 Dan 22\nPAIR 3 Eve 31 Fay 32
-PAIR 4 Gus 41 Hal 42\nPAIR 5 Ida 51 Jan 52\nPAIR 6 Kim 61 Lea 62\n";
+pub const MATCHPOINTS: &str = three_tables!("MP");
+
+pub const IMPS: &str = three_tables!("IMP");
 
 /// Takes an action, which is not refused.
 pub fn act(rt: &impl Abort, session: &mut Session, action: Action) {
@@ -125,8 +131,10 @@ fn deal(rt: &impl Abort, session: &mut Session, number: u8) {
 }
 
 /// A session of that configuration in which boards 1 to 3 are dealt.
-pub fn dealt(rt: &impl Abort, alloc: Global, config: &[u8]) -> Result<Session, Fail> {
-    let config = read_config(config).ok().expect(rt, "a configuration");
+pub fn dealt(rt: &impl Abort, alloc: Global, config: &str) -> Result<Session, Fail> {
+    let config = read_config(config.as_bytes())
+        .ok()
+        .expect(rt, "a configuration");
     let mut session = Session::new(alloc, config)?;
     for number in 1..4 {
         deal(rt, &mut session, number);

@@ -1,6 +1,6 @@
 //! Connections to a listener of the same process.
 use super::script::{failing_disk, solved_board};
-use super::{MOVEMENT, expect_eq, expect_formatted, expect_run};
+use super::{expect_eq, expect_formatted, expect_run};
 use bridge_endings::Cache;
 use club_commands::{RunFault, open_session, serve_connections};
 use session_store::StoreFault;
@@ -124,7 +124,7 @@ fn expect_taken<
 #[test]
 fn a_port_that_is_taken_is_named(rt: HostRuntime) -> Result<(), Fail> {
     let (disk, config) = ("bridge_club_port.disk", "bridge_club_port.txt");
-    expect_formatted(&rt, rt.alloc(), disk, config, MOVEMENT)?;
+    expect_formatted(&rt, rt.alloc(), disk, config)?;
     let listener = listening(&rt)?;
     let port = listener.local_addr()?.port();
     let port = format!(in rt.alloc(); "{port}")?;

@@ -1,5 +1,5 @@
 //! Disks and configurations that are refused, and streams that fail.
-use super::{Broken, MOVEMENT, club_with, expect_eq, expect_formatted, expect_run, write_config};
+use super::{Broken, expect_eq, expect_formatted, expect_run};
 use club_commands::{lock, lock_to_read, run_words};
 use std::alloc::Global;
 use std::fs;
@@ -10,32 +10,22 @@ use std::random::RandomSource;
 use std::rt::Files;
 use std::test::Fail;
 use std::time::Clock;
+use test_texts::TWO_TABLES;
 
+// A file that is missing, one of no bytes, and one whose second row has the number of the first one's table.
 #[test]
 fn a_bad_configuration_makes_no_disk(rt: HostRuntime) -> Result<(), Fail> {
     let (disk, config) = ("bridge_club_bad.disk", "bridge_club_bad.txt");
+    let alloc = rt.alloc();
     let words = ["format", disk, config];
-    let words = words.as_slice();
-    expect_run(&rt, rt.alloc(), words, "", (3, "", "cannot read input\n"));
-    for (movement, line) in [
-        ("MITCHELL 1\n", "config line 6: Range\n"),
-        ("MITCHELL two\n", "config line 6: Form\n"),
-        ("MITCHELL 2\nDIRECTOR 11\n", "config line 8: Form\n"),
-        (
-            "MITCHELL 2\nDIRECTOR 11\nPAIR 1 Ann 11 Bob 12\n",
-            "config line 8: KeyTwice\n",
-        ),
-        (
-            "MOVEMENT 2 1 1 4 2\nROW 1 1 1 3 1\nROW 1 1 2 4 1\n",
-            "config line 8: MissingRow\n",
-        ),
-    ] {
-        write_config(&rt, rt.alloc(), config, movement)?;
-        expect_run(&rt, rt.alloc(), words, "", (3, "", line));
-        expect_eq(&rt, fs::exists(&rt, disk)?, false, movement);
-    }
+    expect_run(&rt, alloc, &words, "", (3, "", "cannot read input\n"));
     fs::write(&rt, config, b"")?;
-    expect_run(&rt, rt.alloc(), words, "", (3, "", "config line 1: Form\n"));
+    expect_run(&rt, alloc, &words, "", (3, "", "config line 1: Form\n"));
+    let (before, after) = TWO_TABLES.split_once("ROW 1 2").ok_or("two rows")?;
+    fs::write(&rt, config, format!(in alloc; "{before}ROW 1 1{after}")?)?;
+    let due = (3, "", "config line 8: MissingRow\n");
+    expect_run(&rt, alloc, &words, "", due);
+    expect_eq(&rt, fs::exists(&rt, disk)?, false, disk);
     fs::remove_file(&rt, config)?;
     Ok(())
 }
@@ -46,8 +36,7 @@ fn a_bad_configuration_leaves_the_disk(rt: HostRuntime) -> Result<(), Fail> {
     let words = ["format", disk, config];
     let words = words.as_slice();
     fs::write(&rt, disk, b"kept")?;
-    let mut text = club_with(rt.alloc(), MOVEMENT)?;
-    text.push_str("PAIR 5 Ida 51 Jan 52\n")?;
+    let text = format!(in rt.alloc(); "{TWO_TABLES}PAIR 5 Ida 51 Jan 52\n")?;
     fs::write(&rt, config, text)?;
     expect_run(
         &rt,
@@ -58,7 +47,7 @@ fn a_bad_configuration_leaves_the_disk(rt: HostRuntime) -> Result<(), Fail> {
     );
     // Past the bytes that are read a configuration stands, which is not looked for.
     let mut long = vec![in rt.alloc(); b'A'; 16_385]?;
-    long.extend_from_slice(club_with(rt.alloc(), MOVEMENT)?.as_bytes())?;
+    long.extend_from_slice(TWO_TABLES.as_bytes())?;
     fs::write(&rt, config, long)?;
     expect_run(
         &rt,
@@ -75,28 +64,6 @@ fn a_bad_configuration_leaves_the_disk(rt: HostRuntime) -> Result<(), Fail> {
     );
     fs::remove_file(&rt, config)?;
     fs::remove_file(&rt, disk)?;
-    Ok(())
-}
-
-/// What `plan` says of a Mitchell movement of one table.
-const REFUSED: &str = "line 6: MITCHELL 1
-due: MITCHELL and the number of tables, or MOVEMENT and the numbers of tables, rounds, sets and
-  pairs, and of the last pair of the first field
-  numbers: 2 to 12 tables, 1 to 12 rounds, 1 to 12 sets, 2 to 24 pairs; the last is one of these
-refused: word 2 is not from 2 to 12
-";
-
-// What is wrong is said on the output, and named on the errors.
-#[test]
-fn a_bad_configuration_is_said_in_words(rt: HostRuntime) -> Result<(), Fail> {
-    let config = "bridge_club_words.txt";
-    let words = ["plan", config];
-    let due = (3, "", "cannot read input\n");
-    expect_run(&rt, rt.alloc(), &words, "", due);
-    write_config(&rt, rt.alloc(), config, "MITCHELL 1\n")?;
-    let due = (3, REFUSED, "config line 6: Range\n");
-    expect_run(&rt, rt.alloc(), &words, "", due);
-    fs::remove_file(&rt, config)?;
     Ok(())
 }
 
@@ -128,7 +95,7 @@ fn a_disk_without_a_session_is_refused(rt: HostRuntime) -> Result<(), Fail> {
     let others = fs::read(&rt, disk)?.iter().any(|byte| *byte != b'A');
     expect_eq(&rt, others, false, "a file that is no disk");
 
-    expect_formatted(&rt, rt.alloc(), disk, config, MOVEMENT)?;
+    expect_formatted(&rt, rt.alloc(), disk, config)?;
     let mut bytes = fs::read(&rt, disk)?;
     // Part 3 of the session, in sector 4.
     for byte in bytes.iter_mut().skip(4 * 512).take(512) {
@@ -164,7 +131,7 @@ fn a_disk_without_a_session_is_refused(rt: HostRuntime) -> Result<(), Fail> {
 fn a_locked_disk_is_left(rt: HostRuntime) -> Result<(), Fail> {
     let (disk, config) = ("bridge_club_locked.disk", "bridge_club_locked.txt");
     let alloc = rt.alloc();
-    expect_formatted(&rt, alloc, disk, config, MOVEMENT)?;
+    expect_formatted(&rt, alloc, disk, config)?;
     let bytes = fs::read(&rt, disk)?;
     {
         let Ok(_held) = lock(&rt, disk) else {
@@ -219,7 +186,7 @@ plays finished or ruled on 0
 fn a_damaged_record_is_named(rt: HostRuntime) -> Result<(), Fail> {
     let (disk, config) = ("bridge_club_record.disk", "bridge_club_record.txt");
     let alloc = rt.alloc();
-    expect_formatted(&rt, alloc, disk, config, MOVEMENT)?;
+    expect_formatted(&rt, alloc, disk, config)?;
     let due = (0, "OK\n", "");
     expect_run(&rt, alloc, &["script", disk], "VOID 100 1 1 1\n", due);
     let mut bytes = fs::read(&rt, disk)?;
@@ -230,7 +197,7 @@ fn a_damaged_record_is_named(rt: HostRuntime) -> Result<(), Fail> {
     expect_refused(&rt, alloc, disk, 4, "damaged sector 1024\n");
     let due = (4, OLDER, "damaged sector 1024\n");
     expect_run(&rt, alloc, &["check", disk], "", due);
-    expect_formatted(&rt, alloc, disk, config, MOVEMENT)?;
+    expect_formatted(&rt, alloc, disk, config)?;
     let due = (0, "ERR 8 NotDealt\n", "");
     expect_run(&rt, alloc, &["script", disk], "SEE 11\n", due);
     fs::remove_file(&rt, disk)?;
@@ -241,7 +208,7 @@ fn a_damaged_record_is_named(rt: HostRuntime) -> Result<(), Fail> {
 #[test]
 fn streams_that_fail_are_named(rt: HostRuntime) -> Result<(), Fail> {
     let (disk, config) = ("bridge_club_output.disk", "bridge_club_output.txt");
-    write_config(&rt, rt.alloc(), config, MOVEMENT)?;
+    fs::write(&rt, config, TWO_TABLES)?;
     let rows: [&[&str]; 9] = [
         &["auction", "1"],
         &["plan", config],

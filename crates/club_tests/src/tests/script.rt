@@ -1,5 +1,5 @@
 //! A script over a disk that fails.
-use super::{Broken, MOVEMENT, club_with, expect_eq};
+use super::{Broken, expect_eq};
 use bridge_endings::Cache;
 use bridge_session::Session;
 use club_commands::{RunFault, open_session, read_session, serve_store};
@@ -9,7 +9,7 @@ use std::alloc::{AllocError, Global};
 use std::io::Write;
 use std::process::Abort;
 use std::test::Fail;
-use test_texts::SEVEN_TRICKS;
+use test_texts::{SEVEN_TRICKS, TWO_TABLES};
 
 /// The lines of `SEVEN_TRICKS`, and what is left of the board solved.
 pub fn solved_board(alloc: Global) -> Result<String, AllocError> {
@@ -41,10 +41,9 @@ fn a_script_uses_the_cache(rt: HostRuntime) -> Result<(), Fail> {
 type Run = Result<(), RunFault>;
 
 /// A new session.
-fn new_session(rt: &impl Abort, alloc: Global) -> Result<Session, AllocError> {
-    let text = club_with(alloc, MOVEMENT)?;
-    let session = read_session(alloc, &mut text.as_bytes()).ok();
-    Ok(session.expect(rt, "a session"))
+fn new_session(rt: &impl Abort, alloc: Global) -> Session {
+    let mut text = TWO_TABLES.as_bytes();
+    read_session(alloc, &mut text).ok().expect(rt, "a session")
 }
 
 /// A disk of a new session, all of whose calls after so many fail.
@@ -53,7 +52,7 @@ pub fn failing_disk(
     alloc: Global,
     passes: u64,
 ) -> Result<Fuse<MemoryDisk>, AllocError> {
-    let session = new_session(rt, alloc)?;
+    let session = new_session(rt, alloc);
     let disk = format(MemoryDisk::new(alloc, 2048)?, &session).ok();
     let disk = disk.expect(rt, "a formatted disk");
     Ok(Fuse::new(disk, passes, FailOf::Always, false))

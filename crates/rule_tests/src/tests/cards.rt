@@ -4,7 +4,8 @@ mod deal_text;
 mod shuffle;
 
 use crate::tests::expect_eq;
-use bridge_cards::{BoardNumber, Seat, Suit, Vulnerability, dealer, vulnerability_of};
+use bridge_auction::Denomination;
+use bridge_cards::{BoardNumber, Seat, Side, Suit, Vulnerability, dealer, vulnerability_of};
 use std::test::Fail;
 
 /// The table of Law 2, for boards 1 to 16, after which it repeats.
@@ -34,6 +35,12 @@ fn lists_of_all_stand_in_order(rt: HostRuntime) {
     }
     for (number, seat) in (0..4).zip(Seat::ALL) {
         expect_eq(&rt, seat.number(), number, seat);
+    }
+    for (number, denomination) in (0..5).zip(Denomination::ALL) {
+        expect_eq(&rt, denomination.number(), number, denomination);
+    }
+    for (seat, side) in Seat::ALL.into_iter().zip(Side::ALL) {
+        expect_eq(&rt, seat.side(), side, seat);
     }
 }
 

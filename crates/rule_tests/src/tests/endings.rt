@@ -1,5 +1,4 @@
 //! The worth of endings by worked rows, and by a plain twin over many of them.
-mod cached;
 mod random_endings;
 mod rows;
 mod twin;

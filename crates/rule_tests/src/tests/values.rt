@@ -3,7 +3,7 @@ use crate::tests::expect_eq;
 use bridge_auction::{BadCall, Bid, Call, Denomination, Doubling, Level};
 use bridge_cards::{
     BadCard, BadDeal, BoardNumber, Card, CardSet, Deal, OutOfRange, Rank, Seat, Side, Suit,
-    Vulnerability, read_card, read_deal, read_hands,
+    Vulnerability, read_card,
 };
 use bridge_config::Key;
 use bridge_movement::Row;
@@ -162,13 +162,11 @@ fn values_are_printed(rt: HostRuntime) -> Result<(), Fail> {
 
 #[test]
 fn values_are_read_from_texts(rt: HostRuntime) -> Result<(), Fail> {
-    expect_eq(&rt, "SK".parse::<Card>().ok(), read_card(b"SK"), "SK");
+    expect_eq(&rt, "SK".parse::<Card>().ok(), Card::new(50), "SK");
     expect_eq(&rt, "KS".parse::<Card>(), Err(BadCard), "KS");
     let seven = bid(7, Denomination::NoTrump)?;
     expect_eq(&rt, "7NT".parse::<Call>(), Ok(Call::Bid(seven)), "7NT");
     expect_eq(&rt, "8C".parse::<Call>(), Err(BadCall), "8C");
-    let deal = read_deal(SUITS_DEALT.as_bytes());
-    expect_eq(&rt, SUITS_DEALT.parse::<Deal>(), deal, "a suit each");
     expect_eq(&rt, "N:".parse::<Deal>(), Err(BadDeal::Form), "N:");
     Ok(())
 }
@@ -201,17 +199,5 @@ fn sets_are_joined_and_gone_through(rt: HostRuntime) -> Result<(), Fail> {
         );
     }
     expect_eq(&rt, places.next(), None, "no card is left out");
-    Ok(())
-}
-
-#[test]
-fn a_deal_gives_its_hands(rt: HostRuntime) -> Result<(), Fail> {
-    let deal = SUITS_DEALT.parse::<Deal>()?;
-    expect_eq(
-        &rt,
-        Some(deal.hands()),
-        read_hands(SUITS_DEALT.as_bytes()),
-        "a suit each",
-    );
     Ok(())
 }

@@ -1,11 +1,16 @@
 //! Lines and the commands that they state: each form of a line at the ends of its ranges.
+use super::disk::{answers, opened};
 use super::expect_eq;
 use bridge_auction::Call;
-use bridge_cards::{BoardNumber, Card, CardSet};
+use bridge_cards::{BoardNumber, Card, CardSet, deal_board};
 use bridge_config::Key;
-use bridge_session::{BoardIndex, Field, MadeCount, PlayId, RoundNumber, TableNumber, TrickCount};
+use bridge_session::{
+    Average, BoardIndex, Field, MadeCount, PlayId, RoundNumber, TableNumber, TrickCount,
+};
 use std::process::Abort;
+use std::test::Fail;
 use table_server::{Command, read_line_command};
+use test_texts::TWO_TABLES;
 
 /// Fails where a line does not state the command that is due.
 fn expect_command(rt: &impl Abort, line: &str, due: Option<Command>) {
@@ -93,6 +98,15 @@ fn tricks(key: u32, play: Option<PlayId>, tricks: u8) -> Option<Command> {
     })
 }
 
+fn adjust(play: Option<PlayId>, ns: Average, ew: Average) -> Option<Command> {
+    Some(Command::Adjust {
+        key: Key(100),
+        play: play?,
+        ns,
+        ew,
+    })
+}
+
 // Each hand's cards by their bits: 13 clubs from the lowest bit on, then diamonds, hearts and spades.
 #[test]
 fn boards_are_dealt(rt: HostRuntime) {
@@ -174,6 +188,14 @@ fn the_director_rules(rt: HostRuntime) {
             "RESTORE 100 11 12 1",
             play(11, 12, 1).map(|play| Command::Restore { key, play }),
         ),
+        (
+            "ADJUST 100 12 11 3 40 50",
+            adjust(play(12, 11, 3), Average::Minus, Average::Even),
+        ),
+        (
+            "ADJUST 100 1 2 1 60 40",
+            adjust(play(1, 2, 1), Average::Plus, Average::Minus),
+        ),
     ] {
         expect_command(&rt, line, due);
     }
@@ -222,4 +244,19 @@ fn questions_are_asked(rt: HostRuntime) {
     ] {
         expect_command(&rt, line, due);
     }
+}
+
+#[test]
+fn a_board_is_dealt_from_its_seed(rt: HostRuntime) -> Result<(), Fail> {
+    let mut store = opened(rt.alloc(), TWO_TABLES, u64::MAX)?;
+    let line = "SHUFFLE 100 1 00000000000000000000000000000000000000000000000000000000000000ff\n";
+    let (written, _) = answers(rt.alloc(), &mut store, line.as_bytes());
+    expect_eq(&rt, written.as_slice(), b"OK\n".as_slice(), "shuffled");
+    let board = BoardNumber::new(1).ok_or("a board")?;
+    let mut seed = [0; 32];
+    seed[31] = 0xff;
+    let due = deal_board(&seed, board);
+    let dealt = store.state().deal(board).is_some_and(|deal| *deal == due);
+    expect_eq(&rt, dealt, true, "the deal of seed and board");
+    Ok(())
 }

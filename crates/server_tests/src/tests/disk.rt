@@ -9,7 +9,7 @@ use std::alloc::Global;
 use std::io::{Read, Write};
 use std::process::Abort;
 use std::test::Fail;
-use table_server::{ServeFault, Served, a_power_cut_keeps_what_is_answered, serve};
+use table_server::{ServeFault, Served, serve};
 
 /// A store over a disk of which one call may fail.
 pub type ClubStore = Store<Fuse<MemoryDisk>, Session>;
@@ -46,10 +46,8 @@ pub fn opened(alloc: Global, text: &str, passes: u64) -> Result<ClubStore, Fail>
     }
 }
 
-/// The store as it is after a power cut in which each sector keeps what was synced. That the law of such cuts can be called
-/// for this disk is seen here too.
+/// The store as it is after a power cut in which each sector keeps what was synced.
 pub fn after_power_cut(alloc: Global, store: ClubStore) -> Result<ClubStore, Fail> {
-    a_power_cut_keeps_what_is_answered::<Fuse<MemoryDisk>>();
     let mut disk = store.into_disk().into_inner();
     disk.crash(&[]);
     reopened(alloc, disk, u64::MAX)

@@ -1,7 +1,6 @@
-//! A store in the last epoch, and a board that is shuffled.
+//! A store in the last epoch.
 use super::disk::{ClubStore, answers, opened, reopened, served};
 use super::expect_eq;
-use bridge_cards::{BoardNumber, deal_board};
 use sector_disk::{MemoryDisk, SectorDisk};
 use std::alloc::Global;
 use std::test::Fail;
@@ -46,20 +45,5 @@ fn once_the_epochs_are_spent(rt: HostRuntime) -> Result<(), Fail> {
     let due = "ERR 41 EpochsSpent\nERR 41 EpochsSpent\nERR 1 NoKey\nERR 30 BadLine\n";
     expect_eq(&rt, written.as_slice(), due.as_bytes(), "spent");
     expect_eq(&rt, result, Ok(served(4, 0)), "none accepted");
-    Ok(())
-}
-
-#[test]
-fn a_board_is_dealt_from_its_seed(rt: HostRuntime) -> Result<(), Fail> {
-    let mut store = opened(rt.alloc(), TWO_TABLES, u64::MAX)?;
-    let line = "SHUFFLE 100 1 00000000000000000000000000000000000000000000000000000000000000ff\n";
-    let (written, _) = answers(rt.alloc(), &mut store, line.as_bytes());
-    expect_eq(&rt, written.as_slice(), b"OK\n".as_slice(), "shuffled");
-    let board = BoardNumber::new(1).ok_or("a board")?;
-    let mut seed = [0; 32];
-    seed[31] = 0xff;
-    let due = deal_board(&seed, board);
-    let dealt = store.state().deal(board).is_some_and(|deal| *deal == due);
-    expect_eq(&rt, dealt, true, "the deal of seed and board");
     Ok(())
 }

@@ -19,7 +19,7 @@ const STANDING: [&str; 3] = [
 ];
 
 /// Whether the parts are a session's. Fails where they are read as one that has others.
-pub fn are_of_session(
+fn are_of_session(
     rt: &impl Abort,
     alloc: Global,
     parts: &[ArrayVec<u8, 480>],

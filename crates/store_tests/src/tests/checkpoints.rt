@@ -72,11 +72,6 @@ fn a_call_of_a_checkpoint_fails_and_has_effect(rt: HostRuntime) -> Result<(), Fa
 }
 
 #[test]
-fn all_calls_from_one_of_a_checkpoint_on_fail(rt: HostRuntime) -> Result<(), Failure> {
-    stop_every_call(&rt, rt.alloc(), (Fail::Always, false))
-}
-
-#[test]
 fn all_calls_from_one_of_a_checkpoint_on_fail_and_have_effect(
     rt: HostRuntime,
 ) -> Result<(), Failure> {

@@ -247,19 +247,6 @@ fn parts_of_the_most_bytes(rt: HostRuntime) -> Result<(), Failure> {
     Ok(())
 }
 
-#[test]
-fn disks_without_a_store(rt: HostRuntime) -> Result<(), Failure> {
-    for (count, due) in [
-        (0, StoreFault::TooSmall),
-        (2047, StoreFault::TooSmall),
-        (2048, StoreFault::NotFormatted),
-    ] {
-        let disk = MemoryDisk::new(rt.alloc(), count)?;
-        expect_eq(&rt, opened(rt.alloc(), disk).1, Err(due), count);
-    }
-    Ok(())
-}
-
 // The sync before the first read fails; opened again, all is there.
 #[test]
 fn an_opening_whose_barrier_fails(rt: HostRuntime) -> Result<(), Failure> {
@@ -272,29 +259,20 @@ fn an_opening_whose_barrier_fails(rt: HostRuntime) -> Result<(), Failure> {
     Ok(())
 }
 
-// No header, a header of the last epoch, and one whose first part is missing: the calls that opening makes. Where one of them
-// fails, that is the answer, and not what was found.
+// No header, a header of the last epoch, and one whose first part is missing: after so many calls no other is made.
 #[test]
-fn a_call_that_fails_is_answered_first(rt: HostRuntime) -> Result<(), Failure> {
+fn what_is_refused_is_read_no_further(rt: HostRuntime) -> Result<(), Failure> {
     for (epoch, calls, due) in [
         (0, 3, StoreFault::NotFormatted),
         (u64::MAX, 3, StoreFault::EpochsSpent),
         (1, 4, StoreFault::Damaged(1)),
     ] {
-        for passes in 0..=calls {
-            let mut disk = MemoryDisk::new(rt.alloc(), 2048)?;
-            if epoch > 0 {
-                put(&mut disk, DiskFormat::One, 0, epoch, Content::Header(9))?;
-            }
-            let fuse = Fuse::new(disk, passes, Fail::Once, false);
-            let found = opened_behind(rt.alloc(), fuse).1;
-            let due = if passes < calls {
-                StoreFault::Disk
-            } else {
-                due
-            };
-            expect_eq(&rt, found, Err(due), (epoch, passes));
+        let mut disk = MemoryDisk::new(rt.alloc(), 2048)?;
+        if epoch > 0 {
+            put(&mut disk, DiskFormat::One, 0, epoch, Content::Header(9))?;
         }
+        let found = opened_until(rt.alloc(), disk, calls).1;
+        expect_eq(&rt, found, Err(due), epoch);
     }
     Ok(())
 }

@@ -1,70 +1,17 @@
-//! A fault at every call of formatting.
+//! A fault and a power cut at each of the last calls of formatting.
 use super::counter::Counter;
 use super::faults::{FUSES, picks};
-use super::{expect_eq, formatted, opened, put_records, put_snapshot};
+use super::{expect_eq, opened, put_records, put_snapshot};
 use sector_disk::{Fuse, MemoryDisk, SectorDisk};
 use session_store::{DiskFormat, StoreFault, format};
 use std::alloc::Global;
-use std::process::Abort;
 use std::test::Fail as Failure;
-
-/// After a `format` that failed, another gives the disk of the new state. Each of the 2,048 writes that clear the disk meets
-/// one of the 16 kinds of fault and power cut in turn, each later call all of them.
-fn fail_formatting(rt: &impl Abort, alloc: Global, from: usize, to: usize) -> Result<(), Failure> {
-    let lists = picks();
-    let mut disk = formatted(rt, alloc)?;
-    for turn in from..to {
-        let passes = if turn < 2048 {
-            turn
-        } else {
-            2048 + (turn - 2048) / 16
-        };
-        let (fail, effect) = FUSES[turn / 4 % 4];
-        let fuse = Fuse::new(disk, passes as u64, fail, effect);
-        let (fuse, fault) = match format(fuse, &Counter::new(9)) {
-            Ok(fuse) => (fuse, None),
-            Err((fuse, fault)) => (fuse, Some(fault)),
-        };
-        let failed = passes < 2061;
-        let due = if failed { Some(StoreFault::Disk) } else { None };
-        expect_eq(rt, fault, due, turn);
-        disk = fuse.into_inner();
-        disk.crash(&lists[turn % 4]);
-        if failed {
-            disk = format(disk, &Counter::new(9)).ok().expect(rt, "formatted");
-        }
-        let (left, found) = opened(alloc, disk);
-        expect_eq(rt, found, Ok((0, 2)), turn);
-        disk = left;
-    }
-    Ok(())
-}
-
-#[test]
-fn a_fault_at_each_of_the_first_calls_of_formatting(rt: HostRuntime) -> Result<(), Failure> {
-    fail_formatting(&rt, rt.alloc(), 0, 600)
-}
-
-#[test]
-fn a_fault_at_each_of_the_next_calls_of_formatting(rt: HostRuntime) -> Result<(), Failure> {
-    fail_formatting(&rt, rt.alloc(), 600, 1200)
-}
-
-#[test]
-fn a_fault_at_each_of_the_later_calls_of_formatting(rt: HostRuntime) -> Result<(), Failure> {
-    fail_formatting(&rt, rt.alloc(), 1200, 1800)
-}
-
-#[test]
-fn a_fault_at_each_of_the_last_calls_of_formatting(rt: HostRuntime) -> Result<(), Failure> {
-    fail_formatting(&rt, rt.alloc(), 1800, 2048 + 14 * 16)
-}
 
 /// A disk with another counter: total 500, and three records that add 1.
 fn held_disk(alloc: Global) -> Result<MemoryDisk, Failure> {
     let mut disk = MemoryDisk::new(alloc, 2048)?;
     put_snapshot(&mut disk, DiskFormat::Two, 0, 1, 500)?;
-    put_records(&mut disk, DiskFormat::Two, 3)?;
+    put_records(&mut disk, 3)?;
     disk.sync()?;
     Ok(disk)
 }

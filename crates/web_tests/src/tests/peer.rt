@@ -31,7 +31,7 @@ fn open(alloc: Global, disk: MemoryDisk) -> Option<ClubStore>
 }
 
 /// The store of the opening session.
-pub fn opened(alloc: Global) -> std::result::Result<ClubStore, Fail>
+fn opened(alloc: Global) -> std::result::Result<ClubStore, Fail>
     ensures { IfOk result (λ store. is_settled store.failed store.pending ≡ true) }
 {
     let Ok(config) = read_config(TWO_TABLES.as_bytes()) else {
@@ -47,19 +47,12 @@ pub fn opened(alloc: Global) -> std::result::Result<ClubStore, Fail>
     }
 }
 
-/// The pages over the opening session, of a server that goes by these names.
-pub fn named_pages(
-    alloc: Global,
-    names: HostNames,
-) -> std::result::Result<TablePages<ClubStore>, Fail> {
+/// The pages at port 4000 of this computer over the opening session.
+pub fn pages(alloc: Global) -> std::result::Result<TablePages<ClubStore>, Fail> {
+    let names = HostNames::of_this_computer(alloc, 4000)?;
     let store = opened(alloc)?;
     let cache = Cache::new(alloc, 16)?;
     Ok(TablePages::new(alloc, names, store, cache))
-}
-
-/// The pages at port 4000 of this computer over the opening session.
-pub fn pages(alloc: Global) -> std::result::Result<TablePages<ClubStore>, Fail> {
-    named_pages(alloc, HostNames::of_this_computer(alloc, 4000)?)
 }
 
 /// Gives so many bytes at each read, and blocks before each and once all are given.

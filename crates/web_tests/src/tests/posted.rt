@@ -1,25 +1,33 @@
-//! Lines that are posted, whole and byte by byte, beside what `serve` answers.
+//! Lines that are posted, whole and byte by byte, and results.
 use super::expect_eq;
-use super::peer::{answered, opened, pages};
+use super::peer::{answered, pages};
 use super::requests::{body_of, request};
 use std::test::Fail;
-use table_server::serve;
 
-/// A deal, calls of both tables, a question for a view, and lines that are refused.
+/// A deal, calls of both tables, and lines that are refused.
 const LINES: &str =
     "DEAL 100 1 N:AKQJT98765432... .AKQJT98765432.. ..AKQJT98765432. ...AKQJT98765432
 CALL 11 1 0 7S
-SEE 11
 CALL 31 1 1 PASS
 CALL 31 1 1 PASS
-CALL 32 1 1 PASS
+CALL 32 1 2 PASS
 nothing
 CALL 12 1 2 PASS
 CALL 32 1 3 PASS
-SEE 12
 CALL 21 1 0 PASS
 VOID 100 1 2 1
-RANK 100 1
+";
+
+const REPLIES: &str = "OK
+OK
+OK
+ERR 10 Stale
+ERR 14 NotYourTurn
+ERR 30 BadLine
+OK
+OK
+OK
+OK
 ";
 
 /// The director's tables then: the play of the first is on, and the second is done.
@@ -31,19 +39,10 @@ TABLE 2 2 4 - NotCurrent
 .
 ";
 
-// However a request is cut, what it posts is answered and taken as `serve` does.
+// However a request is cut, what it posts is answered and taken.
 #[test]
 fn posted_lines_are_served(rt: HostRuntime) -> Result<(), Fail> {
     let alloc = rt.alloc();
-    let mut store = opened(alloc)?;
-    let mut lines = LINES.as_bytes();
-    let mut due = Vec::new(alloc);
-    expect_eq(
-        &rt,
-        serve(&mut store, None, &mut lines, &mut due).is_ok(),
-        true,
-        "serve",
-    );
     for piece in [1, 7, 4096] {
         let mut pages = pages(alloc)?;
         let bytes = request(
@@ -54,7 +53,7 @@ fn posted_lines_are_served(rt: HostRuntime) -> Result<(), Fail> {
             LINES,
         )?;
         let response = answered(&rt, alloc, &mut pages, bytes.as_slice(), piece)?;
-        expect_eq(&rt, body_of(response.as_slice()), due.as_slice(), piece);
+        expect_eq(&rt, body_of(response.as_slice()), REPLIES.as_bytes(), piece);
         let asked = request(
             alloc,
             "POST /tables HTTP/1.1",

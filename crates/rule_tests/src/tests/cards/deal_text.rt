@@ -1,7 +1,7 @@
 //! Texts of hands and deals.
 use crate::tests::expect_eq;
 use arrayvec::ArrayString;
-use bridge_cards::{BadDeal, Deal, Seat, print_deal, read_deal, read_hands};
+use bridge_cards::{BadDeal, Seat, print_deal, read_deal, read_hands};
 use std::alloc::{AllocError, Global};
 use std::process::Abort;
 use std::test::Fail;
@@ -99,22 +99,12 @@ fn texts_are_read_where_they_are_in_form(rt: HostRuntime) -> Result<(), AllocErr
 }
 
 #[test]
-fn deals_are_printed_and_read_again(rt: HostRuntime) -> Result<(), Fail> {
+fn deals_are_printed_from_the_highest_rank_down(rt: HostRuntime) -> Result<(), Fail> {
     for text in DEALS {
         let deal = read_deal(text).map_err(|_| "a deal")?;
-        for seat in Seat::ALL {
-            let mut printed = ArrayString::new();
-            printed.push('x');
-            print_deal(&deal, seat, &mut printed);
-            let printed = printed.as_str();
-            let bytes = printed.as_bytes();
-            expect_eq(&rt, bytes.len(), 69, printed);
-            expect_eq(&rt, bytes[0], seat.letter(), printed);
-            expect_eq(&rt, read_deal(bytes), Ok(deal), printed);
-            if seat == Seat::North {
-                expect_eq(&rt, bytes, text, printed);
-            }
-        }
+        let mut printed = ArrayString::new();
+        print_deal(&deal, Seat::North, &mut printed);
+        expect_eq(&rt, printed.as_str().as_bytes(), text, printed.as_str());
     }
     Ok(())
 }
@@ -126,8 +116,6 @@ fn ranks_are_read_in_any_order(rt: HostRuntime) -> Result<(), Fail> {
     expect_eq(&rt, north.bits(), 0x000f_ff80_0000_0000, "North");
     let other = b"S:..48AKJ76T9Q532. ...AKQJT98765432 23456789TJQKA... .AKQJT98765432..";
     expect_eq(&rt, read_deal(other), Ok(deal), "South first");
-    let hands = read_hands(DEALS[0]).ok_or("four hands")?;
-    expect_eq(&rt, Deal::from_hands(hands), Ok(deal), "the hands");
     Ok(())
 }
 

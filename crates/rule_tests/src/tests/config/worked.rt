@@ -6,7 +6,7 @@ use std::test::Fail;
 use test_texts::TWO_TABLES;
 
 #[test]
-fn no_change(rt: HostRuntime) -> Result<(), Fail> {
+fn the_text_of_two_tables_is_read(rt: HostRuntime) -> Result<(), Fail> {
     let config = read_config(TWO_TABLES.as_bytes())?;
     let fields = config.fields();
     let shape = Shape {
@@ -26,6 +26,7 @@ fn no_change(rt: HostRuntime) -> Result<(), Fail> {
     };
     expect_eq(&rt, fields.movement.row(1, 2), row, "row");
     let keys = [[11, 12], [21, 22], [31, 32], [41, 42]];
+    expect_eq(&rt, fields.pairs.len(), keys.len(), "pairs");
     for (pair, due) in fields.pairs.iter().zip(keys) {
         expect_eq(&rt, pair.keys, due.map(Key), due);
     }

@@ -1,26 +1,31 @@
-//! Worked endings, and hands that are none.
+//! Worked endings, with a cache and without, and hands that are none.
 use super::{ending_of, hands_of};
 use crate::tests::expect_eq;
 use bridge_cards::{Seat, Suit};
 use bridge_endings::{Cache, Ending, EndingRefused, solve};
 use std::test::Fail;
 
+const FINESSE_LOSES: &[u8] = b"N:AQ... KJ... 54... 32...";
+
+const FINESSE_WINS: &[u8] = b"N:AQ... 32... 54... KJ...";
+
+const ONE_CARD: &[u8] = b"N:A... 2... .2.. .3..";
+
+const SIX_CARDS: &[u8] = b"N:AKQJT9... .AKQJT9.. ..AKQJT9. ...AKQJT9";
+
 /// Hands, trump, who leads, and the tricks of North and South.
-const WORTHS: [(&[u8], Option<Suit>, Seat, u8); 7] = [
-    (b"N:AQ... KJ... 54... 32...", None, Seat::South, 1),
-    (b"N:AQ... 32... 54... KJ...", None, Seat::South, 2),
+const WORTHS: [(&[u8], Option<Suit>, Seat, u8); 8] = [
+    (FINESSE_LOSES, None, Seat::South, 1),
+    (FINESSE_WINS, None, Seat::South, 2),
+    (FINESSE_LOSES, None, Seat::South, 1),
+    (ONE_CARD, None, Seat::South, 0),
+    (ONE_CARD, Some(Suit::Hearts), Seat::South, 0),
+    (ONE_CARD, Some(Suit::Spades), Seat::South, 1),
     (b"N:... ... ... ...", None, Seat::South, 0),
-    (b"N:A... 2... .2.. .3..", None, Seat::South, 0),
-    (b"N:A... 2... .2.. .3..", Some(Suit::Hearts), Seat::South, 0),
-    (b"N:A... 2... .2.. .3..", Some(Suit::Spades), Seat::South, 1),
-    (
-        b"N:AKQJT9... .AKQJT9.. ..AKQJT9. ...AKQJT9",
-        None,
-        Seat::East,
-        0,
-    ),
+    (SIX_CARDS, None, Seat::East, 0),
 ];
 
+// The endings take turns in a cache that keeps one of them.
 #[test]
 fn worths_are_those_of_the_rows(rt: HostRuntime) -> Result<(), Fail> {
     let mut cache = Cache::new(rt.alloc(), 1)?;
@@ -32,30 +37,23 @@ fn worths_are_those_of_the_rows(rt: HostRuntime) -> Result<(), Fail> {
     Ok(())
 }
 
-/// Hands that are no ending, and why.
-const REFUSED: [(&[u8], EndingRefused); 6] = [
-    (b"N:AKQ... .AKQ.. ..AKQ. ...AK", EndingRefused::Unequal),
-    (
-        b"N:AKQJT98... .AKQJT98.. ..AKQJT98. ...AKQJT9",
-        EndingRefused::Unequal,
-    ),
-    (b"N:AKQ... AKQ... ..AKQ. ...AK", EndingRefused::Unequal),
-    (
-        b"N:AKQJT98... .AKQJT98.. ..AKQJT98. ...AKQJT98",
-        EndingRefused::TooLong,
-    ),
-    (
-        b"N:AKQJT98... AKQJT98... ..AKQJT98. ...AKQJT98",
-        EndingRefused::TooLong,
-    ),
-    (b"N:AK... .AK.. ..AK. A..K.", EndingRefused::Overlap),
-];
+#[test]
+fn a_kept_ending_is_answered_without_a_card(rt: HostRuntime) -> Result<(), Fail> {
+    let mut cache = Cache::new(rt.alloc(), 16)?;
+    expect_eq(&rt, cache.tried(), 0, "a new cache");
+    let ending = ending_of(FINESSE_LOSES, None, Seat::South)?;
+    expect_eq(&rt, solve(&ending, Some(&mut cache)), 1, "searched");
+    let tried = cache.tried();
+    expect_eq(&rt, tried > 0, true, "cards are tried");
+    expect_eq(&rt, solve(&ending, Some(&mut cache)), 1, "kept");
+    expect_eq(&rt, cache.tried(), tried, "no card is tried");
+    Ok(())
+}
 
 #[test]
-fn hands_that_are_no_ending_are_refused(rt: HostRuntime) -> Result<(), Fail> {
-    for (text, refused) in REFUSED {
-        let answer = Ending::new(hands_of(text)?, None, Seat::North);
-        expect_eq(&rt, answer, Err(refused), text);
-    }
+fn hands_of_seven_cards_are_no_ending(rt: HostRuntime) -> Result<(), Fail> {
+    let hands = hands_of(b"N:AKQJT98... .AKQJT98.. ..AKQJT98. ...AKQJT98")?;
+    let answer = Ending::new(hands, None, Seat::North);
+    expect_eq(&rt, answer, Err(EndingRefused::TooLong), "seven cards each");
     Ok(())
 }

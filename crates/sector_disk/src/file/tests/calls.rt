@@ -220,16 +220,7 @@ fn a_file_is_made_of_zeros_and_synced(rt: HostRuntime) -> Result<(), Fail> {
 
 #[test]
 fn an_opened_file_is_asked_for_its_length(rt: HostRuntime) -> Result<(), Fail> {
-    for (length, count) in [
-        (0, 0),
-        (511, 0),
-        (512, 1),
-        (1023, 1),
-        (1024, 2),
-        (2_199_023_255_039, 4_294_967_294),
-        (2_199_023_255_040, 4_294_967_295),
-        (2_199_023_255_552, 4_294_967_295),
-    ] {
+    for (length, count) in [(1023, 1), (2_199_023_255_552, 4_294_967_295)] {
         let calls = RefCell::new(String::new(rt.alloc()));
         let disk = FileDisk::found(bad_file(&calls, (length, 512, 9, BAD_SECTOR)))?;
         expect_eq(&rt, disk.count(), count, length);

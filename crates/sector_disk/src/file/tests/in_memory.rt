@@ -4,25 +4,6 @@ use crate::tests::expect_eq;
 use crate::{Fail, Fuse, MemoryDisk, SectorFile};
 use std::test::Fail as Failure;
 
-// A file that is made takes 2,048 writes and a sync, and a disk of so many sectors has room for it.
-#[test]
-fn a_file_is_made_where_no_call_fails(rt: HostRuntime) -> Result<(), Failure> {
-    let fault = Some(DiskFault::Write);
-    for (sectors, passes, due) in [
-        (2048, 2049, None),
-        (2048, 2048, fault),
-        (2048, 2047, fault),
-        (2048, 0, fault),
-        (2047, 9999, fault),
-    ] {
-        let disk = MemoryDisk::new(rt.alloc(), sectors)?;
-        let file = SectorFile::new(Fuse::new(disk, passes, Fail::Always, false), 0);
-        let made = FileDisk::filled(file).err();
-        expect_eq(&rt, made, due, (sectors, passes));
-    }
-    Ok(())
-}
-
 // A file of two sectors and a half, on a disk with room for one more. Sector 1 is written, and the call of that number fails, once;
 // then the power is cut, which leaves the newest value.
 #[test]
