@@ -2,6 +2,7 @@ pub mod PlanStops
 pub mod Reading
 pub mod Stopped
 pub mod Seen
+pub mod Checked
 pub mod Counted
 pub mod Connected
 pub mod Opened

@@ -1,5 +1,5 @@
 -- What the command `check` says of a disk.
-use Rattle.std.specs.Prelude.{◌≡◌, ◌⊎◌, ◌++◌, ℕ, List, [], ◌∷◌, codes, if◌then◌else◌, Option}
+use Rattle.std.specs.Prelude.{◌≡◌, ◌⊎◌, ◌++◌, ℕ, List, [], ◌∷◌, codes, if◌then◌else◌, Option, Some, None, Result, Ok, Err, MatchResult}
 use Rattle.std.specs.Fmt.{decimal}
 use Rattle.std.specs.declared.fs.File.{File}
 use Rattle.line_text.specs.Streams.{Stream, Takes, TakesPrefix, IsUntouched}
@@ -107,11 +107,41 @@ module _ {D : Type 0} (disk : Disk D) where
   StopsChecking d output (Config fault) = ⊥
   StopsChecking d output (Store cause) = RefusesReading disk header_in d cause × LeavesSaid d output cause
 
--- what the disk in a file holds is written
-abbrev pub HasChecked : Stream → Type 0
-HasChecked output = (d : FileDisk (SystemFile File)) × Checks file_disk d output
+  -- a disk was found, and what it holds is written; it is handed out, and nothing was written to it
+  abbrev pub ChecksFound : {E : Type 0} → Result D E → D → Stream → Type 0
+  ChecksFound found left output = MatchResult found (λ d. Quiet disk d left × Checks d output) (λ _. ⊥)
 
--- the file cannot be opened as a disk, and nothing is written; or the disk in it gives nothing, or a write failed
+  -- a disk was found that gives nothing, or a write failed; it is handed back, and nothing was written to it. Or none was found,
+  -- which is a fault of the disk, and nothing is written.
+  abbrev pub StopsCheckingFound : {E : Type 0} → Result D E → Option D → Stream → RunFault → Type 0
+  StopsCheckingFound (Ok d) (Some left) output fault = Quiet disk d left × StopsChecking d output fault
+  StopsCheckingFound (Ok d) None output fault = ⊥
+  StopsCheckingFound (Err _) (Some left) output fault = ⊥
+  StopsCheckingFound (Err _) None output fault = (fault ≡ Store DiskFault) × IsUntouched output
+
+-- What the disk in a file holds is written, and nothing was written to the disk.
+pub record LeavesChecked (left : FileDisk (SystemFile File)) (output : Stream) : Type 0 where
+  pub found : FileDisk (SystemFile File)
+  pub quiet : Quiet file_disk found left
+  pub checks : Checks file_disk found output
+
+-- The disk in a file gives nothing, or a write of what it holds failed, and nothing was written to the disk.
+pub record StopsOnDisk (left : Option (FileDisk (SystemFile File))) (output : Stream) (fault : RunFault) : Type 0 where
+  pub found : FileDisk (SystemFile File)
+  pub disk : FileDisk (SystemFile File)
+  pub left_by : left ≡ Some disk
+  pub quiet : Quiet file_disk found disk
+  pub stops : StopsChecking file_disk found output fault
+
+-- the file cannot be opened as a disk, and nothing is written; or so
+abbrev pub LeavesUnchecked : Option (FileDisk (SystemFile File)) → Stream → RunFault → Type 0
+LeavesUnchecked left output fault =
+    ((left ≡ None) × (fault ≡ Store DiskFault) × IsUntouched output) ⊎ StopsOnDisk left output fault
+
+-- the same, of the disk that is left
+abbrev pub HasChecked : Stream → Type 0
+HasChecked output = (left : FileDisk (SystemFile File)) × LeavesChecked left output
+
+-- and where it stops
 abbrev pub StopsCheckingFile : Stream → RunFault → Type 0
-StopsCheckingFile output fault = ((fault ≡ Store DiskFault) × IsUntouched output)
-    ⊎ ((d : FileDisk (SystemFile File)) × StopsChecking file_disk d output fault)
+StopsCheckingFile output fault = (left : Option (FileDisk (SystemFile File))) × LeavesUnchecked left output fault

@@ -1,5 +1,5 @@
 -- The session that a disk holds, read of it without a write.
-use Rattle.std.specs.Prelude.{◌≡◌, ◌⊎◌, ◌<◌, ◌≤◌, Option, Result, Ok, MatchResult}
+use Rattle.std.specs.Prelude.{◌≡◌, ◌⊎◌, ◌<◌, ◌≤◌, Option, Some, None, Result, Ok, Err, MatchResult}
 use Rattle.std.specs.declared.fs.File.{File}
 use Rattle.sector_disk.specs.Disk.{Disk, Image}
 use Rattle.sector_disk.specs.Runs.{Quiet}
@@ -30,19 +30,25 @@ module _ {D : Type 0} (disk : Disk D) where
   RefusesReading header d fault = ((disk.count d < sector_count) × (fault ≡ TooSmall))
       ⊎ ((sector_count ≤ disk.count d) × ((left : D) × Quiet disk d left × IsUnseen session_keeping disk header d left fault))
 
-  -- a disk was found, and reading it gave this session
-  abbrev pub ReadsFound : {E : Type 0} → Result D E → SessionValue → Type 0
-  ReadsFound found session = MatchResult found (λ d. ReadsSession d session) (λ _. ⊥)
+  -- a disk was found, and reading it gave this session; it is handed out, and nothing was written to it
+  abbrev pub ReadsFound : {E : Type 0} → Result D E → D → SessionValue → Type 0
+  ReadsFound found left session = MatchResult found (λ d. Quiet disk d left × ReadsSession d session) (λ _. ⊥)
 
-  -- a disk was found, and reading it gave none; or none was found, which is a fault of the disk
-  abbrev pub RefusesFoundReading : {E : Type 0} → Result D E → StoreFault → Type 0
-  RefusesFoundReading found fault = MatchResult found (λ d. RefusesReading header_in d fault) (λ _. fault ≡ DiskFault)
+  -- a disk was found, and reading it gave none; it is handed back, and nothing was written to it. Or none was found, which is a
+  -- fault of the disk.
+  abbrev pub RefusesFoundReading : {E : Type 0} → Result D E → Option D → StoreFault → Type 0
+  RefusesFoundReading (Ok d) (Some left) fault = Quiet disk d left × RefusesReading header_in d fault
+  RefusesFoundReading (Ok d) None fault = ⊥
+  RefusesFoundReading (Err _) (Some left) fault = ⊥
+  RefusesFoundReading (Err _) None fault = fault ≡ DiskFault
 
--- the session was read of a disk in a file
-abbrev pub IsReadOnFile : SessionValue → Type 0
-IsReadOnFile session = (d : FileDisk (SystemFile File)) × ReadsSession file_disk d session
+-- the session was read of a disk in a file, which is left without a write
+abbrev pub IsReadOnFile : FileDisk (SystemFile File) → SessionValue → Type 0
+IsReadOnFile left session = (d : FileDisk (SystemFile File)) × Quiet file_disk d left × ReadsSession file_disk d session
 
--- the fault is that of a file that cannot be opened as a disk, of which no contract can say more; or reading the disk in it
--- gave no session
-abbrev pub IsUnreadOnFile : StoreFault → Type 0
-IsUnreadOnFile fault = (fault ≡ DiskFault) ⊎ ((d : FileDisk (SystemFile File)) × RefusesReading file_disk header_in d fault)
+-- there is no disk, and the fault is that of a file that cannot be opened as one, of which no contract can say more; or reading
+-- the disk in it gave no session, and it is left without a write
+abbrev pub IsUnreadOnFile : Option (FileDisk (SystemFile File)) → StoreFault → Type 0
+IsUnreadOnFile (Some left) fault =
+    (d : FileDisk (SystemFile File)) × Quiet file_disk d left × RefusesReading file_disk header_in d fault
+IsUnreadOnFile None fault = fault ≡ DiskFault

@@ -1,5 +1,8 @@
 -- What the commands `rank`, `pbn` and `results` write.
-use Rattle.std.specs.Prelude.{◌≡◌, ◌⊎◌, ◌++◌, [], ℕ, Bool, true, false, List, map, codes, MatchBool, Result, MatchResult}
+use Rattle.std.specs.Prelude.{◌≡◌, ◌⊎◌, ◌++◌, [], ℕ, Bool, true, false, List, map, codes, MatchBool, Option, Some, Result, Ok, Err}
+use Rattle.std.specs.declared.fs.File.{File}
+use Rattle.sector_disk.specs.declared.file.FileDisk.{FileDisk}
+use Rattle.sector_disk.specs.declared.system_file.SystemFile.{SystemFile}
 use Rattle.session_store.specs.declared.fault.StoreFault.{StoreFault}
 use Rattle.table_server.specs.declared.fault.ServeFault.TheVariants.{Write}
 use Rattle.line_text.specs.Streams.{Stream, Takes, TakesPrefix, IsUntouched}
@@ -49,28 +52,40 @@ abbrev pub IsPbnText : SessionValue → List ℕ → Type 0
 IsPbnText s text = text ≡ session_text s
 
 module _ (IsText : SessionValue → List ℕ → Type 0) where
-  -- a session was read, and the text of its results is written
-  abbrev pub TellsRead : Result SessionValue StoreFault → Stream → Type 0
-  TellsRead read output =
-      MatchResult read (λ session. (text : List ℕ) × IsText session text × Takes output text) (λ _. ⊥)
+  -- a session was read, and the text of its results is written; the disk is as reading left it
+  abbrev pub TellsRead : {D : Type 0} → Result (D × SessionValue) (Option D × StoreFault) → D → Stream → Type 0
+  TellsRead (Ok read) left output =
+      (left ≡ read.0) × ((text : List ℕ) × IsText read.1 text × Takes output text)
+  TellsRead (Err _) left output = ⊥
 
-  -- it was read, and a write failed; or it was not, and the fault is the cause
-  abbrev pub StopsTelling : Result SessionValue StoreFault → Stream → RunFault → Type 0
-  StopsTelling read output fault = MatchResult read
-      (λ session. (fault ≡ StreamFault Write) × ((text : List ℕ) × IsText session text × TakesPrefix output text))
-      (λ cause. (fault ≡ Store cause) × IsUntouched output)
+  -- it was read, and a write failed; or there is no session, and nothing is written
+  abbrev pub StopsTelling : {D : Type 0} → Result (D × SessionValue) (Option D × StoreFault) → Option D → Stream → RunFault → Type 0
+  StopsTelling (Ok read) left output fault = (left ≡ Some read.0) × (fault ≡ StreamFault Write)
+      × ((text : List ℕ) × IsText read.1 text × TakesPrefix output text)
+  StopsTelling (Err refused) left output fault = (left ≡ refused.0) × (fault ≡ Store refused.1) × IsUntouched output
 
-  -- this is the text of the results of a session that was read of a disk in a file
-  pub record TellsOnFile (text : List ℕ) : Type 0 where
+  -- this is the text of the results of a session that was read of a disk in a file, which is as reading left it
+  pub record TellsOnFile (left : Option (FileDisk (SystemFile File))) (text : List ℕ) : Type 0 where
     pub session : SessionValue
-    pub read : IsReadOnFile session
+    pub disk : FileDisk (SystemFile File)
+    pub read : IsReadOnFile disk session
+    pub left_by : left ≡ Some disk
     pub says : IsText session text
 
-  -- the text of the results is written
-  abbrev pub HasResults : Stream → Type 0
-  HasResults output = (text : List ℕ) × TellsOnFile text × Takes output text
+  -- the text of the results is written, and which disk is left
+  abbrev pub LeavesResults : FileDisk (SystemFile File) → Stream → Type 0
+  LeavesResults left output = (text : List ℕ) × TellsOnFile (Some left) text × Takes output text
 
   -- there is no session, and nothing is written; or a write failed
+  abbrev pub LeavesNoResults : Option (FileDisk (SystemFile File)) → Stream → RunFault → Type 0
+  LeavesNoResults left output fault =
+      ((cause : StoreFault) × (fault ≡ Store cause) × IsUnreadOnFile left cause × IsUntouched output)
+      ⊎ ((fault ≡ StreamFault Write) × ((text : List ℕ) × TellsOnFile left text × TakesPrefix output text))
+
+  -- the same, of the disk that is left
+  abbrev pub HasResults : Stream → Type 0
+  HasResults output = (left : FileDisk (SystemFile File)) × LeavesResults left output
+
+  -- and where it stops
   abbrev pub StopsResults : Stream → RunFault → Type 0
-  StopsResults output fault = ((cause : StoreFault) × (fault ≡ Store cause) × IsUnreadOnFile cause × IsUntouched output)
-      ⊎ ((fault ≡ StreamFault Write) × ((text : List ℕ) × TellsOnFile text × TakesPrefix output text))
+  StopsResults output fault = (left : Option (FileDisk (SystemFile File))) × LeavesNoResults left output fault

@@ -58,16 +58,19 @@ fn read_disk<D: SectorDisk>(alloc: Global, disk: &mut D) -> Result<Session, Stor
     }
 }
 
-/// The session that a disk holds, read of it where the disk was found.
+/// The session that a disk holds, read of it where the disk was found, and the disk, to which nothing was written.
 pub fn read_found<D: SectorDisk + Drop>(
     alloc: Global,
     found: Result<D, DiskFault>,
-) -> Result<Session, StoreFault>
-    ensures read { IfOk result (ReadsFound D.disk found) }
-    ensures fault { IfErr result (RefusesFoundReading D.disk found) }
+) -> Result<(D, Session), (Option<D>, StoreFault)>
+    ensures read { IfOk result (λ read. ReadsFound D.disk found read.0 read.1) }
+    ensures fault { IfErr result (λ e. RefusesFoundReading D.disk found e.0 e.1) }
 {
     match found {
-        Ok(mut disk) => read_disk(alloc, &mut disk),
-        Err(_) => Err(StoreFault::Disk),
+        Ok(mut disk) => match read_disk(alloc, &mut disk) {
+            Ok(session) => Ok((disk, session)),
+            Err(fault) => Err((Some(disk), fault)),
+        },
+        Err(_) => Err((None, StoreFault::Disk)),
     }
 }

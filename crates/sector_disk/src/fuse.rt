@@ -4,9 +4,6 @@ ghost use Rattle.sector_disk.specs.Calls.{Called, Reads, Writes, Syncs};
 ghost use Rattle.sector_disk.specs.Fuse.{inner, passes_left, passes_after, fail_of, has_effect};
 ghost use Rattle.sector_disk.specs.Fuse.{fuse_disk, FuseReads, FuseWrites, FuseSyncs};
 
-#[cfg(test)]
-mod tests;
-
 use crate::faults::counted;
 use crate::{DiskFault, SECTOR_BYTES, SectorDisk};
 

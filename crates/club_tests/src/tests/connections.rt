@@ -14,6 +14,7 @@ use std::rt::Files;
 use std::test::Fail;
 use std::time::Clock;
 use std::{fs, io};
+use table_server::ServeFault;
 
 /// A listener at a port that is free.
 pub fn listening(rt: &HostRuntime) -> Result<TcpListener, Fail> {
@@ -88,6 +89,18 @@ fn a_store_that_fails_ends_the_run(rt: HostRuntime) -> Result<(), Fail> {
     expect_written(&rt, rt.alloc(), next, "SEE 11\n")?;
     drop(second);
     Ok(())
+}
+
+// The second of two connections is not to be had: the first one is served, and the run stops.
+#[test]
+fn a_connection_that_is_not_had_ends_the_run(rt: HostRuntime) -> Result<(), Fail> {
+    let listener = listening(&rt)?;
+    let first = sent(&rt, &listener, VOIDS)?;
+    listener.set_nonblocking(true)?;
+    let result = serve_two(&rt, &listener, rt.alloc(), u64::MAX)?;
+    let due = Err(RunFault::Stream(ServeFault::Accept));
+    expect_eq(&rt, result, due, "served");
+    expect_written(&rt, rt.alloc(), first, "OK\nOK\n")
 }
 
 // What is left is solved with the cache.

@@ -31,7 +31,8 @@ fn guessed(begun: Instant, requests: &[(u64, u64)]) -> Result<Guesses, Fail> {
 }
 
 // The tenth within a minute slows, each key of a request counts, and a minute after the first of ten it is over. A slowed
-// address waits a second for each wrong key of its last request, at least one and at most 60.
+// address waits a second for each wrong key of its last request, at least one and at most 60. A row says until when, in
+// milliseconds; 0 is an address that does not wait.
 #[test]
 fn the_tenth_wrong_key_within_a_minute_slows(rt: HostRuntime) -> Result<(), Fail> {
     let begun = Instant::now(&rt)?;

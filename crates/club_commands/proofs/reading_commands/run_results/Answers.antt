@@ -1,15 +1,17 @@
 use Rattle.line_text.specs.Streams.{stream}
 use Rattle.bridge_results.specs.ResultsText.{IsPageText}
-use Rattle.club_commands.specs.Results.{page_format}
-use Rattle.club_commands.proofs.Stopped.{has_results, stops_results}
+use Rattle.club_commands.specs.Results.{page_format, LeavesResults, LeavesNoResults}
+use Rattle.club_commands.proofs.Opened.{let_go_done, let_go_stopped}
 use Rattle.club_commands.proofs.reading_commands.run_results.Goals as goal
 
 pub returns-clause-done : goal.returns-clause-done
 returns-clause-done g c =
-    has_results (IsPageText (page_format c.args.html)) c.read_session_on.result (stream g.W.Write.contents c.args.output.now c.page_read.new.output) c.page_read.result
-    c.read_session_on.ensures.read c.page_read.ensures.done
+    let output = stream g.W.Write.contents c.args.output.now c.results_on_file.new.output in
+    let_go_done (λ left. LeavesResults (IsPageText (page_format c.args.html)) left output) c.results_on_file.result c.let_go.result
+    c.results_on_file.ensures.done c.let_go.ensures.done
 
 pub returns-clause-fault : goal.returns-clause-fault
 returns-clause-fault g c =
-    stops_results (IsPageText (page_format c.args.html)) c.read_session_on.result (stream g.W.Write.contents c.args.output.now c.page_read.new.output) c.page_read.result
-    c.read_session_on.ensures.read c.read_session_on.ensures.fault c.page_read.ensures.fault
+    let output = stream g.W.Write.contents c.args.output.now c.results_on_file.new.output in
+    let_go_stopped (λ left fault. LeavesNoResults (IsPageText (page_format c.args.html)) left output fault) c.results_on_file.result c.let_go.result
+    c.results_on_file.ensures.fault c.let_go.ensures.fault

@@ -1,0 +1,15 @@
+use Rattle.line_text.specs.Streams.{stream}
+use Rattle.club_commands.specs.Checked.{LeavesChecked, LeavesUnchecked}
+use Rattle.club_commands.proofs.Opened.{let_go_done, let_go_stopped}
+use Rattle.club_commands.proofs.reading_commands.run_check.Goals as goal
+
+pub returns-clause-done : goal.returns-clause-done
+returns-clause-done g c =
+    let output = stream g.W.Write.contents c.args.output.now c.check_on_file.new.output in
+    let_go_done (λ left. LeavesChecked left output) c.check_on_file.result c.let_go.result c.check_on_file.ensures.done c.let_go.ensures.done
+
+pub returns-clause-fault : goal.returns-clause-fault
+returns-clause-fault g c =
+    let output = stream g.W.Write.contents c.args.output.now c.check_on_file.new.output in
+    let_go_stopped (λ left fault. LeavesUnchecked left output fault) c.check_on_file.result c.let_go.result
+    c.check_on_file.ensures.fault c.let_go.ensures.fault
