@@ -133,7 +133,7 @@ pub record StopsOnDisk (left : Option (FileDisk (SystemFile File))) (output : St
   pub quiet : Quiet file_disk found disk
   pub stops : StopsChecking file_disk found output fault
 
--- the file cannot be opened as a disk, and nothing is written; or so
+-- the file cannot be opened as a disk, which is a fault of the disk, and nothing is written; or the disk in it stops the run
 abbrev pub LeavesUnchecked : Option (FileDisk (SystemFile File)) → Stream → RunFault → Type 0
 LeavesUnchecked left output fault =
     ((left ≡ None) × (fault ≡ Store DiskFault) × IsUntouched output) ⊎ StopsOnDisk left output fault
