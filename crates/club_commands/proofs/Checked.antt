@@ -1,5 +1,5 @@
 -- What was said of a disk that was found, said of a file.
-use Rattle.std.proofs.Common.{Option, Some, None, Result, Ok, Err, IfOk, IfErr, inl, inr, refl}
+use Rattle.std.proofs.Common.{Option, Some, None, Result, Ok, Err, IfOk, IfErr}
 use Rattle.std.specs.declared.fs.File.{File}
 use Rattle.line_text.specs.Streams.{Stream}
 use Rattle.sector_disk.specs.declared.file.FileDisk.{FileDisk}
@@ -13,16 +13,16 @@ module _ {E : Type 0} (output : Stream) where
   pub leaves_checked : (found : Result (FileDisk (SystemFile File)) E) (result : Result (FileDisk (SystemFile File)) (Option (FileDisk (SystemFile File)) × RunFault))
       → IfOk result (λ left. ChecksFound file_disk found left output) → IfOk result (λ left. LeavesChecked left output)
   leaves_checked found (Err e) checks = tt
-  leaves_checked (Ok d) (Ok left) checks = record { found = d; quiet = checks.0; checks = checks.1 }
+  leaves_checked (Ok d) (Ok left) checks = (d, checks)
   leaves_checked (Err e) (Ok left) checks = absurd checks
 
   -- which disk is left where it is not
   unchecked : (found : Result (FileDisk (SystemFile File)) E) (left : Option (FileDisk (SystemFile File))) (fault : RunFault)
       → StopsCheckingFound file_disk found left output fault → LeavesUnchecked left output fault
-  unchecked (Ok d) (Some left) fault stops = inr (record { found = d; disk = left; left_by = refl; quiet = stops.0; stops = stops.1 })
+  unchecked (Ok d) (Some left) fault stops = (d, stops)
   unchecked (Ok d) None fault stops = absurd stops
   unchecked (Err e) (Some left) fault stops = absurd stops
-  unchecked (Err e) None fault stops = inl (refl, stops.0, stops.1)
+  unchecked (Err e) None fault stops = stops
 
   -- why it is not
   pub leaves_unchecked : (found : Result (FileDisk (SystemFile File)) E) (result : Result (FileDisk (SystemFile File)) (Option (FileDisk (SystemFile File)) × RunFault))

@@ -16,26 +16,28 @@ use Rattle.table_server.specs.declared.fault.ServeFault.TheVariants.{Write}
 use Rattle.club_commands.specs.declared.fault.RunFault.{RunFault}
 use Rattle.club_commands.specs.declared.fault.RunFault.TheVariants.{Stream as StreamFault}
 use Rattle.club_commands.specs.Readings.{RefusesReading}
-use Rattle.club_commands.specs.Checked.{with_standing, with_state, SaysSeen, Checks, IsDueText, StopsChecking}
+use Rattle.club_commands.specs.Checked.{with_standing, with_state, SaysSeen, Checks, StopsChecking}
 
 module _ {D : Type 0} (disk : Disk D) where
   -- why reading a disk gave nothing
   pub refuses_reading : {X : Type 0} (header : Image → Option Header) (d left : D) (result : Result X StoreFault) (fault : StoreFault)
-      → result ≡ Err fault → Quiet disk d left → (disk.count d < 2048 → result ≡ Err TooSmall)
-      → (2048 ≤ disk.count d → IsUnseen session_keeping disk header d left fault) → RefusesReading disk header d fault
+      → result ≡ Err fault → Quiet disk d left → (disk.count d < 2048 → (result ≡ Err TooSmall) × (left ≡ d))
+      → (2048 ≤ disk.count d → IsUnseen session_keeping disk header d left fault) → RefusesReading disk header d left fault
   refuses_reading {X = X} header d left result fault is quiet small unseen = at (cases_lt (disk.count d) 2048)
     where
-      at : (disk.count d < 2048) ⊎ (2048 ≤ disk.count d) → RefusesReading disk header d fault
-      at (inl few) = inl (few, ap (λ (r : Result X StoreFault). elim r [ Ok _ ↦ fault | Err e ↦ e ]) (sym is ∙ small few))
-      at (inr many) = inr (many, (left, quiet, unseen many))
+      named : result ≡ Err TooSmall → fault ≡ TooSmall
+      named too_small = ap (λ (r : Result X StoreFault). elim r [ Ok _ ↦ fault | Err e ↦ e ]) (sym is ∙ too_small)
+
+      at : (disk.count d < 2048) ⊎ (2048 ≤ disk.count d) → RefusesReading disk header d left fault
+      at (inl few) = inl (few, (small few).1, named (small few).0)
+      at (inr many) = inr (many, quiet, unseen many)
 
   -- what was seen under a header is a text
   pub says_seen : (header : Image → Option Header) (heading : List ℕ) (d left : D) (state : SessionValue) (format : DiskFormat)
       (epoch sector records : ℕ) (text : List ℕ) → Quiet disk d left
       → IsSeen session_keeping disk header d left state format epoch sector records
-      → text ≡ with_state (with_standing heading format epoch sector records) state → SaysSeen disk header heading d text
+      → text ≡ with_state (with_standing heading format epoch sector records) state → SaysSeen disk header heading d left text
   says_seen header heading d left state format epoch sector records text quiet seen says = record {
-    left = left;
     quiet = quiet;
     state = state;
     format = format;
@@ -46,15 +48,15 @@ module _ {D : Type 0} (disk : Disk D) where
     says = says;
   }
 
-  module _ (d : D) (output : Stream) (text : List ℕ) where
+  module _ (d left : D) (output : Stream) (text : List ℕ) where
     -- what was seen is written
-    pub checks : (result : Result (Unit {0}) RunFault) → SaysSeen disk header_in [] d text → Written output text result
-        → OnOk result (Checks disk d output)
+    pub checks : (result : Result (Unit {0}) RunFault) → SaysSeen disk header_in [] d left text → Written output text result
+        → OnOk result (Checks disk d left output)
     checks (Ok _) seen written = (text, seen, written)
     checks (Err fault) seen written = tt
 
     -- what is due is not
-    pub stops_writing : (result : Result (Unit {0}) RunFault) → IsDueText disk d text → Written output text result
-        → IfErr result (λ fault. fault ≡ StreamFault Write) → IfErr result (StopsChecking disk d output)
-    stops_writing (Ok _) due written write = tt
-    stops_writing (Err fault) due written write = rw write (refl, (text, due, written))
+    pub stops_writing : (result : Result (Unit {0}) RunFault) → SaysSeen disk header_in [] d left text → Written output text result
+        → IfErr result (λ fault. fault ≡ StreamFault Write) → IfErr result (StopsChecking disk d left output)
+    stops_writing (Ok _) seen written write = tt
+    stops_writing (Err fault) seen written write = rw write (refl, (text, inl seen, written))

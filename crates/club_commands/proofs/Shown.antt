@@ -26,7 +26,7 @@ use Rattle.command_line.specs.declared.command.WebHost.{WebHost}
 use Rattle.club_commands.specs.declared.fault.RunFault.{RunFault}
 use Rattle.club_commands.specs.OnFile.{IsOnFile, RefusesFile, OpenedFile}
 use Rattle.club_commands.specs.Stored.{with_disk}
-use Rattle.club_commands.specs.Web.{host_at, alias_at, HasShown, StopsShowing, ShowsPages, FailsPages, ShowsOpened, StopsOpenedPages, LeavesShown, LeavesUnshown}
+use Rattle.club_commands.specs.Web.{host_at, alias_at, HasShown, StopsShowing, ShowsPages, FailsPages, StopsPages, ended_by, ShowsOpened, StopsOpenedPages, LeavesShown, LeavesUnshown}
 
 module _ {D : Type 0} (disk : Disk D) where
   -- over one body of lines
@@ -58,7 +58,7 @@ module _ {D : Type 0} (disk : Disk D) where
         fails_on disk old x.0 new (one (route_for host alias (head_of c.0)) old (body_of c.0) c.1 x.0 x.1) (all calls x.0 new x.2)
 
     -- where the store works, no call of its disk failed
-    pub shows_pages : (start store : StoreValue D SessionValue Action) → LeadsTo (Answering (AnswersLines disk) place_told tables_told results_told host alias) start store
+    shows_pages : (start store : StoreValue D SessionValue Action) → LeadsTo (Answering (AnswersLines disk) place_told tables_told results_told host alias) start store
         → store.failed ≡ false → ShowsPages disk host alias start store
     shows_pages start store requests works = record {
       requests = requests;
@@ -67,13 +67,29 @@ module _ {D : Type 0} (disk : Disk D) where
     }
 
     -- and where it failed, one did
-    pub fails_pages : (start store : StoreValue D SessionValue Action) → LeadsTo (Answering (AnswersLines disk) place_told tables_told results_told host alias) start store
+    fails_pages : (start store : StoreValue D SessionValue Action) → LeadsTo (Answering (AnswersLines disk) place_told tables_told results_told host alias) start store
         → start.failed ≡ false → store.failed ≡ true → FailsPages disk host alias start store
     fails_pages start store requests worked failed = record {
       requests = requests;
       failed = failed;
       faults = met_one disk start store (all requests.0 start store requests.1) worked failed;
     }
+
+    -- pages were shown, and the clock told when to end
+    pub pages_done : {E : Type 0} (failed : Bool) (shown : Result (Unit {0}) E) (result : Result (Unit {0}) RunFault) (start store : StoreValue D SessionValue Action)
+        → LeadsTo (Answering (AnswersLines disk) place_told tables_told results_told host alias) start store
+        → store.failed ≡ failed → result ≡ ended_by failed shown → OnOk result (ShowsPages disk host alias start store)
+    pages_done true shown result start store requests failed is = rw is tt
+    pages_done false (Ok _) result start store requests failed is = rw is (shows_pages start store requests failed)
+    pages_done false (Err _) result start store requests failed is = rw is tt
+
+    -- or the store failed, or the clock
+    pub pages_stopped : {E : Type 0} (failed : Bool) (shown : Result (Unit {0}) E) (result : Result (Unit {0}) RunFault) (start store : StoreValue D SessionValue Action)
+        → LeadsTo (Answering (AnswersLines disk) place_told tables_told results_told host alias) start store
+        → start.failed ≡ false → store.failed ≡ failed → result ≡ ended_by failed shown → IfErr result (StopsPages disk host alias start store)
+    pages_stopped true shown result start store requests worked failed is = rw is (inl (fails_pages start store requests worked failed, refl))
+    pages_stopped false (Ok _) result start store requests worked failed is = rw is tt
+    pages_stopped false (Err _) result start store requests worked failed is = rw is (inr (shows_pages start store requests failed, refl))
 
 -- pages were shown of the session on a disk in a file
 pub has_shown : {C E : Type 0} (web : WebHost) (opened : OpenedFile) (cache : Result C E) (output : Stream) (result : Result (FileDisk (SystemFile File)) (Option (FileDisk (SystemFile File)) × RunFault))

@@ -60,9 +60,9 @@ no_older_text (Damaged sector) = codes "older snapshot: " ++ store_line (Damaged
 no_older_text EpochsSpent = codes "older snapshot: " ++ store_line EpochsSpent
 no_older_text NoMemory = codes "older snapshot: " ++ store_line NoMemory
 
--- What was seen on a disk under that header of it is this text, below a heading. Nothing was written to the disk.
-pub record SaysSeen {D : Type 0} (disk : Disk D) (header : Image → Option Header) (heading : List ℕ) (d : D) (text : List ℕ) : Type 0 where
-  pub left : D
+-- What was seen on a disk under that header of it, which left it so, is this text, below a heading. Nothing was written to the
+-- disk, and no call of it failed.
+pub record SaysSeen {D : Type 0} (disk : Disk D) (header : Image → Option Header) (heading : List ℕ) (d left : D) (text : List ℕ) : Type 0 where
   pub quiet : Quiet disk d left
   pub state : SessionValue
   pub format : DiskFormat
@@ -73,72 +73,61 @@ pub record SaysSeen {D : Type 0} (disk : Disk D) (header : Image → Option Head
   pub says : text ≡ with_state (with_standing heading format epoch sector records) state
 
 module _ {D : Type 0} (disk : Disk D) where
-  -- what the older snapshot holds is this text, or it holds nothing, which the text says
-  abbrev pub SaysOlder : D → List ℕ → Type 0
-  SaysOlder d text = SaysSeen disk older_header_in older_heading d text
-      ⊎ ((fault : StoreFault) × RefusesReading disk older_header_in d fault × (text ≡ no_older_text fault))
-
-  -- the same of a disk that was read before
-  abbrev pub SaysOlderOf : D → List ℕ → Type 0
-  SaysOlderOf d text = (mid : D) × Quiet disk d mid × SaysOlder mid text
+  -- what the older snapshot holds is this text, or it gives nothing, which the text says
+  abbrev pub SaysOlder : D → D → List ℕ → Type 0
+  SaysOlder d left text = SaysSeen disk older_header_in older_heading d left text
+      ⊎ ((fault : StoreFault) × RefusesReading disk older_header_in d left fault × (text ≡ no_older_text fault))
 
   -- what a disk holds is written
-  abbrev pub Checks : D → Stream → Type 0
-  Checks d output = (text : List ℕ) × SaysSeen disk header_in [] d text × Takes output text
+  abbrev pub Checks : D → D → Stream → Type 0
+  Checks d left output = (text : List ℕ) × SaysSeen disk header_in [] d left text × Takes output text
 
-  -- what is written where a disk gives nothing: at a damaged sector what the older snapshot holds
-  abbrev pub LeavesSaid : D → Stream → StoreFault → Type 0
-  LeavesSaid d output (Damaged sector) = (text : List ℕ) × SaysOlderOf d text × Takes output text
-  LeavesSaid d output TooSmall = IsUntouched output
-  LeavesSaid d output DiskFault = IsUntouched output
-  LeavesSaid d output NotFormatted = IsUntouched output
-  LeavesSaid d output EpochsSpent = IsUntouched output
-  LeavesSaid d output NoMemory = IsUntouched output
+  -- What is written of a disk whose reading gave nothing, and how that leaves it: at a damaged sector what the older snapshot
+  -- holds, or why it gives nothing; else nothing, and the disk is as reading left it.
+  abbrev pub LeavesSaid : D → D → Stream → StoreFault → Type 0
+  LeavesSaid read left output (Damaged sector) = (text : List ℕ) × SaysOlder read left text × Takes output text
+  LeavesSaid read left output TooSmall = (left ≡ read) × IsUntouched output
+  LeavesSaid read left output DiskFault = (left ≡ read) × IsUntouched output
+  LeavesSaid read left output NotFormatted = (left ≡ read) × IsUntouched output
+  LeavesSaid read left output EpochsSpent = (left ≡ read) × IsUntouched output
+  LeavesSaid read left output NoMemory = (left ≡ read) × IsUntouched output
 
-  -- the text that is due, of a disk that gives something, or of one with a damaged sector
-  abbrev pub IsDueText : D → List ℕ → Type 0
-  IsDueText d text = SaysSeen disk header_in [] d text
-      ⊎ ((sector : ℕ) × RefusesReading disk header_in d (Damaged sector) × SaysOlderOf d text)
+  -- reading the disk met a damaged sector, and this is the text that is due
+  abbrev pub SaysDamaged : D → D → List ℕ → Type 0
+  SaysDamaged d left text =
+      (read : D) × (sector : ℕ) × RefusesReading disk header_in d read (Damaged sector) × SaysOlder read left text
 
-  -- a write failed; or the disk gives nothing, from this cause
-  abbrev pub StopsChecking : D → Stream → RunFault → Type 0
-  StopsChecking d output (StreamFault fault) =
-      (fault ≡ Write) × ((text : List ℕ) × IsDueText d text × TakesPrefix output text)
-  StopsChecking d output (Config fault) = ⊥
-  StopsChecking d output (Store cause) = RefusesReading disk header_in d cause × LeavesSaid d output cause
+  -- a write failed of the text that is due; or reading the disk gave nothing, from this cause
+  abbrev pub StopsChecking : D → D → Stream → RunFault → Type 0
+  StopsChecking d left output (StreamFault fault) = (fault ≡ Write)
+      × ((text : List ℕ) × (SaysSeen disk header_in [] d left text ⊎ SaysDamaged d left text) × TakesPrefix output text)
+  StopsChecking d left output (Config fault) = ⊥
+  StopsChecking d left output (Store cause) =
+      (read : D) × RefusesReading disk header_in d read cause × LeavesSaid read left output cause
 
-  -- a disk was found, and what it holds is written; it is handed out, and nothing was written to it
+  -- a disk was found, what it holds is written, and it is handed out
   abbrev pub ChecksFound : {E : Type 0} → Result D E → D → Stream → Type 0
-  ChecksFound found left output = MatchResult found (λ d. Quiet disk d left × Checks d output) (λ _. ⊥)
+  ChecksFound found left output = MatchResult found (λ d. Checks d left output) (λ _. ⊥)
 
-  -- a disk was found that gives nothing, or a write failed; it is handed back, and nothing was written to it. Or none was found,
-  -- which is a fault of the disk, and nothing is written.
+  -- a disk was found that gives nothing, or a write failed, and it is handed back; or none was found, which is a fault of the
+  -- disk, and nothing is written
   abbrev pub StopsCheckingFound : {E : Type 0} → Result D E → Option D → Stream → RunFault → Type 0
-  StopsCheckingFound (Ok d) (Some left) output fault = Quiet disk d left × StopsChecking d output fault
+  StopsCheckingFound (Ok d) (Some left) output fault = StopsChecking d left output fault
   StopsCheckingFound (Ok d) None output fault = ⊥
   StopsCheckingFound (Err _) (Some left) output fault = ⊥
   StopsCheckingFound (Err _) None output fault = (fault ≡ Store DiskFault) × IsUntouched output
 
--- What the disk in a file holds is written, and nothing was written to the disk.
-pub record LeavesChecked (left : FileDisk (SystemFile File)) (output : Stream) : Type 0 where
-  pub found : FileDisk (SystemFile File)
-  pub quiet : Quiet file_disk found left
-  pub checks : Checks file_disk found output
+-- what a disk in a file holds is written, which left the disk so
+abbrev pub LeavesChecked : FileDisk (SystemFile File) → Stream → Type 0
+LeavesChecked left output = (d : FileDisk (SystemFile File)) × Checks file_disk d left output
 
--- The disk in a file gives nothing, or a write of what it holds failed, and nothing was written to the disk.
-pub record StopsOnDisk (left : Option (FileDisk (SystemFile File))) (output : Stream) (fault : RunFault) : Type 0 where
-  pub found : FileDisk (SystemFile File)
-  pub disk : FileDisk (SystemFile File)
-  pub left_by : left ≡ Some disk
-  pub quiet : Quiet file_disk found disk
-  pub stops : StopsChecking file_disk found output fault
-
--- the file cannot be opened as a disk, which is a fault of the disk, and nothing is written; or the disk in it stops the run
+-- a disk in a file gives nothing, or a write of what it holds failed, which left the disk so; or the file cannot be opened as a
+-- disk, which is a fault of the disk, and nothing is written
 abbrev pub LeavesUnchecked : Option (FileDisk (SystemFile File)) → Stream → RunFault → Type 0
-LeavesUnchecked left output fault =
-    ((left ≡ None) × (fault ≡ Store DiskFault) × IsUntouched output) ⊎ StopsOnDisk left output fault
+LeavesUnchecked (Some left) output fault = (d : FileDisk (SystemFile File)) × StopsChecking file_disk d left output fault
+LeavesUnchecked None output fault = (fault ≡ Store DiskFault) × IsUntouched output
 
--- the same, of the disk that is left
+-- the same, whichever disk is left
 abbrev pub HasChecked : Stream → Type 0
 HasChecked output = (left : FileDisk (SystemFile File)) × LeavesChecked left output
 

@@ -16,39 +16,36 @@ use Rattle.bridge_session.specs.SessionKeeping.{session_keeping}
 use Rattle.session_rules.specs.State.{SessionValue}
 
 module _ {D : Type 0} (disk : Disk D) where
-  -- Reading a disk gave the session that it stands for. Nothing was written, and no call of the disk failed.
-  pub record ReadsSession (d : D) (session : SessionValue) : Type 0 where
-    pub left : D
+  -- Reading a disk, which left it so, gave the session that it stands for. Nothing was written, and no call of the disk failed.
+  pub record ReadsSession (d left : D) (session : SessionValue) : Type 0 where
     pub quiet : Quiet disk d left
     pub no_fault : disk.faults left ≡ disk.faults d
     pub stands : disk.honest d → recovered session_keeping (disk.reads d) ≡ Ok session
 
-  -- Reading what stands under a header of a disk gave nothing, and nothing was written: the disk has fewer than 2,048
-  -- sectors; or a call of it failed, memory was refused, or what it reads is refused. Memory is asked for only where there is
-  -- that header.
-  abbrev pub RefusesReading : (Image → Option Header) → D → StoreFault → Type 0
-  RefusesReading header d fault = ((disk.count d < sector_count) × (fault ≡ TooSmall))
-      ⊎ ((sector_count ≤ disk.count d) × ((left : D) × Quiet disk d left × IsUnseen session_keeping disk header d left fault))
+  -- Reading what stands under a header of a disk, which left it so, gave nothing: the disk has fewer than 2,048 sectors, and is
+  -- as it was; or nothing was written, and a call of it failed, memory was refused, or what it reads is refused. `NoMemory`
+  -- comes of an honest disk only where it has that header.
+  abbrev pub RefusesReading : (Image → Option Header) → D → D → StoreFault → Type 0
+  RefusesReading header d left fault = ((disk.count d < sector_count) × (left ≡ d) × (fault ≡ TooSmall))
+      ⊎ ((sector_count ≤ disk.count d) × Quiet disk d left × IsUnseen session_keeping disk header d left fault)
 
-  -- a disk was found, and reading it gave this session; it is handed out, and nothing was written to it
+  -- a disk was found, and reading it gave this session; it is handed out
   abbrev pub ReadsFound : {E : Type 0} → Result D E → D → SessionValue → Type 0
-  ReadsFound found left session = MatchResult found (λ d. Quiet disk d left × ReadsSession d session) (λ _. ⊥)
+  ReadsFound found left session = MatchResult found (λ d. ReadsSession d left session) (λ _. ⊥)
 
-  -- a disk was found, and reading it gave none; it is handed back, and nothing was written to it. Or none was found, which is a
-  -- fault of the disk.
+  -- a disk was found, reading it gave none, and it is handed back; or none was found, which is a fault of the disk
   abbrev pub RefusesFoundReading : {E : Type 0} → Result D E → Option D → StoreFault → Type 0
-  RefusesFoundReading (Ok d) (Some left) fault = Quiet disk d left × RefusesReading header_in d fault
+  RefusesFoundReading (Ok d) (Some left) fault = RefusesReading header_in d left fault
   RefusesFoundReading (Ok d) None fault = ⊥
   RefusesFoundReading (Err _) (Some left) fault = ⊥
   RefusesFoundReading (Err _) None fault = fault ≡ DiskFault
 
--- the session was read of a disk in a file, which is left without a write
+-- reading a disk in a file gave this session and left the disk so
 abbrev pub IsReadOnFile : FileDisk (SystemFile File) → SessionValue → Type 0
-IsReadOnFile left session = (d : FileDisk (SystemFile File)) × Quiet file_disk d left × ReadsSession file_disk d session
+IsReadOnFile left session = (d : FileDisk (SystemFile File)) × ReadsSession file_disk d left session
 
--- there is no disk, and the fault is that of a file that cannot be opened as one, of which no contract can say more; or reading
--- the disk in it gave no session, and it is left without a write
+-- reading a disk in a file gave no session and left the disk so; or there is none, and the fault is that of a file that cannot
+-- be opened as one, of which no contract can say more
 abbrev pub IsUnreadOnFile : Option (FileDisk (SystemFile File)) → StoreFault → Type 0
-IsUnreadOnFile (Some left) fault =
-    (d : FileDisk (SystemFile File)) × Quiet file_disk d left × RefusesReading file_disk header_in d fault
+IsUnreadOnFile (Some left) fault = (d : FileDisk (SystemFile File)) × RefusesReading file_disk header_in d left fault
 IsUnreadOnFile None fault = fault ≡ DiskFault

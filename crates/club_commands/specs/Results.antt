@@ -1,4 +1,4 @@
--- What the commands `rank`, `pbn` and `results` write.
+-- What the commands `rank`, `pbn` and `results` write, and how `results` leaves the disk.
 use Rattle.std.specs.Prelude.{◌≡◌, ◌⊎◌, ◌++◌, [], ℕ, Bool, true, false, List, map, codes, MatchBool, Option, Some, Result, Ok, Err}
 use Rattle.std.specs.declared.fs.File.{File}
 use Rattle.sector_disk.specs.declared.file.FileDisk.{FileDisk}
@@ -58,7 +58,7 @@ module _ (IsText : SessionValue → List ℕ → Type 0) where
       (left ≡ read.0) × ((text : List ℕ) × IsText read.1 text × Takes output text)
   TellsRead (Err _) left output = ⊥
 
-  -- it was read, and a write failed; or there is no session, and nothing is written
+  -- it was read, and a write failed; or there is no session, and nothing is written. Where there is a disk, it is as reading left it.
   abbrev pub StopsTelling : {D : Type 0} → Result (D × SessionValue) (Option D × StoreFault) → Option D → Stream → RunFault → Type 0
   StopsTelling (Ok read) left output fault = (left ≡ Some read.0) × (fault ≡ StreamFault Write)
       × ((text : List ℕ) × IsText read.1 text × TakesPrefix output text)

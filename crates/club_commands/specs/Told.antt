@@ -28,7 +28,7 @@ module _ (told : Told) where
       (left ≡ store.disk) × ((text : List ℕ) × IsToldText told store.state text × Takes output text)
   TellsOpened (Err _) left output = ⊥
 
-  -- it was opened, and a write failed; or there is no session, and nothing is written
+  -- it was opened, and a write failed; or there is no session, and nothing is written. Where there is a disk, it is as opening left it.
   abbrev pub StopsTellingOpened : {D : Type 0} → Result (StoreValue D SessionValue Action) (Option D × StoreFault) → Option D → Stream → RunFault → Type 0
   StopsTellingOpened (Ok store) left output fault = (left ≡ Some store.disk) × (fault ≡ StreamFault Write)
       × ((text : List ℕ) × IsToldText told store.state text × TakesPrefix output text)

@@ -1,5 +1,5 @@
 -- What the command `web` does.
-use Rattle.std.specs.Prelude.{◌≡◌, ◌⊎◌, ◌++◌, ℕ, List, [], ◌∷◌, true, false, codes, Option, Some, None, Result, Ok, Err}
+use Rattle.std.specs.Prelude.{◌≡◌, ◌⊎◌, ◌++◌, ℕ, List, [], ◌∷◌, Bool, true, false, codes, Option, Some, None, Result, Ok, Err, MatchResult}
 use Rattle.std.specs.Borrow.{Bor}
 use Rattle.std.specs.Net.Addr.{ipv4_octets}
 use Rattle.std.specs.Net.Grammar.{IsIpv4Text}
@@ -74,6 +74,12 @@ module _ {D : Type 0} (disk : Disk D) (host alias : List ℕ) where
   StopsPages start store fault =
       (FailsPages start store × (fault ≡ Store DiskFault)) ⊎ (ShowsPages start store × (fault ≡ StreamFault Accept))
 
+-- how the showing of pages ends where the store failed, or not, and by what the clock answered
+abbrev pub ended_by : {E : Type 0} → Bool → Result (Unit {0}) E → Result (Unit {0}) RunFault
+ended_by true _ = Err (Store DiskFault)
+ended_by false (Ok _) = Ok tt
+ended_by false (Err _) = Err (StreamFault Accept)
+
 -- over a store in a file, which is led from the first to the second, at a server of these two names
 module _ (host alias : List ℕ) (start store : StoreValue (FileDisk (SystemFile File)) SessionValue Action) where
   -- where the pages are is said, and they were shown
@@ -91,6 +97,16 @@ module _ (host alias : List ℕ) (start store : StoreValue (FileDisk (SystemFile
   abbrev pub StopsShowing : Stream → RunFault → Type 0
   StopsShowing output fault = ((store ≡ start) × (fault ≡ StreamFault Accept) × IsUntouched output)
       ⊎ (((store ≡ start) × (fault ≡ StreamFault Write) × TakesPrefix output (listening_line host)) ⊎ StopsShown output fault)
+
+  -- there is a listener, where the pages are is said, and they were shown
+  abbrev pub ShowsHeard : {L E : Type 0} → Result L E → Stream → Type 0
+  ShowsHeard heard output = MatchResult heard (λ _. HasShown output) (λ _. ⊥)
+
+  -- there is one, and the showing stopped; or there is none, for this cause, nothing is written, and the store is as it was
+  abbrev pub StopsHeardPages : {L : Type 0} → Result L RunFault → Stream → RunFault → Type 0
+  StopsHeardPages heard output fault = MatchResult heard
+      (λ _. StopsShowing output fault)
+      (λ refused. (store ≡ start) × (fault ≡ refused) × IsUntouched output)
 
 -- a session was opened, there was memory for a cache, and pages were shown where the words say; the disk is as the last call
 -- left it

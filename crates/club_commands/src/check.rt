@@ -6,7 +6,6 @@ ghost use Rattle.line_text.specs.Streams.{stream, Written};
 ghost use Rattle.session_store.specs.Form.{digit};
 ghost use Rattle.session_store.specs.Stands.{header_in};
 ghost use Rattle.table_server.specs.declared.fault.ServeFault.TheVariants.{Write as WriteFault};
-ghost use Rattle.sector_disk.specs.Runs.{Quiet};
 ghost use Rattle.club_commands.specs.Checked.{with_said, with_round, with_standing, with_state, no_older_text, SaysOlder, Checks, StopsChecking};
 
 use crate::counts::{boards_dealt, plays_done};
@@ -153,10 +152,9 @@ fn tell_older<D: SectorDisk, W: Write>(
     disk: &mut D,
     output: &mut W,
 ) -> Result<(), RunFault>
-    ensures written { (text : List ℕ) × SaysOlder D.disk disk.old text
+    ensures written { (text : List ℕ) × SaysOlder D.disk disk.old disk.new text
         × Written (stream W.contents output.old output.new) text result }
     ensures fault { IfErr result (λ fault. fault ≡ RunFault.Stream WriteFault) }
-    ensures quiet { Quiet D.disk disk.old disk.new }
 {
     match read_older_state::<D, Session>(alloc, disk) {
         Ok(found) => write_output(output, seen_text("older snapshot\n", &found).as_str()),
@@ -171,9 +169,8 @@ pub fn check_disk<D: SectorDisk, W: Write>(
     disk: &mut D,
     output: &mut W,
 ) -> Result<(), RunFault>
-    ensures done { OnOk result (Checks D.disk disk.old (stream W.contents output.old output.new)) }
-    ensures fault { IfErr result (StopsChecking D.disk disk.old (stream W.contents output.old output.new)) }
-    ensures quiet { Quiet D.disk disk.old disk.new }
+    ensures done { OnOk result (Checks D.disk disk.old disk.new (stream W.contents output.old output.new)) }
+    ensures fault { IfErr result (StopsChecking D.disk disk.old disk.new (stream W.contents output.old output.new)) }
 {
     match read_state::<D, Session>(alloc, disk) {
         Ok(found) => write_output(output, seen_text("", &found).as_str()),

@@ -1,5 +1,5 @@
 //! The command `format`: a disk for the session that begins by a configuration.
-ghost use Rattle.std.specs.Prelude.{◌≡◌, ◌≤◌, OnOk, IfOk, IfErr};
+ghost use Rattle.std.specs.Prelude.{◌≡◌, ◌≤◌, Err, OnOk, IfOk, IfErr};
 ghost use Rattle.line_text.specs.Streams.{stream};
 ghost use Rattle.sector_disk.specs.File.{file_disk};
 ghost use Rattle.club_commands.specs.Formatted.{Formats, FailsToFormat, FormatsMade, FailsToFormatMade, IsSessionFound, IsNoSessionFound, IsSessionOfFile, IsNoSessionOfFile, LeavesFormatted, LeavesUnformatted, HasFormatted, StopsFormatting};
@@ -87,6 +87,7 @@ fn create_locked<S: Files<File = File>>(
 ) -> Result<FileDisk<SystemFile<File>>, DiskFault>
     ensures count { IfOk result (λ made. file_disk.count made ≡ 2048) }
     ensures fault { IfErr result (λ fault. fault ≡ DiskFault.Write) }
+    ensures unlocked { IfErr lock.now (λ _. result ≡ Err DiskFault.Write) }
 {
     match lock {
         Ok(_) => FileDisk::create(rt, disk),

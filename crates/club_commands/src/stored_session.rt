@@ -1,6 +1,5 @@
 //! The session that a disk holds.
 ghost use Rattle.std.specs.Prelude.{◌≡◌, [], false, IfOk, IfErr};
-ghost use Rattle.sector_disk.specs.Runs.{Quiet};
 ghost use Rattle.session_store.specs.Stands.{header_in};
 ghost use Rattle.club_commands.specs.Readings.{ReadsSession, RefusesReading, ReadsFound, RefusesFoundReading};
 ghost use Rattle.club_commands.specs.Stored.{OpensSession, RefusesDisk, OpensFound, RefusesFound};
@@ -45,9 +44,8 @@ pub fn open_found<D: SectorDisk + Drop>(
 
 /// The session that a disk holds, read of it; nothing is written.
 fn read_disk<D: SectorDisk>(alloc: Global, disk: &mut D) -> Result<Session, StoreFault>
-    ensures read { IfOk result (ReadsSession D.disk disk.old) }
-    ensures fault { IfErr result (RefusesReading D.disk header_in disk.old) }
-    ensures quiet { Quiet D.disk disk.old disk.new }
+    ensures read { IfOk result (ReadsSession D.disk disk.old disk.new) }
+    ensures fault { IfErr result (RefusesReading D.disk header_in disk.old disk.new) }
 {
     match read_state::<D, Session>(alloc, disk) {
         Ok(found) => {
@@ -58,7 +56,7 @@ fn read_disk<D: SectorDisk>(alloc: Global, disk: &mut D) -> Result<Session, Stor
     }
 }
 
-/// The session that a disk holds, read of it where the disk was found, and the disk, to which nothing was written.
+/// The session that a disk holds, read of it where the disk was found, and the disk; nothing is written to it.
 pub fn read_found<D: SectorDisk + Drop>(
     alloc: Global,
     found: Result<D, DiskFault>,

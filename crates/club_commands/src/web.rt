@@ -2,7 +2,7 @@
 ghost use Rattle.std.specs.Prelude.{◌≡◌, [], false, Some, string_bytes, OnOk, IfOk, IfErr};
 ghost use Rattle.session_store.specs.declared.fault.StoreFault.TheVariants.{NoMemory};
 ghost use Rattle.line_text.specs.Streams.{stream};
-ghost use Rattle.club_commands.specs.Web.{listening_line, ShowsPages, StopsPages, HasShown, StopsShowing, ShowsOpened, StopsOpenedPages, LeavesShown, LeavesUnshown, HasShownPages, StopsShowingPages};
+ghost use Rattle.club_commands.specs.Web.{listening_line, ShowsPages, StopsPages, ended_by, HasShown, StopsShowing, ShowsHeard, StopsHeardPages, ShowsOpened, StopsOpenedPages, LeavesShown, LeavesUnshown, HasShownPages, StopsShowingPages};
 
 use crate::disk_commands::{CACHED_ENDINGS, open_store};
 use crate::disk_lock::lock;
@@ -18,13 +18,26 @@ use session_store::{Store, StoreFault};
 use std::alloc::{AllocError, Global};
 use std::fs::File;
 use std::hash::RandomState;
-use std::io::Write;
+use std::io::{self, Write};
 use std::net::{Net, TcpListener, TcpStream};
 use std::random::RandomSource;
 use std::rt::Files;
 use std::time::Clock;
 use table_pages::{TablePages, show_minutes};
 use table_server::ServeFault;
+
+/// How the showing of pages ended, by whether the store has failed and by what the clock answered.
+fn ended(failed: bool, shown: io::Result<()>) -> Result<(), RunFault>
+    ensures { result ≡ ended_by failed shown }
+{
+    if failed {
+        return Err(RunFault::Store(StoreFault::Disk));
+    }
+    match shown {
+        Ok(()) => Ok(()),
+        Err(_) => Err(RunFault::Stream(ServeFault::Accept)),
+    }
+}
 
 /// Shows pages for so many minutes, or until the store fails. The fault is that the store failed, or that the clock cannot be
 /// read.
@@ -41,13 +54,30 @@ pub fn show_pages<N: Net + Clock, D: SectorDisk + Drop>(
     ensures fault { IfErr result (StopsPages D.disk (string_bytes pages.old.host) (string_bytes pages.old.alias) pages.old.server pages.new.server) }
 {
     let shown = show_minutes(rt, alloc, keys, listener, pages, minutes);
-    if pages.server().has_failed() {
-        return Err(RunFault::Store(StoreFault::Disk));
-    }
-    match shown {
-        Ok(()) => Ok(()),
-        Err(_) => Err(RunFault::Stream(ServeFault::Accept)),
-    }
+    ended(pages.server().has_failed(), shown)
+}
+
+/// Says where the pages are and shows them for so many minutes over a store, where there is a listener.
+fn show_heard<N: Net<Listener = TcpListener, Stream = TcpStream> + Clock + RandomSource, W: Write>(
+    rt: &N,
+    alloc: Global,
+    found: Result<TcpListener, RunFault>,
+    minutes: u16,
+    line: &str,
+    pages: &mut TablePages<Store<FileDisk<SystemFile<File>>, Session>>,
+    output: &mut W,
+) -> Result<(), RunFault>
+    requires works { pages.old.server.failed ≡ false }
+    requires line { line.now ≡ listening_line (string_bytes pages.old.host) }
+    ensures done { OnOk result (ShowsHeard (string_bytes pages.old.host) (string_bytes pages.old.alias) pages.old.server pages.new.server found (stream W.contents output.old output.new)) }
+    ensures fault { IfErr result (StopsHeardPages (string_bytes pages.old.host) (string_bytes pages.old.alias) pages.old.server pages.new.server found (stream W.contents output.old output.new)) }
+{
+    let listener = found?;
+    let Ok(keys) = RandomState::new(rt) else {
+        return Err(RunFault::Stream(ServeFault::Accept));
+    };
+    write_output(output, line)?;
+    show_pages(rt, alloc, keys, &listener, pages, minutes)
 }
 
 /// Listens, says where, and shows pages for so many minutes over a store.
@@ -68,12 +98,7 @@ fn listen_and_show<
     ensures done { OnOk result (HasShown (string_bytes pages.old.host) (string_bytes pages.old.alias) pages.old.server pages.new.server (stream W.contents output.old output.new)) }
     ensures fault { IfErr result (StopsShowing (string_bytes pages.old.host) (string_bytes pages.old.alias) pages.old.server pages.new.server (stream W.contents output.old output.new)) }
 {
-    let listener = listen_at(rt, host)?;
-    let Ok(keys) = RandomState::new(rt) else {
-        return Err(RunFault::Stream(ServeFault::Accept));
-    };
-    write_output(output, line)?;
-    show_pages(rt, alloc, keys, &listener, pages, minutes)
+    show_heard(rt, alloc, listen_at(rt, host), minutes, line, pages, output)
 }
 
 /// Shows pages over a session, where it was opened and there was memory for a cache, and hands the disk out.

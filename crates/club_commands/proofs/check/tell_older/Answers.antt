@@ -7,7 +7,6 @@ pub returns-in-Ok-clause-written : goal.returns-in-Ok-clause-written
 returns-in-Ok-clause-written g c = (
   c.seen_text.result.bytes,
   inl (record {
-    left = c.read_older_state.new.disk;
     quiet = c.read_older_state.ensures.quiet;
     state = c.in-Ok.found.state;
     format = c.in-Ok.found.format;
@@ -26,7 +25,7 @@ returns-in-Err-clause-written g c = (
   inr (
     c.in-Err.fault,
     refuses_reading g.D.SectorDisk.disk older_header_in c.args.disk.now c.read_older_state.new.disk c.read_older_state.result c.in-Err.fault c.in-Err.is
-        c.read_older_state.ensures.quiet (λ small. (c.read_older_state.ensures.too_small small).0) c.in-Err.ensures.unseen,
+        c.read_older_state.ensures.quiet c.read_older_state.ensures.too_small c.in-Err.ensures.unseen,
     c.no_older_text.ensures,
   ),
   rw c.as_str-in-Err.ensures.value at c.write_output-in-Err.ensures.written,

@@ -1,31 +1,19 @@
-use Rattle.std.proofs.Common.{◌∙◌, inl, inr, refl, sym, ap}
+use Rattle.std.proofs.Common.{◌∙◌, sym, ap}
 use Rattle.std.specs.Prelude.{string_bytes}
 use Rattle.session_store.specs.Value.{StoreValue}
 use Rattle.session_rules.specs.declared.action.Action.{Action}
 use Rattle.session_rules.specs.State.{SessionValue}
-use Rattle.club_commands.proofs.Shown.{shows_pages, fails_pages}
+use Rattle.club_commands.proofs.Shown.{pages_done, pages_stopped}
 use Rattle.club_commands.proofs.web.show_pages.Goals as goal
 
-pub returns-then-has_failed-clause-fault : goal.returns-then-has_failed-clause-fault
-returns-then-has_failed-clause-fault g c =
-    let failed = ap (λ (store : StoreValue g.row.D.Denot SessionValue Action). store.failed) (sym c.server.ensures) ∙ sym c.has_failed.ensures ∙ c.if-has_failed.true in
-    inl (
-      fails_pages g.D.SectorDisk.disk (string_bytes c.args.pages.now.host) (string_bytes c.args.pages.now.alias) c.args.pages.now.server
-          c.show_minutes-shown.new.pages.server c.show_minutes-shown.ensures c.requires failed,
-      refl,
-    )
+pub returns-clause-done : goal.returns-clause-done
+returns-clause-done g c =
+    let failed = ap (λ (store : StoreValue g.row.D.Denot SessionValue Action). store.failed) (sym c.server.ensures) ∙ sym c.has_failed.ensures in
+    pages_done g.D.SectorDisk.disk (string_bytes c.args.pages.now.host) (string_bytes c.args.pages.now.alias) c.has_failed.result c.show_minutes-shown.result
+    c.ended.result c.args.pages.now.server c.show_minutes-shown.new.pages.server c.show_minutes-shown.ensures failed c.ended.ensures
 
-pub returns-in-Ok-clause-done : goal.returns-in-Ok-clause-done
-returns-in-Ok-clause-done g c =
-    let works = ap (λ (store : StoreValue g.row.D.Denot SessionValue Action). store.failed) (sym c.server.ensures) ∙ sym c.has_failed.ensures ∙ c.if-has_failed.false in
-    shows_pages g.D.SectorDisk.disk (string_bytes c.args.pages.now.host) (string_bytes c.args.pages.now.alias) c.args.pages.now.server
-    c.show_minutes-shown.new.pages.server c.show_minutes-shown.ensures works
-
-pub returns-in-Err-clause-fault : goal.returns-in-Err-clause-fault
-returns-in-Err-clause-fault g c =
-    let works = ap (λ (store : StoreValue g.row.D.Denot SessionValue Action). store.failed) (sym c.server.ensures) ∙ sym c.has_failed.ensures ∙ c.if-has_failed.false in
-    inr (
-      shows_pages g.D.SectorDisk.disk (string_bytes c.args.pages.now.host) (string_bytes c.args.pages.now.alias) c.args.pages.now.server
-          c.show_minutes-shown.new.pages.server c.show_minutes-shown.ensures works,
-      refl,
-    )
+pub returns-clause-fault : goal.returns-clause-fault
+returns-clause-fault g c =
+    let failed = ap (λ (store : StoreValue g.row.D.Denot SessionValue Action). store.failed) (sym c.server.ensures) ∙ sym c.has_failed.ensures in
+    pages_stopped g.D.SectorDisk.disk (string_bytes c.args.pages.now.host) (string_bytes c.args.pages.now.alias) c.has_failed.result c.show_minutes-shown.result
+    c.ended.result c.args.pages.now.server c.show_minutes-shown.new.pages.server c.show_minutes-shown.ensures c.requires failed c.ended.ensures
