@@ -55,7 +55,7 @@ module _ {D : Type 0} (disk : Disk D) where
     checks (Ok _) seen written = (text, seen, written)
     checks (Err fault) seen written = tt
 
-    -- what is due is not
+    -- or a write of it failed
     pub stops_writing : (result : Result (Unit {0}) RunFault) → SaysSeen disk header_in [] d left text → Written output text result
         → IfErr result (λ fault. fault ≡ StreamFault Write) → IfErr result (StopsChecking disk d left output)
     stops_writing (Ok _) seen written write = tt

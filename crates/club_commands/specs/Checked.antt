@@ -60,8 +60,8 @@ no_older_text (Damaged sector) = codes "older snapshot: " ++ store_line (Damaged
 no_older_text EpochsSpent = codes "older snapshot: " ++ store_line EpochsSpent
 no_older_text NoMemory = codes "older snapshot: " ++ store_line NoMemory
 
--- What was seen on a disk under that header of it, which left it so, is this text, below a heading. Nothing was written to the
--- disk, and no call of it failed.
+-- Looking at a disk under that header of it left it so, and what was seen is this text, below a heading. Nothing was written
+-- to the disk, and no call of it failed.
 pub record SaysSeen {D : Type 0} (disk : Disk D) (header : Image → Option Header) (heading : List ℕ) (d left : D) (text : List ℕ) : Type 0 where
   pub quiet : Quiet disk d left
   pub state : SessionValue
@@ -73,12 +73,12 @@ pub record SaysSeen {D : Type 0} (disk : Disk D) (header : Image → Option Head
   pub says : text ≡ with_state (with_standing heading format epoch sector records) state
 
 module _ {D : Type 0} (disk : Disk D) where
-  -- what the older snapshot holds is this text, or it gives nothing, which the text says
+  -- what the older snapshot holds is this text, or it gives nothing, which the text says; reading it left the disk so
   abbrev pub SaysOlder : D → D → List ℕ → Type 0
   SaysOlder d left text = SaysSeen disk older_header_in older_heading d left text
       ⊎ ((fault : StoreFault) × RefusesReading disk older_header_in d left fault × (text ≡ no_older_text fault))
 
-  -- what a disk holds is written
+  -- what a disk holds is written, and reading it left the disk so
   abbrev pub Checks : D → D → Stream → Type 0
   Checks d left output = (text : List ℕ) × SaysSeen disk header_in [] d left text × Takes output text
 
@@ -97,7 +97,7 @@ module _ {D : Type 0} (disk : Disk D) where
   SaysDamaged d left text =
       (read : D) × (sector : ℕ) × RefusesReading disk header_in d read (Damaged sector) × SaysOlder read left text
 
-  -- a write failed of the text that is due; or reading the disk gave nothing, from this cause
+  -- a write failed of the text that is due; or reading the disk gave nothing, from this cause, and what is due then is written
   abbrev pub StopsChecking : D → D → Stream → RunFault → Type 0
   StopsChecking d left output (StreamFault fault) = (fault ≡ Write)
       × ((text : List ℕ) × (SaysSeen disk header_in [] d left text ⊎ SaysDamaged d left text) × TakesPrefix output text)
@@ -121,8 +121,8 @@ module _ {D : Type 0} (disk : Disk D) where
 abbrev pub LeavesChecked : FileDisk (SystemFile File) → Stream → Type 0
 LeavesChecked left output = (d : FileDisk (SystemFile File)) × Checks file_disk d left output
 
--- a disk in a file gives nothing, or a write of what it holds failed, which left the disk so; or the file cannot be opened as a
--- disk, which is a fault of the disk, and nothing is written
+-- a disk in a file gives nothing, or a write of what it holds failed, which left the disk so; or there is none, the fault is that
+-- of a file that cannot be opened as one, of which no contract can say more, and nothing is written
 abbrev pub LeavesUnchecked : Option (FileDisk (SystemFile File)) → Stream → RunFault → Type 0
 LeavesUnchecked (Some left) output fault = (d : FileDisk (SystemFile File)) × StopsChecking file_disk d left output fault
 LeavesUnchecked None output fault = (fault ≡ Store DiskFault) × IsUntouched output

@@ -16,13 +16,13 @@ use Rattle.bridge_session.specs.SessionKeeping.{session_keeping}
 use Rattle.session_rules.specs.State.{SessionValue}
 
 module _ {D : Type 0} (disk : Disk D) where
-  -- Reading a disk, which left it so, gave the session that it stands for. Nothing was written, and no call of the disk failed.
+  -- Reading a disk left it so and gave the session that it stands for. Nothing was written, and no call of the disk failed.
   pub record ReadsSession (d left : D) (session : SessionValue) : Type 0 where
     pub quiet : Quiet disk d left
     pub no_fault : disk.faults left ≡ disk.faults d
     pub stands : disk.honest d → recovered session_keeping (disk.reads d) ≡ Ok session
 
-  -- Reading what stands under a header of a disk, which left it so, gave nothing: the disk has fewer than 2,048 sectors, and is
+  -- Reading what stands under a header of a disk left the disk so and gave nothing: it has fewer than 2,048 sectors, and is
   -- as it was; or nothing was written, and a call of it failed, memory was refused, or what it reads is refused. `NoMemory`
   -- comes of an honest disk only where it has that header.
   abbrev pub RefusesReading : (Image → Option Header) → D → D → StoreFault → Type 0
