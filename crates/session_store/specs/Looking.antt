@@ -48,7 +48,7 @@ module _ {D S A R : Type 0} (kept : Keeping S A R) (disk : Disk D) (header : Ima
     pub stands_at : sector ≡ place epoch
     pub counted : disk.honest old → CountsRecords kept format (disk.reads old) epoch records
 
-  -- why nothing was seen; memory was asked for only where there is that header
+  -- why nothing was seen; `NoMemory` comes of an honest disk only where it has that header
   pub record IsUnseen (old new : D) (fault : StoreFault) : Type 0 where
     pub cause : IsCause (disk.honest old) (disk.faults old) (disk.faults new)
         (after_header kept (disk.reads old) (header (disk.reads old))) fault

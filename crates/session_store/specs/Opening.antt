@@ -61,7 +61,7 @@ module _ {D S A R : Type 0} (kept : Keeping S A R) (disk : Disk D) where
     pub stands : disk.honest old → recovered kept (disk.reads old) ≡ Ok state
     pub has_epoch : disk.honest old → HasEpoch epoch (disk.reads old)
 
-  -- why it was not read; memory was asked for only where a header was found whose epoch is not the last
+  -- why it was not read; `NoMemory` comes of an honest disk only where it has a header, of an epoch that is not the last
   pub record IsUnread (old new : D) (fault : StoreFault) : Type 0 where
     pub cause : IsCause (disk.honest old) (disk.faults old) (disk.faults new) (reading kept (disk.reads old)) fault
     pub memory : fault ≡ NoMemory → disk.honest old → HasNext (disk.reads old)
