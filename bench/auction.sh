@@ -1,12 +1,13 @@
 #!/usr/bin/env bash
 # Times the auction command beside `cat` and `true` on the same input, in one run, and prints ratios.
-# Build the program first: (cd crates/bridge_club && rt run -- auction 1 < ../../examples/auction.txt)
+# PROGRAM names a program that was built before; else it is proved and built.
 set -eu
-cd "$(dirname "$0")/.."
-program=crates/bridge_club/out/bridge_club
+top=$(cd "$(dirname "$0")/.." && pwd)
 runs=${1:-200}
 work=$(mktemp -d)
 trap 'rm -rf "$work"' EXIT
+. "$top/bench/build.sh"
+club_program
 
 # 65,536 bytes of calls: an auction that is passed out, then lines that are answered after its end.
 yes PASS | head -c 65536 > "$work/passes"

@@ -19,17 +19,10 @@ few=$(((batches + 9) / 10))
 # The program is built in a repository of its own, so that the gate does not prove it.
 work=$(mktemp -d "$here/disk_bench.XXXXXX")
 trap 'rm -rf "$work"' EXIT
-crates=$work/repo/crates
-mkdir -p "$crates/disk_bench/src"
-cp -r "$top/crates/sector_disk" "$crates/sector_disk"
+. "$top/bench/build.sh"
+own_repository disk_bench "anyhow sector_disk" sector_disk
 cp "$here/disk/program.txt" "$crates/disk_bench/src/main.rt"
-printf 'sector_disk: thiserror\ndisk_bench: anyhow sector_disk\n' > "$work/repo/crates.txt"
-echo 'Handles allowed: none.' > "$work/repo/HANDLES"
-echo "building" >&2
-if ! (cd "$crates/disk_bench" && rt run -- "$work/first.disk" 1) > "$work/build.log" 2>&1; then
-    cat "$work/build.log" >&2
-    exit 1
-fi
+build "$crates/disk_bench" "$work/first.disk" 1
 program=$crates/disk_bench/out/disk_bench
 files=${BENCH_DIR:-$work}
 

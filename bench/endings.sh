@@ -14,17 +14,9 @@ top=$(cd "$here/.." && pwd)
 # The program is built in a repository of its own, so that the gate does not prove it.
 work=$(mktemp -d "$here/endings_bench.XXXXXX")
 trap 'rm -rf "$work"' EXIT
-crates=$work/repo/crates
-mkdir -p "$crates/endings_bench/src"
-cp -r "$top/crates/line_text" "$top/crates/bridge_cards" "$top/crates/bridge_endings" "$crates"
+. "$top/bench/build.sh"
+own_repository endings_bench "anyhow bridge_cards bridge_endings" "line_text bridge_cards bridge_endings"
 cp "$here/endings/program.txt" "$crates/endings_bench/src/main.rt"
-grep -E '^(line_text|bridge_cards|bridge_endings):' "$top/crates.txt" > "$work/repo/crates.txt"
-echo 'endings_bench: anyhow bridge_cards bridge_endings' >> "$work/repo/crates.txt"
-echo 'Handles allowed: none.' > "$work/repo/HANDLES"
-echo "building" >&2
-if ! (cd "$crates/endings_bench" && rt run -- 3 1 1 0) > "$work/build.log" 2>&1; then
-    cat "$work/build.log" >&2
-    exit 1
-fi
+build "$crates/endings_bench" 3 1 1 0
 g++ -O2 -o "$work/peer" "$here/endings/peer.cpp" -ldds
 python3 "$here/endings/compare.py" "$crates/endings_bench/out/endings_bench" "$work/peer" "${1:-20}" "${2:-500}"

@@ -10,7 +10,9 @@ set -eu
 here=$(cd "$(dirname "$0")" && pwd)
 work=$(mktemp -d "$here/pbn_bench.XXXXXX")
 trap 'rm -rf "$work"' EXIT
-. "$here/evening/build.sh"
+top=$(cd "$here/.." && pwd)
+. "$top/bench/build.sh"
+evening_program
 
 rounds=${1:-20}
 round=0

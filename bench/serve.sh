@@ -15,13 +15,6 @@ here=$(cd "$(dirname "$0")" && pwd)
 top=$(cd "$here/.." && pwd)
 work=$(mktemp -d "$here/serve_bench.XXXXXX")
 trap 'rm -rf "$work"' EXIT
-program=${PROGRAM:-}
-if [ -z "$program" ]; then
-    echo "building" >&2
-    (cd "$top/crates/bridge_club" && rt run -- auction 1 < /dev/null) > "$work/build.log" 2>&1 || {
-        cat "$work/build.log" >&2
-        exit 1
-    }
-    program=$top/crates/bridge_club/out/bridge_club
-fi
+. "$top/bench/build.sh"
+club_program
 PYTHONDONTWRITEBYTECODE=1 python3 "$here/serve/measure.py" "$program" "${BENCH_DIR:-$work}" "${1:-10}"

@@ -10,7 +10,9 @@ set -eu
 here=$(cd "$(dirname "$0")" && pwd)
 work=$(mktemp -d "$here/session_bench.XXXXXX")
 trap 'rm -rf "$work"' EXIT
-. "$here/evening/build.sh"
+top=$(cd "$here/.." && pwd)
+. "$top/bench/build.sh"
+evening_program
 
 "$program" step "${1:-5}" > "$work/step"
 awk '{ count[NR] = $1; time[NR] = $2 } END {

@@ -25,10 +25,11 @@ from_tests() { # FILE, TO
         > "$crates/store_bench/$2"
 }
 
-build() {
-    crates=$work/repo/crates
-    mkdir -p "$crates/store_bench/src" "$crates/store_bench/specs" "$crates/store_bench/proofs/counter/read_counter"
-    cp -r "$top/crates/sector_disk" "$top/crates/session_store" "$crates"
+. "$top/bench/build.sh"
+program=${PROGRAM:-$work/repo/crates/store_bench/out/store_bench}
+if [ -z "${PROGRAM:-}" ]; then
+    own_repository store_bench "anyhow arrayvec thiserror sector_disk session_store" "sector_disk session_store"
+    mkdir -p "$crates/store_bench/specs" "$crates/store_bench/proofs/counter/read_counter"
     cp "$here/store/program.txt" "$crates/store_bench/src/main.rt"
     answers=counter/read_counter/Answers.antt
     from_tests specs/Lib.antt specs/Lib.antt
@@ -36,19 +37,8 @@ build() {
     from_tests specs/CounterLaws.antt specs/CounterLaws.antt
     from_tests src/tests/counter.rt src/counter.rt
     from_tests "proofs/tests/$answers" "proofs/$answers"
-    printf 'sector_disk: thiserror\nsession_store: sector_disk arrayvec thiserror\n' > "$work/repo/crates.txt"
-    echo 'store_bench: anyhow arrayvec thiserror sector_disk session_store' >> "$work/repo/crates.txt"
-    echo 'Handles allowed: none.' > "$work/repo/HANDLES"
-    echo "building" >&2
-    if ! (cd "$crates/store_bench" && rt run -- "$work/first.disk" submit 1) > "$work/build.log" 2>&1; then
-        cat "$work/build.log" >&2
-        exit 1
-    fi
-    program=$crates/store_bench/out/store_bench
-}
-
-program=${PROGRAM:-}
-if [ -z "$program" ]; then build; fi
+    build "$crates/store_bench" "$work/first.disk" submit 1
+fi
 files=${BENCH_DIR:-$work}
 
 run() {

@@ -9,13 +9,6 @@ set -eu
 top=$(cd "$(dirname "$0")/.." && pwd)
 work=$(mktemp -d)
 trap 'rm -rf "$work"' EXIT
-program=${PROGRAM:-}
-if [ -z "$program" ]; then
-    echo "building" >&2
-    (cd "$top/crates/bridge_club" && rt run -- auction 1 < /dev/null) > "$work/build.log" 2>&1 || {
-        cat "$work/build.log" >&2
-        exit 1
-    }
-    program=$top/crates/bridge_club/out/bridge_club
-fi
+. "$top/bench/build.sh"
+club_program
 python3 "$top/bench/web/measure.py" "$program" "$top/examples/rows.txt" "$work" "${1:-10}"

@@ -1,4 +1,4 @@
-//! The text of two tables, `examples/rows.txt`. Changes of it that are refused stand in `examples/refused_rows.txt`.
+//! The text of two tables, `examples/rows.txt`. Changes of it that are refused stand in `examples/refused/rows.txt`.
 use crate::tests::expect_eq;
 use bridge_config::{Key, read_config};
 use bridge_movement::{Row, Shape};

@@ -3,7 +3,7 @@
 # version 0.10): each play's score and gains, and points, percentages and places of each pair in each field, by matchpoints
 # and by cross-IMPs.
 #
-#     bench/salliere.sh [SEED]     (of the deals and plays; 1 when left out)
+#     checks/salliere.sh [SEED]     (of the deals and plays; 1 when left out)
 #
 # A line for each evening. The status is 1 where anything differs without a reason. salliere gets its two files from the
 # results in Portable Bridge Notation, and scores the contracts itself.
@@ -23,13 +23,6 @@ trap 'rm -rf "$work"' EXIT
     echo "there is no $jar: install Debian's package salliere" >&2
     exit 2
 }
-program=${PROGRAM:-}
-if [ -z "$program" ]; then
-    echo "building" >&2
-    (cd "$top/crates/bridge_club" && rt run -- auction 1 < /dev/null) > "$work/build.log" 2>&1 || {
-        cat "$work/build.log" >&2
-        exit 1
-    }
-    program=$top/crates/bridge_club/out/bridge_club
-fi
-PYTHONDONTWRITEBYTECODE=1 python3 "$top/bench/salliere/compare.py" "$program" "$jar" "$work" "$top/examples" "${1:-1}"
+. "$top/bench/build.sh"
+club_program
+PYTHONDONTWRITEBYTECODE=1 python3 "$top/checks/salliere/compare.py" "$program" "$jar" "$work" "$top/examples" "${1:-1}"
