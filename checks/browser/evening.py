@@ -108,14 +108,8 @@ def play(window, line):
     elif words[0] == "CARD":
         window.click(f"#card-{words[4]}")
     elif words[0] == "CLAIM":
-        window.click("#claiming summary")
-        window.wait("document.getElementById('claiming').open")
-        for tricks in ["14", ""]:
-            # A window behind others has no focus to type with.
-            window.value(f"document.getElementById('claim').value = {json.dumps(tricks)}")
-            window.click("#claim-button")
-            window.wait("document.getElementById('notice').textContent.startsWith('Give a number of tricks from 0 to ')")
-        window.value(f"document.getElementById('claim').value = {json.dumps(words[4])}")
+        window.click("#claim-open")
+        window.click(f"#claim-{words[4]}")
         window.click("#claim-button")
     else:
         window.click("#agree" if words[0] == "AGREE" else "#refuse")
