@@ -18,7 +18,9 @@ use std::marker::Model;
 /// The auction of one board: its dealer, and a legal list of calls.
 #[derive(Debug, Drop, PartialEq, Eq)]
 pub struct Auction {
+    /// The dealer.
     dealer: Seat,
+    /// The calls, a legal list.
     calls: ArrayVec<Call, MOST_CALLS>,
 }
 

@@ -9,6 +9,7 @@ use std::marker::Model;
 /// The level of a bid: the number of tricks above six that it promises, 1 to 7 (Law 18A).
 #[derive(Clone, Copy, Debug, PartialEq, Eq, PartialOrd, Ord, Hash)]
 pub struct Level {
+    /// The odd tricks that it names, 1 to 7.
     tricks: u8,
 }
 

@@ -12,6 +12,7 @@ use std::marker::Model;
 /// The number of a board, 1 to 36.
 #[derive(Clone, Copy, Debug, PartialEq, Eq, PartialOrd, Ord, Hash)]
 pub struct BoardNumber {
+    /// 1 to 36.
     number: u8,
 }
 

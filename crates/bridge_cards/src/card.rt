@@ -21,6 +21,7 @@ pub const SUIT_CARDS: u8 = 13;
 /// the 2 of clubs.
 #[derive(Clone, Copy, Debug, Default, PartialEq, Eq, PartialOrd, Ord, Hash)]
 pub struct Card {
+    /// 0 to 51.
     number: u8,
 }
 

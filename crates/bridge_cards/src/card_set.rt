@@ -12,6 +12,7 @@ use std::ops::{BitAnd, BitOr};
 /// A set of cards of the deck; by default it has none.
 #[derive(Clone, Copy, Debug, Default, PartialEq, Eq, Hash)]
 pub struct CardSet {
+    /// Bit n says whether the card of number n is there; bits 52 to 63 are 0.
     bits: u64,
 }
 

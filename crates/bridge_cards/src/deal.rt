@@ -16,6 +16,7 @@ pub const HAND_CARDS: usize = 13;
 /// The four hands of a board (Law 1): the deck, 13 cards to each seat.
 #[derive(Clone, Copy, Debug, PartialEq, Eq, Hash)]
 pub struct Deal {
+    /// North's hand, and the others clockwise.
     hands: [CardSet; 4],
 }
 

@@ -9,6 +9,7 @@ use std::marker::Model;
 /// A rank of cards, from the 2 to the ace (Law 1).
 #[derive(Clone, Copy, Debug, PartialEq, Eq, PartialOrd, Ord, Hash)]
 pub struct Rank {
+    /// 2 to 14.
     number: u8,
 }
 

@@ -1,5 +1,6 @@
 -- What contracts see of a configuration: its fields, with texts as lists of bytes and keys as numbers.
-use Rattle.std.specs.Prelude.{ℕ, List, [], map, flat_map, ◌∷◌, ◌++◌, codes, slice_index_or}
+use Rattle.std.specs.Prelude.{ℕ, ◌-◌, Bool, if◌then◌else◌, List, [], map, flat_map, ◌∷◌, ◌++◌, codes, slice_get, slice_index_or}
+use Rattle.std.specs.Option.{option_map_or}
 use Rattle.bridge_score.specs.declared.ranking.Scoring.{Scoring}
 use Rattle.bridge_movement.specs.MovementValue.{MovementValue}
 use Rattle.bridge_config.specs.declared.fields.Key.{Key}
@@ -33,6 +34,15 @@ pair_of pair = record { names = map (λ name. name.bytes) pair.names; keys = map
 -- both of a pair's names, as `Anna and Berta`
 abbrev pub both_names : List (List ℕ) → List ℕ
 both_names names = (slice_index_or names 0 [] ++ codes " and ") ++ slice_index_or names 1 []
+
+-- both names of the pair of that number, from 1; none where there is no such pair
+abbrev pub pair_names : List Pair → ℕ → List ℕ
+pair_names pairs pair = option_map_or (λ (found : Pair). both_names found.names) (slice_get pairs (pair - 1)) []
+
+-- the name of the first or the second player of the pair of that number; none where there is no such pair
+abbrev pub player_name : List Pair → ℕ → Bool → List ℕ
+player_name pairs pair first =
+    option_map_or (λ (found : Pair). slice_index_or found.names (if first then 0 else 1) []) (slice_get pairs (pair - 1)) []
 
 -- what fields state
 abbrev pub configuration_of : ConfigFields → ConfigValue

@@ -12,6 +12,7 @@ use std::marker::Model;
 /// The configuration of a session, within its limits.
 #[derive(Debug, Drop)]
 pub struct Config {
+    /// What it states.
     fields: ConfigFields,
 }
 

@@ -17,6 +17,6 @@ pub mod refused;
 pub use config::Config;
 pub use fields::{ConfigFields, DATE_BYTES, Key, NAME_BYTES, PairFields};
 pub use limits::{read_date, read_name};
-pub use names::{NAMES_BYTES, NamesText};
+pub use names::{NAMES_BYTES, NamesText, pair_names, player_name};
 pub use reading::read_config;
 pub use refused::{ConfigFault, ConfigRefused};

@@ -5,3 +5,4 @@ pub mod Refused
 pub mod MovementValue
 pub mod Seating
 pub mod Mitchell
+pub mod Boards

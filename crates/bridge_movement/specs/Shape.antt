@@ -1,5 +1,5 @@
 -- The limits of a movement's shape.
-use Rattle.std.specs.Prelude.{ℕ, ◌*◌, ◌≤◌}
+use Rattle.std.specs.Prelude.{ℕ, ◌+◌, ◌-◌, ◌*◌, ◌≤◌}
 use Rattle.bridge_movement.specs.declared.shape.Shape.{Shape}
 
 -- from the low number to the high one
@@ -17,3 +17,11 @@ pub record IsShape (shape : Shape) : Type 0 where
 -- one row for each table in each round
 abbrev pub row_count : Shape → ℕ
 row_count shape = shape.rounds * shape.tables
+
+-- how many rows come before those of a round, from 1: rows stand by round, then by table
+abbrev pub rows_before : Shape → ℕ → ℕ
+rows_before shape round = (round - 1) * shape.tables
+
+-- the index of the row of a round and a table, both from 1
+abbrev pub index_of_row : Shape → ℕ → ℕ → ℕ
+index_of_row shape round table = rows_before shape round + (table - 1)

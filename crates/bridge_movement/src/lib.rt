@@ -7,6 +7,7 @@
 //! ```
 #![tactic(auto)]
 
+mod boards;
 mod checks;
 mod mitchell;
 pub mod movement;
@@ -15,6 +16,7 @@ pub mod refused;
 pub mod row;
 pub mod shape;
 
+pub use boards::{boards_before, last_board};
 pub use movement::Movement;
 pub use place::Place;
 pub use refused::MovementRefused;

@@ -1,6 +1,6 @@
 //! Movements: who meets whom, where, with which boards.
 ghost use Rattle.std.specs.Prelude.{◌≡◌, ◌↔◌, ◌+◌, ◌-◌, ◌*◌, ◌<◌, ◌≤◌, ℕ, length, slice_index_or, slice_get, IsOk, IfOk, IfErr, IfSome, IfNone, Some, AllPairs, Contains};
-ghost use Rattle.bridge_movement.specs.Shape.{IsShape};
+ghost use Rattle.bridge_movement.specs.Shape.{IsBetween, IsShape, index_of_row};
 ghost use Rattle.bridge_movement.specs.Fair.{IsMovement, HasPairsWithin, HasSetWithin};
 ghost use Rattle.bridge_movement.specs.Refused.{IsRefusal};
 ghost use Rattle.bridge_movement.specs.Seating.{PlaysAt, PlaysOnlyAt, SitsOut, IsPlaceWithin, place_of};
@@ -20,7 +20,9 @@ use std::marker::Model;
 /// places in a round, and no pair plays a set twice. It has at most 12 rounds of 12 tables.
 #[derive(Debug, Drop)]
 pub struct Movement {
+    /// How large it is.
     shape: Shape,
+    /// The rows, by round, then by table.
     rows: ArrayVec<Row, MOST_ROWS>,
 }
 
@@ -104,18 +106,14 @@ impl Movement {
 
     /// The row of that round and table, both from 1.
     pub fn row(&self, round: u8, table: u8) -> Row
-        requires round_least { 1 ≤ round }
-        requires round_most { round ≤ self.now.shape.rounds }
-        requires table_least { 1 ≤ table }
-        requires table_most { table ≤ self.now.shape.tables }
-        ensures at { slice_get self.now.rows ((round - 1) * self.now.shape.tables + (table - 1)) ≡ Some result }
+        requires round { IsBetween 1 self.now.shape.rounds round }
+        requires table { IsBetween 1 self.now.shape.tables table }
+        ensures at { slice_get self.now.rows (index_of_row self.now.shape round table) ≡ Some result }
         ensures pairs { HasPairsWithin self.now.shape result }
         ensures set { HasSetWithin self.now.shape result }
-        ensures round { result.round ≡ round }
-        ensures table { result.table ≡ table }
+        ensures of { (result.round ≡ round) × (result.table ≡ table) }
     {
-        let before = usize::from(round - 1) * usize::from(self.shape.tables);
-        self.rows[before + usize::from(table - 1)]
+        self.rows[self.shape.index_of_row(round, table)]
     }
 
     /// The rows, by round, then by table: one for each table in each round.

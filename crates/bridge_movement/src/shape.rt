@@ -1,6 +1,6 @@
 //! How large a movement is.
 ghost use Rattle.std.specs.Prelude.{◌↔◌, ◌≡◌, ◌≤◌, IsTrue};
-ghost use Rattle.bridge_movement.specs.Shape.{IsShape, row_count};
+ghost use Rattle.bridge_movement.specs.Shape.{IsShape, index_of_row, row_count, rows_before};
 
 /// The most tables of a movement.
 pub const MOST_TABLES: u8 = 12;
@@ -51,5 +51,19 @@ impl Shape {
         ensures most { result ≤ MOST_ROWS }
     {
         usize::from(self.rounds) * usize::from(self.tables)
+    }
+
+    /// How many rows of a movement of this shape come before those of a round, from 1.
+    pub fn rows_before(self, round: u8) -> usize
+        ensures { result ≡ rows_before self round }
+    {
+        usize::from(round.saturating_sub(1)) * usize::from(self.tables)
+    }
+
+    /// The index of the row of a round and a table, both from 1, among the rows of a movement of this shape.
+    pub fn index_of_row(self, round: u8, table: u8) -> usize
+        ensures { result ≡ index_of_row self round table }
+    {
+        self.rows_before(round) + usize::from(table.saturating_sub(1))
     }
 }

@@ -15,6 +15,7 @@ use Rattle.session_rules.specs.State.{SessionValue, deal_on, is_of_set, record_o
 use Rattle.line_text.specs.Lines.{lines_text, parted}
 use Rattle.bridge_pbn.specs.Tags.{event_tags, player_tags, board_tags, outcome_tags, table_tags}
 use Rattle.bridge_pbn.specs.Sections.{auction_lines, play_lines}
+use Rattle.bridge_movement.specs.Boards.{boards_before}
 
 -- the lines of a game: a board with these hands, by the pairs of a row, what came of it, its calls and its cards
 abbrev pub game_lines_by : ConfigValue → Row → ℕ → List ℕ → Outcome → List Call → Option PlayValue → List (List ℕ)
@@ -42,7 +43,7 @@ is_listed (Adjusted ns ew) = false
 abbrev pub play_at : ConfigValue → ℕ → Row → Option PlayId
 play_at configuration board row =
     if is_of_set configuration row.set board
-    then Some (record { round = row.round; table = row.table; index = board - (row.set - 1) * configuration.boards })
+    then Some (record { round = row.round; table = row.table; index = board - boards_before configuration.boards row.set })
     else None
 
 -- the lines of a record's play, if it is listed

@@ -1,5 +1,5 @@
 -- The tag pairs of a game: what was played where and by whom, and what came of it.
-use Rattle.std.specs.Prelude.{ℕ, ◌-◌, List, [], ◌∷◌, ◌++◌, codes, slice_get, unwrap_or, option_and_then}
+use Rattle.std.specs.Prelude.{ℕ, true, false, List, [], ◌∷◌, ◌++◌, codes}
 use Rattle.std.specs.Fmt.{decimal}
 use Rattle.bridge_cards.specs.Board.{dealer_of, vulnerability_on}
 use Rattle.bridge_cards.specs.Seat.{seat_letter}
@@ -9,17 +9,13 @@ use Rattle.bridge_auction.specs.Spelling.{bid_text, doubling_text}
 use Rattle.bridge_movement.specs.declared.row.Row.{Row}
 use Rattle.bridge_score.specs.declared.ranking.Scoring.{Scoring}
 use Rattle.bridge_score.specs.declared.ranking.Scoring.TheVariants.{MatchPoints, Imps}
-use Rattle.bridge_config.specs.ConfigValue.{ConfigValue, Pair}
+use Rattle.bridge_config.specs.ConfigValue.{ConfigValue, Pair, player_name}
 use Rattle.session_rules.specs.declared.outcome.Outcome.{Outcome}
 use Rattle.session_rules.specs.declared.outcome.Outcome.TheVariants.{PassedOut, Played}
 
 -- a tag pair, as `[Board "1"]`
 abbrev pub tag : List ℕ → List ℕ → List ℕ
 tag name value = (((codes "[" ++ name) ++ codes " \"") ++ value) ++ codes "\"]"
-
--- the name of a pair's first player, at index 0, or second, at index 1
-abbrev pub player_name : List Pair → ℕ → ℕ → List ℕ
-player_name pairs pair index = unwrap_or (option_and_then (λ (p : Pair). slice_get p.names index) (slice_get pairs (pair - 1))) []
 
 -- the scoring, as PBN names it
 abbrev pub scoring_text : Scoring → List ℕ
@@ -38,10 +34,10 @@ event_tags configuration board =
 -- Who sat where: of a pair, the first player North or East, the second South or West.
 abbrev pub player_tags : List Pair → Row → List (List ℕ)
 player_tags pairs row =
-    tag (codes "West") (player_name pairs row.ew 1)
-    ∷ tag (codes "North") (player_name pairs row.ns 0)
-    ∷ tag (codes "East") (player_name pairs row.ew 0)
-    ∷ tag (codes "South") (player_name pairs row.ns 1)
+    tag (codes "West") (player_name pairs row.ew false)
+    ∷ tag (codes "North") (player_name pairs row.ns true)
+    ∷ tag (codes "East") (player_name pairs row.ew true)
+    ∷ tag (codes "South") (player_name pairs row.ns false)
     ∷ []
 
 -- the dealer, the vulnerability and the hands of the board, the dealer's first, and how scores are compared

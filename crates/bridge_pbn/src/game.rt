@@ -16,7 +16,7 @@ use crate::tags::{
 use crate::text::{GAME_BYTES, GameText};
 use bridge_cards::{BoardNumber, Deal, dealer};
 use bridge_config::Config;
-use bridge_movement::Row;
+use bridge_movement::{Row, boards_before, last_board};
 use bridge_play::Play;
 use bridge_session::{BoardIndex, Entry, Outcome, PlayId, RoundNumber, Session, TableNumber};
 
@@ -40,9 +40,9 @@ fn play_at(config: &Config, board: BoardNumber, row: Row) -> Option<PlayId>
     ensures { result ≡ play_at config.now board row }
 {
     let boards = config.fields().boards;
-    let before = u16::from(row.set.saturating_sub(1)) * u16::from(boards);
+    let before = boards_before(boards, row.set);
     let number = u16::from(board.number());
-    if number <= before || number > u16::from(row.set) * u16::from(boards) {
+    if number <= before || number > last_board(boards, row.set) {
         return None;
     }
     let index = (number - before) as u8;

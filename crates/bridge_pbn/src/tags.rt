@@ -8,7 +8,7 @@ ghost use Rattle.bridge_config.specs.ConfigValue.{pair_of};
 ghost use Rattle.line_text.specs.Lines.{lines_text};
 ghost use Rattle.bridge_pbn.specs.Tags.{tag, event_tags, player_tags, board_tags, outcome_tags, table_tags};
 
-use crate::names::{player_name, scoring_text};
+use crate::names::scoring_text;
 use crate::text::{GAME_BYTES, GameText, TAG_BYTES, push_tag};
 use arrayvec::ArrayString;
 use bridge_auction::{Contract, doubling_text, print_bid};
@@ -16,7 +16,7 @@ use bridge_cards::{
     BoardNumber, DEAL_BYTES, Deal, dealer, print_deal, seat_text, vulnerability_of,
     vulnerability_text,
 };
-use bridge_config::{Config, PairFields};
+use bridge_config::{Config, PairFields, player_name};
 use bridge_movement::Row;
 use bridge_score::Scoring;
 use bridge_session::Outcome;
@@ -51,10 +51,10 @@ pub fn push_player_tags(text: &mut GameText, pairs: &[PairFields], row: Row)
     ensures lines { text.new.bytes ≡ text.old.bytes ++ lines_text (player_tags (map pair_of pairs.now) row) }
     ensures room { array_string_len text.new ≤ array_string_len text.old + 4 * TAG_BYTES }
 {
-    push_tag(text, "West", player_name(pairs, row.ew, 1));
-    push_tag(text, "North", player_name(pairs, row.ns, 0));
-    push_tag(text, "East", player_name(pairs, row.ew, 0));
-    push_tag(text, "South", player_name(pairs, row.ns, 1));
+    push_tag(text, "West", player_name(pairs, row.ew, false));
+    push_tag(text, "North", player_name(pairs, row.ns, true));
+    push_tag(text, "East", player_name(pairs, row.ew, true));
+    push_tag(text, "South", player_name(pairs, row.ns, false));
 }
 
 /// Adds the dealer, the vulnerability and the hands of the board, and how scores are compared.

@@ -18,8 +18,11 @@ use std::marker::Model;
 /// The cards played to a contract, and beside them what follows from them, so that it need not be counted anew.
 #[derive(Debug, Drop)]
 pub struct CardPlay {
+    /// The dealt hands.
     deal: Deal,
+    /// The contract.
     contract: Contract,
+    /// The cards played, a legal list.
     cards: ArrayVec<Card, DECK>,
     /// The cards left in each hand, by the seat's number.
     left: [CardSet; 4],

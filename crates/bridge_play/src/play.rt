@@ -1,17 +1,19 @@
 //! The play of one board.
 ghost use Rattle.std.specs.Prelude.{◌≡◌, ◌≢◌, ℕ, ◌+◌, ◌*◌, ◌<◌, ◌≤◌, ◌++◌, ◌∷◌, [], ◌↔◌, length, take, IsOk, OnOk, OnErr, IfSome, None, All, IsSome};
 ghost use Rattle.std.specs.Bool.{OnFalse};
-ghost use Rattle.bridge_play.specs.Play.{with_card, is_over, is_agreed, card_answer, MayBePlayed, claim_answer, MayBeClaimed, with_claim, consent_answer, MayAnswer, is_awaited, with_agreement, without_claim, tricks_of, settled_tricks, IsClaimIn, IsPlay, playing, with_claims, is_claim_in};
+ghost use Rattle.bridge_play.specs.Play.{with_card, is_over, is_agreed, card_answer, MayBePlayed, tricks_of, settled_tricks, IsPlay, playing, with_claims, is_claim_in};
 ghost use Rattle.bridge_play.specs.Dummy.{actor_of, dummy_of};
 ghost use Rattle.bridge_play.specs.Trick.{turn_of, whole_tricks, leader_of, tricks_won};
 ghost use Rattle.bridge_play.specs.Legal.{IsLegal, holds};
 ghost use Rattle.bridge_cards.specs.CardSet.{has_card, card_count};
 ghost use Rattle.bridge_cards.specs.Deal.{hand_at, NoneTwice};
 
+mod claims;
+
 use crate::card_play::CardPlay;
-use crate::claim::{Claim, agreed_by, all_agreed, consent_to, only_asked_agree};
+use crate::claim::{Claim, all_agreed, only_asked_agree};
 use crate::dummy::{actor, dummy};
-use crate::refused::{CardRefused, ClaimRefused, ConsentRefused};
+use crate::refused::CardRefused;
 use crate::trick::leader;
 use bridge_auction::Contract;
 use bridge_cards::{Card, CardSet, DECK, Deal, Seat, Side};
@@ -40,8 +42,11 @@ fn is_claim_in(played: &CardPlay, claims: u8, claim: Claim) -> bool
 /// The play of one board: the dealt hands, the contract, a legal list of cards, and the claims made.
 #[derive(Debug, Drop, PartialEq)]
 pub struct Play {
+    /// The cards played.
     card_play: CardPlay,
+    /// How many claims were made.
     claims: u8,
+    /// The claim that stands or was agreed.
     claim: Option<Claim>,
 }
 
@@ -164,17 +169,7 @@ impl Play {
         played == DECK || self.is_agreed()
     }
 
-    /// Whether the player's answer to a claim is due: a claim stands, and the player is asked and has not agreed to it
-    /// (Law 68).
-    pub fn awaits(&self, seat: Seat) -> bool
-        ensures { result ≡ is_awaited self.now.contract self.now.claim seat }
-    {
-        match &self.claim {
-            Some(claim) => consent_to(self.card_play.contract(), claim, seat).is_ok(),
-            None => false,
-        }
-    }
-
+    /// Whether a claim was agreed.
     fn is_agreed(&self) -> bool
         ensures { result ≡ is_agreed self.now }
     {
@@ -217,108 +212,6 @@ impl Play {
         let answer = self.card_answer(seat, card);
         if answer.is_ok() {
             self.card_play.push(played);
-        }
-        answer
-    }
-
-    /// How many claims were made, 0 to 99.
-    pub fn claims(&self) -> u8
-        ensures claims { result ≡ self.now.claims }
-        ensures most { result ≤ MOST_CLAIMS }
-    {
-        self.claims
-    }
-
-    /// The claim that stands or was agreed. It was made between tricks, before the last was played, not by dummy, for no more
-    /// tricks than are left, and nobody has agreed to it who is not asked.
-    pub fn claim(&self) -> Option<Claim>
-        ensures claim { result ≡ self.now.claim }
-        ensures regular { IfSome result (IsClaimIn self.now) }
-    {
-        self.claim
-    }
-
-    /// The answer to a claim of that many of the tricks left by a player.
-    fn claim_answer(&self, seat: Seat, tricks: u8) -> Result<(), ClaimRefused>
-        ensures answer { result ≡ claim_answer self.now seat tricks }
-        ensures room { OnOk result (self.now.claims < MOST_CLAIMS) }
-    {
-        let tricks_played = self.card_play.cards().len() / 4;
-        if self.is_over() {
-            Err(ClaimRefused::Over)
-        } else if self.claim.is_some() {
-            Err(ClaimRefused::ClaimStands)
-        } else if seat == dummy(self.card_play.contract()) {
-            Err(ClaimRefused::NotYourTurn)
-        } else if self.card_play.cards().len() % 4 != 0 {
-            Err(ClaimRefused::MidTrick)
-        } else if tricks_played + usize::from(tricks) > TRICKS {
-            Err(ClaimRefused::TooManyTricks)
-        } else if self.claims >= MOST_CLAIMS {
-            Err(ClaimRefused::ClaimsSpent)
-        } else {
-            Ok(())
-        }
-    }
-
-    /// Claims that many of the tricks left for the player's side, where a claim may be made, and otherwise says why not.
-    /// It stands until it is refused or agreed (Law 68).
-    pub fn try_claim(&mut self, seat: Seat, tricks: u8) -> Result<(), ClaimRefused>
-        ensures answer { result ≡ claim_answer self.old seat tricks }
-        ensures accepted { IsOk result ↔ MayBeClaimed self.old seat tricks }
-        ensures claimed { OnOk result (self.new ≡ with_claim self.old seat tricks) }
-        ensures refused { OnErr result (self.new ≡ self.old) }
-    {
-        let answer = self.claim_answer(seat, tricks);
-        if answer.is_ok() {
-            self.claims += 1;
-            self.claim = Some(Claim {
-                claimer: seat,
-                tricks,
-                agreed: [false; 4],
-            });
-        }
-        answer
-    }
-
-    /// The answer to a player who agrees to the claim of that number, or refuses it.
-    fn consent_answer(&self, seat: Seat, number: u8) -> Result<(), ConsentRefused>
-        ensures { result ≡ consent_answer self.now seat number }
-    {
-        if number != self.claims {
-            return Err(ConsentRefused::Stale);
-        }
-        match &self.claim {
-            None => Err(ConsentRefused::NoClaim),
-            Some(claim) => consent_to(self.card_play.contract(), claim, seat),
-        }
-    }
-
-    /// Agrees to the claim of that number, the claims counted from 1. When all who are asked have agreed the play is over
-    /// (Law 68).
-    pub fn agree(&mut self, seat: Seat, number: u8) -> Result<(), ConsentRefused>
-        ensures answer { result ≡ consent_answer self.old seat number }
-        ensures accepted { IsOk result ↔ MayAnswer self.old seat number }
-        ensures agreed { OnOk result (self.new ≡ with_agreement self.old seat) }
-        ensures refused { OnErr result (self.new ≡ self.old) }
-    {
-        let answer = self.consent_answer(seat, number);
-        if answer.is_ok() {
-            self.claim = agreed_by(self.claim, seat);
-        }
-        answer
-    }
-
-    /// Refuses the claim of that number, the claims counted from 1, which then stands no longer (Law 68).
-    pub fn refuse(&mut self, seat: Seat, number: u8) -> Result<(), ConsentRefused>
-        ensures answer { result ≡ consent_answer self.old seat number }
-        ensures accepted { IsOk result ↔ MayAnswer self.old seat number }
-        ensures dropped { OnOk result (self.new ≡ without_claim self.old) }
-        ensures refused { OnErr result (self.new ≡ self.old) }
-    {
-        let answer = self.consent_answer(seat, number);
-        if answer.is_ok() {
-            self.claim = None;
         }
         answer
     }

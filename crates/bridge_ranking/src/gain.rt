@@ -21,7 +21,9 @@ use session_rules::Average;
 /// What a pair gained, and what was available to it.
 #[derive(Clone, Copy)]
 struct Gain {
+    /// What was gained: tenths of matchpoints, or IMPs.
     value: i32,
+    /// What was available, in tenths of matchpoints.
     available: u32,
 }
 

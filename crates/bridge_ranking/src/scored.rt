@@ -19,8 +19,11 @@ const BOARDS: usize = 36;
 /// Plays that are compared, with the scores of each side by the boards' numbers.
 #[derive(Drop)]
 pub struct ScoredGames<'a> {
+    /// The plays.
     games: &'a [Game],
+    /// Of each board the scores of North and South.
     north_south: ArrayVec<ArrayVec<i32, MOST_ROWS>, BOARDS>,
+    /// Of each board the scores of East and West.
     east_west: ArrayVec<ArrayVec<i32, MOST_ROWS>, BOARDS>,
 }
 

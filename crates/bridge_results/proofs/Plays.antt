@@ -12,7 +12,7 @@ use Rattle.std.proofs.lemmas.Option.{slice_get_within, slice_get-get_or, slice_g
 use Rattle.bridge_movement.specs.declared.row.Row.{Row}
 use Rattle.bridge_movement.specs.declared.shape.Shape.{Shape}
 use Rattle.bridge_movement.specs.Row.{is_live}
-use Rattle.bridge_movement.specs.Shape.{IsShape}
+use Rattle.bridge_movement.specs.Shape.{IsShape, index_of_row}
 use Rattle.bridge_movement.specs.Fair.{IsDue, IsMovement}
 use Rattle.bridge_ranking.specs.declared.game.Game.{Game}
 use Rattle.bridge_ranking.specs.Ranking.{game_by, game_in, games_in, games_of}
@@ -20,7 +20,7 @@ use Rattle.session_rules.specs.declared.outcome.Outcome.{Outcome}
 use Rattle.session_rules.specs.declared.outcome.Outcome.TheVariants.{Unfinished, PassedOut, Played, Voided, Adjusted}
 use Rattle.session_rules.specs.Outcome.{outcome_of}
 use Rattle.session_rules.specs.Record.{PlainRecord}
-use Rattle.session_rules.specs.State.{SessionValue, row_at, row_boards, index_of_row, is_row_within, record_of}
+use Rattle.session_rules.specs.State.{SessionValue, row_at, row_boards, is_row_within, record_of}
 use Rattle.session_rules.specs.StateRange.{IsSession}
 use Rattle.session_rules.specs.Valid.{board_of}
 use Rattle.bridge_results.specs.declared.play.TablePlay.{TablePlay}

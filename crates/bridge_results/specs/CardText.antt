@@ -6,7 +6,7 @@ use Rattle.bridge_cards.specs.declared.seat.Side.TheVariants.{NorthSouth, EastWe
 use Rattle.bridge_score.specs.declared.ranking.Scoring.{Scoring}
 use Rattle.bridge_score.specs.declared.ranking.Scoring.TheVariants.{MatchPoints, Imps}
 use Rattle.bridge_score.specs.Comparison.{int_sum_by}
-use Rattle.bridge_config.specs.ConfigValue.{Pair}
+use Rattle.bridge_config.specs.ConfigValue.{Pair, pair_names}
 use Rattle.session_rules.specs.declared.outcome.Outcome.{Outcome}
 use Rattle.session_rules.specs.declared.outcome.Outcome.TheVariants.{Voided}
 use Rattle.page_layout.specs.declared.format.Format.{Format}
@@ -17,7 +17,6 @@ use Rattle.page_layout.specs.Page.{heading_text, paragraph_text, section_start, 
 use Rattle.page_layout.specs.Table.{row_text, title_row, table_start, table_end}
 use Rattle.bridge_results.specs.declared.card.CardLine.{CardLine}
 use Rattle.bridge_results.specs.declared.pages.columns.TheConstants.{CARD_COLUMNS}
-use Rattle.bridge_results.specs.PairNames.{pair_names}
 use Rattle.bridge_results.specs.PlayCells.{contract_cell, declarer_cell, tricks_cell, score_cell, gain_text, gain_cell}
 
 -- the heading of a card: the pair's number and its names

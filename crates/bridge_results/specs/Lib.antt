@@ -5,7 +5,6 @@ pub mod Traveller
 pub mod Frequencies
 pub mod ScoreCard
 pub mod Results
-pub mod PairNames
 pub mod PlayCells
 pub mod EventText
 pub mod RankingText

@@ -5,7 +5,7 @@ use Rattle.bridge_score.specs.declared.ranking.Ranked.{Ranked}
 use Rattle.bridge_score.specs.declared.ranking.Scoring.{Scoring}
 use Rattle.bridge_score.specs.declared.ranking.Scoring.TheVariants.{MatchPoints, Imps}
 use Rattle.bridge_score.specs.Percent.{share_percent}
-use Rattle.bridge_config.specs.ConfigValue.{Pair}
+use Rattle.bridge_config.specs.ConfigValue.{Pair, pair_names}
 use Rattle.bridge_ranking.specs.declared.field.Field.{Field}
 use Rattle.bridge_ranking.specs.declared.field.Field.TheVariants.{First, Second}
 use Rattle.page_layout.specs.declared.format.Format.{Format}
@@ -15,7 +15,6 @@ use Rattle.line_text.specs.Decimals.{tenths_text, percent_text}
 use Rattle.page_layout.specs.Page.{heading_text, section_start, section_end}
 use Rattle.page_layout.specs.Table.{row_text, title_row, table_start, table_end}
 use Rattle.bridge_results.specs.declared.pages.columns.TheConstants.{SHARE_COLUMNS, SUM_COLUMNS}
-use Rattle.bridge_results.specs.PairNames.{pair_names}
 
 -- the row of a pair by matchpoints: place, pair, names, matchpoints, those available, and the percentage
 abbrev pub share_row : Format → List ℕ → Ranked → List ℕ

@@ -1,5 +1,5 @@
 -- The results of a session as a page.
-use Rattle.std.specs.Prelude.{◌≡◌, ℕ, List, [], ◌∷◌, ◌++◌, codes, flat_map, Option, IfSome, is_some}
+use Rattle.std.specs.Prelude.{◌≡◌, ℕ, List, [], ◌∷◌, ◌++◌, codes, flat_map, Option, Result, IfSome, is_some}
 use Rattle.std.specs.List.{range_with_len}
 use Rattle.std.specs.Option.{option_map_or}
 use Rattle.bridge_score.specs.declared.ranking.Ranked.{Ranked}
@@ -8,6 +8,7 @@ use Rattle.bridge_ranking.specs.declared.field.Field.{Field}
 use Rattle.bridge_ranking.specs.declared.field.Field.TheVariants.{First, Second}
 use Rattle.bridge_ranking.specs.Ranking.{has_field, lines_of, IsRankingOf}
 use Rattle.session_rules.specs.State.{SessionValue, deal_on}
+use Rattle.line_text.specs.Streams.{Stream, Written}
 use Rattle.page_layout.specs.declared.format.Format.{Format}
 use Rattle.page_layout.specs.declared.format.Level.TheVariants as level
 use Rattle.page_layout.specs.declared.format.Section.TheVariants as section
@@ -85,3 +86,8 @@ page_text format s first second = front_text format s.configuration first second
 abbrev pub IsPageText : Format → SessionValue → List ℕ → Type 0
 IsPageText format s text = (first second : Option (List Ranked)) × IsFieldRanking s First first × IsFieldRanking s Second second
     × (text ≡ page_text format s first second)
+
+-- the writer took the page of the session's results, or at an error a prefix of it
+abbrev pub WritesPage : {E : Type 0} → Stream → Format → SessionValue → Result (Unit {0}) E → Type 0
+WritesPage writer format s result = (first second : Option (List Ranked)) × IsFieldRanking s First first × IsFieldRanking s Second second
+    × Written writer (page_text format s first second) result

@@ -4,7 +4,7 @@ mod cells;
 pub mod columns;
 mod diagram;
 mod event;
-mod names;
+mod frequencies;
 mod page;
 mod pair_card;
 mod ranking;

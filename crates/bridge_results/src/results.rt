@@ -21,8 +21,11 @@ use std::marker::Model;
 /// A session with its plays and what they are compared by.
 #[derive(Drop)]
 pub struct Results<'a> {
+    /// The session.
     session: &'a Session,
+    /// Its plays of which something came.
     plays: ArrayVec<TablePlay, MOST_PLAYS>,
+    /// Its plays as they are compared.
     games: ArrayVec<Game, MOST_PLAYS>,
 }
 

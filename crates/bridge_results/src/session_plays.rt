@@ -4,11 +4,12 @@ ghost use Rattle.std.specs.Option.{option_copied};
 ghost use Rattle.session_rules.specs.Numbers.{IsRoundNumber, IsTableNumber, IsBoardIndex};
 ghost use Rattle.session_rules.specs.StateRange.{IsSession};
 ghost use Rattle.bridge_results.specs.Plays.{play_by, lead_of, table_play_at, plays_at, plays_of, HasTricksWithin};
+ghost use Rattle.bridge_movement.specs.Boards.{boards_before};
 
 use crate::play::{TablePlay, push_play};
 use arrayvec::ArrayVec;
 use bridge_cards::{BoardNumber, Card};
-use bridge_movement::Row;
+use bridge_movement::{Row, boards_before};
 use bridge_play::Play;
 use bridge_ranking::game::MOST_PLAYS;
 use bridge_session::{Entry, Session};
@@ -19,10 +20,9 @@ fn board_at(boards: u8, set: u8, index: u8) -> BoardNumber
     requires boards { boards ≤ 3 }
     requires set { set ≤ 12 }
     requires index { IsBoardIndex index }
-    ensures { result ≡ (set - 1) * boards + index }
+    ensures { result ≡ boards_before boards set + index }
 {
-    let before = set.saturating_sub(1) * boards;
-    BoardNumber::new(before + index).unwrap()
+    BoardNumber::new(boards_before(boards, set) as u8 + index).unwrap()
 }
 
 /// The opening lead of a play, once a card was played.

@@ -13,7 +13,8 @@ use Rattle.session_rules.specs.declared.refused.Refused.TheVariants.{NotCurrent}
 use Rattle.session_rules.specs.declared.seating.Seating.{Seating}
 use Rattle.session_rules.specs.Answer.{Answer, ◌>>◌, require}
 use Rattle.session_rules.specs.Record.{PlainRecord}
-use Rattle.session_rules.specs.State.{SessionValue, deal_on, row_at, seating_of, is_of_set, index_of_row, is_row_within, record_of}
+use Rattle.bridge_movement.specs.Shape.{index_of_row}
+use Rattle.session_rules.specs.State.{SessionValue, deal_on, row_at, seating_of, is_of_set, is_row_within, record_of}
 use Rattle.session_rules.specs.PlayerStep.{seen_by, seen_deal, seen_records, answer_among, player_answer, acted_among, acted_at, acted}
 use Rattle.session_rules.proofs.PlayerAnswer.{answer_seated}
 use Rattle.session_rules.specs.StateRange.{IsSession}

@@ -8,7 +8,7 @@ ghost use Rattle.bridge_session.specs.KeptSession.{new_table};
 
 use bridge_cards::{BoardNumber, Deal};
 use bridge_config::Config;
-use bridge_movement::Row;
+use bridge_movement::{Row, boards_before};
 use bridge_table::Record;
 use std::alloc::{AllocError, Global};
 
@@ -44,7 +44,7 @@ fn opening_table(alloc: Global, row: Row, boards: u8) -> Result<Vec<Record>, All
     ensures { IfOk result (λ table. table.items ≡ new_table boards row) }
 {
     if row.is_live() {
-        new_records(alloc, (row.set - 1) * boards + 1, boards)
+        new_records(alloc, boards_before(boards, row.set) as u8 + 1, boards)
     } else {
         Ok(Vec::new(alloc))
     }

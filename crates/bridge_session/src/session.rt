@@ -36,6 +36,7 @@ pub type Ranking = ArrayVec<Ranked, MOST_LINES>;
 /// A session: who plays, the round, the boards that are dealt, and a record of each play.
 #[derive(Drop)]
 pub struct Session {
+    /// The configuration.
     config: Config,
     /// From 1; one more than the last once the session is closed.
     round: u8,

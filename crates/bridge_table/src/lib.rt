@@ -3,6 +3,7 @@
 #![tactic(auto)]
 
 pub mod record;
+mod refusals;
 pub mod seating;
 pub mod stage;
 pub mod table;

@@ -2,7 +2,7 @@
 ghost use Rattle.std.specs.Prelude.{◌≡◌, OnOk, OnErr, Some};
 ghost use Rattle.bridge_auction.specs.Call.{IsCall};
 ghost use Rattle.session_rules.specs.Record.{is_done, is_ruled_out};
-ghost use Rattle.session_rules.specs.Deed.{from_call, from_card, from_claim, from_consent, renamed, call_answer, deed_answer, answer_if_play};
+ghost use Rattle.session_rules.specs.Deed.{call_answer, deed_answer, answer_if_play};
 ghost use Rattle.session_rules.specs.Correction.{ruling_by};
 ghost use Rattle.session_rules.specs.Outcome.{outcome_of_course, outcome_by, HasFewTricks};
 ghost use Rattle.session_rules.specs.declared.ruling.Ruling.TheVariants as ruling;
@@ -11,69 +11,24 @@ ghost use Rattle.session_rules.specs.StateRange.{IsCorrectionInRange};
 ghost use Rattle.bridge_table.specs.Kept.{new_record, course_kept, is_kept_open, after_deed, after_play, kept_ruling_answer};
 ghost use Rattle.session_rules.specs.declared.deed.Deed.TheVariants as deed;
 
-use bridge_auction::{Auction, Call, CallRefused};
+use crate::refusals::{call_result, card_result, claim_result, consent_result};
+use bridge_auction::{Auction, Call};
 use bridge_cards::{BoardNumber, Card, Deal, Seat, dealer};
-use bridge_play::{CardRefused, ClaimRefused, ConsentRefused, Play};
+use bridge_play::Play;
 use bridge_score::Scoring;
 use session_rules::{Correction, Deed, MadeCount, Outcome, Refused, Ruling, TrickCount};
 
 /// The play of one board by one table: its calls, its cards and claims once there is a contract, and the ruling on it.
 #[derive(Drop)]
 pub struct Record {
+    /// The board.
     pub board: BoardNumber,
+    /// Its calls.
     pub auction: Auction,
+    /// Its cards and claims, once there is a contract.
     pub play: Option<Play>,
+    /// The latest ruling, unless it was taken back.
     pub ruling: Option<Ruling>,
-}
-
-fn call_result(answer: Result<(), CallRefused>) -> Result<(), Refused>
-    ensures { result ≡ renamed from_call answer }
-{
-    match answer {
-        Ok(()) => Ok(()),
-        Err(CallRefused::Ended) => Err(Refused::WrongPhase),
-        Err(CallRefused::InsufficientBid) => Err(Refused::InsufficientBid),
-        Err(CallRefused::InadmissibleDouble) => Err(Refused::InadmissibleDouble),
-        Err(CallRefused::InadmissibleRedouble) => Err(Refused::InadmissibleRedouble),
-    }
-}
-
-fn card_result(answer: Result<(), CardRefused>) -> Result<(), Refused>
-    ensures { result ≡ renamed from_card answer }
-{
-    match answer {
-        Ok(()) => Ok(()),
-        Err(CardRefused::Over) => Err(Refused::NotCurrent),
-        Err(CardRefused::ClaimStands) => Err(Refused::ClaimStands),
-        Err(CardRefused::NotYourTurn) => Err(Refused::NotYourTurn),
-        Err(CardRefused::NotHeld) => Err(Refused::NotHeld),
-        Err(CardRefused::MustFollow) => Err(Refused::MustFollow),
-    }
-}
-
-fn claim_result(answer: Result<(), ClaimRefused>) -> Result<(), Refused>
-    ensures { result ≡ renamed from_claim answer }
-{
-    match answer {
-        Ok(()) => Ok(()),
-        Err(ClaimRefused::Over) => Err(Refused::NotCurrent),
-        Err(ClaimRefused::ClaimStands) => Err(Refused::ClaimStands),
-        Err(ClaimRefused::NotYourTurn) => Err(Refused::NotYourTurn),
-        Err(ClaimRefused::MidTrick) => Err(Refused::MidTrick),
-        Err(ClaimRefused::TooManyTricks) => Err(Refused::TooManyTricks),
-        Err(ClaimRefused::ClaimsSpent) => Err(Refused::ClaimsSpent),
-    }
-}
-
-fn consent_result(answer: Result<(), ConsentRefused>) -> Result<(), Refused>
-    ensures { result ≡ renamed from_consent answer }
-{
-    match answer {
-        Ok(()) => Ok(()),
-        Err(ConsentRefused::Stale) => Err(Refused::Stale),
-        Err(ConsentRefused::NoClaim) => Err(Refused::NoClaim),
-        Err(ConsentRefused::NotAsked) => Err(Refused::NotAsked),
-    }
 }
 
 impl Record {

@@ -2,12 +2,13 @@
 ghost use Rattle.std.specs.Prelude.{◌≡◌, ◌==◌, ◌<◌, ◌≤◌, slice_index, length, map, position, IfOk, IfSome, if◌then◌else◌, Some, None};
 ghost use Rattle.bridge_config.specs.ConfigValue.{pair_of};
 ghost use Rattle.bridge_config.specs.declared.fields.PairFields.{PairFields as PairType};
-ghost use Rattle.bridge_movement.specs.Shape.{row_count};
-ghost use Rattle.session_rules.specs.State.{has_key, player_in, player_of, acting_player, director_answer, seat_on, is_closed, seating_of, is_of_set, index_of_row, ranking_asker, is_row_within};
+ghost use Rattle.bridge_movement.specs.Shape.{row_count, index_of_row};
+ghost use Rattle.session_rules.specs.State.{has_key, player_in, player_of, acting_player, director_answer, seat_on, is_closed, seating_of, is_of_set, ranking_asker, is_row_within};
 ghost use Rattle.session_rules.specs.Numbers.{IsTableNumber};
 
 use bridge_cards::{BoardNumber, Seat, Side};
 use bridge_config::{Config, Key, PairFields};
+use bridge_movement::{boards_before, last_board};
 use session_rules::{Player, Refused, RoundNumber, Seating, TableNumber};
 
 /// Whether the key is that of the pair's player at that index, from 0.
@@ -128,9 +129,9 @@ pub fn seat_by(config: &Config, round: u8, key: Key) -> Result<Seating, Refused>
 pub fn is_of_set(config: &Config, set: u8, board: BoardNumber) -> bool
     ensures { result ≡ is_of_set config.now set board }
 {
-    let boards = u16::from(config.fields().boards);
+    let boards = config.fields().boards;
     let board = u16::from(board.number());
-    u16::from(set.saturating_sub(1)) * boards < board && board <= u16::from(set) * boards
+    boards_before(boards, set) < board && board <= last_board(boards, set)
 }
 
 /// The index of a table's row of a round among the rows of the movement, if it has that round and table.
@@ -143,7 +144,7 @@ pub fn row_of(config: &Config, round: RoundNumber, table: TableNumber) -> Option
     let round = round.number();
     let table = table.number();
     if round <= shape.rounds && table <= shape.tables {
-        Some(usize::from(round - 1) * usize::from(shape.tables) + usize::from(table - 1))
+        Some(shape.index_of_row(round, table))
     } else {
         None
     }

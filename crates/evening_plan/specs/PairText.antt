@@ -10,6 +10,7 @@ use Rattle.page_layout.specs.Table.{row_text, title_row}
 use Rattle.evening_plan.specs.declared.columns.TheConstants.{PLAY_COLUMNS, REST_COLUMNS}
 use Rattle.evening_plan.specs.Evening.{Evening}
 use Rattle.evening_plan.specs.Seat.{seat_row}
+use Rattle.bridge_movement.specs.Boards.{boards_before, last_board}
 
 -- the heading of a pair: an empty line, its number and its names
 unfoldable pub pair_words : ℕ → List (List ℕ) → List ℕ
@@ -25,7 +26,7 @@ round_titles format =
 abbrev pub boards_cell : ℕ → ℕ → List ℕ
 boards_cell boards set =
     if boards == 1 then decimal set
-    else (decimal ((set - 1) * boards + 1) ++ codes " to ") ++ decimal (set * boards)
+    else (decimal (boards_before boards set + 1) ++ codes " to ") ++ decimal (last_board boards set)
 
 -- a round that is played: the round, the table, the side, the pair against it, the set and its boards
 unfoldable pub played_row : ℕ → Row → List ℕ → ℕ → List ℕ

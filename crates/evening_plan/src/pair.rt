@@ -12,7 +12,7 @@ use crate::seat::seat_row;
 use crate::text::push_number;
 use arrayvec::ArrayString;
 use bridge_config::{Config, PairFields};
-use bridge_movement::Row;
+use bridge_movement::{Row, boards_before, last_board};
 use line_text::{number_text, write_text};
 use page_layout::{Format, PageText, push_bytes, push_row, push_titles};
 use std::io::{Error, Write};
@@ -78,10 +78,10 @@ fn boards_cell(boards: u8, set: u8) -> ArrayString<24>
     if boards == 1 {
         text.push_str(number_text(u32::from(set)).as_str());
     } else {
-        let first = u32::from(set.saturating_sub(1)) * u32::from(boards) + 1;
+        let first = u32::from(boards_before(boards, set)) + 1;
         text.push_str(number_text(first).as_str());
         text.push_str(" to ");
-        text.push_str(number_text(u32::from(set) * u32::from(boards)).as_str());
+        text.push_str(number_text(u32::from(last_board(boards, set))).as_str());
     }
     text
 }

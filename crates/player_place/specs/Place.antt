@@ -1,11 +1,10 @@
 -- What a player is told of his place, line by line.
 use Rattle.std.specs.Prelude.{ℕ, ◌+◌, ◌-◌, ◌*◌, nat_lt, Bool, true, false, if◌then◌else◌, List, [], ◌∷◌, ◌++◌, codes, slice_get, slice_index_or, Option, None, Some, Result, Ok, Err}
-use Rattle.std.specs.Option.{option_map_or}
 use Rattle.std.specs.Fmt.{decimal}
 use Rattle.bridge_cards.specs.Seat.{seat_letter}
 use Rattle.bridge_auction.specs.declared.contract.Contract.{Contract}
 use Rattle.bridge_auction.specs.Spelling.{bid_text, doubling_text}
-use Rattle.bridge_config.specs.ConfigValue.{ConfigValue, Pair}
+use Rattle.bridge_config.specs.ConfigValue.{ConfigValue, Pair, player_name}
 use Rattle.bridge_movement.specs.declared.row.Row.{Row}
 use Rattle.session_rules.specs.declared.refused.Refused.{Refused as SessionRefused}
 use Rattle.session_rules.specs.declared.refused.Refused.TheVariants.{Closed}
@@ -17,19 +16,15 @@ use Rattle.session_rules.specs.State.{SessionValue, acting_player, seating_of}
 use Rattle.table_server.specs.declared.short_reply.ShortReply.TheVariants.{Refused, BadLine}
 use Rattle.table_server.specs.LineWords.{key_of_word}
 use Rattle.table_server.specs.ReplyTexts.{short_text, spaced_line, listed_text}
+use Rattle.bridge_movement.specs.Boards.{boards_before, last_board}
 
 -- what stands where there is nothing to tell
 abbrev pub nothing : List (List ℕ)
 nothing = codes "-" ∷ []
 
--- the name of a pair's first or second player
-abbrev pub name_at : List Pair → ℕ → Bool → List ℕ
-name_at pairs pair first =
-    option_map_or (λ (found : Pair). slice_index_or found.names (if first then 0 else 1) []) (slice_get pairs (pair - 1)) []
-
 -- the names in North, East, South and West: a pair's first player sits North or East, the second South or West
 abbrev pub names_at : List Pair → Row → List (List ℕ)
-names_at pairs row = name_at pairs row.ns true ∷ name_at pairs row.ew true ∷ name_at pairs row.ns false ∷ name_at pairs row.ew false ∷ []
+names_at pairs row = player_name pairs row.ns true ∷ player_name pairs row.ew true ∷ player_name pairs row.ns false ∷ player_name pairs row.ew false ∷ []
 
 -- the names at the table of the row of that index
 abbrev pub names_of_row : List Pair → Option Row → List (List ℕ)
@@ -48,13 +43,13 @@ round_line configuration round = spaced_line (codes "ROUND") (decimal round ∷ 
 -- the pair's number and the player's name
 abbrev pub player_line : ConfigValue → Player → List ℕ
 player_line configuration player =
-    spaced_line (codes "PLAYER") (decimal player.pair ∷ name_at configuration.pairs player.pair player.first ∷ [])
+    spaced_line (codes "PLAYER") (decimal player.pair ∷ player_name configuration.pairs player.pair player.first ∷ [])
 
 -- the table, the seat, and the first and the last board of the table's set
 abbrev pub table_words : ℕ → Result Seating SessionRefused → List (List ℕ)
 table_words boards (Err refused) = nothing
 table_words boards (Ok seating) =
-    decimal seating.table ∷ (seat_letter seating.seat ∷ []) ∷ decimal ((seating.set - 1) * boards + 1) ∷ decimal (seating.set * boards) ∷ []
+    decimal seating.table ∷ (seat_letter seating.seat ∷ []) ∷ decimal (boards_before boards seating.set + 1) ∷ decimal (last_board boards seating.set) ∷ []
 
 -- the bid with its doubling, and declarer
 abbrev pub contract_words : Option Contract → List (List ℕ)

@@ -5,10 +5,11 @@ ghost use Rattle.bridge_config.specs.ConfigValue.{configuration_of};
 ghost use Rattle.table_server.specs.ReplyTexts.{spaced_line, each_spaced};
 ghost use Rattle.player_place.specs.Place.{round_line, player_line, table_words, names_words, contract_words, contract_seen, answer_words, answer_seen};
 
-use crate::names::{TABLE_NAMES_BYTES, name_of, push_names};
+use crate::names::{TABLE_NAMES_BYTES, push_names};
 use bridge_auction::{Contract, doubling_text, print_bid};
 use bridge_cards::seat_text;
-use bridge_config::ConfigFields;
+use bridge_config::{ConfigFields, player_name};
+use bridge_movement::{boards_before, last_board};
 use session_rules::{Player, Refused, Seating, Stage};
 use table_server::ReplyText;
 use table_server::reply_text::{REPLY_BYTES, push_number, push_word};
@@ -60,7 +61,7 @@ pub fn push_player_line(text: &mut ReplyText, fields: &ConfigFields, player: Pla
 {
     text.push_str("PLAYER");
     push_number(text, u32::from(player.pair));
-    push_word(text, name_of(fields, player.pair, player.first));
+    push_word(text, player_name(&fields.pairs, player.pair, player.first));
     text.push_str("\n");
 }
 
@@ -72,11 +73,10 @@ fn push_seating(text: &mut ReplyText, boards: u8, seating: Result<Seating, Refus
 {
     match seating {
         Ok(seating) => {
-            let boards = u32::from(boards);
             push_number(text, u32::from(seating.table));
             push_word(text, seat_text(seating.seat));
-            push_number(text, u32::from(seating.set).saturating_sub(1) * boards + 1);
-            push_number(text, u32::from(seating.set) * boards);
+            push_number(text, u32::from(boards_before(boards, seating.set)) + 1);
+            push_number(text, u32::from(last_board(boards, seating.set)));
         }
         Err(_) => push_word(text, "-"),
     }

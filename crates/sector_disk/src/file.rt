@@ -19,8 +19,11 @@ const NEW_SECTORS: u32 = 2048;
 /// A disk in a file. Sector `i` is bytes 512 i to 512 i + 511. It is honest where the file is.
 #[derive(Drop)]
 pub struct FileDisk<F> {
+    /// The file of its blocks.
     file: F,
+    /// How many whole sectors the file has.
     count: u32,
+    /// How many of its calls failed.
     faults: u64,
 }
 

@@ -19,10 +19,15 @@ pub enum Fail {
 /// A disk that passes calls on to the disk in it, but fails one of them, or that one and all later ones.
 #[derive(Drop)]
 pub struct Fuse<D: SectorDisk> {
+    /// The disk behind it.
     disk: D,
+    /// How many calls pass before one fails, if one is to.
     passes_left: Option<u64>,
+    /// Whether that call alone fails, or each from it on.
     fail: Fail,
+    /// Whether a write or a sync that fails is done all the same.
     effect: bool,
+    /// How many of its calls failed.
     faults: u64,
 }
 

@@ -18,8 +18,11 @@ use std::alloc::{AllocError, Global};
 /// A disk in memory. It keeps the values that each sector may have after a power cut, and its writes and syncs.
 #[derive(Drop)]
 pub struct MemoryDisk {
+    /// The sectors.
     sectors: Vec<Sector>,
+    /// What happened since it was made.
     events: Vec<Event>,
+    /// How many of its calls failed.
     faults: u64,
     ghost replayed: { IsReplayed (sector_at sectors.items) events.items },
     ghost counted: { length sectors.items < 2 ^ 32 },

@@ -8,7 +8,9 @@ use crate::{BlockFile, Refused, SECTOR_BYTES, SectorDisk};
 /// and a read past its end.
 #[derive(Drop)]
 pub struct SectorFile<D> {
+    /// The disk of which each sector is a block.
     disk: D,
+    /// The length in bytes.
     length: u64,
 }
 

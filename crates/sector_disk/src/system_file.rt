@@ -8,6 +8,7 @@ use std::os::unix::fs::FileExt;
 /// did it, and that the device keeps it, is what is assumed where this file is called honest.
 #[derive(Drop)]
 pub struct SystemFile<F> {
+    /// The runtime's file.
     pub(crate) file: F,
 }
 

@@ -16,7 +16,7 @@ use Rattle.bridge_movement.specs.Shape.{row_count}
 use Rattle.bridge_movement.specs.MovementValue.{MovementValue}
 use Rattle.session_bytes.specs.Parts.{text_bytes, four_bytes, scoring_number, configuration_part, movement_part, pair_part}
 use Rattle.session_bytes.specs.PartsRead.{text_in, after_text, second_player, numbers_in, shape_of_numbers, rows_of_part, pair_of_part, configuration_in}
-use Rattle.session_bytes.specs.declared.head.Heading.{Heading}
+use Rattle.session_bytes.specs.declared.heading.Heading.{Heading}
 use Rattle.session_bytes.specs.Reading.{items_of}
 use Rattle.session_bytes.specs.Head.{head_parts, IsHeadingOf, IsHeadingPart, IsPairPart, AreHeadParts, IsHead, NoHead}
 use Rattle.session_bytes.proofs.BytesBack.{take_front, text_back, after_back}

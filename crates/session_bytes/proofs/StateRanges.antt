@@ -23,7 +23,8 @@ use Rattle.session_bytes.specs.ActionRange.{IsActInRange, IsInRange}
 use Rattle.session_rules.specs.Act.{act_of}
 use Rattle.session_rules.specs.Deed.{with_deed}
 use Rattle.session_rules.specs.Record.{PlainRecord, empty_record}
-use Rattle.session_rules.specs.State.{SessionValue, opening, opening_row, row_boards, index_of_row, seating_of, changed_at, current_index}
+use Rattle.bridge_movement.specs.Shape.{index_of_row}
+use Rattle.session_rules.specs.State.{SessionValue, opening, opening_row, row_boards, seating_of, changed_at, current_index}
 use Rattle.session_rules.specs.StateRange.{IsCorrectionInRange, AreHandsOrNone, IsOfFourSeats, IsRecordInRange, IsStateInRange}
 use Rattle.session_rules.specs.PlayerStep.{acted_among, acted_at}
 use Rattle.session_rules.specs.DirectorStep.{with_ruling, ruled}

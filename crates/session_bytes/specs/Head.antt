@@ -5,7 +5,7 @@ use Rattle.bridge_movement.specs.Shape.{row_count}
 use Rattle.bridge_movement.specs.Fair.{IsMovement}
 use Rattle.bridge_config.specs.ConfigValue.{ConfigValue}
 use Rattle.bridge_config.specs.Limits.{is_name, is_date_form, IsConfiguration}
-use Rattle.session_bytes.specs.declared.head.Heading.{Heading}
+use Rattle.session_bytes.specs.declared.heading.Heading.{Heading}
 use Rattle.session_bytes.specs.Parts.{configuration_part, movement_part, pair_part}
 use Rattle.session_bytes.specs.PartsRead.{text_in, after_text, scoring_at, numbers_in, shape_of_numbers, rows_of_part, key_in, second_player, configuration_in}
 
@@ -88,3 +88,8 @@ NoHead first second rest =
     (configuration : ConfigValue) (round : ℕ) (boards : List (List ℕ)) → IsConfiguration configuration → IsRound configuration round →
     configuration_part configuration round ≡ first → movement_part configuration.movement.rows ≡ second →
     map pair_part configuration.pairs ++ boards ≢ rest
+
+-- the parts begin with those of no configuration and round of it
+abbrev pub AreOfNoHead : List (List ℕ) → Type 0
+AreOfNoHead parts = (configuration : ConfigValue) (round : ℕ) (boards : List (List ℕ)) → IsConfiguration configuration → IsRound configuration round →
+    head_parts configuration round ++ boards ≢ parts

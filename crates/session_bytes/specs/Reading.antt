@@ -1,5 +1,5 @@
 -- Reading the parts of plays, deals and rows from left to right: a value, and the bytes behind it.
-use Rattle.std.specs.Prelude.{◌≡◌, ℕ, ◌≤◌, ◌==◌, nat_lt, nat_le, Bool, true, false, not, ◌&&◌, ◌||◌, if◌then◌else◌, map, List, [], ◌∷◌, ◌++◌, length, take, drop, Option, Some, None, is_some, IfSome, option_and_then, slice_get, All}
+use Rattle.std.specs.Prelude.{◌≡◌, ℕ, ◌≤◌, ◌==◌, nat_lt, nat_le, Bool, true, false, not, ◌&&◌, ◌||◌, if◌then◌else◌, map, List, [], ◌∷◌, ◌++◌, length, take, drop, Option, Some, None, is_some, IfSome, option_and_then, slice_get, All, ◌≢◌, flat_map}
 use Rattle.std.specs.List.{list_all}
 use Rattle.std.specs.Global.{Vec}
 use Rattle.arrayvec.specs.ArrayVec.{ArrayVec}
@@ -25,7 +25,7 @@ use Rattle.session_rules.specs.State.{Deals, row_boards}
 use Rattle.bridge_table.specs.Kept.{plain_of, is_kept_open, IsTiedIn}
 use Rattle.session_store.specs.declared.disk_format.DiskFormat.{DiskFormat}
 use Rattle.session_store.specs.declared.disk_format.DiskFormat.TheVariants.{One, Two}
-use Rattle.session_bytes.specs.Parts.{two_bytes, text_bytes, claim_bytes, HasRuling, HasRecord, ruling_bytes, is_agreed_in, record_part}
+use Rattle.session_bytes.specs.Parts.{two_bytes, text_bytes, claim_bytes, HasRuling, HasRecord, ruling_bytes, is_agreed_in, record_part, row_parts}
 use Rattle.session_rules.specs.StateRange.{AreHandsOrNone, IsOfFourSeats, IsRulingInRange, IsRecordInRange}
 use Rattle.session_rules.specs.Valid.{board_of, IsDealOrNone, IsUnplayed, IsValidRecord}
 
@@ -206,6 +206,12 @@ pub record IsReadFrom (format : DiskFormat) (scoring : Scoring) (deals : Deals) 
   pub of_format : HasRecord format (plain_of kept)
   pub tied : IsTiedIn deals kept
 
+-- no record of the board that is valid, and within its ranges and those of the format, has that part
+abbrev pub IsOfNoRecord : DiskFormat → Scoring → Deals → ℕ → ℕ → ℕ → List ℕ → Type 0
+IsOfNoRecord format scoring deals now round board part =
+    (plain : PlainRecord) → plain.board ≡ board → IsValidRecord scoring deals now round plain → IsRecordInRange plain → HasRecord format plain →
+    record_part format plain ≢ part
+
 -- The parts of all boards and all plays
 
 -- the bytes of a part that the code keeps
@@ -241,6 +247,11 @@ pub record AreRows (format : DiskFormat) (scoring : Scoring) (deals : Deals) (no
   pub count : length records ≡ length rows
   pub each : (index : ℕ) (row : Row) (own : List PlainRecord) → slice_get rows index ≡ Some row → slice_get records index ≡ Some own →
       IsRowOf format scoring deals now boards row own
+
+-- no records of all rows have those parts
+abbrev pub AreOfNoRows : DiskFormat → Scoring → Deals → ℕ → ℕ → List Row → List (List ℕ) → Type 0
+AreOfNoRows format scoring deals now boards rows parts =
+    (records : List (List PlainRecord)) → AreRows format scoring deals now boards rows records → flat_map (row_parts format boards) records ≢ parts
 
 -- how many zeros are the part of a play in which nothing has happened
 abbrev pub empty_length : DiskFormat → ℕ

@@ -110,8 +110,5 @@ fn ranges_of_play(key: Key, play: PlayId)
 fn range_of_correction(correction: Correction)
     ensures { IsCorrectionInRange correction }
 {
-    match correction {
-        Correction::Tricks(tricks) => range_of_tricks(tricks),
-        Correction::Void | Correction::Adjust { .. } | Correction::Restore => {}
-    }
+    let _ruling = correction.ruling();
 }

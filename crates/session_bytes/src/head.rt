@@ -7,9 +7,10 @@ ghost use Rattle.bridge_config.specs.Limits.{IsConfiguration, IsPair};
 ghost use Rattle.session_bytes.specs.Parts.{configuration_part, movement_part, pair_part};
 ghost use Rattle.session_bytes.specs.PartsRead.{text_in, after_text, scoring_at, numbers_in, shape_of_numbers, key_in, row_of_part, rows_of_part, pair_of_part, configuration_in};
 ghost use Rattle.session_bytes.specs.Reading.{items_of};
-ghost use Rattle.session_bytes.specs.Head.{head_parts, IsHeadingOf, IsHeadingPart, IsPairPart, IsMovementPart, AreHeadParts, HasHeading, IsHead, NoHead, IsRound};
+ghost use Rattle.session_bytes.specs.Head.{head_parts, IsHeadingOf, IsHeadingPart, IsPairPart, IsMovementPart, AreHeadParts, HasHeading, IsHead, NoHead, IsRound, AreOfNoHead};
 
 use crate::config_bytes::{write_configuration, write_movement, write_pair};
+use crate::heading::{key_of, read_heading, split_text};
 use arrayvec::{ArrayString, ArrayVec};
 use bridge_config::{
     Config, ConfigFields, DATE_BYTES, Key, NAME_BYTES, PairFields, read_date, read_name,
@@ -18,106 +19,13 @@ use bridge_movement::{MOST_PAIRS, MOST_ROWS, Movement, Row, Shape};
 use bridge_score::Scoring;
 use session_store::PAYLOAD_BYTES;
 
-/// What the first part states.
-#[derive(Clone, Copy)]
-pub struct Heading {
-    pub event: ArrayString<NAME_BYTES>,
-    pub site: ArrayString<NAME_BYTES>,
-    pub date: ArrayString<DATE_BYTES>,
-    pub scoring: Scoring,
-    pub boards: u8,
-    pub shape: Shape,
-    pub director: Key,
-    pub round: u8,
-}
-
 /// What the parts before those of the boards state.
 #[derive(Drop)]
 pub struct Head {
+    /// The configuration.
     pub config: Config,
     /// From 1 to one more than the last round.
     pub round: u8,
-}
-
-/// The text that bytes begin with, by its length, and what comes after it.
-fn split_text(bytes: &[u8]) -> (&[u8], &[u8])
-    ensures text { result.0.now ≡ text_in bytes.now }
-    ensures rest { result.1.now ≡ after_text bytes.now }
-{
-    let Some((count, rest)) = bytes.split_first() else {
-        return (bytes, bytes);
-    };
-    rest.split_at(usize::from(*count).min(rest.len()))
-}
-
-fn scoring_of(number: u8) -> Option<Scoring>
-    ensures some { IfSome result (λ scoring. scoring ≡ scoring_at number) }
-    ensures none { IfNone result (2 ≤ number) }
-{
-    match number {
-        0 => Some(Scoring::MatchPoints),
-        1 => Some(Scoring::Imps),
-        _ => None,
-    }
-}
-
-/// The shape in the twelve bytes behind the date.
-fn shape_of(numbers: &[u8]) -> Shape
-    requires { length numbers.now ≡ 12 }
-    ensures { result ≡ shape_of_numbers numbers.now }
-{
-    Shape {
-        tables: numbers[2],
-        rounds: numbers[3],
-        sets: numbers[4],
-        pairs: numbers[5],
-        split: numbers[6],
-    }
-}
-
-/// The key that the bytes begin with.
-fn key_of(bytes: &[u8]) -> Key
-    requires { 4 ≤ length bytes.now }
-    ensures { result.0 ≡ key_in bytes.now }
-{
-    let (key, _) = bytes.split_at(4);
-    Key(u32::from_be_bytes([key[0], key[1], key[2], key[3]]))
-}
-
-/// What the first part states, if it is in form.
-fn read_heading(part: &[u8]) -> Option<Heading>
-    ensures some { IfSome result (IsHeadingOf part.now) }
-    ensures none { IfNone result (¬ IsHeadingPart part.now) }
-{
-    let (event, rest) = split_text(part);
-    let (site, rest) = split_text(rest);
-    let Some(event) = read_name(event) else {
-        return None;
-    };
-    let Some(site) = read_name(site) else {
-        return None;
-    };
-    if rest.len() != 22 {
-        return None;
-    }
-    let (date, numbers) = rest.split_at(DATE_BYTES);
-    let Some(date) = read_date(date) else {
-        return None;
-    };
-    let (_, key) = numbers.split_at(7);
-    let Some(scoring) = scoring_of(numbers[0]) else {
-        return None;
-    };
-    Some(Heading {
-        event,
-        site,
-        date,
-        scoring,
-        boards: numbers[1],
-        shape: shape_of(numbers),
-        director: key_of(key),
-        round: numbers[11],
-    })
 }
 
 /// The row of an index, whose pairs and set stand there.
@@ -303,8 +211,7 @@ fn head_of(first: &[u8], second: &[u8], rest: &[ArrayVec<u8, PAYLOAD_BYTES>]) ->
 pub fn read_head(parts: &[ArrayVec<u8, PAYLOAD_BYTES>]) -> Option<Head>
     ensures written { IfSome result (λ head. head_parts head.config head.round ≡ take (2 + length head.config.pairs) (map items_of parts.now)) }
     ensures round { IfSome result (λ head. IsRound head.config head.round) }
-    ensures other { IfNone result ((configuration : ConfigValue) (round : ℕ) (boards : List (List ℕ)) → IsConfiguration configuration →
-        IsRound configuration round → head_parts configuration round ++ boards ≢ map items_of parts.now) }
+    ensures other { IfNone result (AreOfNoHead (map items_of parts.now)) }
 {
     let (first, rest) = parts.split_first()?;
     let (second, rest) = rest.split_first()?;

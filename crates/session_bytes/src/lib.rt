@@ -8,6 +8,7 @@ mod action_read;
 mod config_bytes;
 mod deal_read;
 pub mod head;
+pub mod heading;
 mod part_bytes;
 mod record_bytes;
 pub mod record_fields;

@@ -21,9 +21,11 @@ pub struct RecordFields<'a> {
     pub cards: &'a [u8],
     /// How many claims were made.
     pub claims: u8,
+    /// The claim that stands or was agreed.
     pub claim: Option<Claim>,
     /// Whether the claim is marked as agreed.
     pub agreed: bool,
+    /// The latest ruling, unless it was taken back.
     pub ruling: Option<Ruling>,
 }
 

@@ -9,7 +9,7 @@ ghost use Rattle.bridge_table.specs.Kept.{plain_of, IsTiedIn};
 ghost use Rattle.session_bytes.specs.Parts.{HasRecord, record_part};
 ghost use Rattle.session_rules.specs.StateRange.{IsOfFourSeats, IsRulingInRange, IsRecordInRange, AreHandsOrNone};
 ghost use Rattle.session_rules.specs.Valid.{IsValidRecord};
-ghost use Rattle.session_bytes.specs.Reading.{some_call, fields_in, fields_of, plain_from, IsPlayed, may_stand, is_in_place, IsReadFrom};
+ghost use Rattle.session_bytes.specs.Reading.{some_call, fields_in, fields_of, plain_from, IsPlayed, may_stand, is_in_place, IsReadFrom, IsOfNoRecord};
 
 use crate::record_bytes::is_agreed;
 use crate::record_fields::{RecordFields, read_fields};
@@ -36,7 +36,7 @@ pub fn read_record(
     requires few { length part.now ≤ 480 }
     requires deals { All AreHandsOrNone deals.now }
     ensures read { IfSome result (IsReadFrom format scoring deals.now now round board part.now) }
-    ensures none { IfNone result ((plain : PlainRecord) → plain.board ≡ board → IsValidRecord scoring deals.now now round plain → IsRecordInRange plain → HasRecord format plain → record_part format plain ≢ part.now) }
+    ensures none { IfNone result (IsOfNoRecord format scoring deals.now now round board part.now) }
 {
     let Some(fields) = read_fields(format, part) else {
         return None;

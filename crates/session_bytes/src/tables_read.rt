@@ -6,7 +6,7 @@ ghost use Rattle.bridge_table.specs.Kept.{plain_of, board_kept, IsTiedIn};
 ghost use Rattle.session_bytes.specs.Parts.{deal_part, row_parts};
 ghost use Rattle.session_rules.specs.StateRange.{AreHandsOrNone};
 ghost use Rattle.session_rules.specs.Valid.{IsDealOrNone};
-ghost use Rattle.session_bytes.specs.Reading.{items_of, part_kept, plains_of, AreDeals, AreRecords, IsRowOf, AreRows, empty_length, is_empty_part};
+ghost use Rattle.session_bytes.specs.Reading.{items_of, part_kept, plains_of, AreDeals, AreRecords, IsRowOf, AreRows, empty_length, is_empty_part, AreOfNoRows};
 ghost use Rattle.std.specs.List.{list_all};
 ghost use Rattle.session_bytes.specs.Parts.{record_part};
 
@@ -137,7 +137,7 @@ pub fn read_tables(
     ensures written { OnSome result (flat_map (row_parts format boards) (map plains_of tables.new) ≡ map items_of parts.now) }
     ensures rows { OnSome result (AreRows format scoring deals.now now boards rows.now (map plains_of tables.new)) }
     ensures tied { OnSome result (All (λ table. All (IsTiedIn deals.now) table.items) tables.new) }
-    ensures other { IfNone result ((records : List (List PlainRecord)) → AreRows format scoring deals.now now boards rows.now records → flat_map (row_parts format boards) records ≢ map items_of parts.now) }
+    ensures other { IfNone result (AreOfNoRows format scoring deals.now now boards rows.now (map items_of parts.now)) }
 {
     let mut rest = parts;
     for (index, row) in rows.iter().enumerate() {

@@ -21,7 +21,8 @@ use Rattle.session_rules.specs.declared.refused.Refused.TheVariants.{NotCurrent}
 use Rattle.session_rules.specs.declared.seating.Seating.{Seating}
 use Rattle.session_rules.specs.Deed.{with_deed}
 use Rattle.session_rules.specs.Record.{PlainRecord}
-use Rattle.session_rules.specs.State.{SessionValue, deal_on, row_at, index_of_row, row_boards, changed_at, current_index, director_answer, seating_of, is_of_set, is_row_within, record_of}
+use Rattle.bridge_movement.specs.Shape.{index_of_row}
+use Rattle.session_rules.specs.State.{SessionValue, deal_on, row_at, row_boards, changed_at, current_index, director_answer, seating_of, is_of_set, is_row_within, record_of}
 use Rattle.session_rules.specs.PlayerStep.{seen_by, answer_among, player_answer, acted_at, acted}
 use Rattle.session_rules.specs.DirectorStep.{rule_answer, with_ruling, ruled}
 use Rattle.session_rules.specs.Step.{act_answer, changed_by}

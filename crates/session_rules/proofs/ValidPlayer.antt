@@ -20,7 +20,8 @@ use Rattle.session_rules.specs.declared.seating.Seating.{Seating}
 use Rattle.session_rules.specs.Answer.{Answer, ◌>>◌, require}
 use Rattle.session_rules.specs.Deed.{deed_answer, with_deed}
 use Rattle.session_rules.specs.Record.{PlainRecord, bidding_of, play_of, is_open}
-use Rattle.session_rules.specs.State.{SessionValue, deal_on, row_at, index_of_row, current_index, acting_player, is_closed, seating_at, seated, seating_of, is_of_set}
+use Rattle.bridge_movement.specs.Shape.{index_of_row}
+use Rattle.session_rules.specs.State.{SessionValue, deal_on, row_at, current_index, acting_player, is_closed, seating_at, seated, seating_of, is_of_set}
 use Rattle.session_rules.specs.PlayerStep.{seen_by, seen_deal, seen_records, answer_among, player_answer, acted_at, acted}
 use Rattle.session_rules.proofs.PlayerAnswer.{answer_dealt, answer_current, answer_seated}
 use Rattle.session_rules.specs.Valid.{IsDeed, IsValid}

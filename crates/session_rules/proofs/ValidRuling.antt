@@ -16,7 +16,8 @@ use Rattle.session_rules.specs.declared.refused.Refused.{Refused}
 use Rattle.session_rules.specs.declared.refused.Refused.TheVariants.{NotFinished, NotYet}
 use Rattle.session_rules.specs.Correction.{tricks_answer, adjust_answer, ruling_answer}
 use Rattle.session_rules.specs.Record.{PlainRecord, Course, course_in, is_run, is_done, is_open}
-use Rattle.session_rules.specs.State.{SessionValue, row_at, index_of_row, is_row_within, record_of}
+use Rattle.bridge_movement.specs.Shape.{index_of_row}
+use Rattle.session_rules.specs.State.{SessionValue, row_at, is_row_within, record_of}
 use Rattle.session_rules.specs.DirectorStep.{if_allowed, rule_answer, with_ruling, ruled}
 use Rattle.session_rules.specs.Valid.{IsPlayId, IsValidRecord, IsValid}
 use Rattle.session_rules.proofs.StaysValid.{round_due, valid_change}

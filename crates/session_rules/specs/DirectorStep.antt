@@ -9,7 +9,8 @@ use Rattle.session_rules.specs.declared.refused.Refused.TheVariants.{Closed, NoS
 use Rattle.session_rules.specs.Answer.{Answer}
 use Rattle.session_rules.specs.Record.{PlainRecord, course_in, is_open}
 use Rattle.session_rules.specs.Correction.{ruling_by, ruling_answer}
-use Rattle.session_rules.specs.State.{SessionValue, deal_on, changed_at, index_of_row, is_closed}
+use Rattle.bridge_movement.specs.Shape.{index_of_row, rows_before}
+use Rattle.session_rules.specs.State.{SessionValue, deal_on, changed_at, is_closed}
 
 -- an answer, if the director may act
 abbrev pub if_allowed : Answer → Answer → Answer
@@ -28,7 +29,7 @@ deal_answer s board hands =
 -- the records of the tables in the current round
 abbrev pub records_of_round : SessionValue → List (List PlainRecord)
 records_of_round s =
-    take s.configuration.movement.shape.tables (drop ((s.round - 1) * s.configuration.movement.shape.tables) s.records)
+    take s.configuration.movement.shape.tables (drop (rows_before s.configuration.movement.shape s.round) s.records)
 
 -- the answer to the end of a round
 abbrev pub next_answer : SessionValue → ℕ → Answer

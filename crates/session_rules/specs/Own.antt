@@ -7,6 +7,7 @@ use Rattle.bridge_cards.specs.declared.seat.Seat.TheVariants.{North, East, South
 use Rattle.bridge_cards.specs.Seat.{same_seat}
 use Rattle.bridge_auction.specs.declared.call.Call.{Call as CallType}
 use Rattle.bridge_config.specs.ConfigValue.{ConfigValue}
+use Rattle.bridge_config.specs.Limits.{IsConfiguration}
 use Rattle.bridge_play.specs.declared.claim.Claim.{Claim as ClaimType}
 use Rattle.session_rules.specs.declared.act.Act.{Act}
 use Rattle.session_rules.specs.declared.act.Act.TheVariants as act
@@ -19,10 +20,11 @@ use Rattle.session_rules.specs.declared.refused.Refused.{Refused}
 use Rattle.session_rules.specs.declared.seating.Seating.{Seating}
 use Rattle.session_rules.specs.Act.{act_of}
 use Rattle.session_rules.specs.Correction.{ruling_by}
-use Rattle.session_rules.specs.Record.{PlainRecord}
-use Rattle.session_rules.specs.State.{SessionValue, index_of_row, seating_of}
+use Rattle.session_rules.specs.Record.{PlainRecord, empty_record}
+use Rattle.bridge_movement.specs.Shape.{index_of_row}
+use Rattle.session_rules.specs.State.{SessionValue, opening, record_of, seating_of}
 use Rattle.session_rules.specs.Step.{step_answer, changed}
-use Rattle.session_rules.specs.Valid.{IsAction}
+use Rattle.session_rules.specs.Valid.{IsAction, IsPlayId}
 
 -- A list of accepted actions
 
@@ -134,3 +136,11 @@ plain_record board deeds = record {
   claim = option_and_then claim_after (last_claim deeds);
   ruling = option_and_then ruling_by (last_correction deeds);
 }
+
+-- A play's record is of its own actions: where a play of the board is there at the opening, after any accepted actions its record is
+-- the plain record of those of its own.
+abbrev pub IsOfOwnActions : ConfigValue → List Action → PlayId → ℕ → Type 0
+IsOfOwnActions configuration actions play board =
+    IsConfiguration configuration → IsPlayId play → AreAccepted (opening configuration) actions →
+    record_of (opening configuration) play ≡ Some (empty_record board) →
+    record_of (after_actions (opening configuration) actions) play ≡ Some (plain_record board (own configuration play board 1 actions))

@@ -19,6 +19,8 @@ use Rattle.session_rules.specs.declared.seating.Player.{Player}
 use Rattle.session_rules.specs.declared.seating.Seating.{Seating}
 use Rattle.session_rules.specs.Answer.{Answer}
 use Rattle.session_rules.specs.Record.{PlainRecord, empty_record, is_open}
+use Rattle.bridge_movement.specs.Boards.{boards_before, last_board}
+use Rattle.bridge_movement.specs.Shape.{index_of_row}
 
 -- the hands of each board that is dealt, by the boards' numbers
 abbrev pub Deals : Type 0
@@ -35,7 +37,7 @@ pub record SessionValue : Type 0 where
 
 -- the boards that a row plays: those of its set where the row is live
 abbrev pub row_boards : ℕ → Row → List ℕ
-row_boards boards row = if is_live row then range_with_len ((row.set - 1) * boards + 1) boards else []
+row_boards boards row = if is_live row then range_with_len (boards_before boards row.set + 1) boards else []
 
 -- the records of a row at the opening
 abbrev pub opening_row : ℕ → Row → List PlainRecord
@@ -104,10 +106,6 @@ seat_on NorthSouth false = South
 seat_on EastWest true = East
 seat_on EastWest false = West
 
--- the index of a table's row of a round among the rows of the movement
-abbrev pub index_of_row : Shape → ℕ → ℕ → ℕ
-index_of_row shape round table = (round - 1) * shape.tables + (table - 1)
-
 -- there is such a round and such a table
 abbrev pub is_row_within : Shape → ℕ → ℕ → Bool
 is_row_within shape round table = nat_le round shape.rounds && nat_le table shape.tables
@@ -146,7 +144,7 @@ seating_of configuration round key = seated configuration round (acting_player c
 -- the boards of a set
 abbrev pub is_of_set : ConfigValue → ℕ → ℕ → Bool
 is_of_set configuration set board =
-    nat_lt ((set - 1) * configuration.boards) board && nat_le board (set * configuration.boards)
+    nat_lt (boards_before configuration.boards set) board && nat_le board (last_board configuration.boards set)
 
 -- whether the key's holder may see rankings: the director may, and a player once the session is closed
 abbrev pub ranking_asker : ConfigValue → ℕ → ℕ → Answer

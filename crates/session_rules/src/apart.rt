@@ -3,18 +3,15 @@ ghost use Rattle.std.specs.Prelude.{◌≡◌, ℕ, Some, List};
 ghost use Rattle.session_rules.specs.declared.action.Action.{Action as ActionType};
 ghost use Rattle.session_rules.specs.declared.view.View.{View as ViewType};
 ghost use Rattle.bridge_config.specs.ConfigValue.{ConfigValue};
-ghost use Rattle.bridge_config.specs.Limits.{IsConfiguration};
 ghost use Rattle.session_rules.specs.declared.action.PlayId.{PlayId as PlayIdType};
-ghost use Rattle.session_rules.specs.State.{SessionValue, opening, record_of};
+ghost use Rattle.session_rules.specs.State.{SessionValue};
 ghost use Rattle.session_rules.specs.Step.{step_answer};
 ghost use Rattle.session_rules.specs.Apart.{player_key, AgreeAtTable};
 ghost use Rattle.session_rules.specs.See.{shown_to};
 ghost use Rattle.session_rules.specs.Sight.{LookAlikeTo};
 ghost use Rattle.session_rules.specs.Views.{IsViewTo};
 ghost use Rattle.session_rules.specs.Stage.{stage_to};
-ghost use Rattle.session_rules.specs.Own.{after_actions, AreAccepted, own, plain_record};
-ghost use Rattle.session_rules.specs.Valid.{IsPlayId};
-ghost use Rattle.session_rules.specs.Record.{empty_record};
+ghost use Rattle.session_rules.specs.Own.{IsOfOwnActions};
 
 /// The answer to a player depends on the configuration, the round, the deals of the boards of the table's set and the
 /// records of that table in that round, and on nothing else: two sessions that agree there give the same answer.
@@ -36,7 +33,5 @@ pub fn hidden_cards_are_not_shown()
 /// The record of a play depends on its own actions alone, whatever other tables do in between: after any accepted actions it
 /// is the plain record of the actions of the players at its table in its round on its board, and of the rulings on it.
 pub fn records_are_of_own_actions()
-    ensures { (configuration : ConfigValue) (actions : List ActionType) (play : PlayIdType) (board : ℕ) → IsConfiguration configuration → IsPlayId play →
-        AreAccepted (opening configuration) actions → record_of (opening configuration) play ≡ Some (empty_record board) →
-        record_of (after_actions (opening configuration) actions) play ≡ Some (plain_record board (own configuration play board 1 actions)) }
+    ensures { (configuration : ConfigValue) (actions : List ActionType) (play : PlayIdType) (board : ℕ) → IsOfOwnActions configuration actions play board }
 {}

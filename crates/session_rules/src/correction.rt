@@ -10,9 +10,13 @@ use crate::ruling::Ruling;
 /// What the director does to the ruling on a play.
 #[derive(Clone, Copy, Debug, PartialEq, Eq)]
 pub enum Correction {
+    /// Declarer's tricks are set.
     Tricks(TrickCount),
+    /// The play is taken out.
     Void,
+    /// Each side is awarded an average (Law 12C2).
     Adjust { ns: Average, ew: Average },
+    /// The ruling is taken back.
     Restore,
 }
 

@@ -18,6 +18,7 @@ pub struct Seating {
     pub row: usize,
     /// The table's number.
     pub table: u8,
+    /// The seat.
     pub seat: Seat,
     /// The set of boards that the table plays.
     pub set: u8,

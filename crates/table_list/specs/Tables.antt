@@ -12,7 +12,8 @@ use Rattle.session_rules.specs.declared.view.View.{View}
 use Rattle.session_rules.specs.Answer.{Answer}
 use Rattle.session_rules.specs.Refused.{refusal_name}
 use Rattle.session_rules.specs.See.{Shown, shown_to, shown_turn}
-use Rattle.session_rules.specs.State.{SessionValue, director_answer, index_of_row, is_closed}
+use Rattle.bridge_movement.specs.Shape.{index_of_row}
+use Rattle.session_rules.specs.State.{SessionValue, director_answer, is_closed}
 use Rattle.player_place.specs.Place.{round_line}
 use Rattle.table_server.specs.declared.short_reply.ShortReply.TheVariants.{Refused, BadLine}
 use Rattle.table_server.specs.LineWords.{key_of_word}

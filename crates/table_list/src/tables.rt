@@ -7,7 +7,8 @@ ghost use Rattle.bridge_config.specs.ConfigValue.{configuration_of};
 ghost use Rattle.line_text.specs.Lines.{lines_text};
 ghost use Rattle.table_server.specs.ReplyTexts.{each_spaced, listed_text};
 ghost use Rattle.table_list.specs.Tables.{row_words, table_line, tables_now, boards_line, table_lines, tables_by, tables_text};
-ghost use Rattle.session_rules.specs.State.{director_answer, index_of_row};
+ghost use Rattle.bridge_movement.specs.Shape.{index_of_row};
+ghost use Rattle.session_rules.specs.State.{director_answer};
 
 use crate::progress::{ROW_BYTES, push_row};
 use bridge_config::{ConfigFields, Key};
@@ -29,9 +30,7 @@ fn row_now(session: &Session, table: u8) -> Option<Row>
     ensures { result ≡ slice_get session.now.configuration.movement.rows (index_of_row session.now.configuration.movement.shape session.now.round table) }
 {
     let movement = &session.config().fields().movement;
-    let before = usize::from(session.round().saturating_sub(1))
-        * usize::from(movement.shape().tables);
-    let index = before + usize::from(table.saturating_sub(1));
+    let index = movement.shape().index_of_row(session.round(), table);
     Some(*movement.rows().get(index)?)
 }
 

@@ -5,15 +5,15 @@ ghost use Rattle.line_text.specs.Streams.{stream, Written};
 ghost use Rattle.page_layout.specs.Page.{section_end};
 ghost use Rattle.page_layout.specs.Table.{table_end};
 ghost use Rattle.bridge_results.specs.Frequencies.{frequencies_of};
-ghost use Rattle.bridge_results.specs.BoardText.{board_words, deal_words, board_head, side_gain, line_row, line_titles, traveller_text, frequency_row, frequency_titles, frequencies_text, hands_text, board_tables, board_text};
+ghost use Rattle.bridge_results.specs.BoardText.{board_words, deal_words, board_head, side_gain, line_row, line_titles, traveller_text, frequencies_text, hands_text, board_tables, board_text};
 
 use crate::compare::Comparison;
-use crate::frequency::{Frequency, frequencies};
 use crate::pages::cells::{
     contract_cell, declarer_cell, gain_cell, lead_cell, line_score, score_cell, tricks_cell,
 };
-use crate::pages::columns::{FREQUENCY_COLUMNS, LINE_COLUMNS};
+use crate::pages::columns::LINE_COLUMNS;
 use crate::pages::diagram::diagram_text;
+use crate::pages::frequencies::write_frequencies_of;
 use crate::traveller::BoardLine;
 use arrayvec::ArrayString;
 use bridge_cards::{BoardNumber, Deal, dealer, seat_text, vulnerability_of, vulnerability_text};
@@ -144,7 +144,7 @@ fn write_line_titles<W: Write>(format: Format, writer: &mut W) -> Result<(), Err
 }
 
 /// Writes what stands below the rows of a table.
-fn write_table_end<W: Write>(format: Format, writer: &mut W) -> Result<(), Error>
+pub fn write_table_end<W: Write>(format: Format, writer: &mut W) -> Result<(), Error>
     ensures { Written (stream W.contents writer.old writer.new) (table_end format) result }
 {
     let mut text = PageText::new();
@@ -182,75 +182,6 @@ fn write_lines<W: Write>(
     write_table_end(format, writer)
 }
 
-/// Writes the row of a score: how often it was made, and what each side gains by it.
-fn write_frequency<W: Write>(
-    format: Format,
-    scoring: Scoring,
-    frequency: &Frequency,
-    writer: &mut W,
-) -> Result<(), Error>
-    ensures { Written (stream W.contents writer.old writer.new) (frequency_row format scoring frequency.now) result }
-{
-    let score = signed_text(i64::from(frequency.score));
-    let count = number_text(u32::from(frequency.count));
-    let ns_gain = gain_cell(scoring, Some(frequency.ns_gain));
-    let ew_gain = gain_cell(scoring, Some(frequency.ew_gain));
-    let cells = [
-        score.as_str().as_bytes(),
-        count.as_str().as_bytes(),
-        ns_gain.as_str().as_bytes(),
-        ew_gain.as_str().as_bytes(),
-    ];
-    let mut text = PageText::new();
-    push_row(&mut text, format, &FREQUENCY_COLUMNS, &cells);
-    write_text(writer, text.as_slice())
-}
-
-/// Writes what stands above the rows of frequencies.
-fn write_frequency_titles<W: Write>(format: Format, writer: &mut W) -> Result<(), Error>
-    ensures { Written (stream W.contents writer.old writer.new) (frequency_titles format) result }
-{
-    let mut text = PageText::new();
-    push_table_start(&mut text, format);
-    push_titles(
-        &mut text,
-        format,
-        &FREQUENCY_COLUMNS,
-        &[b"Score".as_slice(), b"Times", b"NS gain", b"EW gain"],
-    );
-    write_text(writer, text.as_slice())
-}
-
-/// Writes the rows of frequencies.
-fn write_frequency_rows<W: Write>(
-    format: Format,
-    scoring: Scoring,
-    frequencies: &[Frequency],
-    writer: &mut W,
-) -> Result<(), Error>
-    ensures { Written (stream W.contents writer.old writer.new) (flat_map (frequency_row format scoring) frequencies.now) result }
-{
-    for frequency in frequencies {
-        write_frequency(format, scoring, frequency, writer)?;
-    }
-    Ok(())
-}
-
-/// Writes frequencies.
-#[tactic(auto, using(page_layout::proofs::Walk::then_written, page_layout::proofs::Walk::failed_before))]
-fn write_frequencies<W: Write>(
-    format: Format,
-    scoring: Scoring,
-    frequencies: &[Frequency],
-    writer: &mut W,
-) -> Result<(), Error>
-    ensures { Written (stream W.contents writer.old writer.new) (frequencies_text format scoring frequencies.now) result }
-{
-    write_frequency_titles(format, writer)?;
-    write_frequency_rows(format, scoring, frequencies, writer)?;
-    write_table_end(format, writer)
-}
-
 /// Writes the hands of a board, once it is dealt.
 fn write_hands<W: Write>(format: Format, deal: Option<&Deal>, writer: &mut W) -> Result<(), Error>
     ensures { Written (stream W.contents writer.old writer.new) (hands_text format (option_copied deal.entry)) result }
@@ -268,20 +199,6 @@ fn write_end<W: Write>(format: Format, writer: &mut W) -> Result<(), Error>
     let mut text = PageText::new();
     push_section_end(&mut text, format);
     write_text(writer, text.as_slice())
-}
-
-/// Writes how often each score of these lines was made.
-fn write_frequencies_of<W: Write>(
-    format: Format,
-    scoring: Scoring,
-    lines: &[BoardLine],
-    writer: &mut W,
-) -> Result<(), Error>
-    requires { length lines.now ≤ 144 }
-    ensures { Written (stream W.contents writer.old writer.new) (frequencies_text format scoring (frequencies_of lines.now)) result }
-{
-    let made = frequencies(lines);
-    write_frequencies(format, scoring, made.as_slice(), writer)
 }
 
 /// Writes the traveller and the frequencies of a board.

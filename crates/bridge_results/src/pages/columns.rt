@@ -75,8 +75,8 @@ pub const HAND_COLUMNS: [Column; 3] = [SUIT, SUIT, LAST_SUIT];
 /// Contracts, leads and the cards of hands stand in columns in which the letters S, H, D and C are suits, and nothing else of
 /// these tables does.
 pub fn suits_stand_in_columns_of_cards()
-    ensures rankings { (map (λ (column : ColumnType). column.content) share_columns ≡ Words ∷ Words ∷ Words ∷ Words ∷ Words ∷ Words ∷ [])
-        × (map (λ (column : ColumnType). column.content) sum_columns ≡ Words ∷ Words ∷ Words ∷ Words ∷ []) }
+    ensures shares { map (λ (column : ColumnType). column.content) share_columns ≡ Words ∷ Words ∷ Words ∷ Words ∷ Words ∷ Words ∷ [] }
+    ensures sums { map (λ (column : ColumnType). column.content) sum_columns ≡ Words ∷ Words ∷ Words ∷ Words ∷ [] }
     ensures traveller { map (λ (column : ColumnType). column.content) line_columns ≡ Words ∷ Words ∷ Words ∷ Words ∷ Cards ∷ Words ∷ Cards ∷ Words ∷ Words ∷ Words ∷ Words ∷ [] }
     ensures frequencies { map (λ (column : ColumnType). column.content) frequency_columns ≡ Words ∷ Words ∷ Words ∷ Words ∷ [] }
     ensures card { map (λ (column : ColumnType). column.content) card_columns ≡ Words ∷ Words ∷ Words ∷ Words ∷ Cards ∷ Words ∷ Words ∷ Words ∷ Words ∷ [] }

@@ -7,7 +7,7 @@ ghost use Rattle.bridge_ranking.specs.declared.field.Field.TheVariants.{First, S
 ghost use Rattle.page_layout.specs.Page.{page_end};
 ghost use Rattle.bridge_results.specs.EventText.{event_text};
 ghost use Rattle.bridge_results.specs.RankingText.{field_text};
-ghost use Rattle.bridge_results.specs.ResultsText.{ranked_text, rankings_text, front_text, sheets_text, page_text, IsFieldRanking};
+ghost use Rattle.bridge_results.specs.ResultsText.{ranked_text, rankings_text, front_text, sheets_text, page_text, IsFieldRanking, WritesPage};
 
 use crate::pages::event::event_text;
 use crate::pages::ranking::write_field;
@@ -142,8 +142,7 @@ pub fn write_results<W: Write>(
     format: Format,
     writer: &mut W,
 ) -> Result<(), Error>
-    ensures { (first second : Option (List Ranked)) × IsFieldRanking session.now First first × IsFieldRanking session.now Second second
-        × Written (stream W.contents writer.old writer.new) (page_text format session.now first second) result }
+    ensures { WritesPage (stream W.contents writer.old writer.new) format session.now result }
 {
     let results = Results::new(session);
     let first = results.ranking(Field::First);

@@ -10,10 +10,9 @@ use crate::pages::cells::{
     contract_cell, declarer_cell, gain_cell, gain_text, score_cell, tricks_cell,
 };
 use crate::pages::columns::CARD_COLUMNS;
-use crate::pages::names::pair_names;
 use arrayvec::ArrayString;
 use bridge_cards::Side;
-use bridge_config::PairFields;
+use bridge_config::{PairFields, pair_names};
 use bridge_score::Scoring;
 use line_text::{number_text, tenths_text, write_text};
 use page_layout::{

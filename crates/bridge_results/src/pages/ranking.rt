@@ -7,8 +7,7 @@ ghost use Rattle.page_layout.specs.Table.{table_end};
 ghost use Rattle.bridge_results.specs.RankingText.{field_words, share_row, sum_row, ranked_row, ranked_titles, field_head, field_text};
 
 use crate::pages::columns::{SHARE_COLUMNS, SUM_COLUMNS};
-use crate::pages::names::pair_names;
-use bridge_config::PairFields;
+use bridge_config::{PairFields, pair_names};
 use bridge_ranking::Field;
 use bridge_score::{Ranked, Scoring, share_percent};
 use line_text::{number_text, percent_text, signed_text, tenths_text, write_text};

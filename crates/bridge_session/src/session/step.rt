@@ -82,9 +82,9 @@ impl Session {
     fn is_round_open(&self) -> bool
         ensures { result ≡ list_any (list_any is_open) (records_of_round self.now) }
     {
-        let tables = usize::from(self.config.fields().movement.shape().tables);
-        let start = usize::from(self.round - 1) * tables;
-        have_open(self.tables.as_slice(), start, tables)
+        let shape = self.config.fields().movement.shape();
+        let start = shape.rows_before(self.round);
+        have_open(self.tables.as_slice(), start, usize::from(shape.tables))
     }
 
     /// Ends the round. Refused are: `Closed`, `Stale` where it is not that round, `RoundOpen`.
@@ -168,7 +168,7 @@ impl Session {
     /// `NotHeld` and `MustFollow`; of a claim `ClaimStands`, `NotYourTurn`, `MidTrick`, `TooManyTricks` and
     /// `ClaimsSpent`; of an answer to a claim `NoClaim` and `NotAsked`. Of a deal `Closed`, `NoSuchPlay`,
     /// `AlreadyDealt` and `BadDeal`; of the end of a round `Closed`, `Stale` and `RoundOpen`; of a ruling `NoSuchPlay`
-    /// and `NotYet`, and then of `Tricks` `NoContract` and `NotFinished`, of `Adjust` `NotMatchPoints`, of `Restore`
+    /// and `NotYet`, and then of `Tricks` `NoContract` and `NotFinished`, of averages `NotMatchPoints`, of `Restore`
     /// `NotFinished`.
     pub fn step(&mut self, action: &Action) -> Result<(), Refused>
         ensures answer { result ≡ step_answer self.old action.now }

@@ -10,8 +10,11 @@ use std::marker::Model;
 /// the same, and each value written since.
 #[derive(Drop)]
 pub(crate) struct Sector {
+    /// What it held at first.
     first: [u8; SECTOR_BYTES],
+    /// What it held at the last sync.
     synced: [u8; SECTOR_BYTES],
+    /// What was written since.
     since: Vec<[u8; SECTOR_BYTES]>,
 }
 

@@ -2,7 +2,9 @@
 use super::counter::Counter;
 use super::{expect_eq, formatted, open, opened, opened_until, put_records, put_snapshot};
 use sector_disk::{Fail, Fuse, MemoryDisk, SectorDisk};
-use session_store::{CheckpointFault, DiskFormat, Store, StoreFault, SubmitFault, format};
+use session_store::{
+    CheckpointFault, DiskFormat, Store, StoreFault, SubmitFault, format, read_state,
+};
 use std::test::Fail as Failure;
 
 // 1 is confirmed; then 2 and 4 are pending, as records 1 and 2. A power cut loses both records, the last one, or none.
@@ -87,6 +89,24 @@ fn calls_of_the_disk_are_as_few_as_due(rt: HostRuntime) -> Result<(), Failure> {
     let fuse = Fuse::new(formatted(&rt, rt.alloc())?, 25, Fail::Always, false);
     let mut store = open(&rt, rt.alloc(), fuse);
     expect_eq(&rt, store.confirm(), Ok(()), "no call");
+    Ok(())
+}
+
+// A reading of 9 parts makes 12 calls and one more for each record, so that none of them is a write or a sync.
+#[test]
+fn a_reading_makes_as_few_calls_as_due(rt: HostRuntime) -> Result<(), Failure> {
+    for (records, calls) in [(0, 12), (7, 19), (1024, 1035)] {
+        for (short, due) in [(0, Ok(records as u16)), (1, Err(StoreFault::Disk))] {
+            let mut disk = formatted(&rt, rt.alloc())?;
+            put_records(&mut disk, records)?;
+            let mut fuse = Fuse::new(disk, calls - short, Fail::Always, false);
+            let found = match read_state::<Fuse<MemoryDisk>, Counter>(rt.alloc(), &mut fuse) {
+                Ok(found) => Ok(found.state.total()),
+                Err(fault) => Err(fault),
+            };
+            expect_eq(&rt, found, due, (records, short));
+        }
+    }
     Ok(())
 }
 

@@ -13,14 +13,17 @@ use Rattle.bridge_session.proofs.session.Session.is_round_open.Goals as goal
 pub returns : goal.returns
 returns c =
     let s = c.self.inside in
-    let tables : ℕ = s.config.movement.shape.tables in
-    let count : c.from-tables.result ≡ tables =
-    c.from-tables.ensures ∙ ap (λ (shape : Shape). shape.tables) c.shape.ensures.shape ∙ ap (λ (k : ConfigValue). k.movement.shape.tables) c.fields.ensures.fields in
+    let shape : Shape = s.config.movement.shape in
+    let same : c.shape-shape.result ≡ shape =
+    c.shape-shape.ensures.shape ∙ ap (λ (k : ConfigValue). k.movement.shape) c.fields.ensures.fields in
+    let count : c.from.result ≡ shape.tables = c.from.ensures ∙ ap (λ (k : Shape). k.tables) same in
+    let start : c.rows_before-start.result ≡ (s.round - 1) * shape.tables =
+    c.rows_before-start.ensures ∙ ap (λ (k : Shape). (s.round - 1) * k.tables) same in
     let open_in : List (Vec Record Global) → ℕ → ℕ → Bool = λ vectors n k.
     list_any (λ (table : Vec Record Global). list_any is_kept_open table.items) (take n (drop k vectors)) in
     c.have_open.ensures
-    ∙ ap (λ vectors. open_in vectors c.from-tables.result (c.from.result * c.from-tables.result)) c.as_slice.ensures.value
-    ∙ ap (λ n. open_in s.tables.items n (c.from.result * n)) count
-    ∙ ap (λ r. open_in s.tables.items tables (r * tables)) c.from.ensures
-    ∙ open_of_round s.deals.items s.tables.items tables ((s.round - 1) * tables) c.self.invariant.tied
+    ∙ ap (λ vectors. open_in vectors c.from.result c.rows_before-start.result) c.as_slice.ensures.value
+    ∙ ap (λ n. open_in s.tables.items n c.rows_before-start.result) count
+    ∙ ap (λ r. open_in s.tables.items shape.tables r) start
+    ∙ open_of_round s.deals.items s.tables.items shape.tables ((s.round - 1) * shape.tables) c.self.invariant.tied
     ∙ ap (λ (t : SessionValue). list_any (list_any is_open) (records_of_round t)) c.self.view_is

@@ -2,7 +2,8 @@ use Rattle.std.proofs.Common.{◌≡◌, ◌<◌, ◌-◌, length, Some, sym, ap
 use Rattle.std.specs.Prelude.{slice_get, IfSome}
 use Rattle.std.specs.Option.{option_map, option_copied}
 use Rattle.std.proofs.lemmas.Option.{slice_get-map}
-use Rattle.session_rules.specs.State.{SessionValue, index_of_row, is_row_within, record_of}
+use Rattle.bridge_movement.specs.Shape.{index_of_row}
+use Rattle.session_rules.specs.State.{SessionValue, is_row_within, record_of}
 use Rattle.bridge_table.specs.Kept.{plain_of, IsTiedIn}
 use Rattle.bridge_table.proofs.Tables.{tied_row, lists_in, list_there}
 use Rattle.session_rules.proofs.Lists.{all_at}

@@ -6,7 +6,8 @@ use Rattle.bridge_score.specs.declared.ranking.Scoring.{Scoring}
 use Rattle.bridge_table.specs.declared.record.Record.{Record}
 use Rattle.session_rules.specs.declared.refused.Refused.{Refused}
 use Rattle.session_rules.specs.Record.{PlainRecord}
-use Rattle.session_rules.specs.State.{SessionValue, director_answer, index_of_row, changed_at, is_row_within, record_of}
+use Rattle.bridge_movement.specs.Shape.{index_of_row}
+use Rattle.session_rules.specs.State.{SessionValue, director_answer, changed_at, is_row_within, record_of}
 use Rattle.session_rules.specs.DirectorStep.{if_allowed, rule_answer, ruled, with_ruling}
 use Rattle.session_rules.specs.StateRange.{IsCorrectionInRange, IsSession}
 use Rattle.bridge_table.specs.Kept.{plain_of, board_kept, with_kept_ruling, kept_rule_answer, IsTiedIn}

@@ -1,6 +1,6 @@
 use Rattle.bridge_results.specs.BoardText.{frequency_row}
 use Rattle.bridge_results.proofs.WrittenRows.{element_taken, element_failed}
-use Rattle.bridge_results.proofs.pages.board.write_frequency_rows.Goals as goal
+use Rattle.bridge_results.proofs.pages.frequencies.write_frequency_rows.Goals as goal
 
 pub returns-in_err-write_frequency : goal.returns-in_err-write_frequency
 returns-in_err-write_frequency g c =
