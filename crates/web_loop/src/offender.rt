@@ -1,12 +1,12 @@
-//! The wrong keys of one address.
+//! The offences of one address.
 ghost use Rattle.std.specs.Prelude.{◌≡◌, [], ◌+◌, ◌<◌, ◌≤◌, min, length, if◌then◌else◌};
 ghost use Rattle.arrayvec.specs.ArrayVec.{array_vec_len};
-ghost use Rattle.web_loop.specs.Guesses.{with_time, with_times, is_slowed, wait_for};
+ghost use Rattle.web_loop.specs.Offenders.{with_time, with_times, is_slowed, wait_for};
 
 use arrayvec::ArrayVec;
 
-/// So many wrong keys within a minute slow an address.
-const MOST_WRONG_KEYS: usize = 10;
+/// So many offences within a minute slow an address.
+const MOST_OFFENCES: usize = 10;
 
 /// A second, in milliseconds.
 const SECOND: u64 = 1000;
@@ -17,31 +17,31 @@ const MINUTE: u64 = 60_000;
 /// The longest wait, in seconds.
 const LONGEST_WAIT: u64 = 60;
 
-/// An address from which wrong keys came. Times are in milliseconds, from the same beginning.
+/// An address from which offences came. Times are in milliseconds, from the same beginning.
 #[derive(Default, Drop)]
-pub struct Guesser {
+pub struct Offender {
     pub(crate) address: u128,
-    /// When its latest wrong keys were answered, at most ten, the oldest first.
-    times: ArrayVec<u64, MOST_WRONG_KEYS>,
+    /// When its latest offences were answered, at most ten, the oldest first.
+    times: ArrayVec<u64, MOST_OFFENCES>,
     /// It waits until then.
     pub(crate) until: u64,
 }
 
-impl Guesser {
-    /// An address from which no wrong key came.
-    pub(crate) fn new(address: u128) -> Guesser
+impl Offender {
+    /// An address from which no offence came.
+    pub(crate) fn new(address: u128) -> Offender
         ensures address { result.address ≡ address }
         ensures times { result.times.items ≡ [] }
         ensures until { result.until ≡ 0 }
     {
-        Guesser {
+        Offender {
             address,
             times: ArrayVec::new(),
             until: 0,
         }
     }
 
-    /// Takes one more wrong key into account.
+    /// Takes one more offence into account.
     fn add(&mut self, at: u64)
         ensures times { self.new.times.items ≡ with_time at self.old.times.items }
         ensures until { self.new.until ≡ self.old.until }
@@ -64,21 +64,21 @@ impl Guesser {
         }
     }
 
-    /// Whether ten of its wrong keys came within the last minute.
+    /// Whether ten of its offences came within the last minute.
     fn is_slowed(&self, at: u64) -> bool
         ensures { result ≡ is_slowed at self.now.times.items }
     {
         self.times.is_full() && at.saturating_sub(self.times[0]) < MINUTE
     }
 
-    /// Takes a request into account that was answered with so many wrong keys. Where ten came within the last minute, the
-    /// address waits: a second for each wrong key of this request, at least one and at most 60.
+    /// Takes a request into account that was answered with so many offences. Where ten came within the last minute, the
+    /// address waits: a second for each offence of this request, at least one and at most 60.
     pub(crate) fn note(&mut self, wrong: u64, at: u64)
         ensures times { self.new.times.items ≡ with_times (min wrong 10) at self.old.times.items }
         ensures until { self.new.until ≡ (if is_slowed at self.new.times.items then min (at + wait_for wrong) 18446744073709551615 else self.old.until) }
         ensures address { self.new.address ≡ self.old.address }
     {
-        self.add_all(wrong.min(MOST_WRONG_KEYS as u64), at);
+        self.add_all(wrong.min(MOST_OFFENCES as u64), at);
         if self.is_slowed(at) {
             self.until = at.saturating_add(SECOND * wrong.min(LONGEST_WAIT).max(1));
         }

@@ -1,5 +1,5 @@
 use Rattle.web_loop.proofs.Leading.{LeadsTo-then}
-use Rattle.web_loop.proofs.serving.take_rounds_for.Goals as goal
+use Rattle.web_loop.proofs.server_loop.take_rounds_for.Goals as goal
 
 pub returns-in_err-take_round : goal.returns-in_err-take_round
 returns-in_err-take_round g c =

@@ -1,6 +1,6 @@
 use Rattle.std.proofs.Common.{◌≡◌}
-use Rattle.web_loop.specs.Guesses.{with_times}
-use Rattle.web_loop.proofs.guesser.Guesser.add_all.Given as goal
+use Rattle.web_loop.specs.Offenders.{with_times}
+use Rattle.web_loop.proofs.offender.Offender.add_all.Given as goal
 
 abbrev pub invariant-loop : goal.invariant-loop
 invariant-loop l =

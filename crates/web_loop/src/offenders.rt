@@ -1,9 +1,9 @@
-//! The addresses from which wrong keys came.
+//! The addresses from which offences came.
 ghost use Rattle.std.specs.Prelude.{◌≡◌, ◌≢◌, ◌<◌, [], length, IfSome, IfNone};
 ghost use Rattle.std.specs.List.{All, HoldsAt};
-ghost use Rattle.web_loop.specs.Guesses.{address_number, millis, waits, IsRemembered, IsNoted};
+ghost use Rattle.web_loop.specs.Offenders.{address_number, millis, waits, IsRemembered, IsNoted};
 
-use crate::guesser::Guesser;
+use crate::offender::Offender;
 use arrayvec::ArrayVec;
 use std::net::IpAddr;
 use std::time::Instant;
@@ -11,11 +11,11 @@ use std::time::Instant;
 /// So many addresses are kept in mind.
 const MOST_ADDRESSES: usize = 128;
 
-/// What is known of the addresses from which wrong keys came: of at most 128, those that were heard last.
+/// What is known of the addresses from which offences came: of at most 128, those that were heard last.
 #[derive(Drop)]
-pub struct Guesses {
+pub struct Offenders {
     begun: Instant,
-    known: ArrayVec<Guesser, MOST_ADDRESSES>,
+    known: ArrayVec<Offender, MOST_ADDRESSES>,
 }
 
 /// An address as a number.
@@ -37,13 +37,13 @@ fn millis(from: Instant, to: Instant) -> u64
         .min(u128::from(u64::MAX)) as u64
 }
 
-impl Guesses {
+impl Offenders {
     /// No address, at the beginning of a server's run.
-    pub fn new(begun: Instant) -> Guesses
+    pub fn new(begun: Instant) -> Offenders
         ensures known { result.known.items ≡ [] }
         ensures begun { result.begun ≡ begun }
     {
-        Guesses {
+        Offenders {
             begun,
             known: ArrayVec::new(),
         }
@@ -55,23 +55,21 @@ impl Guesses {
     {
         let address = address_number(address);
         let at = millis(self.begun, now);
-        self.known
-            .iter()
-            .any(|guesser| guesser.address == address && at < guesser.until)
+        self.known.iter().any(|offender| offender.address == address && at < offender.until)
     }
 
     /// Where an address stands in the table.
     fn place_of(&self, address: u128) -> Option<usize>
         ensures within { IfSome result (λ index. index < length self.now.known.items) }
-        ensures some { IfSome result (λ index. HoldsAt (λ guesser. guesser.address ≡ address) self.now.known.items index) }
-        ensures none { IfNone result (All (λ guesser. guesser.address ≢ address) self.now.known.items) }
+        ensures some { IfSome result (λ index. HoldsAt (λ offender. offender.address ≡ address) self.now.known.items index) }
+        ensures none { IfNone result (All (λ offender. offender.address ≢ address) self.now.known.items) }
     {
         self.known
             .iter()
-            .position(|guesser| guesser.address == address)
+            .position(|offender| offender.address == address)
     }
 
-    /// Takes a request of an address into account that was answered with so many wrong keys. After ten within a minute the
+    /// Takes a request of an address into account that was answered with so many offences. After ten within a minute the
     /// address waits, a second for each of this request, at least one and at most 60. An address that is new to the table
     /// takes the place of the one that was heard the longest ago, where there are 128.
     pub fn note(&mut self, address: IpAddr, wrong: u64, now: Instant)
@@ -82,23 +80,23 @@ impl Guesses {
         let at = millis(self.begun, now);
         match self.place_of(address) {
             Some(index) => {
-                let guesser = self.known.remove(index);
-                self.keep(guesser, wrong, at);
+                let offender = self.known.remove(index);
+                self.keep(offender, wrong, at);
             }
-            None if wrong > 0 => self.keep(Guesser::new(address), wrong, at),
+            None if wrong > 0 => self.keep(Offender::new(address), wrong, at),
             None => {}
         }
     }
 
     /// Keeps an address, once a request of it is taken into account.
-    fn keep(&mut self, mut guesser: Guesser, wrong: u64, at: u64)
-        ensures table { IsRemembered wrong at guesser self.old.known.items self.new.known.items }
+    fn keep(&mut self, mut offender: Offender, wrong: u64, at: u64)
+        ensures table { IsRemembered wrong at offender self.old.known.items self.new.known.items }
         ensures begun { self.new.begun ≡ self.old.begun }
     {
-        guesser.note(wrong, at);
+        offender.note(wrong, at);
         if self.known.is_full() {
             self.known.remove(0);
         }
-        self.known.push(guesser);
+        self.known.push(offender);
     }
 }
