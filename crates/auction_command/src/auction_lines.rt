@@ -23,7 +23,9 @@ pub const REPLIES_BYTES: usize = SHORT_BYTES * PIECE_BYTES;
 /// An auction that is fed the bytes of its lines, in whatever pieces they come.
 #[derive(Drop)]
 pub struct AuctionLines {
+    /// The calls so far.
     auction: Auction,
+    /// The line that has begun.
     feed: LineFeed,
 }
 

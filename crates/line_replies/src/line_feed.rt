@@ -19,6 +19,7 @@ pub type KeptLine = ArrayVec<u8, KEPT_BYTES>;
 /// A stream's bytes, taken one by one, and the line that has begun.
 #[derive(Drop)]
 pub struct LineFeed {
+    /// What is kept of the line that has begun.
     line: KeptLine,
 }
 

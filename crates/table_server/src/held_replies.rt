@@ -32,8 +32,11 @@ pub const HELD_BYTES: usize = SHORT_BYTES * HELD_LINES;
 /// The replies to the lines that are held, and what was served so far.
 #[derive(Drop)]
 pub struct HeldReplies {
+    /// The replies, in order.
     text: ArrayString<HELD_BYTES>,
+    /// How many lines they answer.
     count: usize,
+    /// What was served so far.
     served: Served,
 }
 

@@ -17,7 +17,9 @@ use std::io::Write;
 /// The line that has begun, and the replies that are held.
 #[derive(Drop)]
 pub struct LineService {
+    /// The line that has begun.
     pub(crate) feed: LineFeed,
+    /// The replies that are held.
     pub(crate) held: HeldReplies,
 }
 

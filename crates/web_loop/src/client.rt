@@ -16,10 +16,15 @@ const PATIENCE: u64 = 20;
 /// A connection with the two handles of its socket, one to read at and one to write at.
 #[derive(Drop)]
 pub struct Client<T> {
+    /// What was received and answered.
     connection: Connection,
+    /// The handle to read at.
     reader: T,
+    /// The handle to write at.
     writer: T,
+    /// Where it came from.
     address: IpAddr,
+    /// When it last read or wrote.
     heard: Instant,
 }
 

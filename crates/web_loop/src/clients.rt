@@ -22,10 +22,15 @@ pub const MOST_CLIENTS: usize = 128;
 /// The clients that are connected, at most 128, and the addresses from which offences came.
 #[derive(Drop)]
 pub struct Clients<T> {
+    /// Where connections are made.
     alloc: Global,
+    /// The secret keys by which names of headers are looked up.
     keys: RandomState,
+    /// The limits of each connection.
     config: Config,
+    /// Those that are connected.
     connected: Slab<Client<T>>,
+    /// The addresses from which offences came.
     offenders: Offenders,
 }
 

@@ -20,6 +20,7 @@ const LONGEST_WAIT: u64 = 60;
 /// An address from which offences came. Times are in milliseconds, from the same beginning.
 #[derive(Default, Drop)]
 pub struct Offender {
+    /// The address, as a number.
     pub(crate) address: u128,
     /// When its latest offences were answered, at most ten, the oldest first.
     times: ArrayVec<u64, MOST_OFFENCES>,

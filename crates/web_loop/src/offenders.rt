@@ -14,7 +14,9 @@ const MOST_ADDRESSES: usize = 128;
 /// What is known of the addresses from which offences came: of at most 128, those that were heard last.
 #[derive(Drop)]
 pub struct Offenders {
+    /// When the server's run began.
     begun: Instant,
+    /// The addresses, the one that was heard the longest ago first.
     known: ArrayVec<Offender, MOST_ADDRESSES>,
 }
 
