@@ -1,7 +1,7 @@
 -- Why a plan was not written.
 use Rattle.std.proofs.Common.{◌≡◌, ◌⊎◌, ℕ, List, Result, Ok, Err, IfErr, inl, refl, sym, subst}
 use Rattle.line_text.specs.Streams.{Stream, TakesPrefix, Written}
-use Rattle.table_server.specs.declared.fault.ServeFault.TheVariants.{Write}
+use Rattle.line_replies.specs.declared.fault.ServeFault.TheVariants.{Write}
 use Rattle.club_commands.specs.declared.fault.RunFault.{RunFault}
 use Rattle.club_commands.specs.declared.fault.RunFault.TheVariants.{Stream as StreamFault}
 use Rattle.club_commands.specs.Planned.{IsPlan, IsReasonFor, StopsPlanning}

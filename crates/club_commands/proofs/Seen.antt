@@ -12,7 +12,7 @@ use Rattle.session_store.specs.Looking.{IsSeen, IsUnseen}
 use Rattle.session_store.specs.Stands.{header_in}
 use Rattle.bridge_session.specs.SessionKeeping.{session_keeping}
 use Rattle.session_rules.specs.State.{SessionValue}
-use Rattle.table_server.specs.declared.fault.ServeFault.TheVariants.{Write}
+use Rattle.line_replies.specs.declared.fault.ServeFault.TheVariants.{Write}
 use Rattle.club_commands.specs.declared.fault.RunFault.{RunFault}
 use Rattle.club_commands.specs.declared.fault.RunFault.TheVariants.{Stream as StreamFault}
 use Rattle.club_commands.specs.Readings.{RefusesReading}

@@ -20,7 +20,7 @@ use Rattle.web_requests.specs.Route.{route_for}
 use Rattle.web_requests.specs.declared.route.Route.{Route}
 use Rattle.web_requests.specs.declared.route.Route.TheVariants.{Page, Script, DirectorScript, Style, Lines, Place, Tables, Results, Refused}
 use Rattle.table_pages.specs.Answered.{AnswersLines, place_told, tables_told}
-use Rattle.table_pages.specs.ToldResults.{results_told}
+use Rattle.page_replies.specs.ToldResults.{results_told}
 use Rattle.table_pages.specs.Responses.{TellsShort, Responds, Answering}
 use Rattle.command_line.specs.declared.command.WebHost.{WebHost}
 use Rattle.club_commands.specs.declared.fault.RunFault.{RunFault}

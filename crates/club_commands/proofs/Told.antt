@@ -8,7 +8,7 @@ use Rattle.session_store.specs.declared.fault.StoreFault.{StoreFault}
 use Rattle.session_store.specs.Value.{StoreValue}
 use Rattle.session_rules.specs.declared.action.Action.{Action}
 use Rattle.session_rules.specs.State.{SessionValue}
-use Rattle.table_server.specs.declared.fault.ServeFault.TheVariants.{Write}
+use Rattle.line_replies.specs.declared.fault.ServeFault.TheVariants.{Write}
 use Rattle.club_commands.specs.declared.fault.RunFault.{RunFault}
 use Rattle.club_commands.specs.declared.fault.RunFault.TheVariants.{Stream as StreamFault}
 use Rattle.club_commands.specs.declared.telling.Told.{Told}

@@ -17,7 +17,7 @@ use Rattle.session_store.specs.Looking.{IsSeen, older_header_in}
 use Rattle.session_store.specs.Stands.{header_in}
 use Rattle.bridge_session.specs.SessionKeeping.{session_keeping}
 use Rattle.session_rules.specs.State.{SessionValue, is_closed}
-use Rattle.table_server.specs.declared.fault.ServeFault.TheVariants.{Write}
+use Rattle.line_replies.specs.declared.fault.ServeFault.TheVariants.{Write}
 use Rattle.club_commands.specs.declared.fault.RunFault.{RunFault}
 use Rattle.club_commands.specs.declared.fault.RunFault.TheVariants.{Stream as StreamFault, Config, Store}
 use Rattle.club_commands.specs.Counts.{boards_dealt, plays_done}

@@ -6,8 +6,8 @@ use Rattle.session_store.specs.Value.{StoreValue}
 use Rattle.session_rules.specs.declared.action.Action.{Action}
 use Rattle.session_rules.specs.State.{SessionValue}
 use Rattle.table_server.specs.Accepting.{HasServedOne, StopsServingOne}
-use Rattle.table_server.specs.declared.fault.ServeFault.{ServeFault}
-use Rattle.table_server.specs.declared.fault.ServeFault.TheVariants.{Accept}
+use Rattle.line_replies.specs.declared.fault.ServeFault.{ServeFault}
+use Rattle.line_replies.specs.declared.fault.ServeFault.TheVariants.{Accept}
 use Rattle.table_server.specs.declared.served.Served.{Served}
 use Rattle.club_commands.specs.declared.fault.RunFault.{RunFault}
 use Rattle.club_commands.specs.declared.fault.RunFault.TheVariants.{Store, Stream as StreamFault}

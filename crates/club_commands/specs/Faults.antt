@@ -5,8 +5,8 @@ use Rattle.bridge_config.specs.declared.refused.ConfigFault.{ConfigFault}
 use Rattle.bridge_config.specs.Refused.{refusal_name}
 use Rattle.session_store.specs.declared.fault.StoreFault.{StoreFault}
 use Rattle.session_store.specs.declared.fault.StoreFault.TheVariants.{TooSmall, Disk, NotFormatted, Damaged, EpochsSpent, NoMemory}
-use Rattle.table_server.specs.declared.fault.ServeFault.{ServeFault}
-use Rattle.table_server.specs.declared.fault.ServeFault.TheVariants.{Read, Write, Accept}
+use Rattle.line_replies.specs.declared.fault.ServeFault.{ServeFault}
+use Rattle.line_replies.specs.declared.fault.ServeFault.TheVariants.{Read, Write, Accept}
 use Rattle.club_commands.specs.declared.fault.RunFault.{RunFault}
 use Rattle.club_commands.specs.declared.fault.RunFault.TheVariants.{Stream, Config, Store}
 

@@ -15,7 +15,7 @@ use Rattle.bridge_config.specs.ConfigValue.{ConfigValue}
 use Rattle.session_store.specs.Sound.{IsSoundDisk, StandsOnlyFor}
 use Rattle.bridge_session.specs.SessionKeeping.{session_keeping}
 use Rattle.session_rules.specs.State.{SessionValue, opening}
-use Rattle.table_server.specs.declared.fault.ServeFault.TheVariants.{Read, Write}
+use Rattle.line_replies.specs.declared.fault.ServeFault.TheVariants.{Read, Write}
 use Rattle.club_commands.specs.declared.fault.RunFault.{RunFault}
 use Rattle.club_commands.specs.declared.fault.RunFault.TheVariants.{Stream as StreamFault, Config, Store}
 use Rattle.club_commands.specs.Opening.{BeginsSession, IsNoSession, IsSessionRead, StopsReadingFile, most_read}

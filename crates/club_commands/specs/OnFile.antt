@@ -11,7 +11,7 @@ use Rattle.session_store.specs.declared.fault.StoreFault.TheVariants.{Disk as Di
 use Rattle.session_store.specs.Value.{StoreValue}
 use Rattle.session_rules.specs.declared.action.Action.{Action}
 use Rattle.session_rules.specs.State.{SessionValue}
-use Rattle.table_server.specs.declared.fault.ServeFault.TheVariants.{Accept}
+use Rattle.line_replies.specs.declared.fault.ServeFault.TheVariants.{Accept}
 use Rattle.club_commands.specs.declared.fault.RunFault.{RunFault}
 use Rattle.club_commands.specs.declared.fault.RunFault.TheVariants.{Stream as StreamFault, Store}
 use Rattle.club_commands.specs.Connections.{ServesAllConnections, StopsConnections}

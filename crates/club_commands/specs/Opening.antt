@@ -7,7 +7,7 @@ use Rattle.bridge_config.specs.Reading.{ReadsConfiguration}
 use Rattle.bridge_config.specs.Spelling.{Spells}
 use Rattle.session_rules.specs.State.{SessionValue, opening}
 use Rattle.session_store.specs.declared.fault.StoreFault.TheVariants.{NoMemory}
-use Rattle.table_server.specs.declared.fault.ServeFault.TheVariants.{Read}
+use Rattle.line_replies.specs.declared.fault.ServeFault.TheVariants.{Read}
 use Rattle.club_commands.specs.declared.fault.RunFault.{RunFault}
 use Rattle.club_commands.specs.declared.fault.RunFault.TheVariants.{Stream as StreamFault, Config, Store}
 

@@ -8,7 +8,7 @@ use Rattle.bridge_config.specs.Spelling.{Spells}
 use Rattle.evening_plan.specs.Evening.{evening_of}
 use Rattle.evening_plan.specs.PlanText.{plan_text}
 use Rattle.evening_plan.specs.FaultText.{fault_text}
-use Rattle.table_server.specs.declared.fault.ServeFault.TheVariants.{Read, Write}
+use Rattle.line_replies.specs.declared.fault.ServeFault.TheVariants.{Read, Write}
 use Rattle.club_commands.specs.declared.fault.RunFault.{RunFault}
 use Rattle.club_commands.specs.declared.fault.RunFault.TheVariants.{Stream as StreamFault, Config, Store}
 use Rattle.club_commands.specs.Opening.{IsTextRead, most_read}

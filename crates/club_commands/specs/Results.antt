@@ -4,7 +4,7 @@ use Rattle.std.specs.declared.fs.File.{File}
 use Rattle.sector_disk.specs.declared.file.FileDisk.{FileDisk}
 use Rattle.sector_disk.specs.declared.system_file.SystemFile.{SystemFile}
 use Rattle.session_store.specs.declared.fault.StoreFault.{StoreFault}
-use Rattle.table_server.specs.declared.fault.ServeFault.TheVariants.{Write}
+use Rattle.line_replies.specs.declared.fault.ServeFault.TheVariants.{Write}
 use Rattle.line_text.specs.Streams.{Stream, Takes, TakesPrefix, IsUntouched}
 use Rattle.club_commands.specs.declared.fault.RunFault.{RunFault}
 use Rattle.club_commands.specs.declared.fault.RunFault.TheVariants.{Stream as StreamFault, Store}
@@ -18,7 +18,7 @@ use Rattle.bridge_pbn.specs.Games.{session_text}
 use Rattle.page_layout.specs.declared.format.Format.{Format}
 use Rattle.page_layout.specs.declared.format.Format.TheVariants.{Plain, Html}
 use Rattle.line_text.specs.Lines.{lines_text}
-use Rattle.table_server.specs.ReplyTexts.{ranked_line}
+use Rattle.line_replies.specs.ReplyTexts.{ranked_line}
 
 -- the line above the ranking of a field
 abbrev pub field_heading : Field → List ℕ

@@ -2,9 +2,10 @@
 use Rattle.std.specs.Prelude.{◌≡◌, ℕ, List, take, codes, IfSome}
 use Rattle.bridge_cards.specs.Board.{dealer_of}
 use Rattle.line_text.specs.Streams.{Stream, Gives, Takes, TakesPrefix, IsUntouched}
-use Rattle.table_server.specs.declared.fault.ServeFault.TheVariants.{Read}
-use Rattle.table_server.specs.Heard.{StopsAt}
-use Rattle.table_server.specs.Replies.{auction_output, byte_limit}
+use Rattle.line_replies.specs.declared.fault.ServeFault.TheVariants.{Read}
+use Rattle.auction_command.specs.Heard.{StopsAt}
+use Rattle.auction_command.specs.Replies.{auction_output}
+use Rattle.line_replies.specs.Limit.{byte_limit}
 use Rattle.command_line.specs.declared.command.Command.{Command}
 use Rattle.command_line.specs.declared.command.Command.TheVariants.{Auction, Format, Script, Serve, Web, Rank, Pbn, Results, Check, Plan}
 use Rattle.command_line.specs.declared.command.WordsFault.{WordsFault}

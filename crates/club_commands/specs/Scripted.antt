@@ -7,7 +7,7 @@ use Rattle.session_store.specs.declared.fault.StoreFault.TheVariants.{Disk as Di
 use Rattle.session_store.specs.Value.{StoreValue}
 use Rattle.session_rules.specs.declared.action.Action.{Action}
 use Rattle.session_rules.specs.State.{SessionValue}
-use Rattle.table_server.specs.declared.fault.ServeFault.{ServeFault}
+use Rattle.line_replies.specs.declared.fault.ServeFault.{ServeFault}
 use Rattle.table_server.specs.declared.served.Served.{Served}
 use Rattle.table_server.specs.Faulted.{FailsWithDisk}
 use Rattle.table_server.specs.ServedStreams.{HasServed, StopsServing}

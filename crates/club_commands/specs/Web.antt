@@ -14,10 +14,10 @@ use Rattle.session_store.specs.declared.fault.StoreFault.TheVariants.{Disk as Di
 use Rattle.session_store.specs.Value.{StoreValue}
 use Rattle.session_rules.specs.declared.action.Action.{Action}
 use Rattle.session_rules.specs.State.{SessionValue}
-use Rattle.table_server.specs.declared.fault.ServeFault.TheVariants.{Write, Accept}
+use Rattle.line_replies.specs.declared.fault.ServeFault.TheVariants.{Write, Accept}
 use Rattle.web_loop.specs.Turns.{LeadsTo}
 use Rattle.table_pages.specs.Answered.{AnswersLines, place_told, tables_told}
-use Rattle.table_pages.specs.ToldResults.{results_told}
+use Rattle.page_replies.specs.ToldResults.{results_told}
 use Rattle.table_pages.specs.HostNames.{with_port}
 use Rattle.table_pages.specs.Responses.{Answering}
 use Rattle.command_line.specs.declared.command.WebHost.{WebHost}

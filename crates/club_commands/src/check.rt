@@ -4,7 +4,7 @@ ghost use Rattle.std.specs.Fmt.{decimal};
 ghost use Rattle.arrayvec.specs.ArrayString.{array_string_len};
 ghost use Rattle.line_text.specs.Streams.{stream, Written};
 ghost use Rattle.session_store.specs.Form.{digit};
-ghost use Rattle.table_server.specs.declared.fault.ServeFault.TheVariants.{Write as WriteFault};
+ghost use Rattle.line_replies.specs.declared.fault.ServeFault.TheVariants.{Write as WriteFault};
 ghost use Rattle.club_commands.specs.Checked.{with_said, with_round, with_standing, with_state, no_older_text, SaysOlder, Checks, StopsChecking};
 
 use crate::counts::{boards_dealt, plays_done};

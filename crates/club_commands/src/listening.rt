@@ -1,6 +1,6 @@
 //! Where the pages of `web` are shown: the listener, the names that it answers to, and the line that says so.
 ghost use Rattle.std.specs.Prelude.{◌≡◌, IfOk, IfErr, string_bytes};
-ghost use Rattle.table_server.specs.declared.fault.ServeFault.TheVariants.{Accept as AcceptFault};
+ghost use Rattle.line_replies.specs.declared.fault.ServeFault.TheVariants.{Accept as AcceptFault};
 ghost use Rattle.club_commands.specs.Web.{IsAddress, host_at, alias_at, listening_line};
 
 use crate::fault::RunFault;

@@ -1,7 +1,7 @@
 //! Standard output.
 ghost use Rattle.std.specs.Prelude.{◌≡◌, IfErr};
 ghost use Rattle.line_text.specs.Streams.{stream, Written};
-ghost use Rattle.table_server.specs.declared.fault.ServeFault.TheVariants.{Write as WriteFault};
+ghost use Rattle.line_replies.specs.declared.fault.ServeFault.TheVariants.{Write as WriteFault};
 
 use crate::fault::RunFault;
 use line_text::write_text;

@@ -1,7 +1,7 @@
 //! The command `plan`: the evening that a configuration plans, in words, or what is wrong with it. Nothing is made.
 ghost use Rattle.std.specs.Prelude.{◌≡◌, OnOk, IfErr};
 ghost use Rattle.line_text.specs.Streams.{stream, Written};
-ghost use Rattle.table_server.specs.declared.fault.ServeFault.TheVariants.{Write as WriteFault};
+ghost use Rattle.line_replies.specs.declared.fault.ServeFault.TheVariants.{Write as WriteFault};
 ghost use Rattle.evening_plan.specs.Evening.{evening_of};
 ghost use Rattle.evening_plan.specs.PlanText.{plan_text};
 ghost use Rattle.evening_plan.specs.FaultText.{fault_text};

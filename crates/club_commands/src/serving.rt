@@ -1,6 +1,6 @@
 //! Connections served over a store, as the command `serve` serves them.
 ghost use Rattle.std.specs.Prelude.{◌≡◌, [], false, OnOk, IfErr, OnErr};
-ghost use Rattle.table_server.specs.declared.fault.ServeFault.TheVariants.{Accept as AcceptFault};
+ghost use Rattle.line_replies.specs.declared.fault.ServeFault.TheVariants.{Accept as AcceptFault};
 ghost use Rattle.table_server.specs.Faulted.{FailsWithDisk};
 ghost use Rattle.club_commands.specs.Connections.{ServesNext, ServesAllConnections, StopsConnections};
 

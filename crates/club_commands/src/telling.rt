@@ -2,7 +2,7 @@
 //! for as long as it runs, which no clause can say and tests show.
 ghost use Rattle.std.specs.Prelude.{◌≡◌, ℕ, List, OnOk, IfOk, IfErr};
 ghost use Rattle.line_text.specs.Streams.{stream, Written};
-ghost use Rattle.table_server.specs.declared.fault.ServeFault.TheVariants.{Write as WriteFault};
+ghost use Rattle.line_replies.specs.declared.fault.ServeFault.TheVariants.{Write as WriteFault};
 ghost use Rattle.club_commands.specs.Told.{IsToldText, TellsOpened, StopsTellingOpened, LeavesTold, LeavesUntold, HasTold, StopsTold};
 
 use crate::disk_commands::open_store;

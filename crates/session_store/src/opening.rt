@@ -1,5 +1,6 @@
 //! Opening a store.
 ghost use Rattle.std.specs.Prelude.{◌≡◌, ◌≢◌, ◌<◌, ◌≤◌, Err, IfErr, IfOk, OnOk};
+ghost use Rattle.sector_disk.specs.Calls.{Called, Syncs};
 ghost use Rattle.sector_disk.specs.Runs.{Quiet};
 ghost use Rattle.session_store.specs.Layout.{sector_count};
 ghost use Rattle.session_store.specs.Opening.{IsOnly, IsRead, IsUnread, Opens, Refuses};
@@ -9,11 +10,18 @@ use crate::fault::ReadFault;
 use crate::formatting::SECTORS;
 use crate::recovering::{Recovered, recover};
 use crate::{Kept, Store, StoreFault};
-use sector_disk::SectorDisk;
+use sector_disk::{DiskFault, SectorDisk};
 use std::alloc::Global;
 
-/// Brings all that was written before to the device, and reads the state that the disk stands for. The sync is a
-/// barrier: without it a power cut could still lose what is read here.
+/// Brings all that was written before to the device: a barrier, without which a power cut could still lose what is read then.
+fn raise_barrier<D: SectorDisk>(disk: &mut D) -> Result<(), DiskFault>
+    ensures called { Called D.disk disk.old disk.new result }
+    ensures syncs { D.disk.honest disk.old → Syncs D.disk disk.old disk.new result }
+{
+    disk.sync()
+}
+
+/// Brings all that was written before to the device, and reads the state that the disk stands for.
 fn recover_behind_barrier<D: SectorDisk, K: Kept>(
     alloc: Global,
     disk: &mut D,
@@ -26,7 +34,7 @@ fn recover_behind_barrier<D: SectorDisk, K: Kept>(
     ensures at_rest { D.disk.honest disk.old → IfErr result (λ fault. fault ≢ ReadFault.Disk
         → IsOnly (D.disk.may_leave disk.new) (D.disk.reads disk.old)) }
 {
-    disk.sync()?;
+    raise_barrier(disk)?;
     Ok(recover::<D, K>(alloc, disk)?)
 }
 

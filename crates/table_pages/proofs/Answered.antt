@@ -12,9 +12,9 @@ use Rattle.line_text.specs.Lines.{complete_lines}
 use Rattle.line_text.specs.Streams.{Stream}
 use Rattle.table_server.specs.Answered.{AskAll}
 use Rattle.table_server.specs.Served.{IsServed}
-use Rattle.table_server.specs.declared.fault.ServeFault.{ServeFault}
+use Rattle.line_replies.specs.declared.fault.ServeFault.{ServeFault}
 use Rattle.table_server.specs.declared.served.Served.{Served}
-use Rattle.table_server.specs.Replies.{limit_notice}
+use Rattle.line_replies.specs.Limit.{limit_notice}
 use Rattle.table_server.specs.ServedStreams.{HasServed, StopsServing}
 use Rattle.table_pages.specs.Answered.{IsAnswered, IsCutOff, is_settled}
 

@@ -6,10 +6,10 @@ use Rattle.session_rules.specs.declared.action.Action.{Action}
 use Rattle.session_rules.specs.State.{SessionValue}
 use Rattle.line_text.specs.Lines.{complete_lines}
 use Rattle.line_text.specs.Streams.{Stream}
-use Rattle.player_place.specs.Place.{place_text}
-use Rattle.table_list.specs.Tables.{tables_text}
+use Rattle.page_replies.specs.Place.{place_text}
+use Rattle.page_replies.specs.Tables.{tables_text}
 use Rattle.table_server.specs.declared.asked.Asked.{Asked}
-use Rattle.table_server.specs.declared.fault.ServeFault.{ServeFault}
+use Rattle.line_replies.specs.declared.fault.ServeFault.{ServeFault}
 use Rattle.table_server.specs.Answered.{AskAll}
 use Rattle.table_server.specs.Faulted.{FailsWithDisk}
 use Rattle.table_server.specs.Served.{IsServed}

@@ -2,17 +2,15 @@
 ghost use Rattle.std.specs.Prelude.{◌≡◌, ◌<◌, [], false, length, option_map};
 ghost use Rattle.table_server.specs.Faulted.{FailsWithDisk};
 ghost use Rattle.table_pages.specs.Answered.{AnswersBody, AnswersLines, is_settled, place_told, tables_told};
-ghost use Rattle.table_pages.specs.ToldResults.{results_told};
+ghost use Rattle.page_replies.specs.ToldResults.{results_told};
 
 use crate::line_server::LineServer;
-use crate::results_reply::told_results;
 use bridge_endings::Cache;
 use bridge_session::Session;
-use player_place::push_place;
+use page_replies::{push_place, push_tables, told_results};
 use sector_disk::SectorDisk;
 use session_store::Store;
 use std::alloc::Global;
-use table_list::push_tables;
 use table_server::{ReplyText, serve};
 
 /// Answers the lines of a body of fewer than 65,536 bytes by what `serve` writes for them: what was accepted is confirmed

@@ -15,7 +15,6 @@ mod host_names;
 mod line_server;
 mod page;
 mod pages;
-mod results_reply;
 mod script;
 mod script_play;
 mod showing;

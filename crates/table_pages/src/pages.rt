@@ -239,13 +239,13 @@ impl<T: LineServer> Service for TablePages<T> {
 impl<T: LineServer> LastingService for TablePages<T> {
     ghost lasts = { λ pages. not (T.failed pages.server) };
 
-    ghost wrong_keys = { λ pages. pages.wrong };
+    ghost offences = { λ pages. pages.wrong };
 
     fn lasts(&self) -> bool {
         !self.server.has_failed()
     }
 
-    fn wrong_keys(&self) -> u64 {
+    fn offences(&self) -> u64 {
         self.wrong
     }
 }

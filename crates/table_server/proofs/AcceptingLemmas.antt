@@ -6,8 +6,8 @@ use Rattle.session_store.specs.Value.{StoreValue}
 use Rattle.session_rules.specs.declared.action.Action.{Action}
 use Rattle.session_rules.specs.State.{SessionValue}
 use Rattle.line_text.specs.Streams.{Stream, stream}
-use Rattle.table_server.specs.declared.fault.ServeFault.{ServeFault}
-use Rattle.table_server.specs.declared.fault.ServeFault.TheVariants.{Read, Write, Accept}
+use Rattle.line_replies.specs.declared.fault.ServeFault.{ServeFault}
+use Rattle.line_replies.specs.declared.fault.ServeFault.TheVariants.{Read, Write, Accept}
 use Rattle.table_server.specs.declared.served.Served.{Served}
 use Rattle.table_server.specs.Accepting.{Sides, HasServedOne, StopsAccepting}
 use Rattle.table_server.specs.ServedStreams.{HasServed, StopsServing, EndsServing}

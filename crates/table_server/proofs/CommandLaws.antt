@@ -3,7 +3,8 @@ use Rattle.std.proofs.Common.{◌≡◌, ℕ, Bool, true, false, List, [], ◌�
 use Rattle.std.proofs.lemmas.List.Splits.{join_with_byte-slice_split}
 use Rattle.line_text.proofs.Splits.{some_part}
 use Rattle.bridge_config.specs.declared.fields.Key.{Key}
-use Rattle.table_server.specs.LineWords.{first_of, key_of_word, board_of_word}
+use Rattle.line_replies.specs.KeyWord.{key_of_word}
+use Rattle.table_server.specs.LineWords.{first_of, board_of_word}
 use Rattle.std.specs.Prelude.{codes}
 use Rattle.std.specs.Str.{bytes_eq}
 use Rattle.line_text.specs.Words.{spaced_words}

@@ -21,7 +21,7 @@ few_within (suc n) action (Ok state) = omega arith
 few_within (suc n) action (Err refused) = omega arith
 
 -- a line adds one action at most
-few_of_one : (s : Standing) (x : Asked) → length (accepted s x) ≤ 1
+pub few_of_one : (s : Standing) (x : Asked) → length (accepted s x) ≤ 1
 few_of_one s (Change action) = few_within s.room action (answer_in s action)
 few_of_one s (Told question) = omega arith
 few_of_one s BadLine = omega arith

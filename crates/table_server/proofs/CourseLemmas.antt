@@ -1,5 +1,5 @@
 -- The course of serving, event by event, and what a power cut in it leaves.
-use Rattle.std.proofs.Common.{◌≡◌, ℕ, ◌+◌, ◌≤◌, ◌∙◌, List, [], ◌∷◌, ◌++◌, length, take, drop, Some, refl, sym, ap, subst, arith, length-append}
+use Rattle.std.proofs.Common.{◌≡◌, ℕ, ◌+◌, ◌≤◌, ◌∙◌, List, [], ◌∷◌, ◌++◌, length, take, drop, Some, refl, sym, ap, subst, arith, append-nil, length-append}
 use Rattle.std.proofs.lemmas.List.{drop-append-le, take-append-le, length-drop}
 use Rattle.sector_disk.specs.Disk.{Disk, Image}
 use Rattle.session_store.specs.Base.{StandsForPrefix}
@@ -13,7 +13,7 @@ use Rattle.bridge_session.specs.SessionKeeping.{session_keeping}
 use Rattle.session_rules.specs.State.{SessionValue}
 use Rattle.table_server.specs.declared.asked.Asked.{Asked}
 use Rattle.table_server.specs.Answered.{AreReplies, after_all, accepted_all}
-use Rattle.table_server.specs.Course.{ServeEvent, Calls, Replies, ServeStanding, at_beginning, accepts, answered_by, Happens, Runs, MayLeave, HasCourse, CutLaw}
+use Rattle.table_server.specs.Course.{ServeEvent, Calls, Replies, ServeStanding, at_beginning, accepts, answered_by, Happens, Runs, MayLeave, HasCourse, WriteLaw, CutLaw}
 use Rattle.table_server.specs.Standing.{Standing, standing_of}
 
 module _ {D : Type 0} (disk : Disk D) where
@@ -32,26 +32,26 @@ module _ {D : Type 0} (disk : Disk D) where
   module _ (start : StoreValue D SessionValue Action) (answered : List Asked) (written : List ℕ) (accepted : List Action) (store : StoreValue D SessionValue Action)
       (course : HasCourse disk start answered written accepted store) where
     -- one call of the store more
-    pub course_calls : (new : StoreValue D SessionValue Action) (more all : List Action) → Continues session_keeping disk store more new
-        → all ≡ accepted ++ more → HasCourse disk start answered written all new
-    course_calls new more all call is = rw is (record {
+    pub course_calls : (new : StoreValue D SessionValue Action) (more all : List Action) → length more ≤ 1
+        → Continues session_keeping disk store more new → all ≡ accepted ++ more → HasCourse disk start answered written all new
+    course_calls new more all one call is = rw is (record {
       events = course.events ++ Calls more new ∷ [];
       runs = runs_more (standing_of start) course.events (at_beginning start)
           (record { store = store; accepted = accepted; answered = answered; written = written })
           (record { store = new; accepted = accepted ++ more; answered = answered; written = written })
-          (Calls more new) course.runs (call, refl);
+          (Calls more new) course.runs (one, call, refl);
     })
 
-    -- replies to some lines more, of which all is confirmed
+    -- replies to some lines more, where nothing is pending
     pub course_replies : (lines : List Asked) (text : List ℕ) → AreReplies (after_all (standing_of start) answered) lines text
-        → length (accepted_all (standing_of start) (answered ++ lines)) + length store.pending ≤ length accepted
+        → store.pending ≡ [] → length (accepted_all (standing_of start) (answered ++ lines)) ≤ length accepted
         → HasCourse disk start (answered ++ lines) (written ++ text) accepted store
-    course_replies lines text replies settled = record {
+    course_replies lines text replies none taken = record {
       events = course.events ++ Replies lines text ∷ [];
       runs = runs_more (standing_of start) course.events (at_beginning start)
           (record { store = store; accepted = accepted; answered = answered; written = written })
           (record { store = store; accepted = accepted; answered = answered ++ lines; written = written ++ text })
-          (Replies lines text) course.runs (replies, settled, refl);
+          (Replies lines text) course.runs (replies, none, taken, refl);
     }
 
   -- what a course has brought about: calls of the store, and of what was accepted of the lines answered nothing is pending
@@ -62,19 +62,20 @@ module _ {D : Type 0} (disk : Disk D) where
   has_come : (start : StoreValue D SessionValue Action) (s t : ServeStanding D) (e : ServeEvent D) → HasCome start s
       → Happens disk (standing_of start) s e t → HasCome start t
   has_come start s t (Calls actions store) h did =
-      let few = few_pending session_keeping disk s.store store actions did.0 in
+      let few = few_pending session_keeping disk s.store store actions did.1 in
       let long = length-append s.accepted actions in
       let now : HasCome start (record s { store = store; accepted = s.accepted ++ actions }) = record {
-        so_far = continues_joins session_keeping disk start s.store store s.accepted actions h.so_far did.0;
+        so_far = continues_joins session_keeping disk start s.store store s.accepted actions h.so_far did.1;
         settled = omega (arith, few, long, h.settled);
       } in
-      subst (λ (x : ServeStanding D). HasCome start x) (sym did.1) now
+      subst (λ (x : ServeStanding D). HasCome start x) (sym did.2) now
   has_come start s t (Replies lines text) h did =
+      let none : length s.store.pending ≡ 0 = ap length did.1 in
       let now : HasCome start (record s { answered = s.answered ++ lines; written = s.written ++ text }) = record {
         so_far = h.so_far;
-        settled = omega (arith, did.1);
+        settled = omega (arith, none, did.2);
       } in
-      subst (λ (x : ServeStanding D). HasCome start x) (sym did.2) now
+      subst (λ (x : ServeStanding D). HasCome start x) (sym did.3) now
 
   all_come : (start : StoreValue D SessionValue Action) (events : List (ServeEvent D)) (s t : ServeStanding D) → HasCome start s
       → Runs disk (standing_of start) s events t → HasCome start t
@@ -128,7 +129,17 @@ module _ {D : Type 0} (disk : Disk D) where
       on (Calls actions store) h did left =
           let empty : length start.pending ≡ 0 = ap length none in
           at_least start s.store s.accepted actions (length (accepted_all (standing_of start) s.answered)) none h.so_far
-          (omega (arith, h.settled, empty)) c ((did.0.any_moment (h.so_far.sound sound)).each c left)
+          (omega (arith, h.settled, empty)) c ((did.1.any_moment (h.so_far.sound sound)).each c left)
       on (Replies lines text) h did left =
-          at_least start s.store s.accepted [] (length (accepted_all (standing_of start) (s.answered ++ lines))) none h.so_far did.1 c
+          let settled : length s.store.pending ≡ 0 = ap length did.1 in
+          at_least start s.store s.accepted [] (length (accepted_all (standing_of start) (s.answered ++ lines))) none h.so_far
+          (omega (arith, settled, did.2)) c
           (prefix-longer session_keeping s.store.base s.store.pending [] c ((h.so_far.sound sound).images c left))
+
+  -- the law of a power cut where nothing is pending
+  pub write_law : WriteLaw disk
+  write_law start sound none accepted store calls settled c left =
+      let empty : length store.pending ≡ 0 = ap length settled in
+      subst (λ (xs : List Action). StandsForAtLeast session_keeping disk start.base xs (length accepted) c) (append-nil accepted)
+      (at_least start store accepted [] (length accepted) none calls (omega (arith, empty)) c
+      (prefix-longer session_keeping store.base store.pending [] c ((calls.sound sound).images c left)))

@@ -15,6 +15,7 @@ use Rattle.table_server.specs.Answered.{after_asked, accepted, after_all, accept
 use Rattle.table_server.specs.Served.{IsServed}
 use Rattle.table_server.specs.Serving.{FailsTaking, Holding}
 use Rattle.table_server.specs.Standing.{Standing, standing_of, after_change, accepted_change}
+use Rattle.table_server.proofs.CountLemmas.{few_of_one}
 use Rattle.table_server.proofs.CourseLemmas.{course_begins, course_calls}
 use Rattle.table_server.proofs.Folds.{after_append, accepted_append, accepted_one, room_left, all_held_one, errors_append}
 use Rattle.table_server.proofs.ServingLemmas.{confirmed_enough, joined}
@@ -43,7 +44,7 @@ module _ {D : Type 0} (disk : Disk D) where
         replies = written;
         are_replies = h.are_replies;
         says = ap (λ n. written ++ disk_errors n) (sym h.count_is ∙ ap length (sym none));
-        course = course_calls disk start h.answered written (accepted_all from asked) store h.course new [] (accepted_all from lines) call accepts;
+        course = course_calls disk start h.answered written (accepted_all from asked) store h.course new [] (accepted_all from lines) (omega arith) call accepts;
         state = ap (λ (t : Standing). t.state) (same ∙ h.standing) ∙ ap (λ (xs : List Asked). (after_all from xs).state) h.all;
         standing = λ works. absurd (true≢false (sym failed ∙ works));
         continues = calls;
@@ -99,7 +100,8 @@ module _ {D : Type 0} (disk : Disk D) where
         replies = written;
         are_replies = h.are_replies;
         says = ap (λ n. written ++ disk_errors n) (ap (λ n. n + 1) (sym h.count_is) ∙ sym count_is ∙ ap length (sym none));
-        course = course_calls disk start h.answered written (accepted_all from asked) store h.course new more (accepted_all from lines) f.continues accepts;
+        course = course_calls disk start h.answered written (accepted_all from asked) store h.course new more (accepted_all from lines)
+            (few_of_one (standing_of store) one) f.continues accepts;
         state = f.state ∙ ap (λ (t : Standing). t.state) after_is;
         standing = λ works. absurd (true≢false (sym f.failed ∙ works));
         continues = calls;
@@ -191,5 +193,5 @@ module _ {D : Type 0} (disk : Disk D) where
         standing = ap standing_of same;
         continues = call;
         pending = omega (arith, empty);
-        course = course_calls disk old [] [] [] old (course_begins disk old) new [] [] call refl;
+        course = course_calls disk old [] [] [] old (course_begins disk old) new [] [] (omega arith) call refl;
       }

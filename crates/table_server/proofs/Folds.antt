@@ -11,9 +11,9 @@ use Rattle.session_rules.specs.State.{SessionValue}
 use Rattle.table_server.specs.declared.asked.Asked.{Asked}
 use Rattle.table_server.specs.declared.asked.Asked.TheVariants.{Change, Told, BadLine, LongLine}
 use Rattle.table_server.specs.declared.asked.Question.{Question}
-use Rattle.table_server.specs.declared.short_reply.ShortReply.TheVariants as short
+use Rattle.line_replies.specs.declared.short_reply.ShortReply.TheVariants as short
 use Rattle.table_server.specs.Answered.{IsReply, after_asked, accepted, after_all, accepted_all, AreReplies, is_held, held_with, held_from, held_after, disk_errors}
-use Rattle.table_server.specs.ReplyTexts.{short_text}
+use Rattle.line_replies.specs.ReplyTexts.{short_text}
 use Rattle.table_server.specs.Standing.{Standing, answer_in, standing_within, accepted_within}
 
 -- the session after some lines and others

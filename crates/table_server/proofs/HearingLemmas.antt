@@ -14,12 +14,12 @@ use Rattle.line_text.specs.Lines.{complete_lines, is_long, is_within_line}
 use Rattle.line_text.specs.Streams.{Stream, between}
 use Rattle.line_text.proofs.CompleteLines.{lines_none}
 use Rattle.table_server.specs.declared.asked.Asked.{Asked}
-use Rattle.table_server.specs.declared.fault.ServeFault.{ServeFault}
+use Rattle.line_replies.specs.declared.fault.ServeFault.{ServeFault}
 use Rattle.table_server.specs.declared.line_service.LineService.{LineService}
 use Rattle.table_server.specs.Answered.{AskAll}
 use Rattle.table_server.specs.Asked.{Asks, AsksBy}
 use Rattle.table_server.specs.Hearing.{Hears, Hearing, HearsOn, IsCutShort}
-use Rattle.table_server.specs.LineFeed.{kept_lines}
+use Rattle.line_replies.specs.LineFeed.{kept_lines}
 use Rattle.table_server.specs.Serving.{Serves}
 use Rattle.table_server.proofs.ServesLemmas.{stopped_after}
 

@@ -1,11 +1,6 @@
-pub mod LineLemmas
-pub mod Heard
-pub mod FeedLemmas
 pub mod CardWords
 pub mod FirstWords
 pub mod CommandLaws
-pub mod Pairs
-pub mod WrittenParts
 pub mod Folds
 pub mod CourseLemmas
 pub mod ServingLemmas

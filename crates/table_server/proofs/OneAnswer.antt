@@ -23,13 +23,13 @@ use Rattle.table_server.specs.declared.asked.Asked.{Asked}
 use Rattle.table_server.specs.declared.asked.Asked.TheVariants.{Change, Told, BadLine, LongLine}
 use Rattle.table_server.specs.declared.asked.Question.{Question}
 use Rattle.table_server.specs.declared.asked.Question.TheVariants.{Sync, See, Rank, Solve, Pbn}
-use Rattle.table_server.specs.declared.short_reply.ShortReply.TheVariants.{Refused}
+use Rattle.line_replies.specs.declared.short_reply.ShortReply.TheVariants.{Refused}
 use Rattle.table_server.specs.Answered.{IsReply, after_asked, AreReplies}
 use Rattle.table_server.specs.PbnReply.{pbn_reply}
-use Rattle.table_server.specs.ReplyTexts.{short_text, solved_text, ranking_text}
+use Rattle.line_replies.specs.ReplyTexts.{short_text, solved_text, ranking_text}
 use Rattle.table_server.specs.Standing.{Standing}
 use Rattle.table_server.specs.Told.{Tells, TellsRefusal, TellsView, TellsRanking, TellsWorth}
-use Rattle.table_server.specs.ViewText.{seat_word, hand_or_dash, trick_words, view_text}
+use Rattle.line_replies.specs.ViewText.{seat_word, hand_or_dash, trick_words, view_text}
 use Rattle.table_server.proofs.SameHands.{same_hand_text, same_endings}
 
 -- the words of a trick, by what is seen of it

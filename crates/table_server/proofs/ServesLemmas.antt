@@ -15,8 +15,8 @@ use Rattle.bridge_session.specs.SessionKeeping.{session_keeping}
 use Rattle.session_rules.specs.State.{SessionValue}
 use Rattle.line_text.specs.Streams.{Stream, between, TakesPrefix, Written}
 use Rattle.table_server.specs.declared.asked.Asked.{Asked}
-use Rattle.table_server.specs.declared.fault.ServeFault.{ServeFault}
-use Rattle.table_server.specs.declared.fault.ServeFault.TheVariants.{Write}
+use Rattle.line_replies.specs.declared.fault.ServeFault.{ServeFault}
+use Rattle.line_replies.specs.declared.fault.ServeFault.TheVariants.{Write}
 use Rattle.table_server.specs.declared.held_replies.HeldReplies.{HeldReplies}
 use Rattle.table_server.specs.Answered.{AreReplies, accepted_all, held_after, disk_errors}
 use Rattle.table_server.specs.Served.{IsServed}

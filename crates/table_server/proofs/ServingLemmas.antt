@@ -19,6 +19,7 @@ use Rattle.table_server.specs.Serving.{Holding, Settled}
 use Rattle.table_server.specs.Standing.{Standing, standing_of}
 use Rattle.table_server.specs.Told.{Tells}
 use Rattle.table_server.specs.Course.{HasCourse}
+use Rattle.table_server.proofs.CountLemmas.{few_of_one}
 use Rattle.table_server.proofs.CourseLemmas.{course_calls, course_replies}
 use Rattle.table_server.proofs.Folds.{after_append, accepted_one, room_left, replies_append, replies_one, all_held_one}
 
@@ -58,9 +59,9 @@ module _ {D : Type 0} where
     settled start store new asked text count written h is call =
         let from = standing_of start in
         let all : List Action = accepted_all from asked in
-        let called = course_calls disk start h.answered written all store h.course new [] all call (sym (append-nil all)) in
+        let called = course_calls disk start h.answered written all store h.course new [] all (omega arith) call (sym (append-nil all)) in
         let lines : length all ≡ length (accepted_all from (h.answered ++ h.waiting)) = ap (λ (xs : List Asked). length (accepted_all from xs)) h.all in
-        let none : length new.pending ≡ 0 = ap (λ (v : StoreValue D SessionValue Action). length v.pending) is in record {
+        let none : new.pending ≡ [] = ap (λ (v : StoreValue D SessionValue Action). v.pending) is in record {
           are_replies = rw h.all (replies_append (standing_of start) h.answered h.waiting written text h.are_replies h.are_held);
           works = ap (λ (v : StoreValue D SessionValue Action). v.failed) is ∙ h.works;
           worked = h.worked;
@@ -68,9 +69,9 @@ module _ {D : Type 0} where
           continues =
               joined start store new (standing_of start) asked [] (accepted_all (standing_of start) asked) h.continues call
               (sym (append-nil (accepted_all (standing_of start) asked)));
-          pending = ap (λ (v : StoreValue D SessionValue Action). v.pending) is;
+          pending = none;
           course = subst (λ (xs : List Asked). HasCourse disk start xs (written ++ text) all new) (sym h.all)
-              (course_replies disk start h.answered written all new called h.waiting text h.are_held (omega (arith, lines, none)));
+              (course_replies disk start h.answered written all new called h.waiting text h.are_held none (omega (arith, lines)));
         }
 
     -- and then another group may begin
@@ -135,8 +136,7 @@ module _ {D : Type 0} where
         = subst (λ (t : SessionValue). Tells t question text) (ap (λ (t : Standing). t.state) s.standing) tells in
         let same : accepted_all from (asked ++ Told question ∷ []) ≡ accepted_all from asked
         = accepted_one from asked (Told question) ∙ append-nil (accepted_all from asked) in
-        let count : length (accepted_all from (asked ++ Told question ∷ [])) ≡ length (accepted_all from asked) = ap length same in
-        let none : length store.pending ≡ 0 = ap length s.pending in record {
+        let count : length (accepted_all from (asked ++ Told question ∷ [])) ≡ length (accepted_all from asked) = ap length same in record {
           are_replies = replies_one from asked (Told question) written text s.are_replies there;
           works = s.works;
           worked = s.worked;
@@ -145,7 +145,7 @@ module _ {D : Type 0} where
           pending = s.pending;
           course = subst (λ (xs : List Action). HasCourse disk start (asked ++ Told question ∷ []) (written ++ text) xs store) (sym same)
               (course_replies disk start asked written (accepted_all from asked) store s.course (Told question ∷ []) text
-              (text, [], there, refl, sym (append-nil text)) (omega (arith, count, none)));
+              (text, [], there, refl, sym (append-nil text)) s.pending (omega (arith, count)));
         }
 
     -- one line more is held
@@ -183,5 +183,5 @@ module _ {D : Type 0} where
           continues =
               joined start store new from asked more (accepted_all from (asked ++ one ∷ [])) h.continues call accepts;
           pending = omega (arith, count_waits, few, h.pending);
-          course = course_calls disk start h.answered written (accepted_all from asked) store h.course new more (accepted_all from (asked ++ one ∷ [])) call accepts;
+          course = course_calls disk start h.answered written (accepted_all from asked) store h.course new more (accepted_all from (asked ++ one ∷ [])) (few_of_one (standing_of store) one) call accepts;
         }

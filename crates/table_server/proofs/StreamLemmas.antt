@@ -10,11 +10,11 @@ use Rattle.session_store.specs.Value.{StoreValue}
 use Rattle.session_rules.specs.declared.action.Action.{Action}
 use Rattle.session_rules.specs.State.{SessionValue}
 use Rattle.line_text.specs.Streams.{Stream, between, TakesPrefix}
-use Rattle.table_server.specs.declared.fault.ServeFault.{ServeFault}
+use Rattle.line_replies.specs.declared.fault.ServeFault.{ServeFault}
 use Rattle.table_server.specs.declared.line_service.LineService.{LineService}
 use Rattle.table_server.specs.declared.served.Served.{Served}
 use Rattle.table_server.specs.Hearing.{Hearing, HearsOn}
-use Rattle.table_server.specs.Replies.{byte_limit, limit_notice}
+use Rattle.line_replies.specs.Limit.{byte_limit, limit_notice}
 use Rattle.table_server.specs.ServedStreams.{HasRead, HasServed, StopsReading, StopsReplying, StopsNoticing, StopsServing, EndsServing}
 use Rattle.table_server.specs.Serving.{Ends}
 use Rattle.table_server.proofs.HearingLemmas.{hears_after, hears_asks}

@@ -3,8 +3,8 @@ use Rattle.std.specs.Prelude.{◌≡◌, ◌+◌, ◌==◌, ℕ, zero, suc, Bool
 use Rattle.session_rules.specs.declared.action.Action.{Action}
 use Rattle.table_server.specs.declared.asked.Asked.{Asked}
 use Rattle.table_server.specs.declared.asked.Asked.TheVariants.{Change, Told, BadLine, LongLine}
-use Rattle.table_server.specs.declared.short_reply.ShortReply.TheVariants as short
-use Rattle.table_server.specs.ReplyTexts.{short_text}
+use Rattle.line_replies.specs.declared.short_reply.ShortReply.TheVariants as short
+use Rattle.line_replies.specs.ReplyTexts.{short_text}
 use Rattle.table_server.specs.Asked.{Asks}
 use Rattle.table_server.specs.Standing.{Standing, change_reply, after_change, accepted_change}
 use Rattle.table_server.specs.Told.{Tells}

@@ -1,5 +1,5 @@
 -- The course of serving: calls of the store and writes of replies, in their order.
-use Rattle.std.specs.Prelude.{◌≡◌, ◌≤◌, ◌+◌, ℕ, List, [], ◌∷◌, ◌++◌, length}
+use Rattle.std.specs.Prelude.{◌≡◌, ◌≤◌, ℕ, List, [], ◌∷◌, ◌++◌, length}
 use Rattle.sector_disk.specs.Disk.{Disk, Image}
 use Rattle.session_store.specs.Run.{StandsForAtLeast}
 use Rattle.session_store.specs.Store.{Continues, IsSoundStore}
@@ -11,7 +11,7 @@ use Rattle.table_server.specs.declared.asked.Asked.{Asked}
 use Rattle.table_server.specs.Answered.{AreReplies, after_all, accepted_all}
 use Rattle.table_server.specs.Standing.{Standing, standing_of}
 
--- what is done: a call of the store, which accepts these actions, none or one, and leaves this store, whatever it answers; or
+-- what is done: one call of the store, which accepts these actions, none or one, and leaves this store, whatever it answers; or
 -- a write of the text of the replies to the next lines
 pub data ServeEvent (D : Type 0) : Type 0 where
   Calls : List Action → StoreValue D SessionValue Action → ServeEvent D
@@ -39,13 +39,13 @@ answered_by s (Calls _ _) = s.answered
 answered_by s (Replies lines _) = s.answered ++ lines
 
 module _ {D : Type 0} (disk : Disk D) (from : Standing) where
-  -- What is done from a standing leads to another. Replies are written only once nothing is pending of what was accepted of
-  -- their lines and of those before.
+  -- What is done from a standing leads to another. Replies are written only where nothing is pending, and only to lines of
+  -- which all was taken.
   abbrev pub Happens : ServeStanding D → ServeEvent D → ServeStanding D → Type 0
-  Happens s (Calls actions store) t = Continues session_keeping disk s.store actions store
+  Happens s (Calls actions store) t = (length actions ≤ 1) × Continues session_keeping disk s.store actions store
       × (t ≡ record s { store = store; accepted = s.accepted ++ actions })
   Happens s (Replies lines text) t = AreReplies (after_all from s.answered) lines text
-      × (length (accepted_all from (s.answered ++ lines)) + length s.store.pending ≤ length s.accepted)
+      × (s.store.pending ≡ []) × (length (accepted_all from (s.answered ++ lines)) ≤ length s.accepted)
       × (t ≡ record s { answered = s.answered ++ lines; written = s.written ++ text })
 
   -- these events lead from one standing to another
@@ -64,6 +64,14 @@ module _ {D : Type 0} (disk : Disk D) where
     pub events : List (ServeEvent D)
     pub runs : Runs disk (standing_of start) (at_beginning start) events
         (record { store = store; accepted = accepted; answered = answered; written = written })
+
+  -- Where calls of a store, sound at first and with nothing pending, leave nothing pending, as what writes replies requires, a
+  -- power cut leaves an image that stands for what all the actions accepted since make of the base.
+  abbrev pub WriteLaw : Type 0
+  WriteLaw = (start : StoreValue D SessionValue Action) → IsSoundStore session_keeping disk start → start.pending ≡ []
+      → (accepted : List Action) (store : StoreValue D SessionValue Action) → Continues session_keeping disk start accepted store
+      → store.pending ≡ []
+      → (c : Image) → disk.may_leave store.disk c → StandsForAtLeast session_keeping disk start.base accepted (length accepted) c
 
   -- After any events from a sound store of which nothing is pending, at every moment of what is done next, a power cut leaves an
   -- image that stands for what some of the first actions accepted since make of the base, with all of the lines of which the

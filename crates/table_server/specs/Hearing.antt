@@ -8,11 +8,11 @@ use Rattle.session_rules.specs.State.{SessionValue}
 use Rattle.line_text.specs.Lines.{complete_lines, is_within_line}
 use Rattle.line_text.specs.Streams.{Stream, Takes}
 use Rattle.table_server.specs.declared.asked.Asked.{Asked}
-use Rattle.table_server.specs.declared.fault.ServeFault.{ServeFault}
-use Rattle.table_server.specs.declared.fault.ServeFault.TheVariants.{Write}
+use Rattle.line_replies.specs.declared.fault.ServeFault.{ServeFault}
+use Rattle.line_replies.specs.declared.fault.ServeFault.TheVariants.{Write}
 use Rattle.table_server.specs.declared.line_service.LineService.{LineService}
 use Rattle.table_server.specs.Answered.{AskAll}
-use Rattle.table_server.specs.LineFeed.{kept_lines}
+use Rattle.line_replies.specs.LineFeed.{kept_lines}
 use Rattle.table_server.specs.Serving.{Serving, IsStopped}
 
 -- The complete lines of these bytes ask for these, and this line has begun.
@@ -43,3 +43,8 @@ module _ {D : Type 0} (disk : Disk D) where
   HearsOn start bytes store service written writer (Ok _) =
       (text : List ℕ) × Takes writer text × Hearing start bytes store service (written ++ text)
   HearsOn start bytes store service written writer (Err fault) = (fault ≡ Write) × IsCutShort start bytes store written writer
+
+  -- what further bytes make of those that were heard
+  abbrev pub HearsMore : StoreValue D SessionValue Action → LineService → List ℕ → StoreValue D SessionValue Action → LineService → Stream → Result (Unit {0}) ServeFault → Type 0
+  HearsMore old before more new service writer result = (start : StoreValue D SessionValue Action) (bytes : List ℕ) (written : List ℕ)
+      → Hearing start bytes old before written → HearsOn start (bytes ++ more) new service written writer result

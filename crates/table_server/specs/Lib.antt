@@ -1,13 +1,7 @@
-pub mod Replies
-pub mod AuctionLines
-pub mod Heard
 pub mod LineWords
 pub mod LineCommand
-pub mod ReplyTexts
 pub mod Asked
-pub mod LineFeed
 pub mod PbnReply
-pub mod ViewText
 pub mod Standing
 pub mod Told
 pub mod Answered

@@ -9,7 +9,9 @@ use Rattle.session_rules.specs.declared.action.PlayId.{PlayId}
 use Rattle.session_rules.specs.declared.average.Average.{Average}
 use Rattle.table_server.specs.declared.command.Command.{Command}
 use Rattle.table_server.specs.declared.command.Command.TheVariants.{Deal, Shuffle, Call, Card, Claim, Agree, Refuse, Next, Tricks, Void, Adjust, Restore, Sync, See, Rank, Solve, Pbn}
-use Rattle.table_server.specs.LineWords.{◌>>=◌, first_of, key_of_word, board_of_word, made_of_word, tricks_of_word, average_of_word, round_of_word, table_of_word, index_of_word, cards_of_word, field_of_word, card_of_word, seed_of}
+use Rattle.table_server.specs.declared.player_lines.Turn.{Turn}
+use Rattle.line_replies.specs.KeyWord.{key_of_word}
+use Rattle.table_server.specs.LineWords.{◌>>=◌, first_of, board_of_word, made_of_word, tricks_of_word, average_of_word, round_of_word, table_of_word, index_of_word, cards_of_word, field_of_word, card_of_word, seed_of}
 
 -- Each line by the words after its first.
 
@@ -22,53 +24,58 @@ shuffle_line words = do
   seed ← seed_of word
   Some (Shuffle key.0 board.0 seed)
 
--- a key, a board, how many calls were made, and a call
-unfoldable pub call_line : List (List ℕ) → Option Command
-call_line words = do
-  key ← first_of key_of_word words
-  board ← first_of board_of_word key.1
-  at ← first_of made_of_word board.1
-  word ← only_word at.1
-  call ← call_of word
-  Some (Call key.0 board.0 at.0 call)
-
--- a key, a board, how many cards were played, and a card
-unfoldable pub card_line : List (List ℕ) → Option Command
-card_line words = do
-  key ← first_of key_of_word words
-  board ← first_of board_of_word key.1
-  at ← first_of made_of_word board.1
-  word ← only_word at.1
-  card ← card_of_word word
-  Some (Card key.0 board.0 at.0 card)
-
--- a key, a board, how many claims were made, and tricks
-unfoldable pub claim_line : List (List ℕ) → Option Command
-claim_line words = do
-  key ← first_of key_of_word words
-  board ← first_of board_of_word key.1
-  at ← first_of made_of_word board.1
-  word ← only_word at.1
-  tricks ← tricks_of_word word
-  Some (Claim key.0 board.0 at.0 tricks)
-
--- a key, a board, and how many claims were made
-unfoldable pub agree_line : List (List ℕ) → Option Command
-agree_line words = do
+-- a key, a board, and how many calls, cards or claims were made, or which claim is answered
+unfoldable pub turn_words : List (List ℕ) → Option Turn
+turn_words words = do
   key ← first_of key_of_word words
   board ← first_of board_of_word key.1
   word ← only_word board.1
   at ← made_of_word word
-  Some (Agree key.0 board.0 at)
+  Some (record { key = key.0; board = board.0; at = at })
+
+-- the same, and the words after them
+unfoldable pub turn_and_words : List (List ℕ) → Option (Turn × List (List ℕ))
+turn_and_words words = do
+  key ← first_of key_of_word words
+  board ← first_of board_of_word key.1
+  at ← first_of made_of_word board.1
+  Some (record { key = key.0; board = board.0; at = at.0 }, at.1)
+
+-- a turn, and a call
+unfoldable pub call_line : List (List ℕ) → Option Command
+call_line words = do
+  turn ← turn_and_words words
+  word ← only_word turn.1
+  call ← call_of word
+  Some (Call turn.0.key turn.0.board turn.0.at call)
+
+-- a turn, and a card
+unfoldable pub card_line : List (List ℕ) → Option Command
+card_line words = do
+  turn ← turn_and_words words
+  word ← only_word turn.1
+  card ← card_of_word word
+  Some (Card turn.0.key turn.0.board turn.0.at card)
+
+-- a turn, and tricks
+unfoldable pub claim_line : List (List ℕ) → Option Command
+claim_line words = do
+  turn ← turn_and_words words
+  word ← only_word turn.1
+  tricks ← tricks_of_word word
+  Some (Claim turn.0.key turn.0.board turn.0.at tricks)
+
+-- a turn alone
+unfoldable pub agree_line : List (List ℕ) → Option Command
+agree_line words = do
+  turn ← turn_words words
+  Some (Agree turn.key turn.board turn.at)
 
 -- the same, where the claim is refused
 unfoldable pub refuse_line : List (List ℕ) → Option Command
 refuse_line words = do
-  key ← first_of key_of_word words
-  board ← first_of board_of_word key.1
-  word ← only_word board.1
-  at ← made_of_word word
-  Some (Refuse key.0 board.0 at)
+  turn ← turn_words words
+  Some (Refuse turn.key turn.board turn.at)
 
 -- a key, and the round that ends
 unfoldable pub next_line : List (List ℕ) → Option Command
@@ -86,15 +93,6 @@ play_words words = do
   word ← only_word table.1
   index ← index_of_word word
   Some (record { round = round.0; table = table.0; index = index })
-
--- the same, and a word after them
-unfoldable pub play_and_word : List (List ℕ) → Option (PlayId × List ℕ)
-play_and_word words = do
-  round ← first_of round_of_word words
-  table ← first_of table_of_word round.1
-  index ← first_of index_of_word table.1
-  word ← only_word index.1
-  Some (record { round = round.0; table = table.0; index = index.0 }, word)
 
 -- a key and a play
 unfoldable pub void_line : List (List ℕ) → Option Command
@@ -138,16 +136,18 @@ adjust_line words = do
 unfoldable pub tricks_line : List (List ℕ) → Option Command
 tricks_line words = do
   key ← first_of key_of_word words
-  play ← play_and_word key.1
-  tricks ← tricks_of_word play.1
+  play ← play_and_words key.1
+  word ← only_word play.1
+  tricks ← tricks_of_word word
   Some (Tricks key.0 play.0 tricks)
 
 -- a key, a play, and how many cards were played before the ending
 unfoldable pub solve_line : List (List ℕ) → Option Command
 solve_line words = do
   key ← first_of key_of_word words
-  play ← play_and_word key.1
-  cards ← cards_of_word play.1
+  play ← play_and_words key.1
+  word ← only_word play.1
+  cards ← cards_of_word word
   Some (Solve key.0 play.0 cards)
 
 -- a key alone

@@ -4,11 +4,8 @@ use Rattle.std.specs.List.{list_all, range_with_len}
 use Rattle.std.specs.Option.{option_map}
 use Rattle.std.specs.Char.{is_ascii_digit}
 use Rattle.std.specs.Str.{bytes_eq}
-use Rattle.std.specs.Str.Parse.{digits_value}
-use Rattle.line_text.specs.Numeral.{is_numeral}
 use Rattle.bridge_cards.specs.Card.{card_text}
-use Rattle.bridge_config.specs.declared.fields.Key.{Key}
-use Rattle.bridge_config.specs.Limits.{is_between}
+use Rattle.line_replies.specs.KeyWord.{number_of_word}
 use Rattle.session_rules.specs.declared.average.Average.{Average}
 use Rattle.session_rules.specs.Average.{average_of}
 use Rattle.bridge_ranking.specs.declared.field.Field.{Field}
@@ -24,19 +21,6 @@ None >>= f = None
 abbrev pub FoundAs : {X Y : Type 0} → (X → Y) → Option X → Option Y → Type 0
 FoundAs view (Some value) read = read ≡ Some (view value)
 FoundAs view None read = read ≡ None
-
--- the number of a numeral, from low to high
-abbrev pub number_of_word : ℕ → ℕ → List ℕ → Option ℕ
-number_of_word low high word =
-    if is_numeral word && is_between low high (digits_value 10 word) then Some (digits_value 10 word) else None
-
--- the key of a number
-abbrev pub key_numbered : ℕ → Key
-key_numbered number = record { 0 = number }
-
--- a key: a number of 32 bits
-abbrev pub key_of_word : List ℕ → Option Key
-key_of_word word = option_map key_numbered (number_of_word 0 4294967295 word)
 
 -- a board: 1 to 36
 abbrev pub board_of_word : List ℕ → Option ℕ

@@ -25,7 +25,7 @@ module _ {D : Type 0} (disk : Disk D) where
     pub replies : List ℕ
     pub are_replies : AreReplies (standing_of start) answered replies
     pub says : text ≡ replies ++ disk_errors (length (taken ++ later))
-    -- there is a course of calls of the store and writes of the replies to those answered, each once what it says was confirmed
+    -- there is a course of single calls of the store and writes of the replies to those answered, each where nothing is pending
     pub course : HasCourse disk start answered replies (accepted_all (standing_of start) (answered ++ taken)) store
     -- the state and the actions accepted, and where the store works how many more can be taken
     pub state : store.state ≡ (after_all (standing_of start) (answered ++ taken)).state

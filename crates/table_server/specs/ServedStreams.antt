@@ -6,17 +6,17 @@ use Rattle.session_store.specs.Value.{StoreValue}
 use Rattle.session_rules.specs.declared.action.Action.{Action}
 use Rattle.session_rules.specs.State.{SessionValue}
 use Rattle.line_text.specs.Lines.{complete_lines}
-use Rattle.line_text.specs.Streams.{Stream, Gives, Takes}
+use Rattle.line_text.specs.Streams.{Stream, between, Gives, Takes}
 use Rattle.table_server.specs.declared.asked.Asked.{Asked}
-use Rattle.table_server.specs.declared.fault.ServeFault.{ServeFault}
-use Rattle.table_server.specs.declared.fault.ServeFault.TheVariants.{Read, Write, Accept}
+use Rattle.line_replies.specs.declared.fault.ServeFault.{ServeFault}
+use Rattle.line_replies.specs.declared.fault.ServeFault.TheVariants.{Read, Write, Accept}
 use Rattle.table_server.specs.declared.line_service.LineService.{LineService}
 use Rattle.table_server.specs.declared.served.Served.{Served}
-use Rattle.table_server.specs.declared.serving.Ended.{Ended}
-use Rattle.table_server.specs.declared.serving.Ended.TheVariants.{AtEnd, AtLimit, AtFault}
+use Rattle.table_server.specs.declared.line_serving.Ended.{Ended}
+use Rattle.table_server.specs.declared.line_serving.Ended.TheVariants.{AtEnd, AtLimit, AtFault}
 use Rattle.table_server.specs.Answered.{AskAll}
 use Rattle.table_server.specs.Hearing.{Hearing, IsCutShort}
-use Rattle.table_server.specs.Replies.{byte_limit, limit_notice}
+use Rattle.line_replies.specs.Limit.{byte_limit, limit_notice}
 use Rattle.table_server.specs.Served.{IsServed}
 
 -- how far below the limit of bytes, and at what of the reader, reading ended
@@ -94,3 +94,19 @@ module _ {D : Type 0} (disk : Disk D) where
   abbrev pub EndsServing : StoreValue D SessionValue Action → StoreValue D SessionValue Action → Stream → Stream → Result Served ServeFault → Type 0
   EndsServing start store reader writer (Ok result) = HasServed start store reader writer result
   EndsServing start store reader writer (Err fault) = StopsServing start store reader writer fault
+
+  -- how reading ended that began before the first byte,
+  abbrev pub ReadsTo : StoreValue D SessionValue Action → LineService → StoreValue D SessionValue Action → LineService → Stream → Stream → Ended → Type 0
+  ReadsTo old before new service reader writer ended = (start : StoreValue D SessionValue Action) → Hearing disk start [] old before []
+      → (left : ℕ) × IsEnd ended left reader.new × HasRead start new service reader writer left
+
+  -- where a write failed,
+  abbrev pub StopsReads : StoreValue D SessionValue Action → LineService → StoreValue D SessionValue Action → Stream → Stream → ServeFault → Type 0
+  StopsReads old before new reader writer fault = (start : StoreValue D SessionValue Action) → Hearing disk start [] old before []
+      → (fault ≡ Write) × StopsReplying start new reader writer
+
+  -- and what is written once it has ended so, by a writer that had and has these bytes
+  abbrev pub EndsReading : Ended → StoreValue D SessionValue Action → LineService → StoreValue D SessionValue Action → Option (List ℕ) → Option (List ℕ) → Result Served ServeFault → Type 0
+  EndsReading ended old service new had has result =
+      (start : StoreValue D SessionValue Action) (reader : Stream) (before : Option (List ℕ)) (left : ℕ) → IsEnd ended left reader.new
+      → HasRead start old service reader (between before had) left → EndsServing start new reader (between before has) result

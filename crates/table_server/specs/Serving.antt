@@ -10,12 +10,12 @@ use Rattle.bridge_session.specs.SessionKeeping.{session_keeping}
 use Rattle.session_rules.specs.State.{SessionValue}
 use Rattle.line_text.specs.Streams.{Stream, Takes, Written}
 use Rattle.table_server.specs.declared.asked.Asked.{Asked}
-use Rattle.table_server.specs.declared.fault.ServeFault.{ServeFault}
-use Rattle.table_server.specs.declared.fault.ServeFault.TheVariants.{Write}
+use Rattle.line_replies.specs.declared.fault.ServeFault.{ServeFault}
+use Rattle.line_replies.specs.declared.fault.ServeFault.TheVariants.{Write}
 use Rattle.table_server.specs.declared.held_replies.HeldReplies.{HeldReplies}
 use Rattle.table_server.specs.declared.served.Served.{Served}
-use Rattle.table_server.specs.declared.short_reply.ShortReply.{ShortReply}
-use Rattle.table_server.specs.declared.short_reply.ShortReply.TheVariants.{Done, Refused, Illegal, BadLine, LongLine, Disk as DiskReply, EpochsSpent}
+use Rattle.line_replies.specs.declared.short_reply.ShortReply.{ShortReply}
+use Rattle.line_replies.specs.declared.short_reply.ShortReply.TheVariants.{Done, Refused, Illegal, BadLine, LongLine, Disk as DiskReply, EpochsSpent}
 use Rattle.table_server.specs.Course.{HasCourse}
 use Rattle.table_server.specs.Answered.{AreReplies, after_all, accepted_all, held_after, is_held, disk_errors}
 use Rattle.table_server.specs.Served.{IsServed}
@@ -161,3 +161,24 @@ module _ {D : Type 0} (disk : Disk D) where
   Ends start asked store written writer (Ok result) = (text : List ℕ) × Takes writer text
       × IsServed disk start asked store (written ++ text) result.accepted × (result.failed ≡ store.failed)
   Ends start asked store written writer (Err fault) = (fault ≡ Write) × IsStopped start asked store written writer
+
+  -- What a further line makes of lines that were taken, in a store that works,
+  abbrev pub WorksOn : StoreValue D SessionValue Action → HeldReplies → Asked → StoreValue D SessionValue Action → HeldReplies → Stream → Result (Unit {0}) ServeFault → Type 0
+  WorksOn old before one new held writer result = (start : StoreValue D SessionValue Action) (asked : List Asked) (written : List ℕ)
+      → Works start asked old before written → Serves start (asked ++ one ∷ []) new held written writer result
+
+  -- and in any
+  abbrev pub ServesOn : StoreValue D SessionValue Action → HeldReplies → Asked → StoreValue D SessionValue Action → HeldReplies → Stream → Result (Unit {0}) ServeFault → Type 0
+  ServesOn old before one new held writer result = (start : StoreValue D SessionValue Action) (asked : List Asked) (written : List ℕ)
+      → Serving start asked old before written → Serves start (asked ++ one ∷ []) new held written writer result
+
+  -- what becomes of lines that are held with so many replies, of this text, where so many actions were accepted
+  abbrev pub HoldsOn : StoreValue D SessionValue Action → List ℕ → ℕ → ℕ → StoreValue D SessionValue Action → HeldReplies → Stream → Result (Unit {0}) ServeFault → Type 0
+  HoldsOn old text count accepted new held writer result = (start : StoreValue D SessionValue Action) (asked : List Asked) (written : List ℕ)
+      → Holding start asked old text count written → accepted ≡ length (accepted_all (standing_of start) asked)
+      → Serves start asked new held written writer result
+
+  -- and what the end makes of lines that were taken
+  abbrev pub EndsOn : StoreValue D SessionValue Action → HeldReplies → StoreValue D SessionValue Action → Stream → Result Served ServeFault → Type 0
+  EndsOn old before new writer result = (start : StoreValue D SessionValue Action) (asked : List Asked) (written : List ℕ)
+      → Serving start asked old before written → Ends start asked new written writer result

@@ -6,8 +6,8 @@ use Rattle.bridge_session.specs.SessionKeeping.{session_keeping}
 use Rattle.session_rules.specs.State.{SessionValue}
 use Rattle.session_store.specs.Answers.{room}
 use Rattle.session_store.specs.Value.{StoreValue}
-use Rattle.table_server.specs.declared.short_reply.ShortReply.{ShortReply}
-use Rattle.table_server.specs.declared.short_reply.ShortReply.TheVariants.{Done, Refused, EpochsSpent}
+use Rattle.line_replies.specs.declared.short_reply.ShortReply.{ShortReply}
+use Rattle.line_replies.specs.declared.short_reply.ShortReply.TheVariants.{Done, Refused, EpochsSpent}
 
 -- a session, and how many actions can be taken before the epochs of its store are spent
 pub record Standing : Type 0 where

@@ -15,10 +15,10 @@ use Rattle.session_rules.specs.State.{SessionValue, director_answer}
 use Rattle.session_rules.specs.Views.{IsViewTo}
 use Rattle.table_server.specs.declared.asked.Question.{Question}
 use Rattle.table_server.specs.declared.asked.Question.TheVariants.{Sync, See, Rank, Solve, Pbn}
-use Rattle.table_server.specs.declared.short_reply.ShortReply.TheVariants.{Done, Refused}
+use Rattle.line_replies.specs.declared.short_reply.ShortReply.TheVariants.{Done, Refused}
 use Rattle.table_server.specs.PbnReply.{pbn_reply}
-use Rattle.table_server.specs.ReplyTexts.{short_text, solved_text, ranking_text}
-use Rattle.table_server.specs.ViewText.{view_text}
+use Rattle.line_replies.specs.ReplyTexts.{short_text, solved_text, ranking_text}
+use Rattle.line_replies.specs.ViewText.{view_text}
 
 -- the refusal that was answered
 abbrev pub TellsRefusal : (SessionRefused → Type 0) → List ℕ → Type 0

@@ -2,13 +2,13 @@
 ghost use Rattle.std.specs.Prelude.{◌≡◌, [], false, IfOk, IfErr};
 ghost use Rattle.table_server.specs.Accepting.{HasServedOne, StopsAccepting};
 ghost use Rattle.table_server.specs.Faulted.{FailsWithDisk};
-ghost use Rattle.table_server.specs.declared.fault.ServeFault.TheVariants.{Accept as AcceptFault};
+ghost use Rattle.line_replies.specs.declared.fault.ServeFault.TheVariants.{Accept as AcceptFault};
 
-use crate::fault::ServeFault;
+use crate::line_serving::serve;
 use crate::served::Served;
-use crate::serving::serve;
 use bridge_endings::Cache;
 use bridge_session::Session;
+use line_replies::ServeFault;
 use sector_disk::SectorDisk;
 use session_store::Store;
 use std::net::{Net, OpenListener, OpenStream};

@@ -16,13 +16,31 @@ pub enum Question {
     /// That all that was accepted is confirmed.
     Sync,
     /// The view of a player.
-    See { key: Key },
+    See {
+        /// The key of who asks.
+        key: Key,
+    },
     /// The ranking of a field.
-    Rank { key: Key, field: Field },
+    Rank {
+        /// The key of who asks.
+        key: Key,
+        /// The field.
+        field: Field,
+    },
     /// The worth of a play's ending after so many cards.
-    Solve { key: Key, play: PlayId, cards: u8 },
+    Solve {
+        /// The key of who asks.
+        key: Key,
+        /// The play.
+        play: PlayId,
+        /// After how many cards, 0 to 52.
+        cards: u8,
+    },
     /// The results in Portable Bridge Notation.
-    Pbn { key: Key },
+    Pbn {
+        /// The key of who asks.
+        key: Key,
+    },
 }
 
 /// What a complete line asks for.

@@ -1,32 +1,24 @@
 //! Lines answered over a store. The replies to changes and bad lines are held until what was accepted is confirmed.
-ghost use Rattle.std.specs.Prelude.{◌≡◌, ◌<◌, ◌≤◌, ◌+◌, ◌∷◌, ◌++◌, [], List, ℕ, length, true, false, IfOk, IfErr};
-ghost use Rattle.session_store.specs.Value.{StoreValue};
+ghost use Rattle.std.specs.Prelude.{◌≡◌, ◌<◌, ◌≤◌, ◌+◌, ◌++◌, [], true, false, IfOk, IfErr};
 ghost use Rattle.session_store.specs.Store.{Continues};
 ghost use Rattle.bridge_session.specs.SessionKeeping.{session_keeping};
-ghost use Rattle.session_rules.specs.State.{SessionValue};
-ghost use Rattle.session_rules.specs.declared.action.Action.{Action as ActionType};
 ghost use Rattle.line_text.specs.Streams.{stream, Written};
-ghost use Rattle.table_server.specs.declared.asked.Asked.{Asked as AskedType};
 ghost use Rattle.table_server.specs.declared.asked.Asked.TheVariants.{Change, Told};
-ghost use Rattle.table_server.specs.declared.fault.ServeFault.TheVariants.{Write as WriteFault};
-ghost use Rattle.table_server.specs.Answered.{accepted_all, disk_errors};
-ghost use Rattle.table_server.specs.ReplyTexts.{short_text};
+ghost use Rattle.line_replies.specs.declared.fault.ServeFault.TheVariants.{Write as WriteFault};
+ghost use Rattle.table_server.specs.Answered.{disk_errors};
+ghost use Rattle.line_replies.specs.ReplyTexts.{short_text};
 ghost use Rattle.table_server.specs.Faulted.{FailsWithDisk};
-ghost use Rattle.table_server.specs.Standing.{standing_of};
-ghost use Rattle.table_server.specs.Serving.{IsCounted, Fits, Holding, Works, SettlesBy, Serving, Serves, Ends, accepted_count};
+ghost use Rattle.table_server.specs.Serving.{IsCounted, Fits, SettlesBy, Serving, HoldsOn, WorksOn, ServesOn, EndsOn, accepted_count};
 
 use crate::asked::{Asked, Question};
-use crate::fault::ServeFault;
-use crate::reply_text::SHORT_BYTES;
-use crate::run::MOST_BYTES;
+use crate::question_reply::write_answer;
 use crate::served::Served;
-use crate::short_reply::ShortReply;
 use crate::taking::take_change;
-use crate::telling::write_told;
-use crate::writing::write_whole;
 use arrayvec::ArrayString;
 use bridge_endings::Cache;
 use bridge_session::{Action, Session};
+use line_replies::reply_text::SHORT_BYTES;
+use line_replies::{MOST_BYTES, ServeFault, ShortReply, write_whole};
 use sector_disk::SectorDisk;
 use session_store::Store;
 use std::io::Write;
@@ -40,8 +32,11 @@ pub const HELD_BYTES: usize = SHORT_BYTES * HELD_LINES;
 /// The replies to the lines that are held, and what was served so far.
 #[derive(Drop)]
 pub struct HeldReplies {
+    /// The replies, in order.
     text: ArrayString<HELD_BYTES>,
+    /// How many lines they answer.
     count: usize,
+    /// What was served so far.
     served: Served,
 }
 
@@ -121,9 +116,14 @@ impl HeldReplies {
         result
     }
 
-    /// Writes the replies that are held.
-    fn release<W: Write>(&mut self, writer: &mut W) -> Result<(), ServeFault>
-        requires { IsCounted self.old.served }
+    /// Writes the replies that are held, of which nothing is pending.
+    fn release<D: SectorDisk + Drop, W: Write>(
+        &mut self,
+        store: &Store<D, Session>,
+        writer: &mut W,
+    ) -> Result<(), ServeFault>
+        requires confirmed { store.now.pending ≡ [] }
+        requires counted { IsCounted self.old.served }
         ensures fits { Fits self.new }
         ensures served { self.new.served ≡ self.old.served }
         ensures none_held { self.new.count ≡ 0 }
@@ -157,8 +157,9 @@ impl HeldReplies {
         ensures fault { IfErr result (λ fault. fault ≡ WriteFault) }
         ensures faults { FailsWithDisk D.disk store.old store.new }
     {
-        match store.confirm() {
-            Ok(()) => self.release(writer),
+        let confirmed = store.confirm();
+        match confirmed {
+            Ok(()) => self.release(store, writer),
             Err(_) => self.fail(0, writer),
         }
     }
@@ -174,10 +175,8 @@ impl HeldReplies {
         requires works { self.old.served.failed ≡ false }
         ensures fits { Fits self.new }
         ensures served { self.new.served ≡ record self.old.served { failed = self.new.served.failed } }
-        ensures serves { (start : StoreValue D SessionValue ActionType) (asked : List AskedType) (written : List ℕ)
-            → Holding D.disk start asked store.old (self.old.text.bytes ++ short_text reply) (self.old.count + 1) written
-            → self.old.served.accepted ≡ length (accepted_all (standing_of start) asked)
-            → Serves D.disk start asked store.new self.new written (stream W.contents writer.old writer.new) result }
+        ensures serves { HoldsOn D.disk store.old (self.old.text.bytes ++ short_text reply) (self.old.count + 1) self.old.served.accepted
+            store.new self.new (stream W.contents writer.old writer.new) result }
         ensures faults { FailsWithDisk D.disk store.old store.new }
     {
         reply.push_to(&mut self.text);
@@ -200,9 +199,7 @@ impl HeldReplies {
         requires works { self.old.served.failed ≡ false }
         ensures fits { Fits self.new }
         ensures lines { self.new.served.lines ≡ self.old.served.lines }
-        ensures serves { (start : StoreValue D SessionValue ActionType) (asked : List AskedType) (written : List ℕ)
-            → Works D.disk start asked store.old self.old written
-            → Serves D.disk start (asked ++ Change action.now ∷ []) store.new self.new written (stream W.contents writer.old writer.new) result }
+        ensures serves { WorksOn D.disk store.old self.old (Change action.now) store.new self.new (stream W.contents writer.old writer.new) result }
         ensures faults { FailsWithDisk D.disk store.old store.new }
     {
         match take_change(store, action) {
@@ -229,9 +226,7 @@ impl HeldReplies {
         requires works { self.old.served.failed ≡ false }
         ensures fits { Fits self.new }
         ensures lines { self.new.served.lines ≡ self.old.served.lines }
-        ensures serves { (start : StoreValue D SessionValue ActionType) (asked : List AskedType) (written : List ℕ)
-            → Works D.disk start asked store.old self.old written
-            → Serves D.disk start (asked ++ Told question ∷ []) store.new self.new written (stream W.contents writer.old writer.new) result }
+        ensures serves { WorksOn D.disk store.old self.old (Told question) store.new self.new (stream W.contents writer.old writer.new) result }
         ensures faults { FailsWithDisk D.disk store.old store.new }
     {
         if let Err(fault) = self.settle(store, writer) {
@@ -240,7 +235,7 @@ impl HeldReplies {
         if self.served.failed {
             return self.fail(1, writer);
         }
-        write_told(store.state(), question, cache, writer)
+        write_answer(store, question, cache, writer)
     }
 
     /// Answers a line that asks for this, or holds its reply.
@@ -255,9 +250,7 @@ impl HeldReplies {
         requires few { self.old.served.lines < MOST_BYTES }
         ensures fits { Fits self.new }
         ensures lines { self.new.served.lines ≡ self.old.served.lines + 1 }
-        ensures serves { (start : StoreValue D SessionValue ActionType) (before : List AskedType) (written : List ℕ)
-            → Serving D.disk start before store.old self.old written
-            → Serves D.disk start (before ++ asked ∷ []) store.new self.new written (stream W.contents writer.old writer.new) result }
+        ensures serves { ServesOn D.disk store.old self.old asked store.new self.new (stream W.contents writer.old writer.new) result }
         ensures faults { FailsWithDisk D.disk store.old store.new }
     {
         self.served.lines += 1;
@@ -280,9 +273,7 @@ impl HeldReplies {
     ) -> Result<Served, ServeFault>
         requires { Fits self.old }
         ensures lines { IfOk result (λ served. served.lines ≡ self.old.served.lines) }
-        ensures ends { (start : StoreValue D SessionValue ActionType) (asked : List AskedType) (written : List ℕ)
-            → Serving D.disk start asked store.old self.old written
-            → Ends D.disk start asked store.new written (stream W.contents writer.old writer.new) result }
+        ensures ends { EndsOn D.disk store.old self.old store.new (stream W.contents writer.old writer.new) result }
         ensures faults { FailsWithDisk D.disk store.old store.new }
     {
         if self.served.failed {

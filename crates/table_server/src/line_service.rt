@@ -1,20 +1,15 @@
 //! Bytes served as they come: each line is answered once it is complete.
-ghost use Rattle.std.specs.Prelude.{◌≡◌, ◌<◌, ◌≤◌, ◌+◌, ◌-◌, ◌∷◌, ◌++◌, [], List, ℕ, length, false};
-ghost use Rattle.session_store.specs.Value.{StoreValue};
-ghost use Rattle.session_rules.specs.State.{SessionValue};
-ghost use Rattle.session_rules.specs.declared.action.Action.{Action as ActionType};
+ghost use Rattle.std.specs.Prelude.{◌≡◌, ◌<◌, ◌≤◌, ◌+◌, ◌∷◌, [], length, false};
 ghost use Rattle.line_text.specs.Streams.{stream};
 ghost use Rattle.table_server.specs.Faulted.{FailsWithDisk};
-ghost use Rattle.table_server.specs.Hearing.{Hearing, HearsOn};
+ghost use Rattle.table_server.specs.Hearing.{Hearing, HearsMore};
 ghost use Rattle.table_server.specs.Serving.{Fits};
 
 use crate::asked::asked_by;
-use crate::fault::ServeFault;
 use crate::held_replies::HeldReplies;
-use crate::line_feed::LineFeed;
-use crate::run::MOST_BYTES;
 use bridge_endings::Cache;
 use bridge_session::Session;
+use line_replies::{LineFeed, MOST_BYTES, ServeFault};
 use sector_disk::SectorDisk;
 use session_store::Store;
 use std::io::Write;
@@ -22,7 +17,9 @@ use std::io::Write;
 /// The line that has begun, and the replies that are held.
 #[derive(Drop)]
 pub struct LineService {
+    /// The line that has begun.
     pub(crate) feed: LineFeed,
+    /// The replies that are held.
     pub(crate) held: HeldReplies,
 }
 
@@ -53,9 +50,7 @@ impl LineService {
         requires few { self.old.held.served.lines < MOST_BYTES }
         ensures fits { Fits self.new.held }
         ensures lines { self.new.held.served.lines ≤ self.old.held.served.lines + 1 }
-        ensures hears { (start : StoreValue D SessionValue ActionType) (bytes : List ℕ) (written : List ℕ)
-            → Hearing D.disk start bytes store.old self.old written
-            → HearsOn D.disk start (bytes ++ byte ∷ []) store.new self.new written (stream W.contents writer.old writer.new) result }
+        ensures hears { HearsMore D.disk store.old self.old (byte ∷ []) store.new self.new (stream W.contents writer.old writer.new) result }
         ensures faults { FailsWithDisk D.disk store.old store.new }
     {
         match self.feed.take_byte(byte) {
@@ -78,9 +73,7 @@ impl LineService {
         requires few { self.old.held.served.lines + length piece.now ≤ MOST_BYTES }
         ensures fits { Fits self.new.held }
         ensures lines { self.new.held.served.lines ≤ self.old.held.served.lines + length piece.now }
-        ensures hears { (start : StoreValue D SessionValue ActionType) (bytes : List ℕ) (written : List ℕ)
-            → Hearing D.disk start bytes store.old self.old written
-            → HearsOn D.disk start (bytes ++ piece.now) store.new self.new written (stream W.contents writer.old writer.new) result }
+        ensures hears { HearsMore D.disk store.old self.old piece.now store.new self.new (stream W.contents writer.old writer.new) result }
         ensures faults { FailsWithDisk D.disk store.old store.new }
     {
         for byte in piece {

@@ -2,35 +2,14 @@
 ghost use Rattle.std.specs.Prelude.{◌≡◌, ◌+◌, ◌*◌, ◌<◌, ◌≤◌, IfSome, length, map, true};
 ghost use Rattle.std.specs.List.{list_all, range_with_len};
 ghost use Rattle.line_text.specs.Words.{spaced_words};
-ghost use Rattle.table_server.specs.LineWords.{FoundAs, number_of_word, key_of_word, board_of_word, made_of_word, tricks_of_word, average_of_word, round_of_word, table_of_word, index_of_word, cards_of_word, field_of_word, card_of_word, is_lower_hex, hex_value, hex_byte, seed_of, first_of};
+ghost use Rattle.line_replies.specs.KeyWord.{key_of_word};
+ghost use Rattle.table_server.specs.LineWords.{FoundAs, board_of_word, made_of_word, tricks_of_word, average_of_word, round_of_word, table_of_word, index_of_word, cards_of_word, field_of_word, card_of_word, is_lower_hex, hex_value, hex_byte, seed_of, first_of};
 
 use bridge_cards::{BoardNumber, Card, DECK, read_card};
 use bridge_config::Key;
 use bridge_session::{Average, BoardIndex, Field, MadeCount, RoundNumber, TableNumber, TrickCount};
-use line_text::{first_word, is_numeral, value_of};
-
-/// The number of a numeral, from low to high.
-fn read_number(low: u32, high: u32, word: &[u8]) -> Option<u32>
-    ensures value { result ≡ number_of_word low high word.now }
-    ensures least { IfSome result (λ number. low ≤ number) }
-    ensures most { IfSome result (λ number. number ≤ high) }
-{
-    if !is_numeral(word) {
-        return None;
-    }
-    match value_of(word) {
-        Some(value) if (low..=high).contains(&value) => Some(value),
-        _ => None,
-    }
-}
-
-/// A key, 0 to 4,294,967,295.
-pub fn read_key(word: &[u8]) -> Option<Key>
-    ensures { result ≡ key_of_word word.now }
-{
-    let number = read_number(0, u32::MAX, word)?;
-    Some(Key(number))
-}
+use line_replies::{read_key, read_number};
+use line_text::first_word;
 
 /// A board, 1 to 36.
 pub fn read_board(word: &[u8]) -> Option<BoardNumber>

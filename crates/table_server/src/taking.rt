@@ -3,8 +3,8 @@ ghost use Rattle.std.specs.Prelude.{◌≡◌, ◌<◌, None, false, true, lengt
 ghost use Rattle.table_server.specs.Serving.{GivesReply};
 ghost use Rattle.table_server.specs.Faulted.{FailsWithDisk};
 
-use crate::short_reply::ShortReply;
 use bridge_session::{Action, Session};
+use line_replies::ShortReply;
 use sector_disk::SectorDisk;
 use session_store::{Store, SubmitFault};
 

@@ -1,8 +1,8 @@
 //! One client of the server.
 ghost use Rattle.std.specs.Prelude.{◌≡◌};
-ghost use Rattle.web_loop.specs.Turns.{LeadsTo};
+ghost use Rattle.web_loop.specs.Turns.{LeadsTo, TakesTurn};
 
-use crate::guesses::Guesses;
+use crate::offenders::Offenders;
 use crate::service::LastingService;
 use crate::turn::{Turn, take_turn};
 use http_server::Connection;
@@ -16,10 +16,15 @@ const PATIENCE: u64 = 20;
 /// A connection with the two handles of its socket, one to read at and one to write at.
 #[derive(Drop)]
 pub struct Client<T> {
+    /// What was received and answered.
     connection: Connection,
+    /// The handle to read at.
     reader: T,
+    /// The handle to write at.
     writer: T,
+    /// Where it came from.
     address: IpAddr,
+    /// When it last read or wrote.
     heard: Instant,
 }
 
@@ -51,15 +56,16 @@ impl<T: Read + Write + Drop> Client<T> {
     pub fn take_turn<S: LastingService>(
         &mut self,
         service: &mut S,
-        guesses: &mut Guesses,
+        offenders: &mut Offenders,
         now: Instant,
     ) -> Turn
-        ensures { LeadsTo S.answers service.old service.new }
+        ensures leads { LeadsTo S.answers service.old service.new }
+        ensures turn { TakesTurn S.answers T.remaining self.old self.new service.old service.new }
     {
-        if guesses.waits(self.address, now) {
+        if offenders.waits(self.address, now) {
             return Turn::Waits { moved: false };
         }
-        let before = service.wrong_keys();
+        let before = service.offences();
         let turn = take_turn(
             &mut self.connection,
             service,
@@ -68,8 +74,8 @@ impl<T: Read + Write + Drop> Client<T> {
         );
         if turn != (Turn::Waits { moved: false }) {
             self.heard = now;
-            let wrong = service.wrong_keys().saturating_sub(before);
-            guesses.note(self.address, wrong, now);
+            let wrong = service.offences().saturating_sub(before);
+            offenders.note(self.address, wrong, now);
             return turn;
         }
         if now.duration_since(self.heard) < Duration::from_secs(PATIENCE) {

@@ -1,9 +1,10 @@
 //! The clients of the server.
-ghost use Rattle.std.specs.Prelude.{◌≡◌};
-ghost use Rattle.web_loop.specs.Turns.{LeadsTo};
+ghost use Rattle.std.specs.Prelude.{◌≡◌, ◌≢◌, ℕ};
+ghost use Rattle.slab.specs.Slab.{get};
+ghost use Rattle.web_loop.specs.Turns.{LeadsTo, TurnsIf, TurnsOf};
 
 use crate::client::Client;
-use crate::guesses::Guesses;
+use crate::offenders::Offenders;
 use crate::service::LastingService;
 use crate::turn::Turn;
 use http_server::{Config, Connection};
@@ -18,14 +19,19 @@ use std::time::Instant;
 /// The most clients at once.
 pub const MOST_CLIENTS: usize = 128;
 
-/// The clients that are connected, at most 128, and the addresses from which wrong keys came.
+/// The clients that are connected, at most 128, and the addresses from which offences came.
 #[derive(Drop)]
 pub struct Clients<T> {
+    /// Where connections are made.
     alloc: Global,
+    /// The secret keys by which names of headers are looked up.
     keys: RandomState,
+    /// The limits of each connection.
     config: Config,
+    /// Those that are connected.
     connected: Slab<Client<T>>,
-    guesses: Guesses,
+    /// The addresses from which offences came.
+    offenders: Offenders,
 }
 
 impl<T: Read + Write + OpenStream + Drop> Clients<T> {
@@ -37,7 +43,7 @@ impl<T: Read + Write + OpenStream + Drop> Clients<T> {
             keys,
             config,
             connected: Slab::new(alloc),
-            guesses: Guesses::new(begun),
+            offenders: Offenders::new(begun),
         }
     }
 
@@ -75,9 +81,11 @@ impl<T: Read + Write + OpenStream + Drop> Clients<T> {
         }
     }
 
-    /// A turn of each client whose address does not wait, and whether any of them read or wrote.
+    /// A turn of each client whose address does not wait, and whether any of them read or wrote. The service is called for what
+    /// these clients sent, and for nothing else.
     pub fn take_turns<S: LastingService>(&mut self, service: &mut S, now: Instant) -> bool
-        ensures { LeadsTo S.answers service.old service.new }
+        ensures leads { LeadsTo S.answers service.old service.new }
+        ensures turns { TurnsOf S.answers T.remaining (get self.old.connected) self.old.connected.capacity service.old service.new }
     {
         let mut moved = false;
         for key in 0..self.connected.capacity() {
@@ -88,9 +96,11 @@ impl<T: Read + Write + OpenStream + Drop> Clients<T> {
 
     /// The turn of the client under a key, if there is one, and whether it read or wrote. It goes where it closes.
     fn take_turn_at<S: LastingService>(&mut self, key: usize, service: &mut S, now: Instant) -> bool
-        ensures { LeadsTo S.answers service.old service.new }
+        ensures leads { LeadsTo S.answers service.old service.new }
+        ensures turn { TurnsIf S.answers T.remaining (get self.old.connected key) service.old service.new }
+        ensures others { (other : ℕ) → other ≢ key → get self.new.connected other ≡ get self.old.connected other }
     {
-        match turn_at(&mut self.connected, &mut self.guesses, key, service, now) {
+        match turn_at(&mut self.connected, &mut self.offenders, key, service, now) {
             Turn::Waits { moved } => moved,
             Turn::GoesOn => true,
             Turn::Closes => {
@@ -104,15 +114,17 @@ impl<T: Read + Write + OpenStream + Drop> Clients<T> {
 /// The turn of the client under a key, if there is one.
 fn turn_at<T: Read + Write + Drop, S: LastingService>(
     connected: &mut Slab<Client<T>>,
-    guesses: &mut Guesses,
+    offenders: &mut Offenders,
     key: usize,
     service: &mut S,
     now: Instant,
 ) -> Turn
-    ensures { LeadsTo S.answers service.old service.new }
+    ensures leads { LeadsTo S.answers service.old service.new }
+    ensures turn { TurnsIf S.answers T.remaining (get connected.old key) service.old service.new }
+    ensures others { (other : ℕ) → other ≢ key → get connected.new other ≡ get connected.old other }
 {
     match connected.get_mut(key) {
-        Some(client) => client.take_turn(service, guesses, now),
+        Some(client) => client.take_turn(service, offenders, now),
         None => Turn::Waits { moved: false },
     }
 }

@@ -9,14 +9,14 @@
 
 mod client;
 mod clients;
-mod guesser;
-mod guesses;
+mod offender;
+mod offenders;
+mod server_loop;
 mod service;
-mod serving;
 mod turn;
 
 pub use clients::Clients;
-pub use guesses::Guesses;
+pub use offenders::Offenders;
+pub use server_loop::serve_minutes;
 pub use service::LastingService;
-pub use serving::serve_minutes;
 pub use turn::{Turn, take_turn};

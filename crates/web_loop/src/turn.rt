@@ -19,7 +19,7 @@ pub enum Turn {
         /// Whether bytes were read or written before.
         moved: bool,
     },
-    /// It took as many steps as a turn may, or answered a wrong key, and has more to do.
+    /// It took as many steps as a turn may, or answered an offence, and has more to do.
     GoesOn,
     /// It is done, or its peer is gone.
     Closes,
@@ -107,7 +107,7 @@ fn cut_short(done: bool) -> Turn
 /// while something is pending.
 ///
 /// It waits where the reader or the writer would block, and closes where it is done, at any other error than an interruption,
-/// and where the writer takes nothing. Where a wrong key was answered, it ends once the answer is sent.
+/// and where the writer takes nothing. Where an offence was answered, it ends once the answer is sent.
 pub fn take_turn<S: LastingService, R: Read, W: Write>(
     connection: &mut Connection,
     service: &mut S,
@@ -118,14 +118,14 @@ pub fn take_turn<S: LastingService, R: Read, W: Write>(
     ensures written { Sends (history connection.old) (history connection.new) (W.contents writer.old) (W.contents writer.new) }
     ensures calls { Calls S.answers service.old service.new (history connection.old).calls (history connection.new).calls }
 {
-    let before = service.wrong_keys();
+    let before = service.offences();
     for steps in 0..MOST_STEPS {
         match take_step(connection, service, reader, writer) {
             Step::Moved => {}
             Step::Blocked => return Turn::Waits { moved: steps > 0 },
             Step::Closed => return Turn::Closes,
         }
-        if service.wrong_keys() != before && !connection.wants_write() {
+        if service.offences() != before && !connection.wants_write() {
             return cut_short(connection.is_done());
         }
     }

@@ -5,7 +5,7 @@ use super::requests::{request, status_of};
 use std::net::{IpAddr, Ipv4Addr, Ipv6Addr};
 use std::test::Fail;
 use std::time::{Duration, Instant};
-use web_loop::{Guesses, LastingService};
+use web_loop::{LastingService, Offenders};
 
 /// An address of the club's network.
 fn device(number: u8) -> IpAddr {
@@ -20,14 +20,14 @@ fn after(begun: Instant, millis: u64) -> Result<Instant, Fail> {
     }
 }
 
-/// Guesses with these wrong keys of one device, each a request: how many it had, and when, in milliseconds.
-fn guessed(begun: Instant, requests: &[(u64, u64)]) -> Result<Guesses, Fail> {
-    let mut guesses = Guesses::new(begun);
+/// Offenders with these wrong keys of one device, each a request: how many it had, and when, in milliseconds.
+fn guessed(begun: Instant, requests: &[(u64, u64)]) -> Result<Offenders, Fail> {
+    let mut offenders = Offenders::new(begun);
     for request in requests {
         let (wrong, at) = *request;
-        guesses.note(device(7), wrong, after(begun, at)?);
+        offenders.note(device(7), wrong, after(begun, at)?);
     }
-    Ok(guesses)
+    Ok(offenders)
 }
 
 // The tenth within a minute slows, each key of a request counts, and a minute after the first of ten it is over. A slowed
@@ -48,13 +48,13 @@ fn the_tenth_wrong_key_within_a_minute_slows(rt: HostRuntime) -> Result<(), Fail
         (&[(10, 0), (0, 60_000)], 0),
     ];
     for (requests, until) in rows {
-        let guesses = guessed(begun, requests)?;
+        let offenders = guessed(begun, requests)?;
         let now = requests.last().map_or(0, |request| request.1);
         let waits = [now, until.saturating_sub(1).max(now), until.max(now)];
         for (at, due) in waits.iter().zip([until > 0, until > 0, false]) {
             let time = after(begun, *at)?;
-            expect_eq(&rt, guesses.waits(device(7), time), due, (requests, *at));
-            expect_eq(&rt, guesses.waits(device(8), time), false, "another");
+            expect_eq(&rt, offenders.waits(device(7), time), due, (requests, *at));
+            expect_eq(&rt, offenders.waits(device(8), time), false, "another");
         }
     }
     Ok(())
@@ -65,16 +65,16 @@ fn the_tenth_wrong_key_within_a_minute_slows(rt: HostRuntime) -> Result<(), Fail
 fn addresses_are_told_apart(rt: HostRuntime) -> Result<(), Fail> {
     let begun = Instant::now(&rt)?;
     let then = after(begun, 1)?;
-    let mut guesses = Guesses::new(begun);
+    let mut offenders = Offenders::new(begun);
     for number in 0..=128 {
-        guesses.note(device(number), 10, begun);
+        offenders.note(device(number), 10, begun);
     }
-    expect_eq(&rt, guesses.waits(device(0), then), false, "forgotten");
+    expect_eq(&rt, offenders.waits(device(0), then), false, "forgotten");
     for number in [1, 2, 127, 128] {
-        expect_eq(&rt, guesses.waits(device(number), then), true, number);
+        expect_eq(&rt, offenders.waits(device(number), then), true, number);
     }
     let mapped = IpAddr::from(Ipv6Addr::new(0, 0, 0, 0, 0, 0xffff, 0xc0a8, 0x0401));
-    expect_eq(&rt, guesses.waits(mapped, then), true, "mapped");
+    expect_eq(&rt, offenders.waits(mapped, then), true, "mapped");
     Ok(())
 }
 
@@ -111,7 +111,7 @@ fn wrong_keys_are_counted(rt: HostRuntime) -> Result<(), Fail> {
             status.as_bytes(),
             first,
         );
-        expect_eq(&rt, pages.wrong_keys(), due, body);
+        expect_eq(&rt, pages.offences(), due, body);
     }
     Ok(())
 }

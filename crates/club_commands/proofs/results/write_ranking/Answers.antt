@@ -1,6 +1,6 @@
 use Rattle.std.proofs.Common.{◌++◌, refl}
 use Rattle.line_text.proofs.Streams.{prefix_longer}
-use Rattle.table_server.proofs.WrittenParts.{written_after}
+use Rattle.line_replies.proofs.WrittenParts.{written_after}
 use Rattle.club_commands.proofs.results.write_ranking.Goals as goal
 
 pub returns-in-Ok-clause-written : goal.returns-in-Ok-clause-written

@@ -1,7 +1,7 @@
 use Rattle.std.proofs.Common.{◌≡◌, ◌∙◌, ◌++◌, sym, ap, arith, append-nil}
-use Rattle.table_server.specs.declared.short_reply.ShortReply.TheVariants as short
+use Rattle.line_replies.specs.declared.short_reply.ShortReply.TheVariants as short
 use Rattle.table_server.specs.Answered.{disk_errors}
-use Rattle.table_server.specs.ReplyTexts.{short_text}
+use Rattle.line_replies.specs.ReplyTexts.{short_text}
 use Rattle.table_server.proofs.Folds.{errors_append}
 use Rattle.table_server.proofs.held_replies.push_disk_errors.Goals as goal
 

@@ -1,4 +1,4 @@
-use Rattle.table_server.specs.LineWords.{key_of_word}
+use Rattle.line_replies.specs.KeyWord.{key_of_word}
 use Rattle.table_server.proofs.FirstWords.{first_read}
 use Rattle.table_server.proofs.line_words.first_key.Goals as goal
 

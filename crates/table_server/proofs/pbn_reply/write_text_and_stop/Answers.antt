@@ -3,7 +3,7 @@ use Rattle.std.proofs.lemmas.Result.{err_from_is_err_and}
 use Rattle.line_text.proofs.Streams.{prefix_longer}
 use Rattle.bridge_pbn.specs.Games.{session_text}
 use Rattle.table_server.specs.PbnReply.{text_and_stop}
-use Rattle.table_server.proofs.WrittenParts.{written_after}
+use Rattle.line_replies.proofs.WrittenParts.{written_after}
 use Rattle.table_server.proofs.pbn_reply.write_text_and_stop.Goals as goal
 
 pub returns-in_err-write_pbn : goal.returns-in_err-write_pbn

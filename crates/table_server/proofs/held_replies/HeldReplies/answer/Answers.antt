@@ -2,9 +2,9 @@ use Rattle.std.proofs.Common.{◌≡◌, ◌∷◌, [], ◌++◌, ◌∙◌, len
 use Rattle.session_store.proofs.CallLaws.{continues_begins}
 use Rattle.bridge_session.specs.SessionKeeping.{session_keeping}
 use Rattle.table_server.specs.declared.asked.Asked.TheVariants.{BadLine, LongLine}
-use Rattle.table_server.specs.declared.short_reply.ShortReply.TheVariants as short
+use Rattle.line_replies.specs.declared.short_reply.ShortReply.TheVariants as short
 use Rattle.table_server.specs.Answered.{accepted_all}
-use Rattle.table_server.specs.ReplyTexts.{short_text}
+use Rattle.line_replies.specs.ReplyTexts.{short_text}
 use Rattle.table_server.specs.Serving.{Failed, Works, ServingBy}
 use Rattle.table_server.specs.Standing.{standing_of}
 use Rattle.table_server.proofs.CountLemmas.{counted_none}

@@ -1,7 +1,7 @@
 use Rattle.std.proofs.Common.{◌≡◌, ◌<◌, ◌+◌, ◌∷◌, [], ◌++◌, ◌∙◌, length, inl, refl, sym, ap, arith, append_assoc, length-append}
 use Rattle.table_server.specs.declared.asked.Asked.TheVariants.{Change}
 use Rattle.table_server.specs.Answered.{after_all, accepted_all, disk_errors}
-use Rattle.table_server.specs.ReplyTexts.{short_text}
+use Rattle.line_replies.specs.ReplyTexts.{short_text}
 use Rattle.table_server.specs.Serving.{accepted_count}
 use Rattle.table_server.specs.Standing.{standing_of}
 use Rattle.table_server.proofs.CountLemmas.{accepted_few, counted_change}

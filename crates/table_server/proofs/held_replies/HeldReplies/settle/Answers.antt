@@ -9,9 +9,9 @@ pub returns-in-Err-clause-settled : goal.returns-in-Err-clause-settled
 returns-in-Err-clause-settled g c =
     let disk = g.D.SectorDisk.disk in
     let self = c.args.self.now in
-    let stands = confirm_stands disk c.args.store.now c.confirm.new.self c.in-Err.field-0 c.in-Err.ensures.answer in
+    let stands = confirm_stands disk c.args.store.now c.confirm-confirmed.new.self c.in-Err.field-0 c.in-Err.ensures.answer in
     let none_more : self.count + 0 ≡ self.count = omega arith in
-    subst (λ (b : Bool). SettlesBy disk b c.args.store.now c.confirm.new.self self.text.bytes self.count
+    subst (λ (b : Bool). SettlesBy disk b c.args.store.now c.confirm-confirmed.new.self self.text.bytes self.count
     (stream g.W.Write.contents c.args.writer.now c.fail.new.writer) c.fail.result)
     (sym (ap (λ served. served.failed) c.fail.ensures.served)) (
       stands.0,

@@ -1,11 +1,10 @@
 use Rattle.std.proofs.Common.{◌≡◌, ◌∷◌, [], ◌++◌, ◌∙◌, true, false, Ok, length, inr, refl, sym, ap, subst, arith}
 use Rattle.line_text.specs.Streams.{stream}
 use Rattle.table_server.specs.declared.asked.Asked.TheVariants.{Told}
-use Rattle.table_server.specs.declared.fault.ServeFault.{ServeFault}
+use Rattle.line_replies.specs.declared.fault.ServeFault.{ServeFault}
 use Rattle.table_server.specs.Answered.{accepted_all, disk_errors}
 use Rattle.table_server.specs.Serving.{Failed, Settled, SettlesBy}
 use Rattle.table_server.specs.Standing.{standing_of}
-use Rattle.table_server.specs.Told.{Tells}
 use Rattle.table_server.proofs.CountLemmas.{counted_none}
 use Rattle.table_server.proofs.Folds.{held_told}
 use Rattle.table_server.proofs.ServingLemmas.{settled, told}
@@ -57,18 +56,17 @@ returns-clause-serves g c start asked written w =
     let new = c.settle.new.store in
     let from = standing_of start in
     let s = c.in_default.ensures in
-    let t = c.write_told.ensures.told in
+    let t = c.write_answer.ensures.told in
     let settles : SettlesBy disk {E = ServeFault} false old new self.text.bytes self.count (stream g.W.Write.contents c.args.writer.now c.settle.new.writer) (Ok tt)
     = subst (λ b. SettlesBy disk {E = ServeFault} b old new self.text.bytes self.count (stream g.W.Write.contents c.args.writer.now c.settle.new.writer) (Ok tt))
     c.if-self.false s.settled in
     let all : Settled disk start asked new (written ++ self.text.bytes)
     = settled disk start old new asked self.text.bytes self.count written w.holding settles.0 s.continues in
-    let tells : Tells new.state c.args.question t.0 = subst (λ state. Tells state c.args.question t.0) c.state.ensures.state t.1 in
     let count : c.settle.new.self.served.accepted ≡ length (accepted_all from (asked ++ Told c.args.question ∷ []))
     = ap (λ served. served.accepted) s.served ∙ w.counted ∙ sym (counted_none from asked (Told c.args.question) refl) in
     serves_after disk start new (asked ++ Told c.args.question ∷ []) c.settle.new.self written self.text.bytes
-    (g.W.Write.contents c.args.writer.now) (g.W.Write.contents c.settle.new.writer) (g.W.Write.contents c.write_told.new.writer) c.write_told.result settles.1
-    (serves_working disk start new (asked ++ Told c.args.question ∷ []) c.settle.new.self (written ++ self.text.bytes) t.0 _ c.write_told.result
+    (g.W.Write.contents c.args.writer.now) (g.W.Write.contents c.settle.new.writer) (g.W.Write.contents c.write_answer.new.writer) c.write_answer.result settles.1
+    (serves_working disk start new (asked ++ Told c.args.question ∷ []) c.settle.new.self (written ++ self.text.bytes) t.0 _ c.write_answer.result
     asked (Told c.args.question ∷ []) refl (omega arith) (inr (Told c.args.question, refl, λ works. refl)) (replied disk from asked (written ++ self.text.bytes) all.are_replies)
-    (told disk start new asked c.args.question (written ++ self.text.bytes) t.0 all tells) (held_told asked c.args.question)
-    (s.no_text c.if-self.false) s.none_held c.if-self.false count t.2 c.write_told.ensures.fault)
+    (told disk start new asked c.args.question (written ++ self.text.bytes) t.0 all t.1) (held_told asked c.args.question)
+    (s.no_text c.if-self.false) s.none_held c.if-self.false count t.2 c.write_answer.ensures.fault)

@@ -1,5 +1,10 @@
-use Rattle.web_loop.specs.Turns.{LeadsTo}
+use Rattle.std.proofs.Common.{◌≡◌, ◌≤◌, ℕ}
+use Rattle.slab.specs.Slab.{get}
+use Rattle.web_loop.specs.Turns.{LeadsTo, TurnsOf}
 use Rattle.web_loop.proofs.clients.Clients.take_turns.Given as goal
 
 abbrev pub invariant-loop-key : goal.invariant-loop-key
-invariant-loop-key g l = LeadsTo g.S.Service.answers l.fn.service l.service
+invariant-loop-key g l =
+    LeadsTo g.S.Service.answers l.fn.service l.service
+    × TurnsOf g.S.Service.answers g.T.Read.remaining (get l.fn.self.connected) l.key l.fn.service l.service
+    × ((other : ℕ) → l.key ≤ other → get l.self.connected other ≡ get l.fn.self.connected other)

@@ -1,0 +1,4 @@
+pub mod Added
+pub mod FeedLemmas
+pub mod Pairs
+pub mod WrittenParts

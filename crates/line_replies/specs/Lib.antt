@@ -1,0 +1,5 @@
+pub mod Limit
+pub mod KeyWord
+pub mod ReplyTexts
+pub mod ViewText
+pub mod LineFeed

@@ -1,0 +1,3 @@
+pub mod SamePlace
+mod ToldViews
+mod MoreTables

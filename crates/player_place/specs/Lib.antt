@@ -1,2 +1,0 @@
--- A player's place as a text.
-pub mod Place

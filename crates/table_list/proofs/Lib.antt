@@ -1,2 +1,0 @@
-mod ToldViews
-mod MoreTables

@@ -1,2 +1,0 @@
--- All tables as a text.
-pub mod Tables

@@ -1,0 +1,8 @@
+use Rattle.std.proofs.Common.{subst}
+use Rattle.web_loop.specs.Turns.{TurnsIf}
+use Rattle.web_loop.proofs.clients.turn_at.Goals as goal
+
+pub returns-in-Some-clause-turn : goal.returns-in-Some-clause-turn
+returns-in-Some-clause-turn g c =
+    subst (λ found. TurnsIf g.S.Service.answers g.T.Read.remaining found c.args.service.now c.take_turn.new.service) c.in-Some.ensures.value
+    (c.take_turn.new.self, c.take_turn.ensures.turn)

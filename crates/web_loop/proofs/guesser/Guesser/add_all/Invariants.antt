@@ -1,8 +1,0 @@
-use Rattle.std.proofs.Common.{◌≡◌}
-use Rattle.web_loop.specs.Guesses.{with_times}
-use Rattle.web_loop.proofs.guesser.Guesser.add_all.Given as goal
-
-abbrev pub invariant-loop : goal.invariant-loop
-invariant-loop l =
-    (l.self.times.items ≡ with_times l.counter l.at l.initial.self.times.items)
-    × (l.self.until ≡ l.initial.self.until) × (l.self.address ≡ l.initial.self.address)

@@ -1,5 +1,0 @@
-use Rattle.web_loop.specs.Turns.{LeadsTo}
-use Rattle.web_loop.proofs.serving.send_pending.Given as goal
-
-abbrev pub invariant-loop : goal.invariant-loop
-invariant-loop g l = LeadsTo g.S.Service.answers l.fn.service l.service
