@@ -11,6 +11,7 @@
 //! bridge_club pbn club.disk
 //! bridge_club results club.disk --html
 //! bridge_club check club.disk
+//! bridge_club version
 //! ```
 #![tactic(auto)]
 

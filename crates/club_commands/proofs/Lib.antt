@@ -1,10 +1,7 @@
 pub mod PlanStops
 pub mod Reading
-pub mod Stopped
 pub mod Seen
-pub mod Checked
 pub mod Counted
 pub mod Connected
-pub mod Opened
-pub mod Told
+pub mod Served
 pub mod Shown

@@ -1,37 +1,20 @@
 -- What was read of a disk, and what was said of it.
-use Rattle.std.proofs.Common.{◌≡◌, ◌∙◌, ◌⊎◌, ◌<◌, ◌≤◌, ℕ, List, [], Option, Result, Ok, Err, IfErr, OnOk, inl, inr, refl, sym, ap}
-use Rattle.std.proofs.lemmas.Bool.{cases_lt}
+use Rattle.std.proofs.Common.{◌≡◌, ℕ, List, [], Option, Result, Ok, Err, IfErr, OnOk, inl, refl}
 use Rattle.line_text.specs.Streams.{Stream, Written}
 use Rattle.sector_disk.specs.Disk.{Disk, Image}
 use Rattle.sector_disk.specs.Runs.{Quiet}
 use Rattle.session_store.specs.declared.disk_format.DiskFormat.{DiskFormat}
 use Rattle.session_store.specs.declared.reading.Header.{Header}
-use Rattle.session_store.specs.declared.fault.StoreFault.{StoreFault}
-use Rattle.session_store.specs.declared.fault.StoreFault.TheVariants.{TooSmall}
-use Rattle.session_store.specs.Looking.{IsSeen, IsUnseen}
+use Rattle.session_store.specs.Looking.{IsSeen}
 use Rattle.session_store.specs.Stands.{header_in}
 use Rattle.bridge_session.specs.SessionKeeping.{session_keeping}
 use Rattle.session_rules.specs.State.{SessionValue}
 use Rattle.line_replies.specs.declared.fault.ServeFault.TheVariants.{Write}
 use Rattle.club_commands.specs.declared.fault.RunFault.{RunFault}
 use Rattle.club_commands.specs.declared.fault.RunFault.TheVariants.{Stream as StreamFault}
-use Rattle.club_commands.specs.Readings.{RefusesReading}
 use Rattle.club_commands.specs.Checked.{with_standing, with_state, SaysSeen, Checks, StopsChecking}
 
 module _ {D : Type 0} (disk : Disk D) where
-  -- why reading a disk gave nothing
-  pub refuses_reading : {X : Type 0} (header : Image → Option Header) (d left : D) (result : Result X StoreFault) (fault : StoreFault)
-      → result ≡ Err fault → Quiet disk d left → (disk.count d < 2048 → (result ≡ Err TooSmall) × (left ≡ d))
-      → (2048 ≤ disk.count d → IsUnseen session_keeping disk header d left fault) → RefusesReading disk header d left fault
-  refuses_reading {X = X} header d left result fault is quiet small unseen = at (cases_lt (disk.count d) 2048)
-    where
-      named : result ≡ Err TooSmall → fault ≡ TooSmall
-      named too_small = ap (λ (r : Result X StoreFault). elim r [ Ok _ ↦ fault | Err e ↦ e ]) (sym is ∙ too_small)
-
-      at : (disk.count d < 2048) ⊎ (2048 ≤ disk.count d) → RefusesReading disk header d left fault
-      at (inl few) = inl (few, (small few).1, named (small few).0)
-      at (inr many) = inr (many, quiet, unseen many)
-
   -- what was seen under a header is a text
   pub says_seen : (header : Image → Option Header) (heading : List ℕ) (d left : D) (state : SessionValue) (format : DiskFormat)
       (epoch sector records : ℕ) (text : List ℕ) → Quiet disk d left

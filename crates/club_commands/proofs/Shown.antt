@@ -1,15 +1,10 @@
 -- Pages that were shown over a store.
-use Rattle.std.proofs.Common.{◌≡◌, ℕ, Bool, true, false, List, [], ◌∷◌, Option, Result, Ok, Err, IfOk, IfErr, OnOk, inl, inr, refl}
+use Rattle.std.proofs.Common.{◌≡◌, ℕ, Bool, true, false, List, [], ◌∷◌, Result, Ok, Err, IfErr, OnOk, inl, inr, refl}
 use Rattle.std.specs.Prelude.{nat_lt, length}
-use Rattle.std.specs.declared.fs.File.{File}
-use Rattle.line_text.specs.Streams.{Stream}
 use Rattle.http.specs.Request.{head_of, body_of}
 use Rattle.http_server.specs.declared.response.Response.{Response}
 use Rattle.http_server.specs.Exchange.{Call, Chain}
 use Rattle.sector_disk.specs.Disk.{Disk}
-use Rattle.sector_disk.specs.declared.file.FileDisk.{FileDisk}
-use Rattle.sector_disk.specs.declared.system_file.SystemFile.{SystemFile}
-use Rattle.session_store.specs.declared.fault.StoreFault.TheVariants.{NoMemory}
 use Rattle.session_store.specs.Value.{StoreValue}
 use Rattle.session_rules.specs.declared.action.Action.{Action}
 use Rattle.session_rules.specs.State.{SessionValue}
@@ -22,11 +17,12 @@ use Rattle.web_requests.specs.declared.route.Route.TheVariants.{Page, Script, Di
 use Rattle.table_pages.specs.Answered.{AnswersLines, place_told, tables_told}
 use Rattle.page_replies.specs.ToldResults.{results_told}
 use Rattle.table_pages.specs.Responses.{TellsShort, Responds, Answering}
-use Rattle.command_line.specs.declared.command.WebHost.{WebHost}
 use Rattle.club_commands.specs.declared.fault.RunFault.{RunFault}
-use Rattle.club_commands.specs.OnFile.{IsOnFile, RefusesFile, OpenedFile}
-use Rattle.club_commands.specs.Stored.{with_disk}
-use Rattle.club_commands.specs.Web.{host_at, alias_at, HasShown, StopsShowing, ShowsPages, FailsPages, StopsPages, ended_by, ShowsOpened, StopsOpenedPages, LeavesShown, LeavesUnshown}
+use Rattle.line_text.specs.Streams.{Stream}
+use Rattle.club_disk.specs.Files.{ClubDisk, ClubStore, Leads}
+use Rattle.command_line.specs.declared.command.WebHost.{WebHost}
+use Rattle.club_commands.specs.Faults.{Ended}
+use Rattle.club_commands.specs.Web.{host_at, alias_at, HasShown, StopsShowing, ShowsOver, ShowsPages, FailsPages, StopsPages, ended_by}
 
 module _ {D : Type 0} (disk : Disk D) where
   -- over one body of lines
@@ -91,51 +87,12 @@ module _ {D : Type 0} (disk : Disk D) where
     pages_stopped false (Ok _) result start store requests worked failed is = rw is tt
     pages_stopped false (Err _) result start store requests worked failed is = rw is (inr (shows_pages start store requests failed, refl))
 
--- pages were shown of the session on a disk in a file
-pub has_shown : {C E : Type 0} (web : WebHost) (opened : OpenedFile) (cache : Result C E) (output : Stream) (result : Result (FileDisk (SystemFile File)) (Option (FileDisk (SystemFile File)) × RunFault))
-    → IfOk opened IsOnFile → IfOk result (λ left. ShowsOpened web opened cache left output) → IfOk result (λ left. LeavesShown left web output)
-has_shown web opened cache output (Err e) on shows = tt
-has_shown web (Ok start) (Ok _) output (Ok left) on shows =
-    record { start = start; opened = on; store = shows.0; left_by = shows.1; shown = shows.2 }
-has_shown web (Ok start) (Err _) output (Ok left) on shows = absurd shows
-has_shown web (Err e) cache output (Ok left) on shows = absurd shows
-
--- why none were shown, or no more
-pub stops_web : {C E : Type 0} (web : WebHost) (opened : OpenedFile) (cache : Result C E) (output : Stream) (result : Result (FileDisk (SystemFile File)) (Option (FileDisk (SystemFile File)) × RunFault))
-    → IfOk opened IsOnFile → IfErr opened (λ e. RefusesFile e.0 e.1) → IfErr result (λ e. StopsOpenedPages web opened cache e.0 output e.1)
-    → IfErr result (λ e. LeavesUnshown e.0 web output e.1)
-stops_web web opened cache output (Ok _) on refused stops = tt
-stops_web web (Ok start) (Ok _) output (Err e) on refused (inl none) =
-    inl (record { cause = NoMemory; named = none.1; refused = inr (refl, (start, on, none.0)) }, none.2)
-stops_web web (Ok start) (Ok _) output (Err e) on refused (inr stops) =
-    inr (record { start = start; opened = on; store = stops.0; left_by = stops.1; stops = stops.2 })
-stops_web web (Ok start) (Err _) output (Err e) on refused stops =
-    inl (record { cause = NoMemory; named = stops.1; refused = inr (refl, (start, on, stops.0)) }, stops.2)
-stops_web web (Err was) cache output (Err e) on refused stops =
-    inl (record { cause = was.1; named = stops.1; refused = inl (rw stops.0 refused) }, stops.2)
-
-module _ {C E : Type 0} (web : WebHost) (opened : OpenedFile) (cache : Result C E) (start store : StoreValue (FileDisk (SystemFile File)) SessionValue Action) (held : C) (output : Stream) where
-  -- pages were shown over a session that was opened, and the disk is handed out
-  pub shows_opened : (ended : Result (Unit {0}) RunFault) (result : Result (FileDisk (SystemFile File)) (Option (FileDisk (SystemFile File)) × RunFault))
-      → opened ≡ Ok start → cache ≡ Ok held → OnOk ended (HasShown (host_at web) (alias_at web) start store output)
-      → result ≡ with_disk store.disk ended → IfOk result (λ left. ShowsOpened web opened cache left output)
-  shows_opened (Ok _) result is cached shows out = rw (out, is, cached) (store, refl, shows)
-  shows_opened (Err fault) result is cached shows out = rw out tt
-
-  -- the showing stopped
-  pub stops_opened_pages : (ended : Result (Unit {0}) RunFault) (result : Result (FileDisk (SystemFile File)) (Option (FileDisk (SystemFile File)) × RunFault))
-      → opened ≡ Ok start → cache ≡ Ok held → IfErr ended (StopsShowing (host_at web) (alias_at web) start store output)
-      → result ≡ with_disk store.disk ended → IfErr result (λ e. StopsOpenedPages web opened cache e.0 output e.1)
-  stops_opened_pages (Ok _) result is cached stops out = rw out tt
-  stops_opened_pages (Err fault) result is cached stops out = rw (out, is, cached) (inr (store, refl, stops))
-
--- the names and the store of the pages are those of the words and of opening
-pub shown_by : (host alias other_host other_alias : List ℕ) (start other_start store : StoreValue (FileDisk (SystemFile File)) SessionValue Action) (output : Stream) (ended : Result (Unit {0}) RunFault)
-    → host ≡ other_host → alias ≡ other_alias → start ≡ other_start
-    → OnOk ended (HasShown host alias start store output) → OnOk ended (HasShown other_host other_alias other_start store output)
-shown_by host alias other_host other_alias start other_start store output ended h a s shown = rw (← h, ← a, ← s) shown
-
-pub stopped_by : (host alias other_host other_alias : List ℕ) (start other_start store : StoreValue (FileDisk (SystemFile File)) SessionValue Action) (output : Stream) (ended : Result (Unit {0}) RunFault)
-    → host ≡ other_host → alias ≡ other_alias → start ≡ other_start
-    → IfErr ended (StopsShowing host alias start store output) → IfErr ended (StopsShowing other_host other_alias other_start store output)
-stopped_by host alias other_host other_alias start other_start store output ended h a s stops = rw (← h, ← a, ← s) stops
+-- pages were shown over a store at the names of the words, and its disk is handed out
+pub shows_over : (web : WebHost) (host alias : List ℕ) (start served last : ClubStore) (output : Stream) (ended handed : Ended) (left : ClubDisk)
+    → host ≡ host_at web → alias ≡ alias_at web → served ≡ start → handed ≡ ended → left ≡ last.disk
+    → OnOk ended (HasShown host alias served last output) → IfErr ended (StopsShowing web host alias served last output)
+    → Leads (ShowsOver web output handed) start left
+shows_over web host alias start served last output (Ok _) handed left h a s is left_by shown stops =
+    rw is (last, left_by, rw (← h, ← a, ← s) shown)
+shows_over web host alias start served last output (Err _) handed left h a s is left_by shown stops =
+    rw is (last, left_by, inr (rw (← h, ← a, ← s) stops))

@@ -1,28 +1,14 @@
 -- What the command `check` says of a disk.
-use Rattle.std.specs.Prelude.{◌≡◌, ◌⊎◌, ◌++◌, ℕ, List, [], ◌∷◌, codes, if◌then◌else◌, Option, Some, None, Result, Ok, Err, MatchResult}
-use Rattle.std.specs.Fmt.{decimal}
-use Rattle.std.specs.declared.fs.File.{File}
-use Rattle.line_text.specs.Streams.{Stream, Takes, TakesPrefix, IsUntouched}
-use Rattle.sector_disk.specs.Disk.{Disk, Image}
+use Rattle.std.specs.Prelude.{◌≡◌, ◌⊎◌, ◌++◌, ℕ, List, [], ◌∷◌, codes, if◌then◌else◌, Option}
+use Rattle.club_commands.specs.Basis.{decimal, Stream, Takes, TakesPrefix, IsUntouched, Disk, Image, StoreFault, TooSmall, DiskFault, NotFormatted, Damaged, EpochsSpent, NoMemory, header_in, session_keeping, SessionValue, Write, RunFault, StreamFault, System, Config, Store, RefusesReading}
 use Rattle.sector_disk.specs.Runs.{Quiet}
-use Rattle.sector_disk.specs.declared.file.FileDisk.{FileDisk}
-use Rattle.sector_disk.specs.declared.system_file.SystemFile.{SystemFile}
-use Rattle.sector_disk.specs.File.{file_disk}
 use Rattle.session_store.specs.declared.disk_format.DiskFormat.{DiskFormat}
 use Rattle.session_store.specs.declared.reading.Header.{Header}
-use Rattle.session_store.specs.declared.fault.StoreFault.{StoreFault}
-use Rattle.session_store.specs.declared.fault.StoreFault.TheVariants.{TooSmall, Disk as DiskFault, NotFormatted, Damaged, EpochsSpent, NoMemory}
 use Rattle.session_store.specs.Form.{digit}
 use Rattle.session_store.specs.Looking.{IsSeen, older_header_in}
-use Rattle.session_store.specs.Stands.{header_in}
-use Rattle.bridge_session.specs.SessionKeeping.{session_keeping}
-use Rattle.session_rules.specs.State.{SessionValue, is_closed}
-use Rattle.line_replies.specs.declared.fault.ServeFault.TheVariants.{Write}
-use Rattle.club_commands.specs.declared.fault.RunFault.{RunFault}
-use Rattle.club_commands.specs.declared.fault.RunFault.TheVariants.{Stream as StreamFault, Config, Store}
+use Rattle.session_rules.specs.State.{is_closed}
 use Rattle.club_commands.specs.Counts.{boards_dealt, plays_done}
 use Rattle.club_commands.specs.Faults.{store_line}
-use Rattle.club_commands.specs.Readings.{RefusesReading}
 
 -- a text, and below it a line of some words and what is said by them
 abbrev pub with_said : List ℕ → List ℕ → List ℕ → List ℕ
@@ -101,36 +87,7 @@ module _ {D : Type 0} (disk : Disk D) where
   abbrev pub StopsChecking : D → D → Stream → RunFault → Type 0
   StopsChecking d left output (StreamFault fault) = (fault ≡ Write)
       × ((text : List ℕ) × (SaysSeen disk header_in [] d left text ⊎ SaysDamaged d left text) × TakesPrefix output text)
+  StopsChecking d left output (System fault) = ⊥
   StopsChecking d left output (Config fault) = ⊥
   StopsChecking d left output (Store cause) =
       (read : D) × RefusesReading disk header_in d read cause × LeavesSaid read left output cause
-
-  -- a disk was found, what it holds is written, and it is handed out
-  abbrev pub ChecksFound : {E : Type 0} → Result D E → D → Stream → Type 0
-  ChecksFound found left output = MatchResult found (λ d. Checks d left output) (λ _. ⊥)
-
-  -- a disk was found that gives nothing, or a write failed, and it is handed back; or none was found, which is a fault of the
-  -- disk, and nothing is written
-  abbrev pub StopsCheckingFound : {E : Type 0} → Result D E → Option D → Stream → RunFault → Type 0
-  StopsCheckingFound (Ok d) (Some left) output fault = StopsChecking d left output fault
-  StopsCheckingFound (Ok d) None output fault = ⊥
-  StopsCheckingFound (Err _) (Some left) output fault = ⊥
-  StopsCheckingFound (Err _) None output fault = (fault ≡ Store DiskFault) × IsUntouched output
-
--- what a disk in a file holds is written, which left the disk so
-abbrev pub LeavesChecked : FileDisk (SystemFile File) → Stream → Type 0
-LeavesChecked left output = (d : FileDisk (SystemFile File)) × Checks file_disk d left output
-
--- a disk in a file gives nothing, or a write of what it holds failed, which left the disk so; or there is none, the fault is that
--- of a file that cannot be opened as one, of which no contract can say more, and nothing is written
-abbrev pub LeavesUnchecked : Option (FileDisk (SystemFile File)) → Stream → RunFault → Type 0
-LeavesUnchecked (Some left) output fault = (d : FileDisk (SystemFile File)) × StopsChecking file_disk d left output fault
-LeavesUnchecked None output fault = (fault ≡ Store DiskFault) × IsUntouched output
-
--- the same, whichever disk is left
-abbrev pub HasChecked : Stream → Type 0
-HasChecked output = (left : FileDisk (SystemFile File)) × LeavesChecked left output
-
--- and where it stops
-abbrev pub StopsCheckingFile : Stream → RunFault → Type 0
-StopsCheckingFile output fault = (left : Option (FileDisk (SystemFile File))) × LeavesUnchecked left output fault

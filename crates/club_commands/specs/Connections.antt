@@ -1,38 +1,30 @@
 -- What is served over connections, one after the other.
-use Rattle.std.specs.Prelude.{◌≡◌, ◌<◌, ◌≤◌, ◌⊎◌, ℕ, zero, suc, true, false, List, Option}
-use Rattle.sector_disk.specs.Disk.{Disk, Rose}
-use Rattle.session_store.specs.declared.fault.StoreFault.TheVariants.{Disk as DiskFault}
-use Rattle.session_store.specs.Value.{StoreValue}
-use Rattle.session_rules.specs.declared.action.Action.{Action}
-use Rattle.session_rules.specs.State.{SessionValue}
+use Rattle.std.specs.Prelude.{◌≡◌, ◌<◌, ◌≤◌, ◌⊎◌, ℕ, zero, suc, true, false, List, Option, None}
+use Rattle.club_commands.specs.Basis.{Disk, Rose, file_disk, DiskFault, StoreOn, ClubStore, ServeFault, Accept, Served, RunFault, Store, StreamFault, System, Listener}
+use Rattle.std.specs.declared.net.tcp.TcpStream.{TcpStream}
 use Rattle.table_server.specs.Accepting.{HasServedOne, StopsServingOne}
-use Rattle.line_replies.specs.declared.fault.ServeFault.{ServeFault}
-use Rattle.line_replies.specs.declared.fault.ServeFault.TheVariants.{Accept}
-use Rattle.table_server.specs.declared.served.Served.{Served}
-use Rattle.club_commands.specs.declared.fault.RunFault.{RunFault}
-use Rattle.club_commands.specs.declared.fault.RunFault.TheVariants.{Store, Stream as StreamFault}
 
 -- over a net: which bytes a connection still gives, and which it has taken
 module _ {D : Type 0} (disk : Disk D) {S : Type 0} (remaining contents : S → Option (List ℕ)) where
   -- the lines of one connection were served over a store, or up to a fault of the connection
-  abbrev pub ServesNext : StoreValue D SessionValue Action → StoreValue D SessionValue Action → Type 0
+  abbrev pub ServesNext : StoreOn D → StoreOn D → Type 0
   ServesNext start store = ((result : Served) × HasServedOne disk remaining contents start store result)
       ⊎ ((fault : ServeFault) × StopsServingOne disk remaining contents start store fault)
 
   -- those of so many connections, one after the other, each over a store that works
-  abbrev pub ServesEach : ℕ → StoreValue D SessionValue Action → StoreValue D SessionValue Action → Type 0
+  abbrev pub ServesEach : ℕ → StoreOn D → StoreOn D → Type 0
   ServesEach zero start store = store ≡ start
-  ServesEach (suc count) start store = (before : StoreValue D SessionValue Action) × ServesEach count start before
+  ServesEach (suc count) start store = (before : StoreOn D) × ServesEach count start before
       × (before.failed ≡ false) × ServesNext before store
 
   -- the lines of so many connections were served, and no call of the disk failed
-  pub record ServesAllConnections (count : ℕ) (start store : StoreValue D SessionValue Action) : Type 0 where
+  pub record ServesAllConnections (count : ℕ) (start store : StoreOn D) : Type 0 where
     pub serves : ServesEach count start store
     pub works : store.failed ≡ false
     pub no_fault : disk.faults store.disk ≡ disk.faults start.disk
 
   -- those of some of so many connections were served, in the last of which a call of the disk failed, and with it the store
-  pub record FailsConnections (count : ℕ) (start store : StoreValue D SessionValue Action) : Type 0 where
+  pub record FailsConnections (count : ℕ) (start store : StoreOn D) : Type 0 where
     pub served : ℕ
     pub most : served ≤ count
     pub serves : ServesEach served start store
@@ -41,7 +33,7 @@ module _ {D : Type 0} (disk : Disk D) {S : Type 0} (remaining contents : S → O
 
   -- those of fewer connections were served, and then none could be had, of which no contract can say more; no call of the
   -- disk failed
-  pub record LacksConnections (count : ℕ) (start store : StoreValue D SessionValue Action) : Type 0 where
+  pub record LacksConnections (count : ℕ) (start store : StoreOn D) : Type 0 where
     pub served : ℕ
     pub fewer : served < count
     pub serves : ServesEach served start store
@@ -49,7 +41,16 @@ module _ {D : Type 0} (disk : Disk D) {S : Type 0} (remaining contents : S → O
     pub no_fault : disk.faults store.disk ≡ disk.faults start.disk
 
   -- the store failed, or no further connection could be had
-  abbrev pub StopsConnections : ℕ → StoreValue D SessionValue Action → StoreValue D SessionValue Action → RunFault → Type 0
+  abbrev pub StopsConnections : ℕ → StoreOn D → StoreOn D → RunFault → Type 0
   StopsConnections count start store fault =
       (FailsConnections count start store × (fault ≡ Store DiskFault))
       ⊎ (LacksConnections count start store × (fault ≡ StreamFault Accept))
+
+-- no contract can say which bytes a connection gives, or has taken
+abbrev pub unknown : TcpStream → Option (List ℕ)
+unknown connection = None
+
+-- there is no listener at the port, and the store is as it was; or the serving of connections stopped
+abbrev pub StopsListening : ℕ → ClubStore → ClubStore → RunFault → Type 0
+StopsListening count start store fault =
+    ((fault ≡ System Listener) × (store ≡ start)) ⊎ StopsConnections file_disk unknown unknown count start store fault

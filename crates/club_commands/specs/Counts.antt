@@ -1,12 +1,13 @@
 -- How far a session is.
 use Rattle.std.specs.Prelude.{ℕ, ◌+◌, if◌then◌else◌, is_some, Option, None, Some, sum_by}
+use Rattle.club_commands.specs.Basis.{SessionValue}
 use Rattle.std.specs.List.{range_with_len}
 use Rattle.std.specs.Option.{option_map}
 use Rattle.bridge_movement.specs.declared.row.Row.{Row}
 use Rattle.session_rules.specs.declared.outcome.Outcome.{Outcome}
 use Rattle.session_rules.specs.declared.outcome.Outcome.TheVariants.{Unfinished, PassedOut, Played, Voided, Adjusted}
 use Rattle.session_rules.specs.Outcome.{outcome_of}
-use Rattle.session_rules.specs.State.{SessionValue, deal_on, record_of}
+use Rattle.session_rules.specs.State.{deal_on, record_of}
 
 -- 1 where the board is dealt, and else 0
 abbrev pub dealt_boards_at : SessionValue → ℕ → ℕ

@@ -1,14 +1,9 @@
 -- The line on standard error and the exit status that a fault has.
-use Rattle.std.specs.Prelude.{ℕ, List, ◌++◌, codes}
-use Rattle.std.specs.Fmt.{decimal}
-use Rattle.bridge_config.specs.declared.refused.ConfigFault.{ConfigFault}
+use Rattle.std.specs.Prelude.{ℕ, List, ◌++◌, codes, Result}
+use Rattle.club_commands.specs.Basis.{decimal, ConfigFault, StoreFault, TooSmall, NotFormatted, Damaged, EpochsSpent, NoMemory, ServeFault, Read, Write, Accept, RunFault, System, Config, Store}
 use Rattle.bridge_config.specs.Refused.{refusal_name}
-use Rattle.session_store.specs.declared.fault.StoreFault.{StoreFault}
-use Rattle.session_store.specs.declared.fault.StoreFault.TheVariants.{TooSmall, Disk, NotFormatted, Damaged, EpochsSpent, NoMemory}
-use Rattle.line_replies.specs.declared.fault.ServeFault.{ServeFault}
-use Rattle.line_replies.specs.declared.fault.ServeFault.TheVariants.{Read, Write, Accept}
-use Rattle.club_commands.specs.declared.fault.RunFault.{RunFault}
-use Rattle.club_commands.specs.declared.fault.RunFault.TheVariants.{Stream, Config, Store}
+use Rattle.session_store.specs.declared.fault.StoreFault.TheVariants.{Disk}
+use Rattle.club_commands.specs.declared.fault.RunFault.TheVariants.{Stream}
 
 -- the line of a stream that failed; a connection that could not be accepted counts as one that could not be read
 abbrev pub stream_line : ServeFault → List ℕ
@@ -29,9 +24,10 @@ store_line (Damaged sector) = (codes "damaged sector " ++ decimal sector) ++ cod
 store_line EpochsSpent = codes "epochs spent\n"
 store_line NoMemory = codes "no memory\n"
 
--- the line on standard error that names a fault
+-- the line on standard error that names a fault; what the system does not give counts as what cannot be read
 abbrev pub fault_line : RunFault → List ℕ
 fault_line (Stream fault) = stream_line fault
+fault_line (System fault) = stream_line Read
 fault_line (Config fault) = config_line fault
 fault_line (Store fault) = store_line fault
 
@@ -47,5 +43,10 @@ store_status NoMemory = 3
 -- the exit status at a fault
 abbrev pub fault_status : RunFault → ℕ
 fault_status (Stream fault) = 3
+fault_status (System fault) = 3
 fault_status (Config fault) = 3
 fault_status (Store fault) = store_status fault
+
+-- how a command ended
+abbrev pub Ended : Type 0
+Ended = Result (Unit {0}) RunFault

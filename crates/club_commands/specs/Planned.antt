@@ -1,17 +1,10 @@
 -- What the command `plan` says of a configuration.
-use Rattle.std.specs.Prelude.{◌≡◌, ◌⊎◌, ◌≤◌, ℕ, List, Option, length, Result, Err, MatchResult}
-use Rattle.line_text.specs.Streams.{Stream, stream, Takes, TakesPrefix, IsUntouched}
-use Rattle.bridge_config.specs.declared.refused.ConfigFault.{ConfigFault}
-use Rattle.bridge_config.specs.ConfigValue.{ConfigValue}
-use Rattle.bridge_config.specs.Reading.{ReadsConfiguration}
-use Rattle.bridge_config.specs.Spelling.{Spells}
+use Rattle.std.specs.Prelude.{◌≡◌, ◌⊎◌, ◌≤◌, ℕ, List, length, Err}
+use Rattle.club_commands.specs.Basis.{Stream, Takes, TakesPrefix, IsUntouched, ConfigFault, ConfigValue, ReadsConfiguration, Spells, Read, Write, RunFault, StreamFault, System, Config, Store}
 use Rattle.evening_plan.specs.Evening.{evening_of}
 use Rattle.evening_plan.specs.PlanText.{plan_text}
 use Rattle.evening_plan.specs.FaultText.{fault_text}
-use Rattle.line_replies.specs.declared.fault.ServeFault.TheVariants.{Read, Write}
-use Rattle.club_commands.specs.declared.fault.RunFault.{RunFault}
-use Rattle.club_commands.specs.declared.fault.RunFault.TheVariants.{Stream as StreamFault, Config, Store}
-use Rattle.club_commands.specs.Opening.{IsTextRead, most_read}
+use Rattle.club_commands.specs.ConfigFile.{IsTextRead, most_read}
 
 -- the words are the plan of the configuration that the text spells
 pub record IsPlan (text words : List ℕ) : Type 0 where
@@ -31,6 +24,7 @@ Plans text output = (words : List ℕ) × IsPlan text words × Takes output word
 
 -- A write failed, of the plan or of what is wrong; or the text is refused from this fault, and what is wrong is written.
 abbrev pub StopsPlanning : List ℕ → Stream → RunFault → Type 0
+StopsPlanning text output (System fault) = ⊥
 StopsPlanning text output (StreamFault fault) =
     (fault ≡ Write) × ((words : List ℕ) × (IsPlan text words ⊎ IsReasonFor text words) × TakesPrefix output words)
 StopsPlanning text output (Config fault) = ReadsConfiguration text (Err fault) × Takes output (fault_text text fault)
@@ -44,19 +38,6 @@ PlansRead reader output = (text : List ℕ) × IsTextRead reader text × Plans t
 abbrev pub StopsPlanningRead : Stream → Stream → RunFault → Type 0
 StopsPlanningRead reader output fault = ((fault ≡ StreamFault Read) × IsUntouched output)
     ⊎ ((text : List ℕ) × IsTextRead reader text × StopsPlanning text output fault)
-
--- over a file: which bytes it still gives
-module _ {F : Type 0} (remaining : F → Option (List ℕ)) where
-  -- a file was found, and planned from
-  abbrev pub PlansFound : {E : Type 0} → Result F E → Stream → Type 0
-  PlansFound found output =
-      MatchResult found (λ file. (after : F) × PlansRead (stream remaining file after) output) (λ _. ⊥)
-
-  -- a file was found, and that failed; or none was found, which is a read fault, and nothing is written
-  abbrev pub StopsPlanningFound : {E : Type 0} → Result F E → Stream → RunFault → Type 0
-  StopsPlanningFound found output fault =
-      MatchResult found (λ file. (after : F) × StopsPlanningRead (stream remaining file after) output fault)
-      (λ _. (fault ≡ StreamFault Read) × IsUntouched output)
 
 -- Some text spells a configuration, and its plan is written. That it is the text of a file no contract can say.
 abbrev pub HasPlanned : Stream → Type 0

@@ -1,28 +1,20 @@
 -- What stands on the program's streams once a command was done, and at a fault.
-use Rattle.std.specs.Prelude.{◌≡◌, ℕ, List, take, codes, IfSome}
+use Rattle.std.specs.Prelude.{◌≡◌, ℕ, List, take, codes, Ok, Err, IfErr, IfSome, MatchResult}
+use Rattle.club_commands.specs.Basis.{Stream, Gives, Takes, TakesPrefix, Written, IsUntouched, Read, Write, RunFault, StreamFault, System, Config, Store, NoMemory, Ranking, Games}
 use Rattle.bridge_cards.specs.Board.{dealer_of}
-use Rattle.line_text.specs.Streams.{Stream, Gives, Takes, TakesPrefix, IsUntouched}
-use Rattle.line_replies.specs.declared.fault.ServeFault.TheVariants.{Read}
 use Rattle.auction_command.specs.Heard.{StopsAt}
 use Rattle.auction_command.specs.Replies.{auction_output}
 use Rattle.line_replies.specs.Limit.{byte_limit}
 use Rattle.command_line.specs.declared.command.Command.{Command}
-use Rattle.command_line.specs.declared.command.Command.TheVariants.{Auction, Format, Script, Serve, Web, Rank, Pbn, Results, Check, Plan}
+use Rattle.command_line.specs.declared.command.Command.TheVariants.{Auction, Format, Script, Serve, Web, Rank, Pbn, Results, Check, Plan, Version}
 use Rattle.command_line.specs.declared.command.WordsFault.{WordsFault}
 use Rattle.command_line.specs.declared.command.WordsFault.TheVariants.{Usage, Memory}
-use Rattle.club_commands.specs.declared.fault.RunFault.{RunFault}
-use Rattle.club_commands.specs.declared.fault.RunFault.TheVariants.{Stream as StreamFault, Config, Store}
-use Rattle.session_store.specs.declared.fault.StoreFault.TheVariants.{NoMemory}
-use Rattle.club_commands.specs.Faults.{store_line, stream_line, fault_line, fault_status}
-use Rattle.club_commands.specs.Formatted.{HasFormatted, StopsFormatting}
-use Rattle.club_commands.specs.OnFile.{HasScripted, StopsScripting, HasServedConnections, StopsServingConnections}
-use Rattle.club_commands.specs.Web.{HasShownPages, StopsShowingPages}
-use Rattle.club_commands.specs.declared.telling.Told.TheVariants.{Ranking, Games}
-use Rattle.club_commands.specs.Told.{HasTold, StopsTold}
-use Rattle.bridge_results.specs.ResultsText.{IsPageText}
-use Rattle.club_commands.specs.Results.{page_format, HasResults, StopsResults}
-use Rattle.club_commands.specs.Checked.{HasChecked, StopsCheckingFile}
+use Rattle.club_commands.specs.Faults.{Ended, store_line, stream_line, fault_line, fault_status}
+use Rattle.club_commands.specs.declared.work.Service.TheVariants as service
+use Rattle.club_commands.specs.declared.work.Work.TheVariants as work
 use Rattle.club_commands.specs.Planned.{HasPlanned, StopsPlanningFile}
+use Rattle.club_commands.specs.Version.{version_line}
+use Rattle.club_commands.specs.Works.{HasWorked, HasFormatted}
 
 -- the output of a board's auction is written for what was read of the input
 abbrev pub HasAuction : ℕ → Stream → Stream → Type 0
@@ -32,45 +24,33 @@ HasAuction board input output = IfSome input.old (λ bytes.
 -- what a board's auction leaves of the input and on the output at a fault
 abbrev pub StopsAuction : ℕ → Stream → Stream → RunFault → Type 0
 StopsAuction board input output (StreamFault fault) = StopsAt (dealer_of board) input output fault
+StopsAuction board input output (System fault) = ⊥
 StopsAuction board input output (Config fault) = ⊥
 StopsAuction board input output (Store fault) = ⊥
 
--- what a command that was done read from standard input and wrote to standard output
-abbrev pub DoesCommand : Command → Stream → Stream → Type 0
-DoesCommand (Auction board) input output = HasAuction board input output
-DoesCommand (Format disk config) input output = HasFormatted output × IsUntouched input
-DoesCommand (Script disk) input output = HasScripted input output
-DoesCommand (Serve disk port count) input output = HasServedConnections count × IsUntouched output × IsUntouched input
-DoesCommand (Web disk host minutes) input output = HasShownPages host output × IsUntouched input
-DoesCommand (Rank disk) input output = HasTold Ranking output × IsUntouched input
-DoesCommand (Pbn disk) input output = HasTold Games output × IsUntouched input
-DoesCommand (Results disk html) input output = HasResults (IsPageText (page_format html)) output × IsUntouched input
-DoesCommand (Check disk) input output = HasChecked output × IsUntouched input
-DoesCommand (Plan config) input output = HasPlanned output × IsUntouched input
-
--- what a command leaves of standard input and on standard output where it stops at that fault
-abbrev pub StopsBy : Command → Stream → Stream → RunFault → Type 0
-StopsBy (Auction board) input output fault = StopsAuction board input output fault
-StopsBy (Format disk config) input output fault = StopsFormatting output fault × IsUntouched input
-StopsBy (Script disk) input output fault = StopsScripting input output fault
-StopsBy (Serve disk port count) input output fault =
-    StopsServingConnections count fault × IsUntouched output × IsUntouched input
-StopsBy (Web disk host minutes) input output fault = StopsShowingPages host output fault × IsUntouched input
-StopsBy (Rank disk) input output fault = StopsTold Ranking output fault × IsUntouched input
-StopsBy (Pbn disk) input output fault = StopsTold Games output fault × IsUntouched input
-StopsBy (Results disk html) input output fault = StopsResults (IsPageText (page_format html)) output fault × IsUntouched input
-StopsBy (Check disk) input output fault = StopsCheckingFile output fault × IsUntouched input
-StopsBy (Plan config) input output fault = StopsPlanningFile output fault × IsUntouched input
+-- what a command read from standard input and wrote to standard output, and how it ended
+abbrev pub Runs : Command → Stream → Stream → Ended → Type 0
+Runs (Auction board) input output ended = MatchResult ended (λ _. HasAuction board input output) (StopsAuction board input output)
+Runs (Format disk config) input output ended = HasFormatted input output ended
+Runs (Script disk) input output ended = HasWorked input output ended (work.Serve service.Input)
+Runs (Serve disk port count) input output ended = HasWorked input output ended (work.Serve (service.Connections port count))
+Runs (Web disk host minutes) input output ended = HasWorked input output ended (work.Serve (service.Pages host minutes))
+Runs (Rank disk) input output ended = HasWorked input output ended (work.Tell Ranking)
+Runs (Pbn disk) input output ended = HasWorked input output ended (work.Tell Games)
+Runs (Results disk html) input output ended = HasWorked input output ended (work.Results html)
+Runs (Check disk) input output ended = HasWorked input output ended work.Check
+Runs (Plan config) input output ended = MatchResult ended (λ _. HasPlanned output) (StopsPlanningFile output) × IsUntouched input
+Runs Version input output ended = IfErr ended (λ fault. fault ≡ StreamFault Write) × Written output version_line ended × IsUntouched input
 
 -- a command was done, and nothing stands on standard error
 abbrev pub IsDone : Command → Stream → Stream → Stream → Type 0
-IsDone command input output errors = DoesCommand command input output × IsUntouched errors
+IsDone command input output errors = Runs command input output (Ok tt) × IsUntouched errors
 
 -- A command stopped at some fault that has this status, and standard error took a prefix of the line for that fault, no
 -- more.
 pub record IsCommandStopped (command : Command) (input output errors : Stream) (status : ℕ) : Type 0 where
   pub fault : RunFault
-  pub stopped : StopsBy command input output fault
+  pub stopped : Runs command input output (Err fault)
   pub named : TakesPrefix errors (fault_line fault)
   pub status_is : status ≡ fault_status fault
 

@@ -1,29 +1,17 @@
 -- What the command `web` does.
 use Rattle.std.specs.Prelude.{◌≡◌, ◌⊎◌, ◌++◌, ℕ, List, [], ◌∷◌, Bool, true, false, codes, Option, Some, None, Result, Ok, Err, MatchResult}
-use Rattle.std.specs.Borrow.{Bor}
+use Rattle.club_commands.specs.Basis.{Bor, Stream, Takes, TakesPrefix, IsUntouched, Disk, Rose, file_disk, DiskFault, NoMemory, StoreOn, ClubStore, Write, RunFault, StreamFault, System, Store, Listener}
 use Rattle.std.specs.Net.Addr.{ipv4_octets}
 use Rattle.std.specs.Net.Grammar.{IsIpv4Text}
 use Rattle.std.specs.declared.net.ipv4_addr.Ipv4Addr.{Ipv4Addr}
-use Rattle.std.specs.declared.fs.File.{File}
-use Rattle.line_text.specs.Streams.{Stream, Takes, TakesPrefix, IsUntouched}
-use Rattle.sector_disk.specs.Disk.{Disk, Rose}
-use Rattle.sector_disk.specs.declared.file.FileDisk.{FileDisk}
-use Rattle.sector_disk.specs.declared.system_file.SystemFile.{SystemFile}
-use Rattle.sector_disk.specs.File.{file_disk}
-use Rattle.session_store.specs.declared.fault.StoreFault.TheVariants.{Disk as DiskFault, NoMemory}
-use Rattle.session_store.specs.Value.{StoreValue}
-use Rattle.session_rules.specs.declared.action.Action.{Action}
-use Rattle.session_rules.specs.State.{SessionValue}
-use Rattle.line_replies.specs.declared.fault.ServeFault.TheVariants.{Write, Accept}
 use Rattle.web_loop.specs.Turns.{LeadsTo}
 use Rattle.table_pages.specs.Answered.{AnswersLines, place_told, tables_told}
 use Rattle.page_replies.specs.ToldResults.{results_told}
 use Rattle.table_pages.specs.HostNames.{with_port}
 use Rattle.table_pages.specs.Responses.{Answering}
 use Rattle.command_line.specs.declared.command.WebHost.{WebHost}
-use Rattle.club_commands.specs.declared.fault.RunFault.{RunFault}
-use Rattle.club_commands.specs.declared.fault.RunFault.TheVariants.{Stream as StreamFault, Store}
-use Rattle.club_commands.specs.OnFile.{IsOnFile, IsNotServed, OpenedFile}
+use Rattle.club_commands.specs.declared.fault.SystemFault.TheVariants.{Address, Random, Clock}
+use Rattle.club_commands.specs.Faults.{Ended}
 
 -- the host that browsers are to name: the name that is given, or else the address, or else this computer's own
 abbrev pub host_name : Option (Bor (List ℕ)) → Option (Bor (List ℕ)) → List ℕ
@@ -58,30 +46,30 @@ listening_line host = (codes "listening at http://" ++ host) ++ codes "\n"
 
 module _ {D : Type 0} (disk : Disk D) (host alias : List ℕ) where
   -- Requests were answered over a store, one after another, and no call of its disk failed.
-  pub record ShowsPages (start store : StoreValue D SessionValue Action) : Type 0 where
+  pub record ShowsPages (start store : StoreOn D) : Type 0 where
     pub requests : LeadsTo (Answering (AnswersLines disk) place_told tables_told results_told host alias) start store
     pub works : store.failed ≡ false
     pub no_fault : disk.faults store.disk ≡ disk.faults start.disk
 
   -- Requests were answered over a store, in the last of which that changed it a call of its disk failed, and with it the store.
-  pub record FailsPages (start store : StoreValue D SessionValue Action) : Type 0 where
+  pub record FailsPages (start store : StoreOn D) : Type 0 where
     pub requests : LeadsTo (Answering (AnswersLines disk) place_told tables_told results_told host alias) start store
     pub failed : store.failed ≡ true
     pub faults : Rose (disk.faults start.disk) (disk.faults store.disk)
 
   -- the store failed; or the clock cannot be read, of which no contract can say more
-  abbrev pub StopsPages : StoreValue D SessionValue Action → StoreValue D SessionValue Action → RunFault → Type 0
+  abbrev pub StopsPages : StoreOn D → StoreOn D → RunFault → Type 0
   StopsPages start store fault =
-      (FailsPages start store × (fault ≡ Store DiskFault)) ⊎ (ShowsPages start store × (fault ≡ StreamFault Accept))
+      (FailsPages start store × (fault ≡ Store DiskFault)) ⊎ (ShowsPages start store × (fault ≡ System Clock))
 
 -- how the showing of pages ends where the store failed, or not, and by what the clock answered
-abbrev pub ended_by : {E : Type 0} → Bool → Result (Unit {0}) E → Result (Unit {0}) RunFault
+abbrev pub ended_by : {E : Type 0} → Bool → Result (Unit {0}) E → Ended
 ended_by true _ = Err (Store DiskFault)
 ended_by false (Ok _) = Ok tt
-ended_by false (Err _) = Err (StreamFault Accept)
+ended_by false (Err _) = Err (System Clock)
 
 -- over a store in a file, which is led from the first to the second, at a server of these two names
-module _ (host alias : List ℕ) (start store : StoreValue (FileDisk (SystemFile File)) SessionValue Action) where
+module _ (host alias : List ℕ) (start store : ClubStore) where
   -- where the pages are is said, and they were shown
   pub record HasShown (output : Stream) : Type 0 where
     pub said : Takes output (listening_line host)
@@ -92,62 +80,23 @@ module _ (host alias : List ℕ) (start store : StoreValue (FileDisk (SystemFile
     pub said : Takes output (listening_line host)
     pub stops : StopsPages file_disk host alias start store fault
 
-  -- there is no listener at the port, or no secret number to be had, or a write failed, and the store is as it was; or the
-  -- showing stopped
-  abbrev pub StopsShowing : Stream → RunFault → Type 0
-  StopsShowing output fault = ((store ≡ start) × (fault ≡ StreamFault Accept) × IsUntouched output)
+  -- there is a listener, but no random number or a write failed, and the store is as it was; or the showing stopped
+  abbrev pub StopsHeard : Stream → RunFault → Type 0
+  StopsHeard output fault = ((store ≡ start) × (fault ≡ System Random) × IsUntouched output)
       ⊎ (((store ≡ start) × (fault ≡ StreamFault Write) × TakesPrefix output (listening_line host)) ⊎ StopsShown output fault)
 
-  -- there is a listener, where the pages are is said, and they were shown
-  abbrev pub ShowsHeard : {L E : Type 0} → Result L E → Stream → Type 0
-  ShowsHeard heard output = MatchResult heard (λ _. HasShown output) (λ _. ⊥)
+-- why there is no listener: what is given is no address, or the system gives none there
+abbrev pub IsUnheard : WebHost → RunFault → Type 0
+IsUnheard web fault = ((fault ≡ System Address) × IsAddress web.address None) ⊎ (fault ≡ System Listener)
 
-  -- there is one, and the showing stopped; or there is none, for this cause, nothing is written, and the store is as it was
-  abbrev pub StopsHeardPages : {L : Type 0} → Result L RunFault → Stream → RunFault → Type 0
-  StopsHeardPages heard output fault = MatchResult heard
-      (λ _. StopsShowing output fault)
-      (λ refused. (store ≡ start) × (fault ≡ refused) × IsUntouched output)
+-- there is none, nothing is written, and the store is as it was; or there is one
+abbrev pub StopsShowing : WebHost → List ℕ → List ℕ → ClubStore → ClubStore → Stream → RunFault → Type 0
+StopsShowing web host alias start store output fault =
+    (IsUnheard web fault × (store ≡ start) × IsUntouched output) ⊎ StopsHeard host alias start store output fault
 
--- a session was opened, there was memory for a cache, and pages were shown where the words say; the disk is as the last call
--- left it
-abbrev pub ShowsOpened : {C E : Type 0} → WebHost → OpenedFile → Result C E → FileDisk (SystemFile File) → Stream → Type 0
-ShowsOpened web (Ok start) (Ok _) left output = (store : StoreValue (FileDisk (SystemFile File)) SessionValue Action)
-    × (left ≡ store.disk) × HasShown (host_at web) (alias_at web) start store output
-ShowsOpened web (Ok start) (Err _) left output = ⊥
-ShowsOpened web (Err _) cache left output = ⊥
-
--- the showing stopped; or there was none, since memory was refused or for the cause for which no session was opened
-abbrev pub StopsOpenedPages : {C E : Type 0} → WebHost → OpenedFile → Result C E → Option (FileDisk (SystemFile File)) → Stream → RunFault → Type 0
-StopsOpenedPages web (Ok start) (Ok _) left output fault = ((left ≡ Some start.disk) × (fault ≡ Store NoMemory) × IsUntouched output)
-    ⊎ ((store : StoreValue (FileDisk (SystemFile File)) SessionValue Action)
-    × (left ≡ Some store.disk) × StopsShowing (host_at web) (alias_at web) start store output fault)
-StopsOpenedPages web (Ok start) (Err _) left output fault = (left ≡ Some start.disk) × (fault ≡ Store NoMemory) × IsUntouched output
-StopsOpenedPages web (Err refused) cache left output fault = (left ≡ refused.0) × (fault ≡ Store refused.1) × IsUntouched output
-
--- pages were shown over a session that was opened on a disk in a file, which is as the last call left it
-pub record LeavesShown (left : FileDisk (SystemFile File)) (web : WebHost) (output : Stream) : Type 0 where
-  pub start : StoreValue (FileDisk (SystemFile File)) SessionValue Action
-  pub opened : IsOnFile start
-  pub store : StoreValue (FileDisk (SystemFile File)) SessionValue Action
-  pub left_by : left ≡ store.disk
-  pub shown : HasShown (host_at web) (alias_at web) start store output
-
--- the showing of pages stopped over a session that was opened
-pub record StopsOnPages (left : Option (FileDisk (SystemFile File))) (web : WebHost) (output : Stream) (fault : RunFault) : Type 0 where
-  pub start : StoreValue (FileDisk (SystemFile File)) SessionValue Action
-  pub opened : IsOnFile start
-  pub store : StoreValue (FileDisk (SystemFile File)) SessionValue Action
-  pub left_by : left ≡ Some store.disk
-  pub stops : StopsShowing (host_at web) (alias_at web) start store output fault
-
--- there is no session, or memory was refused, and nothing is written; or the showing stopped
-abbrev pub LeavesUnshown : Option (FileDisk (SystemFile File)) → WebHost → Stream → RunFault → Type 0
-LeavesUnshown left web output fault = (IsNotServed left fault × IsUntouched output) ⊎ StopsOnPages left web output fault
-
--- the same, of the disk that it leaves
-abbrev pub HasShownPages : WebHost → Stream → Type 0
-HasShownPages web output = (left : FileDisk (SystemFile File)) × LeavesShown left web output
-
--- and where it stops
-abbrev pub StopsShowingPages : WebHost → Stream → RunFault → Type 0
-StopsShowingPages web output fault = (left : Option (FileDisk (SystemFile File))) × LeavesUnshown left web output fault
+-- pages were shown where the words say, or up to a fault; or memory was refused, and the store is as it was
+abbrev pub ShowsOver : WebHost → Stream → Ended → ClubStore → ClubStore → Type 0
+ShowsOver web output ended start store = MatchResult ended
+    (λ _. HasShown (host_at web) (alias_at web) start store output)
+    (λ fault. ((store ≡ start) × (fault ≡ Store NoMemory) × IsUntouched output)
+    ⊎ StopsShowing web (host_at web) (alias_at web) start store output fault)

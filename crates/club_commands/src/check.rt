@@ -3,6 +3,7 @@ ghost use Rattle.std.specs.Prelude.{◌≡◌, ◌≤◌, ◌+◌, ◌*◌, ◌�
 ghost use Rattle.std.specs.Fmt.{decimal};
 ghost use Rattle.arrayvec.specs.ArrayString.{array_string_len};
 ghost use Rattle.line_text.specs.Streams.{stream, Written};
+ghost use Rattle.sector_disk.specs.File.{file_disk};
 ghost use Rattle.session_store.specs.Form.{digit};
 ghost use Rattle.line_replies.specs.declared.fault.ServeFault.TheVariants.{Write as WriteFault};
 ghost use Rattle.club_commands.specs.Checked.{with_said, with_round, with_standing, with_state, no_older_text, SaysOlder, Checks, StopsChecking};
@@ -13,6 +14,7 @@ use crate::fault_line::fault_line;
 use crate::output::write_output;
 use arrayvec::ArrayString;
 use bridge_session::Session;
+use club_disk::{ClubDisk, Left};
 use itoa::Buffer;
 use sector_disk::SectorDisk;
 use session_store::{DiskFormat, Reading, StoreFault, read_older_state, read_state};
@@ -179,4 +181,18 @@ pub fn check_disk<D: SectorDisk, W: Write>(
         }
         Err(fault) => Err(RunFault::Store(fault)),
     }
+}
+
+/// The same, and hands the disk out.
+pub fn check_over<W: Write>(
+    alloc: Global,
+    disk: ClubDisk,
+    output: &mut W,
+) -> Left<ClubDisk, RunFault>
+    ensures done { OnOk result.ended (Checks file_disk disk result.disk (stream W.contents output.old output.new)) }
+    ensures fault { IfErr result.ended (StopsChecking file_disk disk result.disk (stream W.contents output.old output.new)) }
+{
+    let mut disk = disk;
+    let ended = check_disk(alloc, &mut disk, output);
+    Left { disk, ended }
 }

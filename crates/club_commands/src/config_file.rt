@@ -2,7 +2,7 @@
 ghost use Rattle.std.specs.Prelude.{◌≡◌, ◌<◌, ◌≤◌, [], length, IfOk, IfErr, OnOk};
 ghost use Rattle.line_text.specs.Streams.{stream};
 ghost use Rattle.line_replies.specs.declared.fault.ServeFault.TheVariants.{Read as ReadFault};
-ghost use Rattle.club_commands.specs.Opening.{ReadsOn, IsTextRead, BeginsSession, IsNoSession, IsSessionRead, StopsReadingFile};
+ghost use Rattle.club_commands.specs.ConfigFile.{ReadsOn, IsTextRead, BeginsSession, IsNoSession, IsSessionRead, StopsReadingFile};
 
 use crate::fault::RunFault;
 use arrayvec::ArrayVec;

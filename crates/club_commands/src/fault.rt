@@ -3,11 +3,26 @@ use bridge_config::ConfigFault;
 use session_store::StoreFault;
 use table_server::ServeFault;
 
+/// What the system does not give.
+#[derive(Clone, Copy, Debug, PartialEq, Eq)]
+pub enum SystemFault {
+    /// What the words give as the address to listen at is no IPv4 address.
+    Address,
+    /// There is no listener at the port.
+    Listener,
+    /// There are no random numbers.
+    Random,
+    /// The clock cannot be read.
+    Clock,
+}
+
 /// Why a command stopped.
 #[derive(Clone, Copy, Debug, PartialEq, Eq)]
 pub enum RunFault {
-    /// Standard input or the configuration cannot be read, standard output cannot be written, or no connection can be had.
+    /// Standard input or the configuration cannot be read, standard output cannot be written, or no connection was had.
     Stream(ServeFault),
+    /// The system does not give what the command wants.
+    System(SystemFault),
     /// The configuration is refused.
     Config(ConfigFault),
     /// The disk is refused or has failed, or memory is refused.

@@ -18,6 +18,9 @@ pub const NO_SESSION: u8 = 4;
 /// The most bytes of a line.
 const FAULT_LINE_BYTES: usize = 40;
 
+/// The line where the system does not give what a command wants.
+const SYSTEM_LINE: &str = "cannot read input\n";
+
 /// The line of a fault.
 pub type FaultLine = ArrayString<FAULT_LINE_BYTES>;
 
@@ -27,6 +30,7 @@ pub fn fault_status(fault: RunFault) -> u8
 {
     match fault {
         RunFault::Stream(_) => FAULT,
+        RunFault::System(_) => FAULT,
         RunFault::Config(_) => FAULT,
         RunFault::Store(fault) => store_status(fault),
     }
@@ -48,6 +52,7 @@ pub fn fault_line(fault: RunFault) -> FaultLine
 {
     match fault {
         RunFault::Stream(fault) => stream_line(fault),
+        RunFault::System(_) => line_of(SYSTEM_LINE),
         RunFault::Config(fault) => config_line(fault),
         RunFault::Store(fault) => store_line(fault),
     }

@@ -1,14 +1,12 @@
 //! Where the pages of `web` are shown: the listener, the names that it answers to, and the line that says so.
 ghost use Rattle.std.specs.Prelude.{◌≡◌, IfOk, IfErr, string_bytes};
-ghost use Rattle.line_replies.specs.declared.fault.ServeFault.TheVariants.{Accept as AcceptFault};
-ghost use Rattle.club_commands.specs.Web.{IsAddress, host_at, alias_at, listening_line};
+ghost use Rattle.club_commands.specs.Web.{IsAddress, IsUnheard, host_at, alias_at, listening_line};
 
-use crate::fault::RunFault;
+use crate::fault::{RunFault, SystemFault};
 use command_line::WebHost;
 use std::alloc::{AllocError, Global};
 use std::net::{Ipv4Addr, Net, SocketAddr, TcpListener, TcpStream};
 use table_pages::HostNames;
-use table_server::ServeFault;
 
 /// The address to listen at, if what is given is one.
 fn address_of(host: &WebHost<'_>) -> Option<Ipv4Addr>
@@ -26,17 +24,17 @@ pub fn listen_at<N: Net<Listener = TcpListener, Stream = TcpStream>>(
     rt: &N,
     host: &WebHost<'_>,
 ) -> Result<TcpListener, RunFault>
-    ensures { IfErr result (λ fault. fault ≡ RunFault.Stream AcceptFault) }
+    ensures { IfErr result (IsUnheard host.now) }
 {
     let Some(address) = address_of(host) else {
-        return Err(RunFault::Stream(ServeFault::Accept));
+        return Err(RunFault::System(SystemFault::Address));
     };
     let Ok(listener) = TcpListener::bind(rt, SocketAddr::from((address, host.port))) else {
-        return Err(RunFault::Stream(ServeFault::Accept));
+        return Err(RunFault::System(SystemFault::Listener));
     };
     match listener.set_nonblocking(true) {
         Ok(()) => Ok(listener),
-        Err(_) => Err(RunFault::Stream(ServeFault::Accept)),
+        Err(_) => Err(RunFault::System(SystemFault::Listener)),
     }
 }
 

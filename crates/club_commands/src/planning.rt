@@ -1,11 +1,12 @@
 //! The command `plan`: the evening that a configuration plans, in words, or what is wrong with it. Nothing is made.
 ghost use Rattle.std.specs.Prelude.{◌≡◌, OnOk, IfErr};
-ghost use Rattle.line_text.specs.Streams.{stream, Written};
+ghost use Rattle.club_commands.specs.ConfigFile.{AtFile, NoFile};
+ghost use Rattle.line_text.specs.Streams.{stream, Written, IsUntouched};
 ghost use Rattle.line_replies.specs.declared.fault.ServeFault.TheVariants.{Write as WriteFault};
 ghost use Rattle.evening_plan.specs.Evening.{evening_of};
 ghost use Rattle.evening_plan.specs.PlanText.{plan_text};
 ghost use Rattle.evening_plan.specs.FaultText.{fault_text};
-ghost use Rattle.club_commands.specs.Planned.{Plans, StopsPlanning, PlansRead, StopsPlanningRead, PlansFound, StopsPlanningFound, HasPlanned, StopsPlanningFile};
+ghost use Rattle.club_commands.specs.Planned.{Plans, StopsPlanning, PlansRead, StopsPlanningRead, HasPlanned, StopsPlanningFile};
 
 use crate::config_file::{Text, read_text};
 use crate::fault::RunFault;
@@ -67,13 +68,17 @@ pub fn plan_evening<R: Read, W: Write>(reader: &mut R, output: &mut W) -> Result
     }
 }
 
-/// The same of a file, where one was found; otherwise the fault is that of a read.
+/// The same of a file, where one was found; otherwise the fault is that of a read. What was found is handed in, since only so a
+/// clause can say what comes of it.
 fn plan_found<R: Read + Drop, W: Write>(
     found: io::Result<R>,
     output: &mut W,
 ) -> Result<(), RunFault>
-    ensures done { OnOk result (PlansFound R.remaining found (stream W.contents output.old output.new)) }
-    ensures fault { IfErr result (StopsPlanningFound R.remaining found (stream W.contents output.old output.new)) }
+    ensures done { OnOk result (AtFile R.remaining found
+        (λ reader. PlansRead reader (stream W.contents output.old output.new)) ⊥) }
+    ensures fault { IfErr result (λ fault. AtFile R.remaining found
+        (λ reader. StopsPlanningRead reader (stream W.contents output.old output.new) fault)
+        (NoFile fault × IsUntouched (stream W.contents output.old output.new))) }
 {
     match found {
         Ok(mut file) => plan_evening(&mut file, output),

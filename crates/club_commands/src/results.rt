@@ -1,17 +1,21 @@
-//! The results of a session, as the commands `rank`, `pbn` and `results` write them.
+//! The results of a session, as the commands `rank`, `pbn` and `results` write them, and the command `results`.
 ghost use Rattle.std.specs.Prelude.{◌≡◌, ℕ, List, IfErr};
 ghost use Rattle.line_text.specs.Streams.{stream, Written};
 ghost use Rattle.bridge_pbn.specs.Games.{session_text};
 ghost use Rattle.line_replies.specs.declared.fault.ServeFault.TheVariants.{Write as WriteFault};
 ghost use Rattle.bridge_results.specs.ResultsText.{IsPageText};
-ghost use Rattle.club_commands.specs.Results.{field_heading, IsFieldText, IsRankingText, page_format};
+ghost use Rattle.club_commands.specs.Results.{field_heading, IsFieldText, IsRankingText, page_format, ReadsAndTells};
+ghost use Rattle.sector_disk.specs.File.{file_disk};
 
 use crate::fault::RunFault;
 use crate::output::write_output;
 use bridge_pbn::write_pbn;
 use bridge_results::write_results;
 use bridge_session::{Field, Session};
+use club_disk::{ClubDisk, Left, read_disk};
 use page_layout::Format;
+use sector_disk::SectorDisk;
+use std::alloc::Global;
 use std::io::Write;
 use table_server::{ReplyText, ServeFault, push_pairs};
 
@@ -84,4 +88,35 @@ pub fn write_page<W: Write>(session: &Session, html: bool, output: &mut W) -> Re
         Ok(()) => Ok(()),
         Err(_) => Err(RunFault::Stream(ServeFault::Write)),
     }
+}
+
+/// Reads the session that a disk holds, to which nothing is written, and writes its results as a page.
+fn tell_disk<D: SectorDisk, W: Write>(
+    alloc: Global,
+    html: bool,
+    disk: &mut D,
+    output: &mut W,
+) -> Result<(), RunFault>
+    ensures { ReadsAndTells (IsPageText (page_format html)) D.disk (stream W.contents output.old output.new) result
+        disk.old disk.new }
+{
+    match read_disk(alloc, disk) {
+        Ok(session) => write_page(&session, html, output),
+        Err(cause) => Err(RunFault::Store(cause)),
+    }
+}
+
+/// The same, and hands the disk out.
+pub fn results_over<W: Write>(
+    alloc: Global,
+    html: bool,
+    disk: ClubDisk,
+    output: &mut W,
+) -> Left<ClubDisk, RunFault>
+    ensures { ReadsAndTells (IsPageText (page_format html)) file_disk (stream W.contents output.old output.new) result.ended
+        disk result.disk }
+{
+    let mut disk = disk;
+    let ended = tell_disk(alloc, html, &mut disk, output);
+    Left { disk, ended }
 }

@@ -4,18 +4,17 @@ ghost use Rattle.clap.specs.Words.{fault_of};
 ghost use Rattle.command_line.specs.Words.{club_app, AsksCommand};
 ghost use Rattle.line_text.specs.Streams.{stream, TakesPrefix, IsUntouched};
 ghost use Rattle.club_commands.specs.Faults.{fault_line, fault_status};
-ghost use Rattle.club_commands.specs.Run.{HasAuction, StopsAuction, DoesCommand, StopsBy, IsDone, IsCommandStopped, IsWithoutMemory, RefusesWords, memory_line, text_line, files_line};
+ghost use Rattle.club_commands.specs.Run.{HasAuction, StopsAuction, Runs, IsDone, IsCommandStopped, IsWithoutMemory, RefusesWords, memory_line, text_line, files_line};
 ghost use Rattle.command_line.specs.declared.command.Command.{Command};
 
-use crate::disk_commands::{run_script, run_serve};
 use crate::fault::RunFault;
 use crate::fault_line::{fault_line, fault_status};
 use crate::formatting::run_format;
+use crate::on_disk::run_over;
 use crate::planning::run_plan;
 use crate::printable::Printable;
-use crate::reading_commands::{run_check, run_results};
-use crate::telling::{Told, run_told};
-use crate::web::run_web;
+use crate::version::run_version;
+use crate::work::{Service, Told, Work};
 use bridge_cards::BoardNumber;
 use command_line::{Command, WordsFault, read_words};
 use line_text::write_text;
@@ -117,26 +116,42 @@ fn do_command<
     input: &mut R,
     output: &mut W,
 ) -> Result<(), RunFault>
-    ensures done { OnOk result (DoesCommand command.now (stream R.remaining input.old input.new)
-        (stream W.contents output.old output.new)) }
-    ensures fault { IfErr result (StopsBy command.now (stream R.remaining input.old input.new)
-        (stream W.contents output.old output.new)) }
+    ensures { Runs command.now (stream R.remaining input.old input.new) (stream W.contents output.old output.new) result }
 {
     match *command {
         Command::Auction(board) => hold_auction(board, input, output),
-        Command::Format { disk, config } => run_format(rt, alloc, disk, config, output),
-        Command::Script { disk } => run_script(rt, alloc, disk, input, output),
-        Command::Serve { disk, port, count } => run_serve(rt, alloc, disk, port, count),
+        Command::Format { disk, config } => run_format(rt, alloc, disk, config, input, output),
+        Command::Script { disk } => {
+            let work = Work::Serve(Service::Input);
+            run_over(rt, alloc, disk, &work, input, output)
+        }
+        Command::Serve { disk, port, count } => {
+            let work = Work::Serve(Service::Connections { port, count });
+            run_over(rt, alloc, disk, &work, input, output)
+        }
         Command::Web {
             disk,
             host,
             minutes,
-        } => run_web(rt, alloc, disk, &host, minutes, output),
-        Command::Rank { disk } => run_told(rt, alloc, Told::Ranking, disk, output),
-        Command::Pbn { disk } => run_told(rt, alloc, Told::Games, disk, output),
-        Command::Results { disk, html } => run_results(rt, alloc, disk, html, output),
-        Command::Check { disk } => run_check(rt, alloc, disk, output),
+        } => {
+            let work = Work::Serve(Service::Pages { host, minutes });
+            run_over(rt, alloc, disk, &work, input, output)
+        }
+        Command::Rank { disk } => {
+            let work = Work::Tell(Told::Ranking);
+            run_over(rt, alloc, disk, &work, input, output)
+        }
+        Command::Pbn { disk } => {
+            let work = Work::Tell(Told::Games);
+            run_over(rt, alloc, disk, &work, input, output)
+        }
+        Command::Results { disk, html } => {
+            let work = Work::Results { html };
+            run_over(rt, alloc, disk, &work, input, output)
+        }
+        Command::Check { disk } => run_over(rt, alloc, disk, &Work::Check, input, output),
         Command::Plan { config } => run_plan(rt, config, output),
+        Command::Version => run_version(output),
     }
 }
 

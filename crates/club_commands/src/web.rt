@@ -1,32 +1,28 @@
 //! Pages for browsers, as the command `web` shows them.
-ghost use Rattle.std.specs.Prelude.{◌≡◌, [], false, Some, string_bytes, OnOk, IfOk, IfErr};
-ghost use Rattle.session_store.specs.declared.fault.StoreFault.TheVariants.{NoMemory};
-ghost use Rattle.line_text.specs.Streams.{stream};
-ghost use Rattle.club_commands.specs.Web.{listening_line, ShowsPages, StopsPages, ended_by, HasShown, StopsShowing, ShowsHeard, StopsHeardPages, ShowsOpened, StopsOpenedPages, LeavesShown, LeavesUnshown, HasShownPages, StopsShowingPages};
+ghost use Rattle.std.specs.Prelude.{◌≡◌, [], false, string_bytes, MatchResult, IsOkAnd, OnOk, IfErr};
+ghost use Rattle.line_text.specs.Streams.{stream, IsUntouched};
+ghost use Rattle.club_disk.specs.Files.{Leads};
+ghost use Rattle.club_commands.specs.Web.{listening_line, ShowsPages, StopsPages, ended_by, HasShown, StopsHeard, StopsShowing, ShowsOver};
 
-use crate::disk_commands::{CACHED_ENDINGS, open_store};
-use crate::disk_lock::lock;
-use crate::fault::RunFault;
-use crate::handing_out::{let_go, with_disk};
+use crate::fault::{RunFault, SystemFault};
 use crate::listening::{listen_at, listening_line, names_of};
 use crate::output::write_output;
 use bridge_endings::Cache;
 use bridge_session::Session;
+use club_disk::{ClubDisk, ClubStore, Left, with_disk};
 use command_line::WebHost;
-use sector_disk::{FileDisk, SectorDisk, SystemFile};
+use sector_disk::SectorDisk;
 use session_store::{Store, StoreFault};
-use std::alloc::{AllocError, Global};
-use std::fs::File;
+use std::alloc::Global;
 use std::hash::RandomState;
 use std::io::{self, Write};
 use std::net::{Net, TcpListener, TcpStream};
 use std::random::RandomSource;
-use std::rt::Files;
 use std::time::Clock;
 use table_pages::{TablePages, show_minutes};
-use table_server::ServeFault;
 
-/// How the showing of pages ended, by whether the store has failed and by what the clock answered.
+/// How the showing of pages ended, by whether the store has failed and by what the clock answered, which are handed in, since
+/// only so a clause can say what comes of them.
 fn ended(failed: bool, shown: io::Result<()>) -> Result<(), RunFault>
     ensures { result ≡ ended_by failed shown }
 {
@@ -35,7 +31,7 @@ fn ended(failed: bool, shown: io::Result<()>) -> Result<(), RunFault>
     }
     match shown {
         Ok(()) => Ok(()),
-        Err(_) => Err(RunFault::Stream(ServeFault::Accept)),
+        Err(_) => Err(RunFault::System(SystemFault::Clock)),
     }
 }
 
@@ -50,31 +46,39 @@ pub fn show_pages<N: Net + Clock, D: SectorDisk + Drop>(
     minutes: u16,
 ) -> Result<(), RunFault>
     requires { pages.old.server.failed ≡ false }
-    ensures done { OnOk result (ShowsPages D.disk (string_bytes pages.old.host) (string_bytes pages.old.alias) pages.old.server pages.new.server) }
-    ensures fault { IfErr result (StopsPages D.disk (string_bytes pages.old.host) (string_bytes pages.old.alias) pages.old.server pages.new.server) }
+    ensures done { OnOk result (ShowsPages D.disk (string_bytes pages.old.host) (string_bytes pages.old.alias)
+        pages.old.server pages.new.server) }
+    ensures fault { IfErr result (StopsPages D.disk (string_bytes pages.old.host) (string_bytes pages.old.alias)
+        pages.old.server pages.new.server) }
 {
     let shown = show_minutes(rt, alloc, keys, listener, pages, minutes);
     ended(pages.server().has_failed(), shown)
 }
 
-/// Says where the pages are and shows them for so many minutes over a store, where there is a listener.
+/// Says where the pages are and shows them for so many minutes over a store, where there is a listener. What was found is handed
+/// in, since only so a clause can say what comes of it.
 fn show_heard<N: Net<Listener = TcpListener, Stream = TcpStream> + Clock + RandomSource, W: Write>(
     rt: &N,
     alloc: Global,
     found: Result<TcpListener, RunFault>,
     minutes: u16,
     line: &str,
-    pages: &mut TablePages<Store<FileDisk<SystemFile<File>>, Session>>,
+    pages: &mut TablePages<ClubStore>,
     output: &mut W,
 ) -> Result<(), RunFault>
     requires works { pages.old.server.failed ≡ false }
     requires line { line.now ≡ listening_line (string_bytes pages.old.host) }
-    ensures done { OnOk result (ShowsHeard (string_bytes pages.old.host) (string_bytes pages.old.alias) pages.old.server pages.new.server found (stream W.contents output.old output.new)) }
-    ensures fault { IfErr result (StopsHeardPages (string_bytes pages.old.host) (string_bytes pages.old.alias) pages.old.server pages.new.server found (stream W.contents output.old output.new)) }
+    ensures done { OnOk result (IsOkAnd found (λ _. HasShown (string_bytes pages.old.host) (string_bytes pages.old.alias)
+        pages.old.server pages.new.server (stream W.contents output.old output.new))) }
+    ensures fault { IfErr result (λ fault. MatchResult found
+        (λ _. StopsHeard (string_bytes pages.old.host) (string_bytes pages.old.alias) pages.old.server pages.new.server
+        (stream W.contents output.old output.new) fault)
+        (λ refused. (fault ≡ refused) × (pages.new.server ≡ pages.old.server)
+        × IsUntouched (stream W.contents output.old output.new))) }
 {
     let listener = found?;
     let Ok(keys) = RandomState::new(rt) else {
-        return Err(RunFault::Stream(ServeFault::Accept));
+        return Err(RunFault::System(SystemFault::Random));
     };
     write_output(output, line)?;
     show_pages(rt, alloc, keys, &listener, pages, minutes)
@@ -90,100 +94,43 @@ fn listen_and_show<
     host: &WebHost<'_>,
     minutes: u16,
     line: &str,
-    pages: &mut TablePages<Store<FileDisk<SystemFile<File>>, Session>>,
+    pages: &mut TablePages<ClubStore>,
     output: &mut W,
 ) -> Result<(), RunFault>
     requires works { pages.old.server.failed ≡ false }
     requires line { line.now ≡ listening_line (string_bytes pages.old.host) }
-    ensures done { OnOk result (HasShown (string_bytes pages.old.host) (string_bytes pages.old.alias) pages.old.server pages.new.server (stream W.contents output.old output.new)) }
-    ensures fault { IfErr result (StopsShowing (string_bytes pages.old.host) (string_bytes pages.old.alias) pages.old.server pages.new.server (stream W.contents output.old output.new)) }
+    ensures done { OnOk result (HasShown (string_bytes pages.old.host) (string_bytes pages.old.alias)
+        pages.old.server pages.new.server (stream W.contents output.old output.new)) }
+    ensures fault { IfErr result (StopsShowing host.now (string_bytes pages.old.host) (string_bytes pages.old.alias)
+        pages.old.server pages.new.server (stream W.contents output.old output.new)) }
 {
     show_heard(rt, alloc, listen_at(rt, host), minutes, line, pages, output)
 }
 
-/// Shows pages over a session, where it was opened and there was memory for a cache, and hands the disk out.
-fn web_opened<N: Net<Listener = TcpListener, Stream = TcpStream> + Clock + RandomSource, W: Write>(
+/// Shows pages for so many minutes over a store, and hands its disk out.
+pub fn show_over<
+    N: Net<Listener = TcpListener, Stream = TcpStream> + Clock + RandomSource,
+    W: Write,
+>(
     rt: &N,
     alloc: Global,
     host: &WebHost<'_>,
     minutes: u16,
-    opened: Result<
-        Store<FileDisk<SystemFile<File>>, Session>,
-        (Option<FileDisk<SystemFile<File>>>, StoreFault),
-    >,
-    cache: Result<Cache, AllocError>,
+    store: ClubStore,
+    cache: Cache,
     output: &mut W,
-) -> Result<FileDisk<SystemFile<File>>, (Option<FileDisk<SystemFile<File>>>, RunFault)>
-    requires works { IfOk opened (λ store. store.failed ≡ false) }
-    requires none_pending { IfOk opened (λ store. store.pending ≡ []) }
-    ensures done { IfOk result (λ left. ShowsOpened host.now opened cache left (stream W.contents output.old output.new)) }
-    ensures fault { IfErr result (λ e. StopsOpenedPages host.now opened cache e.0 (stream W.contents output.old output.new) e.1) }
+) -> Left<ClubDisk, RunFault>
+    requires works { store.failed ≡ false }
+    requires none_pending { store.pending ≡ [] }
+    ensures { Leads (ShowsOver host.now (stream W.contents output.old output.new) result.ended) store result.disk }
 {
-    let store = match opened {
-        Ok(store) => store,
-        Err((left, cause)) => return Err((left, RunFault::Store(cause))),
-    };
-    let Ok(cache) = cache else {
-        return Err(without_memory(store));
-    };
     let Ok(names) = names_of(alloc, host) else {
-        return Err(without_memory(store));
+        return with_disk(store, Err(RunFault::Store(StoreFault::NoMemory)));
     };
     let Ok(line) = listening_line(alloc, names.host()) else {
-        return Err(without_memory(store));
+        return with_disk(store, Err(RunFault::Store(StoreFault::NoMemory)));
     };
     let mut pages = TablePages::new(alloc, names, store, cache);
     let ended = listen_and_show(rt, alloc, host, minutes, line.as_str(), &mut pages, output);
     with_disk(pages.into_server(), ended)
-}
-
-/// The disk of a store over which memory was refused.
-fn without_memory(
-    store: Store<FileDisk<SystemFile<File>>, Session>,
-) -> (Option<FileDisk<SystemFile<File>>>, RunFault)
-    ensures { result ≡ (Some store.disk, RunFault.Store NoMemory) }
-{
-    let disk = store.into_disk();
-    (Some(disk), RunFault::Store(StoreFault::NoMemory))
-}
-
-/// Shows pages for so many minutes, over the session that the disk in a file holds, and hands the disk out.
-fn web_on_file<
-    S: Files<File = File> + Net<Listener = TcpListener, Stream = TcpStream> + Clock + RandomSource,
-    W: Write,
->(
-    rt: &S,
-    alloc: Global,
-    disk: &str,
-    host: &WebHost<'_>,
-    minutes: u16,
-    output: &mut W,
-) -> Result<FileDisk<SystemFile<File>>, (Option<FileDisk<SystemFile<File>>>, RunFault)>
-    ensures done { IfOk result (λ left. LeavesShown left host.now (stream W.contents output.old output.new)) }
-    ensures fault { IfErr result (λ e. LeavesUnshown e.0 host.now (stream W.contents output.old output.new) e.1) }
-{
-    let Ok(_lock) = lock(rt, disk) else {
-        return Err((None, RunFault::Store(StoreFault::Disk)));
-    };
-    let opened = open_store(rt, alloc, disk);
-    let cache = Cache::new(alloc, CACHED_ENDINGS);
-    web_opened(rt, alloc, host, minutes, opened, cache, output)
-}
-
-/// Shows pages for so many minutes, over the session that the disk in a file holds.
-pub fn run_web<
-    S: Files<File = File> + Net<Listener = TcpListener, Stream = TcpStream> + Clock + RandomSource,
-    W: Write,
->(
-    rt: &S,
-    alloc: Global,
-    disk: &str,
-    host: &WebHost<'_>,
-    minutes: u16,
-    output: &mut W,
-) -> Result<(), RunFault>
-    ensures done { OnOk result (HasShownPages host.now (stream W.contents output.old output.new)) }
-    ensures fault { IfErr result (StopsShowingPages host.now (stream W.contents output.old output.new)) }
-{
-    let_go(web_on_file(rt, alloc, disk, host, minutes, output))
 }

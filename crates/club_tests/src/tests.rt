@@ -92,7 +92,7 @@ fn words_of(alloc: Global, text: &str) -> Result<Vec<&str>, AllocError> {
 
 /// Each command with its words. Numbers are taken from the least to the most, a sign and zeros before them too, and the
 /// options before, between and behind the other words.
-const COMMANDS: [&str; 21] = [
+const COMMANDS: [&str; 22] = [
     "auction 1",
     "auction 36",
     "auction +7",
@@ -114,6 +114,7 @@ const COMMANDS: [&str; 21] = [
     "results --html club.disk",
     "check club.disk",
     "plan club.txt",
+    "version",
 ];
 
 #[test]
@@ -127,13 +128,14 @@ fn words_of_commands_are_taken(rt: HostRuntime) -> Result<(), Fail> {
 }
 
 /// Words, and behind `: ` how what is written of them begins.
-const OTHER_WORDS: [&str; 22] = [
+const OTHER_WORDS: [&str; 23] = [
     "format club.disk: error: the following required arguments were not provided:\n  <CONFIG>\n",
     "rank: error: the following required arguments were not provided:\n  <DISK>\n",
     "auction: error: the following required arguments were not provided:\n  <BOARD>\n",
     "script club.disk 2: error: unexpected argument '2' found\n",
     "serve club.disk 4000 1 2: error: unexpected argument '2' found\n",
     "auction 1 2: error: unexpected argument '2' found\n",
+    "version 1: error: unexpected argument '1' found\n",
     "auction -1: error: unexpected argument '-1' found\n",
     "serve club.disk 0 1: error: invalid value '0' for '<PORT>': 0 is not in 1..=65535\n",
     "serve club.disk 65536 1: error: invalid value '65536' for '<PORT>': 65536 is not in 1..=65535\n",
@@ -196,4 +198,10 @@ fn words_that_cannot_be_had_are_named(rt: HostRuntime) {
     let status = refuse(WordsFault::Memory, &mut errors);
     expect_eq(&rt, status, 3, "memory refused");
     expect_eq(&rt, errors.as_slice(), b"no memory\n".as_slice(), "errors");
+}
+
+#[test]
+fn version_is_told(rt: HostRuntime) {
+    let line = "bridge_club 0.1.0, proved with rattle-kit-13f logic dac8208d650f15bf\n";
+    expect_run(&rt, rt.alloc(), ["version"].as_slice(), "", (0, line, ""));
 }

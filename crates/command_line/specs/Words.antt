@@ -1,5 +1,5 @@
 -- The command line, in the words of clap.
-use Rattle.std.specs.Prelude.{◌≡◌, ◌≢◌, ℕ, Bool, List, [], Option, None, Some, Ok, pos, true, false, codes, option_map}
+use Rattle.std.specs.Prelude.{◌≡◌, ◌≢◌, ℕ, Bool, List, [], ◌∷◌, Option, None, Some, Ok, pos, true, false, codes, option_map}
 use Rattle.std.specs.Borrow.{Bor}
 use Rattle.std.specs.Str.Parse.{ParsesUnsigned}
 use Rattle.std.specs.declared.num.ParseIntError.{ParseIntError}
@@ -7,7 +7,7 @@ use Rattle.clap.specs.Words.{App, Row, Rule, Text, new_app, new_rule, with_rule,
 use Rattle.clap.specs.declared.builder.action.ArgAction.TheVariants.{SetTrue}
 use Rattle.clap.specs.declared.builder.value_parser.ValueParser.TheVariants as parser
 use Rattle.command_line.specs.declared.command.Command.{Command}
-use Rattle.command_line.specs.declared.command.Command.TheVariants.{Auction, Format, Script, Serve, Web, Rank, Pbn, Results, Check, Plan}
+use Rattle.command_line.specs.declared.command.Command.TheVariants.{Auction, Format, Script, Serve, Web, Rank, Pbn, Results, Check, Plan, Version}
 use Rattle.command_line.specs.declared.command.WebHost.{WebHost}
 use Rattle.command_line.specs.declared.command.WordsFault.{WordsFault}
 use Rattle.command_line.specs.declared.command.WordsFault.TheVariants.{Usage, Memory}
@@ -100,6 +100,10 @@ check_app = disk_app (codes "check")
 abbrev pub plan_app : App
 plan_app = with_rule (new_app (codes "plan")) config_rule
 
+-- the command `version`
+abbrev pub version_app : App
+version_app = new_app (codes "version")
+
 -- the program's name alone
 abbrev pub named_app : App
 named_app = new_app (codes "bridge_club")
@@ -108,45 +112,20 @@ named_app = new_app (codes "bridge_club")
 abbrev pub bare_app : App
 bare_app = record named_app { top = record named_app.top { no_binary_name = true; subcommand_required = true } }
 
--- the program with its commands, one after another
-abbrev pub app_with_auction : App
-app_with_auction = with_subcommand bare_app auction_app.top
+-- the commands, in order
+abbrev pub command_apps : List App
+command_apps =
+    auction_app ∷ format_app ∷ script_app ∷ serve_app ∷ web_app ∷ rank_app ∷ pbn_app ∷ results_app ∷ check_app ∷ plan_app
+    ∷ version_app ∷ []
 
--- and with `format`
-abbrev pub app_with_format : App
-app_with_format = with_subcommand app_with_auction format_app.top
-
--- and with `script`
-abbrev pub app_with_script : App
-app_with_script = with_subcommand app_with_format script_app.top
-
--- and with `serve`
-abbrev pub app_with_serve : App
-app_with_serve = with_subcommand app_with_script serve_app.top
-
--- and with `web`
-abbrev pub app_with_web : App
-app_with_web = with_subcommand app_with_serve web_app.top
-
--- and with `rank`
-abbrev pub app_with_rank : App
-app_with_rank = with_subcommand app_with_web rank_app.top
-
--- and with `pbn`
-abbrev pub app_with_pbn : App
-app_with_pbn = with_subcommand app_with_rank pbn_app.top
-
--- and with `results`
-abbrev pub app_with_results : App
-app_with_results = with_subcommand app_with_pbn results_app.top
-
--- and with `check`
-abbrev pub app_with_check : App
-app_with_check = with_subcommand app_with_results check_app.top
+-- a program with these commands, one after another
+abbrev pub with_commands : App → List App → App
+with_commands app [] = app
+with_commands app (command ∷ more) = with_commands (with_subcommand app command.top) more
 
 -- the program: words without its own name, and one of its commands
 abbrev pub club_app : App
-club_app = with_subcommand app_with_check plan_app.top
+club_app = with_commands bare_app command_apps
 
 -- the argument of that name is this number of so many bits, in decimal digits
 abbrev pub HasNumber : ℕ → List Row → Text → ℕ → Type 0
@@ -185,6 +164,7 @@ HasWords rows (Pbn disk) = HasText rows (codes "DISK") disk.now
 HasWords rows (Results disk html) = HasText rows (codes "DISK") disk.now × HasFlag rows (codes "html") html
 HasWords rows (Check disk) = HasText rows (codes "DISK") disk.now
 HasWords rows (Plan config) = HasText rows (codes "CONFIG") config.now
+HasWords rows Version = Unit {0}
 
 -- the name of a command
 abbrev pub name_of : Command → Text
@@ -198,6 +178,7 @@ name_of (Pbn disk) = codes "pbn"
 name_of (Results disk html) = codes "results"
 name_of (Check disk) = codes "check"
 name_of (Plan config) = codes "plan"
+name_of Version = codes "version"
 
 -- the command of that name, with these arguments
 abbrev pub IsNamed : Text → List Row → Command → Type 0

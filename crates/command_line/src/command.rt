@@ -65,6 +65,8 @@ pub enum Command<'a> {
         /// CONFIG, the name of the configuration's file.
         config: &'a str,
     },
+    /// `version`: the program's name, its version, and the kit that proved it.
+    Version,
 }
 
 /// Where the pages of `web` are shown, and by which name.

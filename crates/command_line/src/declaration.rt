@@ -2,7 +2,7 @@
 ghost use Rattle.std.specs.Prelude.{◌≡◌, IfOk, false};
 ghost use Rattle.clap.specs.Words.{app_of, shape_of};
 ghost use Rattle.clap.specs.declared.builder.command.Command.TheViews.{out-Command as fields_of};
-ghost use Rattle.command_line.specs.Words.{auction_app, format_app, script_app, serve_app, plain_web_app, web_app, rank_app, pbn_app, results_app, check_app, plan_app, bare_app, app_with_auction, app_with_format, app_with_script, app_with_serve, app_with_web, app_with_rank, app_with_pbn, app_with_results, app_with_check, club_app};
+ghost use Rattle.command_line.specs.Words.{auction_app, format_app, script_app, serve_app, plain_web_app, web_app, rank_app, pbn_app, results_app, check_app, plan_app, bare_app, version_app, club_app};
 
 use crate::arguments::{
     address_argument, board_argument, config_argument, count_argument, disk_argument,
@@ -10,74 +10,22 @@ use crate::arguments::{
 };
 use std::alloc::{AllocError, Global};
 
-/// The program's command line.
+/// The program's command line: its commands, in the order in which the usage lists them.
 pub fn club_command<'a>(alloc: Global) -> Result<clap::Command<'a>, AllocError>
     ensures { IfOk result (λ command. app_of command ≡ club_app) }
 {
-    with_check(alloc)?.subcommand(plan_command(alloc)?)
-}
-
-/// The command line with the commands up to `check`.
-fn with_check<'a>(alloc: Global) -> Result<clap::Command<'a>, AllocError>
-    ensures { IfOk result (λ command. app_of command ≡ app_with_check) }
-{
-    with_results(alloc)?.subcommand(check_command(alloc)?)
-}
-
-/// The command line with the commands up to `results`.
-fn with_results<'a>(alloc: Global) -> Result<clap::Command<'a>, AllocError>
-    ensures { IfOk result (λ command. app_of command ≡ app_with_results) }
-{
-    with_pbn(alloc)?.subcommand(results_command(alloc)?)
-}
-
-/// The command line with the commands up to `pbn`.
-fn with_pbn<'a>(alloc: Global) -> Result<clap::Command<'a>, AllocError>
-    ensures { IfOk result (λ command. app_of command ≡ app_with_pbn) }
-{
-    with_rank(alloc)?.subcommand(pbn_command(alloc)?)
-}
-
-/// The command line with the commands up to `rank`.
-fn with_rank<'a>(alloc: Global) -> Result<clap::Command<'a>, AllocError>
-    ensures { IfOk result (λ command. app_of command ≡ app_with_rank) }
-{
-    with_web(alloc)?.subcommand(rank_command(alloc)?)
-}
-
-/// The command line with the commands up to `web`.
-fn with_web<'a>(alloc: Global) -> Result<clap::Command<'a>, AllocError>
-    ensures { IfOk result (λ command. app_of command ≡ app_with_web) }
-{
-    with_serve(alloc)?.subcommand(web_command(alloc)?)
-}
-
-/// The command line with the commands up to `serve`.
-fn with_serve<'a>(alloc: Global) -> Result<clap::Command<'a>, AllocError>
-    ensures { IfOk result (λ command. app_of command ≡ app_with_serve) }
-{
-    with_script(alloc)?.subcommand(serve_command(alloc)?)
-}
-
-/// The command line with the commands up to `script`.
-fn with_script<'a>(alloc: Global) -> Result<clap::Command<'a>, AllocError>
-    ensures { IfOk result (λ command. app_of command ≡ app_with_script) }
-{
-    with_format(alloc)?.subcommand(script_command(alloc)?)
-}
-
-/// The command line with the commands up to `format`.
-fn with_format<'a>(alloc: Global) -> Result<clap::Command<'a>, AllocError>
-    ensures { IfOk result (λ command. app_of command ≡ app_with_format) }
-{
-    with_auction(alloc)?.subcommand(format_command(alloc)?)
-}
-
-/// The command line with the command `auction`.
-fn with_auction<'a>(alloc: Global) -> Result<clap::Command<'a>, AllocError>
-    ensures { IfOk result (λ command. app_of command ≡ app_with_auction) }
-{
-    bare_command(alloc)?.subcommand(auction_command(alloc)?)
+    bare_command(alloc)?
+        .subcommand(auction_command(alloc)?)?
+        .subcommand(format_command(alloc)?)?
+        .subcommand(script_command(alloc)?)?
+        .subcommand(serve_command(alloc)?)?
+        .subcommand(web_command(alloc)?)?
+        .subcommand(rank_command(alloc)?)?
+        .subcommand(pbn_command(alloc)?)?
+        .subcommand(results_command(alloc)?)?
+        .subcommand(check_command(alloc)?)?
+        .subcommand(plan_command(alloc)?)?
+        .subcommand(version_command(alloc))
 }
 
 /// The program's command line without its commands.
@@ -205,4 +153,14 @@ fn plan_command<'a>(alloc: Global) -> Result<clap::Command<'a>, AllocError>
     clap::Command::new(alloc, "plan")
         .about("Says in words what a configuration plans, or what is wrong with it; makes nothing")
         .arg(config_argument(alloc))
+}
+
+/// The command `version`.
+fn version_command<'a>(alloc: Global) -> clap::Command<'a>
+    ensures shape { shape_of result ≡ version_app.top }
+    ensures local { (fields_of result).has_globals ≡ false }
+{
+    clap::Command::new(alloc, "version").about(
+        "Prints the program's name, its version and the kit that proved it",
+    )
 }

@@ -49,6 +49,7 @@ fn asked<'a>(matches: &ArgMatches<'a>) -> Option<Command<'a>>
         ("results", found) => results_of(found),
         ("check", found) => check_of(found),
         ("plan", found) => plan_of(found),
+        ("version", _) => Some(Command::Version),
         // clap's checks leave no other name. The contract allows the answer of memory refused alone here.
         _ => None,
     }

@@ -4,7 +4,7 @@ use super::connections::{expect_written, listening, sent};
 use super::expect_eq;
 use super::script::failing_disk;
 use bridge_session::Session;
-use club_commands::open_session;
+use club_disk::open_session;
 use sector_disk::{Fuse, MemoryDisk};
 use session_store::Store;
 use std::alloc::{AllocError, Global};

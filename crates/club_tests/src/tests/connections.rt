@@ -2,7 +2,8 @@
 use super::script::{failing_disk, solved_board};
 use super::{expect_eq, expect_formatted, expect_run};
 use bridge_endings::Cache;
-use club_commands::{RunFault, open_session, serve_connections};
+use club_commands::{RunFault, serve_connections};
+use club_disk::open_session;
 use session_store::StoreFault;
 use std::alloc::Global;
 use std::fs::File;

@@ -1,6 +1,7 @@
 //! Disks and configurations that are refused, and streams that fail.
 use super::{Broken, expect_eq, expect_formatted, expect_run};
-use club_commands::{lock, lock_to_read, run_words};
+use club_commands::run_words;
+use club_disk::{lock, lock_to_read};
 use std::alloc::Global;
 use std::fs;
 use std::fs::File;

@@ -2,7 +2,8 @@
 use super::{Broken, expect_eq};
 use bridge_endings::Cache;
 use bridge_session::Session;
-use club_commands::{RunFault, open_session, read_session, serve_store};
+use club_commands::{RunFault, read_session, serve_store};
+use club_disk::open_session;
 use sector_disk::{Fail as FailOf, Fuse, MemoryDisk};
 use session_store::{StoreFault, format};
 use std::alloc::{AllocError, Global};

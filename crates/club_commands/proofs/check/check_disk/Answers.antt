@@ -2,8 +2,9 @@ use Rattle.std.proofs.Common.{[], inr, refl, subst}
 use Rattle.std.proofs.lemmas.Result.{err_from_is_err_and}
 use Rattle.line_text.specs.Streams.{stream}
 use Rattle.session_store.specs.Stands.{header_in}
-use Rattle.club_commands.specs.Readings.{RefusesReading}
-use Rattle.club_commands.proofs.Seen.{refuses_reading, says_seen, checks, stops_writing}
+use Rattle.club_disk.specs.Stored.{RefusesReading}
+use Rattle.club_disk.proofs.Refusing.{refuses_reading}
+use Rattle.club_commands.proofs.Seen.{says_seen, checks, stops_writing}
 use Rattle.club_commands.proofs.check.check_disk.Goals as goal
 
 pub returns-in-Ok-clause-done : goal.returns-in-Ok-clause-done

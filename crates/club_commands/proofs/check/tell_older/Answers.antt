@@ -1,6 +1,6 @@
 use Rattle.std.proofs.Common.{inl, inr}
 use Rattle.session_store.specs.Looking.{older_header_in}
-use Rattle.club_commands.proofs.Seen.{refuses_reading}
+use Rattle.club_disk.proofs.Refusing.{refuses_reading}
 use Rattle.club_commands.proofs.check.tell_older.Goals as goal
 
 pub returns-in-Ok-clause-written : goal.returns-in-Ok-clause-written

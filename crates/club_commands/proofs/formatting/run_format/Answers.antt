@@ -1,15 +1,7 @@
-use Rattle.line_text.specs.Streams.{stream}
-use Rattle.club_commands.specs.Formatted.{LeavesFormatted, LeavesUnformatted}
-use Rattle.club_commands.proofs.Opened.{let_go_done, let_go_stopped}
+use Rattle.std.proofs.Common.{inr}
+use Rattle.std.proofs.KnownBytes.{Keeps-refl}
 use Rattle.club_commands.proofs.formatting.run_format.Goals as goal
 
-pub returns-clause-done : goal.returns-clause-done
-returns-clause-done g c =
-    let output = stream g.W.Write.contents c.args.output.now c.format_on_file.new.output in
-    let_go_done (λ left. LeavesFormatted left output) c.format_on_file.result c.let_go.result c.format_on_file.ensures.done c.let_go.ensures.done
-
-pub returns-clause-fault : goal.returns-clause-fault
-returns-clause-fault g c =
-    let output = stream g.W.Write.contents c.args.output.now c.format_on_file.new.output in
-    let_go_stopped (λ left fault. LeavesUnformatted left output fault) c.format_on_file.result c.let_go.result
-    c.format_on_file.ensures.fault c.let_go.ensures.fault
+pub returns-in-Err : goal.returns-in-Err
+returns-in-Err g c =
+    inr (c.in-Err.ensures.fault, Keeps-refl (g.R.Read.remaining c.args.input.now), Keeps-refl (g.W.Write.contents c.args.output.now))

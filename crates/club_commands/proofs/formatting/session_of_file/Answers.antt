@@ -1,4 +1,4 @@
-use Rattle.club_commands.proofs.Opened.{no_session}
+use Rattle.club_commands.proofs.Served.{no_session}
 use Rattle.club_commands.proofs.formatting.session_of_file.Goals as goal
 
 pub returns-clause-fault : goal.returns-clause-fault

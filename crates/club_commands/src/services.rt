@@ -1,0 +1,130 @@
+//! Lines answered over the session that a disk holds, which is opened for it.
+ghost use Rattle.std.specs.Prelude.{◌≡◌, [], false, MatchResult, IsOkAnd, OnOk, IfErr};
+ghost use Rattle.line_text.specs.Streams.{stream};
+ghost use Rattle.sector_disk.specs.File.{file_disk};
+ghost use Rattle.club_commands.specs.declared.fault.SystemFault.TheVariants.{Listener};
+ghost use Rattle.club_commands.specs.Connections.{unknown, ServesAllConnections, StopsConnections, StopsListening};
+ghost use Rattle.club_commands.specs.Works.{ServesDisk, ServesWith};
+
+use crate::fault::{RunFault, SystemFault};
+use crate::script::serve_store;
+use crate::serving::serve_connections;
+use crate::web::show_over;
+use crate::work::Service;
+use bridge_endings::Cache;
+use club_disk::{ClubDisk, ClubStore, Left, open_session, with_disk};
+use session_store::StoreFault;
+use std::alloc::{AllocError, Global};
+use std::io::{self, Read, Write};
+use std::net::{Ipv4Addr, Net, SocketAddr, TcpListener, TcpStream};
+use std::random::RandomSource;
+use std::time::Clock;
+
+/// How many endings are kept for the answers to `SOLVE`.
+const CACHED_ENDINGS: usize = 4096;
+
+/// Opens the session that a disk holds, answers lines over it, and hands the disk out.
+pub fn serve_over<
+    S: Net<Listener = TcpListener, Stream = TcpStream> + Clock + RandomSource,
+    R: Read,
+    W: Write,
+>(
+    rt: &S,
+    alloc: Global,
+    service: &Service<'_>,
+    disk: ClubDisk,
+    input: &mut R,
+    output: &mut W,
+) -> Left<ClubDisk, RunFault>
+    ensures { ServesDisk (stream R.remaining input.old input.new) (stream W.contents output.old output.new) result.ended
+        service.now disk result.disk }
+{
+    match open_session(alloc, disk) {
+        Ok(store) => {
+            let cache = Cache::new(alloc, CACHED_ENDINGS);
+            serve_with(rt, alloc, service, cache, store, input, output)
+        }
+        Err((disk, cause)) => Left {
+            disk,
+            ended: Err(RunFault::Store(cause)),
+        },
+    }
+}
+
+/// Answers lines over a store, where there was memory for a cache of endings, and hands its disk out. What was given for the
+/// cache is handed in, since only so a clause can say what comes of it.
+fn serve_with<
+    S: Net<Listener = TcpListener, Stream = TcpStream> + Clock + RandomSource,
+    R: Read,
+    W: Write,
+>(
+    rt: &S,
+    alloc: Global,
+    service: &Service<'_>,
+    cache: Result<Cache, AllocError>,
+    store: ClubStore,
+    input: &mut R,
+    output: &mut W,
+) -> Left<ClubDisk, RunFault>
+    requires works { store.failed ≡ false }
+    requires none_pending { store.pending ≡ [] }
+    ensures { ServesWith (stream R.remaining input.old input.new) (stream W.contents output.old output.new) result.ended
+        cache service.now store result.disk }
+{
+    let Ok(mut cache) = cache else {
+        return with_disk(store, Err(RunFault::Store(StoreFault::NoMemory)));
+    };
+    let mut store = store;
+    match *service {
+        Service::Input => {
+            let ended = serve_store(&mut store, &mut cache, input, output);
+            with_disk(store, ended)
+        }
+        Service::Connections { port, count } => {
+            let ended = listen(rt, port, count, &mut store, &mut cache);
+            with_disk(store, ended)
+        }
+        Service::Pages { host, minutes } => {
+            show_over(rt, alloc, &host, minutes, store, cache, output)
+        }
+    }
+}
+
+/// Serves the lines of so many connections over a store, where there is a listener. What was found is handed in, since only so
+/// a clause can say what comes of it.
+fn serve_heard<N: Net<Listener = TcpListener, Stream = TcpStream>>(
+    rt: &N,
+    found: io::Result<TcpListener>,
+    count: u16,
+    store: &mut ClubStore,
+    cache: &mut Cache,
+) -> Result<(), RunFault>
+    requires works { store.old.failed ≡ false }
+    requires none_pending { store.old.pending ≡ [] }
+    ensures done { OnOk result (IsOkAnd found (λ _. ServesAllConnections file_disk unknown unknown count store.old store.new)) }
+    ensures fault { IfErr result (λ fault. MatchResult found
+        (λ _. StopsConnections file_disk unknown unknown count store.old store.new fault)
+        (λ _. (fault ≡ RunFault.System Listener) × (store.new ≡ store.old))) }
+{
+    match found {
+        Ok(listener) => serve_connections(rt, &listener, count, store, cache),
+        Err(_) => Err(RunFault::System(SystemFault::Listener)),
+    }
+}
+
+/// Listens at a port of 127.0.0.1, and serves so many connections over a store.
+fn listen<N: Net<Listener = TcpListener, Stream = TcpStream>>(
+    rt: &N,
+    port: u16,
+    count: u16,
+    store: &mut ClubStore,
+    cache: &mut Cache,
+) -> Result<(), RunFault>
+    requires works { store.old.failed ≡ false }
+    requires none_pending { store.old.pending ≡ [] }
+    ensures done { OnOk result (ServesAllConnections file_disk unknown unknown count store.old store.new) }
+    ensures fault { IfErr result (StopsListening count store.old store.new) }
+{
+    let found = TcpListener::bind(rt, SocketAddr::from((Ipv4Addr::LOCALHOST, port)));
+    serve_heard(rt, found, count, store, cache)
+}

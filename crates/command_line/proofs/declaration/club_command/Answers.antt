@@ -1,0 +1,18 @@
+use Rattle.command_line.specs.Words.{auction_app, format_app, script_app, serve_app, web_app, rank_app, pbn_app, results_app, check_app, plan_app, version_app}
+use Rattle.command_line.proofs.Adding.{adds, adds_last}
+use Rattle.command_line.proofs.declaration.club_command.Goals as goal
+
+pub returns : goal.returns
+returns c =
+    let bare = c.in_ok-bare_command.ensures in
+    let with_auction = adds _ _ _ _ auction_app.top bare c.in_ok-auction_command.ensures.shape c.in_ok-auction_command.ensures.local c.in_ok-subcommand.ensures in
+    let with_format = adds _ _ _ _ format_app.top with_auction c.in_ok-format_command.ensures.shape c.in_ok-format_command.ensures.local c.in_ok-subcommand-2.ensures in
+    let with_script = adds _ _ _ _ script_app.top with_format c.in_ok-script_command.ensures.shape c.in_ok-script_command.ensures.local c.in_ok-subcommand-3.ensures in
+    let with_serve = adds _ _ _ _ serve_app.top with_script c.in_ok-serve_command.ensures.shape c.in_ok-serve_command.ensures.local c.in_ok-subcommand-4.ensures in
+    let with_web = adds _ _ _ _ web_app.top with_serve c.in_ok-web_command.ensures.shape c.in_ok-web_command.ensures.local c.in_ok-subcommand-5.ensures in
+    let with_rank = adds _ _ _ _ rank_app.top with_web c.in_ok-rank_command.ensures.shape c.in_ok-rank_command.ensures.local c.in_ok-subcommand-6.ensures in
+    let with_pbn = adds _ _ _ _ pbn_app.top with_rank c.in_ok-pbn_command.ensures.shape c.in_ok-pbn_command.ensures.local c.in_ok-subcommand-7.ensures in
+    let with_results = adds _ _ _ _ results_app.top with_pbn c.in_ok-results_command.ensures.shape c.in_ok-results_command.ensures.local c.in_ok-subcommand-8.ensures in
+    let with_check = adds _ _ _ _ check_app.top with_results c.in_ok-check_command.ensures.shape c.in_ok-check_command.ensures.local c.in_ok-subcommand-9.ensures in
+    let with_plan = adds _ _ _ _ plan_app.top with_check c.in_ok-plan_command.ensures.shape c.in_ok-plan_command.ensures.local c.in_ok-subcommand-10.ensures in
+    adds_last _ _ c.subcommand-11.result _ version_app.top with_plan c.version_command.ensures.shape c.version_command.ensures.local c.subcommand-11.ensures
