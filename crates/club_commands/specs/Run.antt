@@ -15,6 +15,7 @@ use Rattle.session_store.specs.declared.fault.StoreFault.TheVariants.{NoMemory}
 use Rattle.club_commands.specs.Faults.{store_line, stream_line, fault_line, fault_status}
 use Rattle.club_commands.specs.Formatted.{HasFormatted, StopsFormatting}
 use Rattle.club_commands.specs.OnFile.{HasScripted, StopsScripting, HasServedConnections, StopsServingConnections}
+use Rattle.table_pages.specs.declared.page_texts.PageTexts.{PageTexts}
 use Rattle.club_commands.specs.Web.{HasShownPages, StopsShowingPages}
 use Rattle.club_commands.specs.declared.telling.Told.TheVariants.{Ranking, Games}
 use Rattle.club_commands.specs.Told.{HasTold, StopsTold}
@@ -34,42 +35,42 @@ StopsAuction board input output (StreamFault fault) = StopsAt (dealer_of board) 
 StopsAuction board input output (Config fault) = ⊥
 StopsAuction board input output (Store fault) = ⊥
 
--- what a command that was done read from standard input and wrote to standard output
-abbrev pub DoesCommand : Command → Stream → Stream → Type 0
-DoesCommand (Auction board) input output = HasAuction board input output
-DoesCommand (Format disk config) input output = HasFormatted output × IsUntouched input
-DoesCommand (Script disk) input output = HasScripted input output
-DoesCommand (Serve disk port count) input output = HasServedConnections count × IsUntouched output × IsUntouched input
-DoesCommand (Web disk host minutes) input output = HasShownPages host output × IsUntouched input
-DoesCommand (Rank disk) input output = HasTold Ranking output × IsUntouched input
-DoesCommand (Pbn disk) input output = HasTold Games output × IsUntouched input
-DoesCommand (Results disk html) input output = HasResults (IsPageText (page_format html)) output × IsUntouched input
-DoesCommand (Check disk) input output = HasChecked output × IsUntouched input
-DoesCommand (Plan config) input output = HasPlanned output × IsUntouched input
+-- what a command of a program with these pages, which was done, read from standard input and wrote to standard output
+abbrev pub DoesCommand : PageTexts → Command → Stream → Stream → Type 0
+DoesCommand texts (Auction board) input output = HasAuction board input output
+DoesCommand texts (Format disk config) input output = HasFormatted output × IsUntouched input
+DoesCommand texts (Script disk) input output = HasScripted input output
+DoesCommand texts (Serve disk port count) input output = HasServedConnections count × IsUntouched output × IsUntouched input
+DoesCommand texts (Web disk host minutes) input output = HasShownPages texts host output × IsUntouched input
+DoesCommand texts (Rank disk) input output = HasTold Ranking output × IsUntouched input
+DoesCommand texts (Pbn disk) input output = HasTold Games output × IsUntouched input
+DoesCommand texts (Results disk html) input output = HasResults (IsPageText (page_format html)) output × IsUntouched input
+DoesCommand texts (Check disk) input output = HasChecked output × IsUntouched input
+DoesCommand texts (Plan config) input output = HasPlanned output × IsUntouched input
 
 -- what a command leaves of standard input and on standard output where it stops at that fault
-abbrev pub StopsBy : Command → Stream → Stream → RunFault → Type 0
-StopsBy (Auction board) input output fault = StopsAuction board input output fault
-StopsBy (Format disk config) input output fault = StopsFormatting output fault × IsUntouched input
-StopsBy (Script disk) input output fault = StopsScripting input output fault
-StopsBy (Serve disk port count) input output fault =
+abbrev pub StopsBy : PageTexts → Command → Stream → Stream → RunFault → Type 0
+StopsBy texts (Auction board) input output fault = StopsAuction board input output fault
+StopsBy texts (Format disk config) input output fault = StopsFormatting output fault × IsUntouched input
+StopsBy texts (Script disk) input output fault = StopsScripting input output fault
+StopsBy texts (Serve disk port count) input output fault =
     StopsServingConnections count fault × IsUntouched output × IsUntouched input
-StopsBy (Web disk host minutes) input output fault = StopsShowingPages host output fault × IsUntouched input
-StopsBy (Rank disk) input output fault = StopsTold Ranking output fault × IsUntouched input
-StopsBy (Pbn disk) input output fault = StopsTold Games output fault × IsUntouched input
-StopsBy (Results disk html) input output fault = StopsResults (IsPageText (page_format html)) output fault × IsUntouched input
-StopsBy (Check disk) input output fault = StopsCheckingFile output fault × IsUntouched input
-StopsBy (Plan config) input output fault = StopsPlanningFile output fault × IsUntouched input
+StopsBy texts (Web disk host minutes) input output fault = StopsShowingPages texts host output fault × IsUntouched input
+StopsBy texts (Rank disk) input output fault = StopsTold Ranking output fault × IsUntouched input
+StopsBy texts (Pbn disk) input output fault = StopsTold Games output fault × IsUntouched input
+StopsBy texts (Results disk html) input output fault = StopsResults (IsPageText (page_format html)) output fault × IsUntouched input
+StopsBy texts (Check disk) input output fault = StopsCheckingFile output fault × IsUntouched input
+StopsBy texts (Plan config) input output fault = StopsPlanningFile output fault × IsUntouched input
 
 -- a command was done, and nothing stands on standard error
-abbrev pub IsDone : Command → Stream → Stream → Stream → Type 0
-IsDone command input output errors = DoesCommand command input output × IsUntouched errors
+abbrev pub IsDone : PageTexts → Command → Stream → Stream → Stream → Type 0
+IsDone texts command input output errors = DoesCommand texts command input output × IsUntouched errors
 
 -- A command stopped at some fault that has this status, and standard error took a prefix of the line for that fault, no
 -- more.
-pub record IsCommandStopped (command : Command) (input output errors : Stream) (status : ℕ) : Type 0 where
+pub record IsCommandStopped (texts : PageTexts) (command : Command) (input output errors : Stream) (status : ℕ) : Type 0 where
   pub fault : RunFault
-  pub stopped : StopsBy command input output fault
+  pub stopped : StopsBy texts command input output fault
   pub named : TakesPrefix errors (fault_line fault)
   pub status_is : status ≡ fault_status fault
 

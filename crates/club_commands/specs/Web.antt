@@ -19,7 +19,9 @@ use Rattle.web_loop.specs.Turns.{LeadsTo}
 use Rattle.table_pages.specs.Answered.{AnswersLines, place_told, tables_told}
 use Rattle.table_pages.specs.ToldResults.{results_told}
 use Rattle.table_pages.specs.HostNames.{with_port}
+use Rattle.table_pages.specs.declared.page_texts.PageTexts.{PageTexts}
 use Rattle.table_pages.specs.Responses.{Answering}
+use Rattle.table_pages.specs.Site.{Site}
 use Rattle.command_line.specs.declared.command.WebHost.{WebHost}
 use Rattle.club_commands.specs.declared.fault.RunFault.{RunFault}
 use Rattle.club_commands.specs.declared.fault.RunFault.TheVariants.{Stream as StreamFault, Store}
@@ -45,6 +47,10 @@ host_at web = with_port (host_name web.address web.name) web.port
 abbrev pub alias_at : WebHost → List ℕ
 alias_at web = other_name web.address web.name web.port
 
+-- the pages of these texts, at these names
+abbrev pub site_at : PageTexts → WebHost → Site
+site_at texts web = record { texts = texts; host = host_at web; alias = alias_at web }
+
 -- the address to listen at, which is this computer's own where none is given
 abbrev pub IsAddress : Option (Bor (List ℕ)) → Option Ipv4Addr → Type 0
 IsAddress None (Some a) = ipv4_octets a ≡ 127 ∷ 0 ∷ 0 ∷ 1 ∷ []
@@ -56,16 +62,16 @@ IsAddress (Some text) None = (a : Ipv4Addr) → ¬ (IsIpv4Text text.now a)
 abbrev pub listening_line : List ℕ → List ℕ
 listening_line host = (codes "listening at http://" ++ host) ++ codes "\n"
 
-module _ {D : Type 0} (disk : Disk D) (host alias : List ℕ) where
+module _ {D : Type 0} (disk : Disk D) (site : Site) where
   -- Requests were answered over a store, one after another, and no call of its disk failed.
   pub record ShowsPages (start store : StoreValue D SessionValue Action) : Type 0 where
-    pub requests : LeadsTo (Answering (AnswersLines disk) place_told tables_told results_told host alias) start store
+    pub requests : LeadsTo (Answering (AnswersLines disk) place_told tables_told results_told site) start store
     pub works : store.failed ≡ false
     pub no_fault : disk.faults store.disk ≡ disk.faults start.disk
 
   -- Requests were answered over a store, in the last of which that changed it a call of its disk failed, and with it the store.
   pub record FailsPages (start store : StoreValue D SessionValue Action) : Type 0 where
-    pub requests : LeadsTo (Answering (AnswersLines disk) place_told tables_told results_told host alias) start store
+    pub requests : LeadsTo (Answering (AnswersLines disk) place_told tables_told results_told site) start store
     pub failed : store.failed ≡ true
     pub faults : Rose (disk.faults start.disk) (disk.faults store.disk)
 
@@ -80,23 +86,23 @@ ended_by true _ = Err (Store DiskFault)
 ended_by false (Ok _) = Ok tt
 ended_by false (Err _) = Err (StreamFault Accept)
 
--- over a store in a file, which is led from the first to the second, at a server of these two names
-module _ (host alias : List ℕ) (start store : StoreValue (FileDisk (SystemFile File)) SessionValue Action) where
+-- over a store in a file, which is led from the first to the second, at this site
+module _ (site : Site) (start store : StoreValue (FileDisk (SystemFile File)) SessionValue Action) where
   -- where the pages are is said, and they were shown
   pub record HasShown (output : Stream) : Type 0 where
-    pub said : Takes output (listening_line host)
-    pub shows : ShowsPages file_disk host alias start store
+    pub said : Takes output (listening_line site.host)
+    pub shows : ShowsPages file_disk site start store
 
   -- where they are is said, and the showing stopped
   pub record StopsShown (output : Stream) (fault : RunFault) : Type 0 where
-    pub said : Takes output (listening_line host)
-    pub stops : StopsPages file_disk host alias start store fault
+    pub said : Takes output (listening_line site.host)
+    pub stops : StopsPages file_disk site start store fault
 
   -- there is no listener at the port, or no secret number to be had, or a write failed, and the store is as it was; or the
   -- showing stopped
   abbrev pub StopsShowing : Stream → RunFault → Type 0
   StopsShowing output fault = ((store ≡ start) × (fault ≡ StreamFault Accept) × IsUntouched output)
-      ⊎ (((store ≡ start) × (fault ≡ StreamFault Write) × TakesPrefix output (listening_line host)) ⊎ StopsShown output fault)
+      ⊎ (((store ≡ start) × (fault ≡ StreamFault Write) × TakesPrefix output (listening_line site.host)) ⊎ StopsShown output fault)
 
   -- there is a listener, where the pages are is said, and they were shown
   abbrev pub ShowsHeard : {L E : Type 0} → Result L E → Stream → Type 0
@@ -110,44 +116,44 @@ module _ (host alias : List ℕ) (start store : StoreValue (FileDisk (SystemFile
 
 -- a session was opened, there was memory for a cache, and pages were shown where the words say; the disk is as the last call
 -- left it
-abbrev pub ShowsOpened : {C E : Type 0} → WebHost → OpenedFile → Result C E → FileDisk (SystemFile File) → Stream → Type 0
-ShowsOpened web (Ok start) (Ok _) left output = (store : StoreValue (FileDisk (SystemFile File)) SessionValue Action)
-    × (left ≡ store.disk) × HasShown (host_at web) (alias_at web) start store output
-ShowsOpened web (Ok start) (Err _) left output = ⊥
-ShowsOpened web (Err _) cache left output = ⊥
+abbrev pub ShowsOpened : {C E : Type 0} → PageTexts → WebHost → OpenedFile → Result C E → FileDisk (SystemFile File) → Stream → Type 0
+ShowsOpened texts web (Ok start) (Ok _) left output = (store : StoreValue (FileDisk (SystemFile File)) SessionValue Action)
+    × (left ≡ store.disk) × HasShown (site_at texts web) start store output
+ShowsOpened texts web (Ok start) (Err _) left output = ⊥
+ShowsOpened texts web (Err _) cache left output = ⊥
 
 -- the showing stopped; or there was none, since memory was refused or for the cause for which no session was opened
-abbrev pub StopsOpenedPages : {C E : Type 0} → WebHost → OpenedFile → Result C E → Option (FileDisk (SystemFile File)) → Stream → RunFault → Type 0
-StopsOpenedPages web (Ok start) (Ok _) left output fault = ((left ≡ Some start.disk) × (fault ≡ Store NoMemory) × IsUntouched output)
+abbrev pub StopsOpenedPages : {C E : Type 0} → PageTexts → WebHost → OpenedFile → Result C E → Option (FileDisk (SystemFile File)) → Stream → RunFault → Type 0
+StopsOpenedPages texts web (Ok start) (Ok _) left output fault = ((left ≡ Some start.disk) × (fault ≡ Store NoMemory) × IsUntouched output)
     ⊎ ((store : StoreValue (FileDisk (SystemFile File)) SessionValue Action)
-    × (left ≡ Some store.disk) × StopsShowing (host_at web) (alias_at web) start store output fault)
-StopsOpenedPages web (Ok start) (Err _) left output fault = (left ≡ Some start.disk) × (fault ≡ Store NoMemory) × IsUntouched output
-StopsOpenedPages web (Err refused) cache left output fault = (left ≡ refused.0) × (fault ≡ Store refused.1) × IsUntouched output
+    × (left ≡ Some store.disk) × StopsShowing (site_at texts web) start store output fault)
+StopsOpenedPages texts web (Ok start) (Err _) left output fault = (left ≡ Some start.disk) × (fault ≡ Store NoMemory) × IsUntouched output
+StopsOpenedPages texts web (Err refused) cache left output fault = (left ≡ refused.0) × (fault ≡ Store refused.1) × IsUntouched output
 
 -- pages were shown over a session that was opened on a disk in a file, which is as the last call left it
-pub record LeavesShown (left : FileDisk (SystemFile File)) (web : WebHost) (output : Stream) : Type 0 where
+pub record LeavesShown (left : FileDisk (SystemFile File)) (texts : PageTexts) (web : WebHost) (output : Stream) : Type 0 where
   pub start : StoreValue (FileDisk (SystemFile File)) SessionValue Action
   pub opened : IsOnFile start
   pub store : StoreValue (FileDisk (SystemFile File)) SessionValue Action
   pub left_by : left ≡ store.disk
-  pub shown : HasShown (host_at web) (alias_at web) start store output
+  pub shown : HasShown (site_at texts web) start store output
 
 -- the showing of pages stopped over a session that was opened
-pub record StopsOnPages (left : Option (FileDisk (SystemFile File))) (web : WebHost) (output : Stream) (fault : RunFault) : Type 0 where
+pub record StopsOnPages (left : Option (FileDisk (SystemFile File))) (texts : PageTexts) (web : WebHost) (output : Stream) (fault : RunFault) : Type 0 where
   pub start : StoreValue (FileDisk (SystemFile File)) SessionValue Action
   pub opened : IsOnFile start
   pub store : StoreValue (FileDisk (SystemFile File)) SessionValue Action
   pub left_by : left ≡ Some store.disk
-  pub stops : StopsShowing (host_at web) (alias_at web) start store output fault
+  pub stops : StopsShowing (site_at texts web) start store output fault
 
 -- there is no session, or memory was refused, and nothing is written; or the showing stopped
-abbrev pub LeavesUnshown : Option (FileDisk (SystemFile File)) → WebHost → Stream → RunFault → Type 0
-LeavesUnshown left web output fault = (IsNotServed left fault × IsUntouched output) ⊎ StopsOnPages left web output fault
+abbrev pub LeavesUnshown : Option (FileDisk (SystemFile File)) → PageTexts → WebHost → Stream → RunFault → Type 0
+LeavesUnshown left texts web output fault = (IsNotServed left fault × IsUntouched output) ⊎ StopsOnPages left texts web output fault
 
 -- the same, of the disk that it leaves
-abbrev pub HasShownPages : WebHost → Stream → Type 0
-HasShownPages web output = (left : FileDisk (SystemFile File)) × LeavesShown left web output
+abbrev pub HasShownPages : PageTexts → WebHost → Stream → Type 0
+HasShownPages texts web output = (left : FileDisk (SystemFile File)) × LeavesShown left texts web output
 
 -- and where it stops
-abbrev pub StopsShowingPages : WebHost → Stream → RunFault → Type 0
-StopsShowingPages web output fault = (left : Option (FileDisk (SystemFile File))) × LeavesUnshown left web output fault
+abbrev pub StopsShowingPages : PageTexts → WebHost → Stream → RunFault → Type 0
+StopsShowingPages texts web output fault = (left : Option (FileDisk (SystemFile File))) × LeavesUnshown left texts web output fault

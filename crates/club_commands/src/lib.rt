@@ -3,7 +3,7 @@
 //!
 //! ```rust
 //! let words = ["auction", "1"];
-//! let status = run_words(&rt, rt.alloc(), words.as_slice(), &mut rt.stdin(), &mut rt.stdout(), &mut rt.stderr());
+//! let status = run_words_with(&rt, rt.alloc(), texts, words.as_slice(), &mut rt.stdin(), &mut rt.stdout(), &mut rt.stderr());
 //! ```
 #![tactic(auto)]
 
@@ -35,7 +35,7 @@ pub use config_file::read_session;
 pub use disk_lock::{lock, lock_to_read};
 pub use fault::RunFault;
 pub use planning::plan_evening;
-pub use run::{refuse, run_words, status_of};
+pub use run::{refuse, run_words_with, status_of};
 pub use script::serve_store;
 pub use serving::serve_connections;
 pub use stored_session::{open_session, read_found};

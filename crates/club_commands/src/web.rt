@@ -2,6 +2,7 @@
 ghost use Rattle.std.specs.Prelude.{◌≡◌, [], false, Some, string_bytes, OnOk, IfOk, IfErr};
 ghost use Rattle.session_store.specs.declared.fault.StoreFault.TheVariants.{NoMemory};
 ghost use Rattle.line_text.specs.Streams.{stream};
+ghost use Rattle.table_pages.specs.Site.{site_of};
 ghost use Rattle.club_commands.specs.Web.{listening_line, ShowsPages, StopsPages, ended_by, HasShown, StopsShowing, ShowsHeard, StopsHeardPages, ShowsOpened, StopsOpenedPages, LeavesShown, LeavesUnshown, HasShownPages, StopsShowingPages};
 
 use crate::disk_commands::{CACHED_ENDINGS, open_store};
@@ -23,7 +24,7 @@ use std::net::{Net, TcpListener, TcpStream};
 use std::random::RandomSource;
 use std::rt::Files;
 use std::time::Clock;
-use table_pages::{TablePages, show_minutes};
+use table_pages::{PageTexts, TablePages, show_minutes};
 use table_server::ServeFault;
 
 /// How the showing of pages ended, by whether the store has failed and by what the clock answered.
@@ -50,8 +51,8 @@ pub fn show_pages<N: Net + Clock, D: SectorDisk + Drop>(
     minutes: u16,
 ) -> Result<(), RunFault>
     requires { pages.old.server.failed ≡ false }
-    ensures done { OnOk result (ShowsPages D.disk (string_bytes pages.old.host) (string_bytes pages.old.alias) pages.old.server pages.new.server) }
-    ensures fault { IfErr result (StopsPages D.disk (string_bytes pages.old.host) (string_bytes pages.old.alias) pages.old.server pages.new.server) }
+    ensures done { OnOk result (ShowsPages D.disk (site_of pages.old.texts pages.old.names) pages.old.server pages.new.server) }
+    ensures fault { IfErr result (StopsPages D.disk (site_of pages.old.texts pages.old.names) pages.old.server pages.new.server) }
 {
     let shown = show_minutes(rt, alloc, keys, listener, pages, minutes);
     ended(pages.server().has_failed(), shown)
@@ -68,9 +69,9 @@ fn show_heard<N: Net<Listener = TcpListener, Stream = TcpStream> + Clock + Rando
     output: &mut W,
 ) -> Result<(), RunFault>
     requires works { pages.old.server.failed ≡ false }
-    requires line { line.now ≡ listening_line (string_bytes pages.old.host) }
-    ensures done { OnOk result (ShowsHeard (string_bytes pages.old.host) (string_bytes pages.old.alias) pages.old.server pages.new.server found (stream W.contents output.old output.new)) }
-    ensures fault { IfErr result (StopsHeardPages (string_bytes pages.old.host) (string_bytes pages.old.alias) pages.old.server pages.new.server found (stream W.contents output.old output.new)) }
+    requires line { line.now ≡ listening_line (string_bytes pages.old.names.host) }
+    ensures done { OnOk result (ShowsHeard (site_of pages.old.texts pages.old.names) pages.old.server pages.new.server found (stream W.contents output.old output.new)) }
+    ensures fault { IfErr result (StopsHeardPages (site_of pages.old.texts pages.old.names) pages.old.server pages.new.server found (stream W.contents output.old output.new)) }
 {
     let listener = found?;
     let Ok(keys) = RandomState::new(rt) else {
@@ -94,9 +95,9 @@ fn listen_and_show<
     output: &mut W,
 ) -> Result<(), RunFault>
     requires works { pages.old.server.failed ≡ false }
-    requires line { line.now ≡ listening_line (string_bytes pages.old.host) }
-    ensures done { OnOk result (HasShown (string_bytes pages.old.host) (string_bytes pages.old.alias) pages.old.server pages.new.server (stream W.contents output.old output.new)) }
-    ensures fault { IfErr result (StopsShowing (string_bytes pages.old.host) (string_bytes pages.old.alias) pages.old.server pages.new.server (stream W.contents output.old output.new)) }
+    requires line { line.now ≡ listening_line (string_bytes pages.old.names.host) }
+    ensures done { OnOk result (HasShown (site_of pages.old.texts pages.old.names) pages.old.server pages.new.server (stream W.contents output.old output.new)) }
+    ensures fault { IfErr result (StopsShowing (site_of pages.old.texts pages.old.names) pages.old.server pages.new.server (stream W.contents output.old output.new)) }
 {
     show_heard(rt, alloc, listen_at(rt, host), minutes, line, pages, output)
 }
@@ -105,6 +106,7 @@ fn listen_and_show<
 fn web_opened<N: Net<Listener = TcpListener, Stream = TcpStream> + Clock + RandomSource, W: Write>(
     rt: &N,
     alloc: Global,
+    texts: PageTexts,
     host: &WebHost<'_>,
     minutes: u16,
     opened: Result<
@@ -116,8 +118,8 @@ fn web_opened<N: Net<Listener = TcpListener, Stream = TcpStream> + Clock + Rando
 ) -> Result<FileDisk<SystemFile<File>>, (Option<FileDisk<SystemFile<File>>>, RunFault)>
     requires works { IfOk opened (λ store. store.failed ≡ false) }
     requires none_pending { IfOk opened (λ store. store.pending ≡ []) }
-    ensures done { IfOk result (λ left. ShowsOpened host.now opened cache left (stream W.contents output.old output.new)) }
-    ensures fault { IfErr result (λ e. StopsOpenedPages host.now opened cache e.0 (stream W.contents output.old output.new) e.1) }
+    ensures done { IfOk result (λ left. ShowsOpened texts host.now opened cache left (stream W.contents output.old output.new)) }
+    ensures fault { IfErr result (λ e. StopsOpenedPages texts host.now opened cache e.0 (stream W.contents output.old output.new) e.1) }
 {
     let store = match opened {
         Ok(store) => store,
@@ -132,7 +134,7 @@ fn web_opened<N: Net<Listener = TcpListener, Stream = TcpStream> + Clock + Rando
     let Ok(line) = listening_line(alloc, names.host()) else {
         return Err(without_memory(store));
     };
-    let mut pages = TablePages::new(alloc, names, store, cache);
+    let mut pages = TablePages::new(alloc, names, texts, store, cache);
     let ended = listen_and_show(rt, alloc, host, minutes, line.as_str(), &mut pages, output);
     with_disk(pages.into_server(), ended)
 }
@@ -154,20 +156,21 @@ fn web_on_file<
 >(
     rt: &S,
     alloc: Global,
+    texts: PageTexts,
     disk: &str,
     host: &WebHost<'_>,
     minutes: u16,
     output: &mut W,
 ) -> Result<FileDisk<SystemFile<File>>, (Option<FileDisk<SystemFile<File>>>, RunFault)>
-    ensures done { IfOk result (λ left. LeavesShown left host.now (stream W.contents output.old output.new)) }
-    ensures fault { IfErr result (λ e. LeavesUnshown e.0 host.now (stream W.contents output.old output.new) e.1) }
+    ensures done { IfOk result (λ left. LeavesShown left texts host.now (stream W.contents output.old output.new)) }
+    ensures fault { IfErr result (λ e. LeavesUnshown e.0 texts host.now (stream W.contents output.old output.new) e.1) }
 {
     let Ok(_lock) = lock(rt, disk) else {
         return Err((None, RunFault::Store(StoreFault::Disk)));
     };
     let opened = open_store(rt, alloc, disk);
     let cache = Cache::new(alloc, CACHED_ENDINGS);
-    web_opened(rt, alloc, host, minutes, opened, cache, output)
+    web_opened(rt, alloc, texts, host, minutes, opened, cache, output)
 }
 
 /// Shows pages for so many minutes, over the session that the disk in a file holds.
@@ -177,13 +180,14 @@ pub fn run_web<
 >(
     rt: &S,
     alloc: Global,
+    texts: PageTexts,
     disk: &str,
     host: &WebHost<'_>,
     minutes: u16,
     output: &mut W,
 ) -> Result<(), RunFault>
-    ensures done { OnOk result (HasShownPages host.now (stream W.contents output.old output.new)) }
-    ensures fault { IfErr result (StopsShowingPages host.now (stream W.contents output.old output.new)) }
+    ensures done { OnOk result (HasShownPages texts host.now (stream W.contents output.old output.new)) }
+    ensures fault { IfErr result (StopsShowingPages texts host.now (stream W.contents output.old output.new)) }
 {
-    let_go(web_on_file(rt, alloc, disk, host, minutes, output))
+    let_go(web_on_file(rt, alloc, texts, disk, host, minutes, output))
 }
