@@ -15,14 +15,70 @@
 //! ```
 #![tactic(auto)]
 
-use club_commands::{run_words, status_of};
+ghost use Rattle.std.specs.Prelude.{◌≡◌, ◌≢◌, ◌⊎◌, [], map};
+ghost use Rattle.clap.specs.Words.{fault_of};
+ghost use Rattle.command_line.specs.Words.{club_app, AsksCommand};
+ghost use Rattle.command_line.specs.declared.command.Command.{Command};
+ghost use Rattle.line_text.specs.Streams.{stream, IsUntouched};
+ghost use Rattle.bridge_club.specs.Texts.{AreClubTexts, OfClub};
+ghost use Rattle.club_commands.specs.Run.{IsDone, IsCommandStopped, IsWithoutMemory};
+
+use club_commands::{run_words_with, status_of};
+use page_assets::{DIRECTOR_SCRIPT, PAGE, SHARED_SCRIPT, STYLE, TABLE_SCRIPT};
+use std::alloc::Global;
 use std::fs::File;
+use std::io::{Read, Write};
+use std::net::{Net, TcpListener, TcpStream};
 use std::process::ExitCode;
+use std::random::RandomSource;
+use std::rt::Files;
+use std::time::Clock;
 use std::{env, io};
+use table_pages::PageTexts;
+
+/// The texts of the pages that `web` shows.
+fn club_texts() -> PageTexts
+    ensures { AreClubTexts result }
+{
+    PageTexts {
+        page: PAGE,
+        style: STYLE,
+        shared_script: SHARED_SCRIPT,
+        table_script: TABLE_SCRIPT,
+        director_script: DIRECTOR_SCRIPT,
+    }
+}
 
 fn main(rt: HostRuntime) -> ExitCode {
     let outcome = run_with(&rt).map_err(|error| error.kind());
     ExitCode::from(status_of(outcome, &mut rt.stderr()))
+}
+
+/// Runs the command that the words after the program's name ask for, and answers the exit status, as `run_words_with` does
+/// with the program's pages.
+fn run_words<
+    S: Files<File = File> + Net<Listener = TcpListener, Stream = TcpStream> + Clock + RandomSource,
+    R: Read,
+    W: Write,
+    E: Write,
+>(rt: &S, alloc: Global, words: &[&str], input: &mut R, output: &mut W, errors: &mut E) -> u8
+    ensures done { result ≡ 0 → OfClub (λ texts. (command : Command) × AsksCommand (map (λ word. word.now) words.entry.now) command
+        × IsDone texts command (stream R.remaining input.old input.new)
+        (stream W.contents output.old output.new) (stream E.contents errors.old errors.new)) }
+    ensures usage { result ≡ 2 → (fault_of club_app (map (λ word. word.now) words.entry.now) ≢ [])
+        × IsUntouched (stream R.remaining input.old input.new)
+        × IsUntouched (stream W.contents output.old output.new) }
+    ensures fault { result ≡ 3 → OfClub (λ texts. IsWithoutMemory (stream R.remaining input.old input.new)
+        (stream W.contents output.old output.new) (stream E.contents errors.old errors.new)
+        ⊎ ((command : Command) × AsksCommand (map (λ word. word.now) words.entry.now) command
+        × IsCommandStopped texts command (stream R.remaining input.old input.new)
+        (stream W.contents output.old output.new) (stream E.contents errors.old errors.new) 3)) }
+    ensures no_session { result ≡ 4 → OfClub (λ texts. (command : Command) × AsksCommand (map (λ word. word.now) words.entry.now) command
+        × IsCommandStopped texts command (stream R.remaining input.old input.new)
+        (stream W.contents output.old output.new) (stream E.contents errors.old errors.new) 4) }
+    ensures status { (result ≡ 0) ⊎ ((result ≡ 2) ⊎ ((result ≡ 3) ⊎ (result ≡ 4))) }
+{
+    run_words_with(rt, alloc, club_texts(), words, input, output, errors)
 }
 
 /// Hands the program's words and its standard streams to `run_words`.

@@ -1,6 +1,6 @@
 -- Pages that were shown over a store.
 use Rattle.std.proofs.Common.{◌≡◌, ℕ, Bool, true, false, List, [], ◌∷◌, Result, Ok, Err, IfErr, OnOk, inl, inr, refl}
-use Rattle.std.specs.Prelude.{nat_lt, length}
+use Rattle.std.specs.Prelude.{nat_lt, length, string_bytes}
 use Rattle.http.specs.Request.{head_of, body_of}
 use Rattle.http_server.specs.declared.response.Response.{Response}
 use Rattle.http_server.specs.Exchange.{Call, Chain}
@@ -13,16 +13,19 @@ use Rattle.table_server.proofs.FaultLemmas.{same_store, fails_on, met_none, met_
 use Rattle.web_loop.specs.Turns.{LeadsTo}
 use Rattle.web_requests.specs.Route.{route_for}
 use Rattle.web_requests.specs.declared.route.Route.{Route}
-use Rattle.web_requests.specs.declared.route.Route.TheVariants.{Page, Script, DirectorScript, Style, Lines, Place, Tables, Results, Refused}
+use Rattle.web_requests.specs.declared.route.Route.TheVariants.{Page, SharedScript, TableScript, DirectorScript, Style, Lines, Place, Tables, Results, Refused}
 use Rattle.table_pages.specs.Answered.{AnswersLines, place_told, tables_told}
 use Rattle.page_replies.specs.ToldResults.{results_told}
+use Rattle.table_pages.specs.declared.host_names.HostNames.{HostNames}
+use Rattle.table_pages.specs.declared.page_texts.PageTexts.{PageTexts}
 use Rattle.table_pages.specs.Responses.{TellsShort, Responds, Answering}
+use Rattle.table_pages.specs.Site.{Site, site_of}
 use Rattle.club_commands.specs.declared.fault.RunFault.{RunFault}
 use Rattle.line_text.specs.Streams.{Stream}
 use Rattle.club_disk.specs.Files.{ClubDisk, ClubStore, Leads}
 use Rattle.command_line.specs.declared.command.WebHost.{WebHost}
 use Rattle.club_commands.specs.Faults.{Ended}
-use Rattle.club_commands.specs.Web.{host_at, alias_at, HasShown, StopsShowing, ShowsOver, ShowsPages, FailsPages, StopsPages, ended_by}
+use Rattle.club_commands.specs.Web.{host_at, alias_at, site_at, HasShown, StopsShowing, ShowsOver, ShowsPages, FailsPages, StopsPages, ended_by}
 
 module _ {D : Type 0} (disk : Disk D) where
   -- over one body of lines
@@ -33,29 +36,30 @@ module _ {D : Type 0} (disk : Disk D) where
   lines false old body response new refused = same_store disk old new refused.1
 
   -- over one request
-  one : (route : Route) (old : StoreValue D SessionValue Action) (body : List ℕ) (response : Response) (new : StoreValue D SessionValue Action)
-      → Responds (AnswersLines disk) place_told tables_told results_told route old body response new → FailsWithDisk disk old new
-  one Page old body response new x = same_store disk old new x.1
-  one Script old body response new x = same_store disk old new x.1
-  one DirectorScript old body response new x = same_store disk old new x.1
-  one Style old body response new x = same_store disk old new x.1
-  one Lines old body response new x = lines (nat_lt (length body) 65536) old body response new x
-  one Place old body response new x = same_store disk old new x.1
-  one Tables old body response new x = same_store disk old new x.1
-  one Results old body response new x = same_store disk old new x.1
-  one (Refused why) old body response new x = same_store disk old new x.1
+  one : (texts : PageTexts) (route : Route) (old : StoreValue D SessionValue Action) (body : List ℕ) (response : Response) (new : StoreValue D SessionValue Action)
+      → Responds (AnswersLines disk) place_told tables_told results_told texts route old body response new → FailsWithDisk disk old new
+  one texts Page old body response new x = same_store disk old new x.1
+  one texts SharedScript old body response new x = same_store disk old new x.1
+  one texts TableScript old body response new x = same_store disk old new x.1
+  one texts DirectorScript old body response new x = same_store disk old new x.1
+  one texts Style old body response new x = same_store disk old new x.1
+  one texts Lines old body response new x = lines (nat_lt (length body) 65536) old body response new x
+  one texts Place old body response new x = same_store disk old new x.1
+  one texts Tables old body response new x = same_store disk old new x.1
+  one texts Results old body response new x = same_store disk old new x.1
+  one texts (Refused why) old body response new x = same_store disk old new x.1
 
-  module _ (host alias : List ℕ) where
+  module _ (site : Site) where
     -- over requests, one after another
     all : (calls : List Call) (old new : StoreValue D SessionValue Action)
-        → Chain (Answering (AnswersLines disk) place_told tables_told results_told host alias) old calls new → FailsWithDisk disk old new
+        → Chain (Answering (AnswersLines disk) place_told tables_told results_told site) old calls new → FailsWithDisk disk old new
     all [] old new same = same_store disk old new same
     all (c ∷ calls) old new x =
-        fails_on disk old x.0 new (one (route_for host alias (head_of c.0)) old (body_of c.0) c.1 x.0 x.1) (all calls x.0 new x.2)
+        fails_on disk old x.0 new (one site.texts (route_for site.host site.alias (head_of c.0)) old (body_of c.0) c.1 x.0 x.1) (all calls x.0 new x.2)
 
     -- where the store works, no call of its disk failed
-    shows_pages : (start store : StoreValue D SessionValue Action) → LeadsTo (Answering (AnswersLines disk) place_told tables_told results_told host alias) start store
-        → store.failed ≡ false → ShowsPages disk host alias start store
+    shows_pages : (start store : StoreValue D SessionValue Action) → LeadsTo (Answering (AnswersLines disk) place_told tables_told results_told site) start store
+        → store.failed ≡ false → ShowsPages disk site start store
     shows_pages start store requests works = record {
       requests = requests;
       works = works;
@@ -63,8 +67,8 @@ module _ {D : Type 0} (disk : Disk D) where
     }
 
     -- and where it failed, one did
-    fails_pages : (start store : StoreValue D SessionValue Action) → LeadsTo (Answering (AnswersLines disk) place_told tables_told results_told host alias) start store
-        → start.failed ≡ false → store.failed ≡ true → FailsPages disk host alias start store
+    fails_pages : (start store : StoreValue D SessionValue Action) → LeadsTo (Answering (AnswersLines disk) place_told tables_told results_told site) start store
+        → start.failed ≡ false → store.failed ≡ true → FailsPages disk site start store
     fails_pages start store requests worked failed = record {
       requests = requests;
       failed = failed;
@@ -73,26 +77,31 @@ module _ {D : Type 0} (disk : Disk D) where
 
     -- pages were shown, and the clock told when to end
     pub pages_done : {E : Type 0} (failed : Bool) (shown : Result (Unit {0}) E) (result : Result (Unit {0}) RunFault) (start store : StoreValue D SessionValue Action)
-        → LeadsTo (Answering (AnswersLines disk) place_told tables_told results_told host alias) start store
-        → store.failed ≡ failed → result ≡ ended_by failed shown → OnOk result (ShowsPages disk host alias start store)
+        → LeadsTo (Answering (AnswersLines disk) place_told tables_told results_told site) start store
+        → store.failed ≡ failed → result ≡ ended_by failed shown → OnOk result (ShowsPages disk site start store)
     pages_done true shown result start store requests failed is = rw is tt
     pages_done false (Ok _) result start store requests failed is = rw is (shows_pages start store requests failed)
     pages_done false (Err _) result start store requests failed is = rw is tt
 
     -- or the store failed, or the clock
     pub pages_stopped : {E : Type 0} (failed : Bool) (shown : Result (Unit {0}) E) (result : Result (Unit {0}) RunFault) (start store : StoreValue D SessionValue Action)
-        → LeadsTo (Answering (AnswersLines disk) place_told tables_told results_told host alias) start store
-        → start.failed ≡ false → store.failed ≡ failed → result ≡ ended_by failed shown → IfErr result (StopsPages disk host alias start store)
+        → LeadsTo (Answering (AnswersLines disk) place_told tables_told results_told site) start store
+        → start.failed ≡ false → store.failed ≡ failed → result ≡ ended_by failed shown → IfErr result (StopsPages disk site start store)
     pages_stopped true shown result start store requests worked failed is = rw is (inl (fails_pages start store requests worked failed, refl))
     pages_stopped false (Ok _) result start store requests worked failed is = rw is tt
     pages_stopped false (Err _) result start store requests worked failed is = rw is (inr (shows_pages start store requests failed, refl))
 
--- pages were shown over a store at the names of the words, and its disk is handed out
-pub shows_over : (web : WebHost) (host alias : List ℕ) (start served last : ClubStore) (output : Stream) (ended handed : Ended) (left : ClubDisk)
-    → host ≡ host_at web → alias ≡ alias_at web → served ≡ start → handed ≡ ended → left ≡ last.disk
-    → OnOk ended (HasShown host alias served last output) → IfErr ended (StopsShowing web host alias served last output)
-    → Leads (ShowsOver web output handed) start left
-shows_over web host alias start served last output (Ok _) handed left h a s is left_by shown stops =
-    rw is (last, left_by, rw (← h, ← a, ← s) shown)
-shows_over web host alias start served last output (Err _) handed left h a s is left_by shown stops =
-    rw is (last, left_by, inr (rw (← h, ← a, ← s) stops))
+-- the site of pages that were made with the texts of the program and the names of the words
+pub made_site : (web : WebHost) (made texts : PageTexts) (used names : HostNames) → used ≡ names → made ≡ texts
+    → string_bytes names.host ≡ host_at web → string_bytes names.alias ≡ alias_at web → site_of made used ≡ site_at texts web
+made_site web made texts used names n t host alias = rw (n, t, host, alias) refl
+
+-- pages were shown over a store at the site of the program and the words, and its disk is handed out
+pub shows_over : (texts : PageTexts) (web : WebHost) (site : Site) (start served last : ClubStore) (output : Stream) (ended handed : Ended) (left : ClubDisk)
+    → site ≡ site_at texts web → served ≡ start → handed ≡ ended → left ≡ last.disk
+    → OnOk ended (HasShown site served last output) → IfErr ended (StopsShowing web site served last output)
+    → Leads (ShowsOver texts web output handed) start left
+shows_over texts web site start served last output (Ok _) handed left p s is left_by shown stops =
+    rw is (last, left_by, rw (← p, ← s) shown)
+shows_over texts web site start served last output (Err _) handed left p s is left_by shown stops =
+    rw is (last, left_by, inr (rw (← p, ← s) stops))

@@ -8,6 +8,7 @@ use Rattle.line_replies.specs.Limit.{byte_limit}
 use Rattle.command_line.specs.declared.command.Command.{Command}
 use Rattle.command_line.specs.declared.command.Command.TheVariants.{Auction, Format, Script, Serve, Web, Rank, Pbn, Results, Check, Plan, Version}
 use Rattle.command_line.specs.declared.command.WordsFault.{WordsFault}
+use Rattle.table_pages.specs.declared.page_texts.PageTexts.{PageTexts}
 use Rattle.command_line.specs.declared.command.WordsFault.TheVariants.{Usage, Memory}
 use Rattle.club_commands.specs.Faults.{Ended, store_line, stream_line, fault_line, fault_status}
 use Rattle.club_commands.specs.declared.work.Service.TheVariants as service
@@ -28,29 +29,29 @@ StopsAuction board input output (System fault) = ⊥
 StopsAuction board input output (Config fault) = ⊥
 StopsAuction board input output (Store fault) = ⊥
 
--- what a command read from standard input and wrote to standard output, and how it ended
-abbrev pub Runs : Command → Stream → Stream → Ended → Type 0
-Runs (Auction board) input output ended = MatchResult ended (λ _. HasAuction board input output) (StopsAuction board input output)
-Runs (Format disk config) input output ended = HasFormatted input output ended
-Runs (Script disk) input output ended = HasWorked input output ended (work.Serve service.Input)
-Runs (Serve disk port count) input output ended = HasWorked input output ended (work.Serve (service.Connections port count))
-Runs (Web disk host minutes) input output ended = HasWorked input output ended (work.Serve (service.Pages host minutes))
-Runs (Rank disk) input output ended = HasWorked input output ended (work.Tell Ranking)
-Runs (Pbn disk) input output ended = HasWorked input output ended (work.Tell Games)
-Runs (Results disk html) input output ended = HasWorked input output ended (work.Results html)
-Runs (Check disk) input output ended = HasWorked input output ended work.Check
-Runs (Plan config) input output ended = MatchResult ended (λ _. HasPlanned output) (StopsPlanningFile output) × IsUntouched input
-Runs Version input output ended = IfErr ended (λ fault. fault ≡ StreamFault Write) × Written output version_line ended × IsUntouched input
+-- what a command of a program with these pages read from standard input and wrote to standard output, and how it ended
+abbrev pub Runs : PageTexts → Command → Stream → Stream → Ended → Type 0
+Runs texts (Auction board) input output ended = MatchResult ended (λ _. HasAuction board input output) (StopsAuction board input output)
+Runs texts (Format disk config) input output ended = HasFormatted input output ended
+Runs texts (Script disk) input output ended = HasWorked input output ended (work.Serve service.Input)
+Runs texts (Serve disk port count) input output ended = HasWorked input output ended (work.Serve (service.Connections port count))
+Runs texts (Web disk host minutes) input output ended = HasWorked input output ended (work.Serve (service.Pages texts host minutes))
+Runs texts (Rank disk) input output ended = HasWorked input output ended (work.Tell Ranking)
+Runs texts (Pbn disk) input output ended = HasWorked input output ended (work.Tell Games)
+Runs texts (Results disk html) input output ended = HasWorked input output ended (work.Results html)
+Runs texts (Check disk) input output ended = HasWorked input output ended work.Check
+Runs texts (Plan config) input output ended = MatchResult ended (λ _. HasPlanned output) (StopsPlanningFile output) × IsUntouched input
+Runs texts Version input output ended = IfErr ended (λ fault. fault ≡ StreamFault Write) × Written output version_line ended × IsUntouched input
 
 -- a command was done, and nothing stands on standard error
-abbrev pub IsDone : Command → Stream → Stream → Stream → Type 0
-IsDone command input output errors = Runs command input output (Ok tt) × IsUntouched errors
+abbrev pub IsDone : PageTexts → Command → Stream → Stream → Stream → Type 0
+IsDone texts command input output errors = Runs texts command input output (Ok tt) × IsUntouched errors
 
 -- A command stopped at some fault that has this status, and standard error took a prefix of the line for that fault, no
 -- more.
-pub record IsCommandStopped (command : Command) (input output errors : Stream) (status : ℕ) : Type 0 where
+pub record IsCommandStopped (texts : PageTexts) (command : Command) (input output errors : Stream) (status : ℕ) : Type 0 where
   pub fault : RunFault
-  pub stopped : Runs command input output (Err fault)
+  pub stopped : Runs texts command input output (Err fault)
   pub named : TakesPrefix errors (fault_line fault)
   pub status_is : status ≡ fault_status fault
 

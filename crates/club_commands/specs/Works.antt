@@ -37,7 +37,7 @@ module _ (input output : Stream) (ended : Ended) where
   Serves (Connections port count) start last =
       MatchResult ended (λ _. ServesAllConnections file_disk unknown unknown count start last) (StopsListening count start last)
       × IsUntouched input × IsUntouched output
-  Serves (Pages host minutes) start last = ShowsOver host output ended start last × IsUntouched input
+  Serves (Pages texts host minutes) start last = ShowsOver texts host output ended start last × IsUntouched input
 
   -- that is the fault, and nothing was read or written
   abbrev pub IsNothingDone : StoreFault → Type 0

@@ -3,7 +3,7 @@
 //!
 //! ```rust
 //! let words = ["auction", "1"];
-//! let status = run_words(&rt, rt.alloc(), words.as_slice(), &mut rt.stdin(), &mut rt.stdout(), &mut rt.stderr());
+//! let status = run_words_with(&rt, rt.alloc(), texts, words.as_slice(), &mut rt.stdin(), &mut rt.stdout(), &mut rt.stderr());
 //! ```
 #![tactic(auto)]
 
@@ -34,7 +34,7 @@ pub use config_file::read_session;
 pub use fault::{RunFault, SystemFault};
 pub use planning::plan_evening;
 pub use release::{KIT, VERSION};
-pub use run::{refuse, run_words, status_of};
+pub use run::{refuse, run_words_with, status_of};
 pub use script::serve_store;
 pub use serving::serve_connections;
 pub use web::show_pages;

@@ -27,6 +27,7 @@ use std::net::{Net, TcpListener, TcpStream};
 use std::random::RandomSource;
 use std::rt::Files;
 use std::time::Clock;
+use table_pages::PageTexts;
 use table_server::{ServeFault, run_auction};
 
 /// The command was done.
@@ -38,20 +39,29 @@ const NOT_TEXT: &str = "a word of the command line is not UTF-8\n";
 
 /// Runs the command that the words after the program's name ask for, and answers the exit status.
 ///
-/// The runtime gives the files that commands open, and for `serve` and `web` the connections; `auction` opens none.
+/// The runtime gives the files that commands open, and for `serve` and `web` the connections; `auction` opens none. `web`
+/// shows pages of these texts.
 ///
 /// 0: done. 2: the words are no command, or call for help; what clap says of them goes to `errors`, and no clause speaks of
 /// that text. At 3 and 4 `errors` takes the line that names the fault, or a prefix of it where it fails itself. 3: `cannot
 /// read input`, `cannot write output`, `config line N: Name`, `disk fault`, `epochs spent` or `no memory`. 4: the disk holds
 /// no session, being `disk too small`, `not formatted` or `damaged sector N`.
-pub fn run_words<
+pub fn run_words_with<
     S: Files<File = File> + Net<Listener = TcpListener, Stream = TcpStream> + Clock + RandomSource,
     R: Read,
     W: Write,
     E: Write,
->(rt: &S, alloc: Global, words: &[&str], input: &mut R, output: &mut W, errors: &mut E) -> u8
+>(
+    rt: &S,
+    alloc: Global,
+    texts: PageTexts,
+    words: &[&str],
+    input: &mut R,
+    output: &mut W,
+    errors: &mut E,
+) -> u8
     ensures done { result ≡ 0 → (command : Command) × AsksCommand (map (λ word. word.now) words.entry.now) command
-        × IsDone command (stream R.remaining input.old input.new)
+        × IsDone texts command (stream R.remaining input.old input.new)
         (stream W.contents output.old output.new) (stream E.contents errors.old errors.new) }
     ensures usage { result ≡ 2 → (fault_of club_app (map (λ word. word.now) words.entry.now) ≢ [])
         × IsUntouched (stream R.remaining input.old input.new)
@@ -59,15 +69,15 @@ pub fn run_words<
     ensures fault { result ≡ 3 → IsWithoutMemory (stream R.remaining input.old input.new)
         (stream W.contents output.old output.new) (stream E.contents errors.old errors.new)
         ⊎ ((command : Command) × AsksCommand (map (λ word. word.now) words.entry.now) command
-        × IsCommandStopped command (stream R.remaining input.old input.new)
+        × IsCommandStopped texts command (stream R.remaining input.old input.new)
         (stream W.contents output.old output.new) (stream E.contents errors.old errors.new) 3) }
     ensures no_session { result ≡ 4 → (command : Command) × AsksCommand (map (λ word. word.now) words.entry.now) command
-        × IsCommandStopped command (stream R.remaining input.old input.new)
+        × IsCommandStopped texts command (stream R.remaining input.old input.new)
         (stream W.contents output.old output.new) (stream E.contents errors.old errors.new) 4 }
     ensures status { (result ≡ 0) ⊎ ((result ≡ 2) ⊎ ((result ≡ 3) ⊎ (result ≡ 4))) }
 {
     match read_words(alloc, words) {
-        Ok(command) => run_command(rt, alloc, &command, input, output, errors),
+        Ok(command) => run_command(rt, alloc, texts, &command, input, output, errors),
         Err(fault) => refuse(fault, errors),
     }
 }
@@ -91,14 +101,22 @@ fn run_command<
     R: Read,
     W: Write,
     E: Write,
->(rt: &S, alloc: Global, command: &Command<'_>, input: &mut R, output: &mut W, errors: &mut E) -> u8
-    ensures done { result ≡ 0 → IsDone command.now (stream R.remaining input.old input.new)
+>(
+    rt: &S,
+    alloc: Global,
+    texts: PageTexts,
+    command: &Command<'_>,
+    input: &mut R,
+    output: &mut W,
+    errors: &mut E,
+) -> u8
+    ensures done { result ≡ 0 → IsDone texts command.now (stream R.remaining input.old input.new)
         (stream W.contents output.old output.new) (stream E.contents errors.old errors.new) }
-    ensures stopped { result ≢ 0 → IsCommandStopped command.now (stream R.remaining input.old input.new)
+    ensures stopped { result ≢ 0 → IsCommandStopped texts command.now (stream R.remaining input.old input.new)
         (stream W.contents output.old output.new) (stream E.contents errors.old errors.new) result }
     ensures status { (result ≡ 0) ⊎ ((result ≡ 3) ⊎ (result ≡ 4)) }
 {
-    match do_command(rt, alloc, command, input, output) {
+    match do_command(rt, alloc, texts, command, input, output) {
         Ok(()) => DONE,
         Err(fault) => fails(fault, errors),
     }
@@ -112,11 +130,12 @@ fn do_command<
 >(
     rt: &S,
     alloc: Global,
+    texts: PageTexts,
     command: &Command<'_>,
     input: &mut R,
     output: &mut W,
 ) -> Result<(), RunFault>
-    ensures { Runs command.now (stream R.remaining input.old input.new) (stream W.contents output.old output.new) result }
+    ensures { Runs texts command.now (stream R.remaining input.old input.new) (stream W.contents output.old output.new) result }
 {
     match *command {
         Command::Auction(board) => hold_auction(board, input, output),
@@ -134,7 +153,11 @@ fn do_command<
             host,
             minutes,
         } => {
-            let work = Work::Serve(Service::Pages { host, minutes });
+            let work = Work::Serve(Service::Pages {
+                texts,
+                host,
+                minutes,
+            });
             run_over(rt, alloc, disk, &work, input, output)
         }
         Command::Rank { disk } => {

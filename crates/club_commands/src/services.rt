@@ -84,9 +84,11 @@ fn serve_with<
             let ended = listen(rt, port, count, &mut store, &mut cache);
             with_disk(store, ended)
         }
-        Service::Pages { host, minutes } => {
-            show_over(rt, alloc, &host, minutes, store, cache, output)
-        }
+        Service::Pages {
+            texts,
+            host,
+            minutes,
+        } => show_over(rt, alloc, texts, &host, minutes, store, cache, output),
     }
 }
 

@@ -1,6 +1,7 @@
 //! Pages for browsers, as the command `web` shows them.
 ghost use Rattle.std.specs.Prelude.{◌≡◌, [], false, string_bytes, MatchResult, IsOkAnd, OnOk, IfErr};
 ghost use Rattle.line_text.specs.Streams.{stream, IsUntouched};
+ghost use Rattle.table_pages.specs.Site.{site_of};
 ghost use Rattle.club_disk.specs.Files.{Leads};
 ghost use Rattle.club_commands.specs.Web.{listening_line, ShowsPages, StopsPages, ended_by, HasShown, StopsHeard, StopsShowing, ShowsOver};
 
@@ -19,7 +20,7 @@ use std::io::{self, Write};
 use std::net::{Net, TcpListener, TcpStream};
 use std::random::RandomSource;
 use std::time::Clock;
-use table_pages::{TablePages, show_minutes};
+use table_pages::{PageTexts, TablePages, show_minutes};
 
 /// How the showing of pages ended, by whether the store has failed and by what the clock answered, which are handed in, since
 /// only so a clause can say what comes of them.
@@ -46,9 +47,9 @@ pub fn show_pages<N: Net + Clock, D: SectorDisk + Drop>(
     minutes: u16,
 ) -> Result<(), RunFault>
     requires { pages.old.server.failed ≡ false }
-    ensures done { OnOk result (ShowsPages D.disk (string_bytes pages.old.host) (string_bytes pages.old.alias)
+    ensures done { OnOk result (ShowsPages D.disk (site_of pages.old.texts pages.old.names)
         pages.old.server pages.new.server) }
-    ensures fault { IfErr result (StopsPages D.disk (string_bytes pages.old.host) (string_bytes pages.old.alias)
+    ensures fault { IfErr result (StopsPages D.disk (site_of pages.old.texts pages.old.names)
         pages.old.server pages.new.server) }
 {
     let shown = show_minutes(rt, alloc, keys, listener, pages, minutes);
@@ -67,11 +68,11 @@ fn show_heard<N: Net<Listener = TcpListener, Stream = TcpStream> + Clock + Rando
     output: &mut W,
 ) -> Result<(), RunFault>
     requires works { pages.old.server.failed ≡ false }
-    requires line { line.now ≡ listening_line (string_bytes pages.old.host) }
-    ensures done { OnOk result (IsOkAnd found (λ _. HasShown (string_bytes pages.old.host) (string_bytes pages.old.alias)
+    requires line { line.now ≡ listening_line (string_bytes pages.old.names.host) }
+    ensures done { OnOk result (IsOkAnd found (λ _. HasShown (site_of pages.old.texts pages.old.names)
         pages.old.server pages.new.server (stream W.contents output.old output.new))) }
     ensures fault { IfErr result (λ fault. MatchResult found
-        (λ _. StopsHeard (string_bytes pages.old.host) (string_bytes pages.old.alias) pages.old.server pages.new.server
+        (λ _. StopsHeard (site_of pages.old.texts pages.old.names) pages.old.server pages.new.server
         (stream W.contents output.old output.new) fault)
         (λ refused. (fault ≡ refused) × (pages.new.server ≡ pages.old.server)
         × IsUntouched (stream W.contents output.old output.new))) }
@@ -98,10 +99,10 @@ fn listen_and_show<
     output: &mut W,
 ) -> Result<(), RunFault>
     requires works { pages.old.server.failed ≡ false }
-    requires line { line.now ≡ listening_line (string_bytes pages.old.host) }
-    ensures done { OnOk result (HasShown (string_bytes pages.old.host) (string_bytes pages.old.alias)
+    requires line { line.now ≡ listening_line (string_bytes pages.old.names.host) }
+    ensures done { OnOk result (HasShown (site_of pages.old.texts pages.old.names)
         pages.old.server pages.new.server (stream W.contents output.old output.new)) }
-    ensures fault { IfErr result (StopsShowing host.now (string_bytes pages.old.host) (string_bytes pages.old.alias)
+    ensures fault { IfErr result (StopsShowing host.now (site_of pages.old.texts pages.old.names)
         pages.old.server pages.new.server (stream W.contents output.old output.new)) }
 {
     show_heard(rt, alloc, listen_at(rt, host), minutes, line, pages, output)
@@ -114,6 +115,7 @@ pub fn show_over<
 >(
     rt: &N,
     alloc: Global,
+    texts: PageTexts,
     host: &WebHost<'_>,
     minutes: u16,
     store: ClubStore,
@@ -122,7 +124,7 @@ pub fn show_over<
 ) -> Left<ClubDisk, RunFault>
     requires works { store.failed ≡ false }
     requires none_pending { store.pending ≡ [] }
-    ensures { Leads (ShowsOver host.now (stream W.contents output.old output.new) result.ended) store result.disk }
+    ensures { Leads (ShowsOver texts host.now (stream W.contents output.old output.new) result.ended) store result.disk }
 {
     let Ok(names) = names_of(alloc, host) else {
         return with_disk(store, Err(RunFault::Store(StoreFault::NoMemory)));
@@ -130,7 +132,7 @@ pub fn show_over<
     let Ok(line) = listening_line(alloc, names.host()) else {
         return with_disk(store, Err(RunFault::Store(StoreFault::NoMemory)));
     };
-    let mut pages = TablePages::new(alloc, names, store, cache);
+    let mut pages = TablePages::new(alloc, names, texts, store, cache);
     let ended = listen_and_show(rt, alloc, host, minutes, line.as_str(), &mut pages, output);
     with_disk(pages.into_server(), ended)
 }

@@ -1,9 +1,10 @@
 //! What commands do over a disk in a file.
 use bridge_session::Session;
 use command_line::WebHost;
+use table_pages::PageTexts;
 
 /// To whom the lines of a session are answered.
-#[derive(Clone, Copy, Debug, PartialEq, Eq)]
+#[derive(Clone, Copy, Debug)]
 pub enum Service<'a> {
     /// To standard input.
     Input,
@@ -16,6 +17,8 @@ pub enum Service<'a> {
     },
     /// To browsers, by pages.
     Pages {
+        /// What the pages are.
+        texts: PageTexts,
         /// Where the pages are shown.
         host: WebHost<'a>,
         /// For how many minutes, from 1 to 1440.

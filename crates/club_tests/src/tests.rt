@@ -5,7 +5,7 @@ mod evening;
 mod refused;
 mod script;
 
-use club_commands::{refuse, run_words, status_of};
+use club_commands::{refuse, run_words_with, status_of};
 use command_line::{WordsFault, read_words};
 use std::alloc::{AllocError, Global};
 use std::fmt::Debug;
@@ -18,7 +18,17 @@ use std::random::RandomSource;
 use std::rt::Files;
 use std::test::Fail;
 use std::time::Clock;
+use table_pages::PageTexts;
 use test_texts::TWO_TABLES;
+
+/// Texts of pages, which none of these tests asks for.
+const TEXTS: PageTexts = PageTexts {
+    page: "page",
+    style: "style",
+    shared_script: "shared",
+    table_script: "table",
+    director_script: "director",
+};
 
 /// Fails with the row where a value is not the one that is due.
 fn expect_eq<T: PartialEq + Debug + Drop>(
@@ -41,7 +51,15 @@ fn expect_run<
     let mut reader = input.as_bytes();
     let mut output = Vec::new(alloc);
     let mut errors = Vec::new(alloc);
-    let status = run_words(rt, alloc, words, &mut reader, &mut output, &mut errors);
+    let status = run_words_with(
+        rt,
+        alloc,
+        TEXTS,
+        words,
+        &mut reader,
+        &mut output,
+        &mut errors,
+    );
     expect_eq(rt, errors.as_slice(), due.2.as_bytes(), words);
     expect_eq(rt, output.as_slice(), due.1.as_bytes(), words);
     expect_eq(rt, status, due.0, words);
@@ -162,7 +180,15 @@ fn other_words_are_usage(rt: HostRuntime) -> Result<(), Fail> {
         let mut errors = Vec::new(rt.alloc());
         let (mut input, mut output) = (Broken, Broken);
         let words = words.as_slice();
-        let status = run_words(&rt, rt.alloc(), words, &mut input, &mut output, &mut errors);
+        let status = run_words_with(
+            &rt,
+            rt.alloc(),
+            TEXTS,
+            words,
+            &mut input,
+            &mut output,
+            &mut errors,
+        );
         expect_eq(&rt, status, 2, row);
         expect_eq(&rt, errors.starts_with(begins.as_bytes()), true, row);
         // It is written to its end, and once.

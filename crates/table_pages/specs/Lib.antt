@@ -1,4 +1,5 @@
 pub mod Answered
 pub mod Responses
 pub mod HostNames
+pub mod Site
 pub mod WrongKeys

@@ -5,14 +5,12 @@ use Rattle.http.specs.Request.{head_of, body_of}
 use Rattle.http_server.specs.declared.response.Response.{Response}
 use Rattle.web_requests.specs.declared.kind.Kind.TheVariants as kind
 use Rattle.web_requests.specs.declared.route.Route.{Route}
-use Rattle.web_requests.specs.declared.route.Route.TheVariants.{Page, Script, DirectorScript, Style, Lines, Place, Tables, Results, Refused}
+use Rattle.web_requests.specs.declared.route.Route.TheVariants.{Page, SharedScript, TableScript, DirectorScript, Style, Lines, Place, Tables, Results, Refused}
 use Rattle.web_requests.specs.declared.route.Refusal.TheVariants.{TooLong}
 use Rattle.web_requests.specs.Route.{route_for}
 use Rattle.web_requests.specs.Filled.{IsText, IsRefused, IsUnavailable}
-use Rattle.table_pages.specs.declared.director_script.TheConstants.{DIRECTOR_SCRIPT}
-use Rattle.table_pages.specs.declared.page.TheConstants.{PAGE}
-use Rattle.table_pages.specs.declared.script.TheConstants.{SCRIPT}
-use Rattle.table_pages.specs.declared.style.TheConstants.{STYLE}
+use Rattle.table_pages.specs.declared.page_texts.PageTexts.{PageTexts}
+use Rattle.table_pages.specs.Site.{Site}
 
 -- over a server of lines: from one state, a body is answered by a text or by none, and leaves another state
 module _ {T : Type 0} (answers : T → List ℕ → Option (List ℕ) → T → Type 0) where
@@ -28,20 +26,22 @@ module _ {T : Type 0} (answers : T → List ℕ → Option (List ℕ) → T → 
   TellsShort false old body response new = IsRefused TooLong response × (new ≡ old)
 
   module _ (places tables : T → List ℕ → List ℕ) (results : T → List ℕ → List ℕ → Type 0) where
-    -- the response to a request on this route: the same to everybody, the replies to its lines, or what is told to the holder
-    -- of the key that it has
-    abbrev pub Responds : Route → T → List ℕ → Response → T → Type 0
-    Responds Page old body response new = IsText kind.Page PAGE.now response × (new ≡ old)
-    Responds Script old body response new = IsText kind.Script SCRIPT.now response × (new ≡ old)
-    Responds DirectorScript old body response new = IsText kind.Script DIRECTOR_SCRIPT.now response × (new ≡ old)
-    Responds Style old body response new = IsText kind.Style STYLE.now response × (new ≡ old)
-    Responds Lines old body response new = TellsShort (nat_lt (length body) 65536) old body response new
-    Responds Place old body response new = IsText kind.Lines (places old body) response × (new ≡ old)
-    Responds Tables old body response new = IsText kind.Lines (tables old body) response × (new ≡ old)
-    Responds Results old body response new = ((text : List ℕ) × results old body text × IsText kind.Lines text response) × (new ≡ old)
-    Responds (Refused why) old body response new = IsRefused why response × (new ≡ old)
+    module _ (texts : PageTexts) where
+      -- the response to a request on this route: the text of the page, script or style that the pages were made with, the
+      -- replies to its lines, or what is told to the holder of the key that it has
+      abbrev pub Responds : Route → T → List ℕ → Response → T → Type 0
+      Responds Page old body response new = IsText kind.Page texts.page.now response × (new ≡ old)
+      Responds SharedScript old body response new = IsText kind.Script texts.shared_script.now response × (new ≡ old)
+      Responds TableScript old body response new = IsText kind.Script texts.table_script.now response × (new ≡ old)
+      Responds DirectorScript old body response new = IsText kind.Script texts.director_script.now response × (new ≡ old)
+      Responds Style old body response new = IsText kind.Style texts.style.now response × (new ≡ old)
+      Responds Lines old body response new = TellsShort (nat_lt (length body) 65536) old body response new
+      Responds Place old body response new = IsText kind.Lines (places old body) response × (new ≡ old)
+      Responds Tables old body response new = IsText kind.Lines (tables old body) response × (new ≡ old)
+      Responds Results old body response new = ((text : List ℕ) × results old body text × IsText kind.Lines text response) × (new ≡ old)
+      Responds (Refused why) old body response new = IsRefused why response × (new ≡ old)
 
-    -- the response to a request at a server of these two names
-    abbrev pub Answering : List ℕ → List ℕ → T → Request (List ℕ) → Response → T → Type 0
-    Answering host alias old request response new =
-        Responds (route_for host alias (head_of request)) old (body_of request) response new
+    -- the response to a request at this site
+    abbrev pub Answering : Site → T → Request (List ℕ) → Response → T → Type 0
+    Answering site old request response new =
+        Responds site.texts (route_for site.host site.alias (head_of request)) old (body_of request) response new

@@ -7,12 +7,9 @@ ghost use Rattle.web_requests.specs.Route.{route_for};
 ghost use Rattle.table_pages.specs.WrongKeys.{wrong_keys, with_more};
 
 use crate::counting::wrong_keys;
-use crate::director_script::DIRECTOR_SCRIPT;
 use crate::host_names::HostNames;
 use crate::line_server::LineServer;
-use crate::page::PAGE;
-use crate::script::SCRIPT;
-use crate::style::STYLE;
+use crate::page_texts::PageTexts;
 use bridge_endings::Cache;
 use bytes::Bytes;
 use http::Request;
@@ -31,8 +28,8 @@ const TOO_MANY_BYTES: usize = 65_536;
 #[derive(Drop)]
 pub struct TablePages<T: LineServer> {
     alloc: Global,
-    host: String,
-    alias: String,
+    names: HostNames,
+    texts: PageTexts,
     server: T,
     cache: Cache,
     /// How many wrong keys were answered.
@@ -43,19 +40,24 @@ pub struct TablePages<T: LineServer> {
 impl<T: LineServer> TablePages<T> {
     ghost use Rattle.table_pages.specs.Responses.{TellsLines, TellsShort};
 
-    /// The pages of a server that goes by these names.
-    pub fn new(alloc: Global, names: HostNames, server: T, cache: Cache) -> TablePages<T>
+    /// Pages of these texts, at a server that goes by these names.
+    pub fn new(
+        alloc: Global,
+        names: HostNames,
+        texts: PageTexts,
+        server: T,
+        cache: Cache,
+    ) -> TablePages<T>
         requires { T.is_ready server ≡ true }
         ensures server { result.server ≡ server }
-        ensures host { result.host ≡ names.host }
-        ensures alias { result.alias ≡ names.alias }
+        ensures names { result.names ≡ names }
+        ensures texts { result.texts ≡ texts }
         ensures wrong { result.wrong ≡ 0 }
     {
-        let HostNames { host, alias } = names;
         TablePages {
             alloc,
-            host,
-            alias,
+            names,
+            texts,
             server,
             cache,
             wrong: 0,
@@ -72,9 +74,9 @@ impl<T: LineServer> TablePages<T> {
 
     /// Where a request goes.
     fn route(&self, request: &Request<Bytes>) -> Route
-        ensures { result ≡ route_for (string_bytes self.now.host) (string_bytes self.now.alias) (head_of request.now) }
+        ensures { result ≡ route_for (string_bytes self.now.names.host) (string_bytes self.now.names.alias) (head_of request.now) }
     {
-        route_of(&self.host, &self.alias, request)
+        route_of(&self.names.host, &self.names.alias, request)
     }
 
     /// What answers the lines.
@@ -89,8 +91,8 @@ impl<T: LineServer> TablePages<T> {
         requires { IsBlank response.old }
         ensures lines { OnOk result (TellsShort T.answers (nat_lt (length body.now) 65536) self.old.server body.now response.new self.new.server) }
         ensures counted { OnOk result (self.new.wrong ≡ with_more self.old.wrong (wrong_keys response.new.body.items)) }
-        ensures host { self.new.host ≡ self.old.host }
-        ensures alias { self.new.alias ≡ self.old.alias }
+        ensures names { self.new.names ≡ self.old.names }
+        ensures texts { self.new.texts ≡ self.old.texts }
         ensures err { OnErr result (self.new ≡ self.old) }
     {
         // read so that its range is known: of an empty body no wrong key more is counted
@@ -109,8 +111,8 @@ impl<T: LineServer> TablePages<T> {
         ensures told { OnOk result (IsText Kind.Lines (T.places self.old.server key.now) response.new) }
         ensures counted { OnOk result (self.new.wrong ≡ with_more self.old.wrong (wrong_keys response.new.body.items)) }
         ensures server { self.new.server ≡ self.old.server }
-        ensures host { self.new.host ≡ self.old.host }
-        ensures alias { self.new.alias ≡ self.old.alias }
+        ensures names { self.new.names ≡ self.old.names }
+        ensures texts { self.new.texts ≡ self.old.texts }
         ensures err { OnErr result (self.new ≡ self.old) }
     {
         let mut text = ReplyText::new();
@@ -124,8 +126,8 @@ impl<T: LineServer> TablePages<T> {
         ensures told { OnOk result (IsText Kind.Lines (T.tables self.old.server key.now) response.new) }
         ensures counted { OnOk result (self.new.wrong ≡ with_more self.old.wrong (wrong_keys response.new.body.items)) }
         ensures server { self.new.server ≡ self.old.server }
-        ensures host { self.new.host ≡ self.old.host }
-        ensures alias { self.new.alias ≡ self.old.alias }
+        ensures names { self.new.names ≡ self.old.names }
+        ensures texts { self.new.texts ≡ self.old.texts }
         ensures err { OnErr result (self.new ≡ self.old) }
     {
         let mut text = ReplyText::new();
@@ -139,8 +141,8 @@ impl<T: LineServer> TablePages<T> {
         ensures told { OnOk result ((text : List ℕ) × T.results self.old.server key.now text × IsText Kind.Lines text response.new) }
         ensures counted { OnOk result (self.new.wrong ≡ with_more self.old.wrong (wrong_keys response.new.body.items)) }
         ensures server { self.new.server ≡ self.old.server }
-        ensures host { self.new.host ≡ self.old.host }
-        ensures alias { self.new.alias ≡ self.old.alias }
+        ensures names { self.new.names ≡ self.old.names }
+        ensures texts { self.new.texts ≡ self.old.texts }
         ensures err { OnErr result (self.new ≡ self.old) }
     {
         let Some(text) = self.results(key) else {
@@ -162,8 +164,8 @@ impl<T: LineServer> TablePages<T> {
         requires short { length body.now < 65536 }
         ensures lines { TellsLines T.answers self.old.server body.now response.new self.new.server }
         ensures counted { self.new.wrong ≡ with_more self.old.wrong (wrong_keys response.new.body.items) }
-        ensures host { self.new.host ≡ self.old.host }
-        ensures alias { self.new.alias ≡ self.old.alias }
+        ensures names { self.new.names ≡ self.old.names }
+        ensures texts { self.new.texts ≡ self.old.texts }
     {
         // read so that its range is known: of an empty body no wrong key more is counted
         let _wrong = self.wrong;
@@ -179,8 +181,8 @@ impl<T: LineServer> TablePages<T> {
         ensures text { IsText Kind.Lines text.now response.new ⊎ IsUnavailable response.new }
         ensures counted { self.new.wrong ≡ with_more self.old.wrong (wrong_keys response.new.body.items) }
         ensures server { self.new.server ≡ self.old.server }
-        ensures host { self.new.host ≡ self.old.host }
-        ensures alias { self.new.alias ≡ self.old.alias }
+        ensures names { self.new.names ≡ self.old.names }
+        ensures texts { self.new.texts ≡ self.old.texts }
     {
         // read so that its range is known: of an empty body no wrong key more is counted
         let _wrong = self.wrong;
@@ -195,8 +197,8 @@ impl<T: LineServer> TablePages<T> {
         ensures told { OnOk result (IsText Kind.Lines text.now response.new) }
         ensures counted { OnOk result (self.new.wrong ≡ with_more self.old.wrong (wrong_keys response.new.body.items)) }
         ensures server { self.new.server ≡ self.old.server }
-        ensures host { self.new.host ≡ self.old.host }
-        ensures alias { self.new.alias ≡ self.old.alias }
+        ensures names { self.new.names ≡ self.old.names }
+        ensures texts { self.new.texts ≡ self.old.texts }
         ensures err { OnErr result (self.new ≡ self.old) }
     {
         put_text(response, Kind::Lines, text)?;
@@ -210,12 +212,13 @@ impl<T: LineServer> Service for TablePages<T> {
     ghost use Rattle.http.specs.Request.{head_of};
     ghost use Rattle.web_requests.specs.Route.{route_for};
     ghost use Rattle.table_pages.specs.Responses.{Answering};
+    ghost use Rattle.table_pages.specs.Site.{site_of};
     ghost use Rattle.table_pages.specs.WrongKeys.{Counts};
 
     ghost answers = { λ old request response new.
-        Answering T.answers T.places T.tables T.results (string_bytes old.host) (string_bytes old.alias) old.server request response new.server
-        × (new.host ≡ old.host) × (new.alias ≡ old.alias)
-        × Counts (route_for (string_bytes old.host) (string_bytes old.alias) (head_of request)) old.wrong response new.wrong };
+        Answering T.answers T.places T.tables T.results (site_of old.texts old.names) old.server request response new.server
+        × (new.names ≡ old.names) × (new.texts ≡ old.texts)
+        × Counts (route_for (string_bytes old.names.host) (string_bytes old.names.alias) (head_of request)) old.wrong response new.wrong };
 
     fn call(
         &mut self,
@@ -223,10 +226,11 @@ impl<T: LineServer> Service for TablePages<T> {
         response: &mut Response,
     ) -> Result<(), AllocError> {
         match self.route(request) {
-            Route::Page => put_static(response, Kind::Page, PAGE),
-            Route::Script => put_static(response, Kind::Script, SCRIPT),
-            Route::DirectorScript => put_static(response, Kind::Script, DIRECTOR_SCRIPT),
-            Route::Style => put_static(response, Kind::Style, STYLE),
+            Route::Page => put_static(response, Kind::Page, self.texts.page),
+            Route::SharedScript => put_static(response, Kind::Script, self.texts.shared_script),
+            Route::TableScript => put_static(response, Kind::Script, self.texts.table_script),
+            Route::DirectorScript => put_static(response, Kind::Script, self.texts.director_script),
+            Route::Style => put_static(response, Kind::Style, self.texts.style),
             Route::Lines => self.call_lines(request.body().as_slice(), response),
             Route::Place => self.put_place(request.body().as_slice(), response),
             Route::Tables => self.put_tables(request.body().as_slice(), response),

@@ -1,7 +1,8 @@
 //! Pages shown to browsers.
-ghost use Rattle.std.specs.Prelude.{◌≡◌, string_bytes};
+ghost use Rattle.std.specs.Prelude.{◌≡◌};
 ghost use Rattle.web_loop.specs.Turns.{LeadsTo};
 ghost use Rattle.table_pages.specs.Responses.{Answering};
+ghost use Rattle.table_pages.specs.Site.{site_of};
 
 use crate::line_server::LineServer;
 use crate::pages::TablePages;
@@ -49,7 +50,7 @@ pub fn show_minutes<N: Net + Clock, T: LineServer>(
     pages: &mut TablePages<T>,
     minutes: u16,
 ) -> io::Result<()>
-    ensures { LeadsTo (Answering T.answers T.places T.tables T.results (string_bytes pages.old.host) (string_bytes pages.old.alias)) pages.old.server pages.new.server }
+    ensures { LeadsTo (Answering T.answers T.places T.tables T.results (site_of pages.old.texts pages.old.names)) pages.old.server pages.new.server }
 {
     let mut clients = Clients::new(alloc, keys, limits(), Instant::now(rt)?);
     serve_minutes(rt, listener, &mut clients, pages, minutes)

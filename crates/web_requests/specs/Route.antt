@@ -3,9 +3,9 @@ use Rattle.std.specs.Prelude.{ℕ, Bool, false, ◌||◌, List, Option, Some, No
 use Rattle.http.specs.declared.request.Parts.{Parts}
 use Rattle.http_header.specs.FieldValue.{FieldValue}
 use Rattle.http_header.specs.HeaderMap.{get}
-use Rattle.http_uri.specs.Uri.{uri_authority, uri_path}
+use Rattle.http_uri.specs.Uri.{uri_authority, uri_path, uri_query}
 use Rattle.web_requests.specs.declared.route.Route.{Route}
-use Rattle.web_requests.specs.declared.route.Route.TheVariants.{Page, Script, DirectorScript, Style, Lines, Place, Tables, Results, Refused}
+use Rattle.web_requests.specs.declared.route.Route.TheVariants.{Page, SharedScript, TableScript, DirectorScript, Style, Lines, Place, Tables, Results, Refused}
 use Rattle.web_requests.specs.declared.route.Refusal.TheVariants.{Misdirected, NotFound, OnlyRead, OnlyPosted, WrongType}
 
 -- there is a value, and it is this text
@@ -35,24 +35,34 @@ abbrev pub reading : Route → List ℕ → Route
 reading route method =
     if bytes_eq method (codes "GET") || bytes_eq method (codes "HEAD") then route else Refused OnlyRead
 
--- what lines are posted to
-abbrev pub posting : Route → Parts → Route
-posting route head =
+-- what lines are posted to, with no query behind its path
+abbrev pub posting_to : Route → Parts → Route
+posting_to route head =
     if bytes_eq head.method (codes "POST")
     then (if is_value lines_type (get head.headers (codes "content-type")) then route else Refused WrongType)
     else Refused OnlyPosted
+
+-- what lines are posted to, by the query behind its path
+abbrev pub posting_by : Option (List ℕ) → Route → Parts → Route
+posting_by None route head = posting_to route head
+posting_by (Some query) route head = Refused NotFound
+
+-- what lines are posted to
+abbrev pub posting : Route → Parts → Route
+posting route head = posting_by (uri_query head.uri) route head
 
 -- the paths that there are
 abbrev pub route_at : List ℕ → Parts → Route
 route_at path head =
     if bytes_eq path (codes "/") then reading Page head.method else (
-    if bytes_eq path (codes "/table.js") then reading Script head.method else (
+    if bytes_eq path (codes "/shared.js") then reading SharedScript head.method else (
+    if bytes_eq path (codes "/table.js") then reading TableScript head.method else (
     if bytes_eq path (codes "/director.js") then reading DirectorScript head.method else (
     if bytes_eq path (codes "/table.css") then reading Style head.method else (
     if bytes_eq path (codes "/lines") then posting Lines head else (
     if bytes_eq path (codes "/place") then posting Place head else (
     if bytes_eq path (codes "/tables") then posting Tables head else (
-    if bytes_eq path (codes "/results") then posting Results head else Refused NotFound)))))))
+    if bytes_eq path (codes "/results") then posting Results head else Refused NotFound))))))))
 
 -- where a request goes that came to a server of these two names
 abbrev pub route_for : List ℕ → List ℕ → Parts → Route

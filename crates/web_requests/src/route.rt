@@ -12,9 +12,11 @@ use http::header::{CONTENT_TYPE, HOST};
 pub enum Route {
     /// `GET /`: the page.
     Page,
-    /// `GET /table.js`: its script.
-    Script,
-    /// `GET /director.js`: the part of the script that only a director needs.
+    /// `GET /shared.js`: what its other scripts share.
+    SharedScript,
+    /// `GET /table.js`: the players' script.
+    TableScript,
+    /// `GET /director.js`: the director's script.
     DirectorScript,
     /// `GET /table.css`: its style.
     Style,
@@ -35,7 +37,7 @@ pub enum Route {
 pub enum Refusal {
     /// 421: the request names no host, or another than this one, as where a name of another site was bound to this address.
     Misdirected,
-    /// 404: there is nothing at its path.
+    /// 404: there is nothing at its path, or what is there is asked alone and a query stands behind the path.
     NotFound,
     /// 405: what is there is read alone, by `GET` or `HEAD`.
     OnlyRead,
@@ -52,7 +54,8 @@ const LINES_TYPE: &[u8] = b"application/x-table-lines";
 
 /// Where a request goes that came to a server which goes by two names, each a host and its port.
 ///
-/// A query after the path is ignored, and a target that names a host of its own is refused.
+/// A target that names a host of its own is refused, and so is a query behind a path to which lines are posted, since a key
+/// has no place in an address. Behind the path of what is read a query is ignored.
 pub fn route_of(host: &str, alias: &str, request: &Request<Bytes>) -> Route
     ensures { result ≡ route_for host.now alias.now (head_of request.now) }
 {
@@ -61,7 +64,8 @@ pub fn route_of(host: &str, alias: &str, request: &Request<Bytes>) -> Route
     }
     match request.uri().path() {
         "/" => reading(request, Route::Page),
-        "/table.js" => reading(request, Route::Script),
+        "/shared.js" => reading(request, Route::SharedScript),
+        "/table.js" => reading(request, Route::TableScript),
         "/director.js" => reading(request, Route::DirectorScript),
         "/table.css" => reading(request, Route::Style),
         "/lines" => posting(request, Route::Lines),
@@ -98,10 +102,13 @@ fn reading(request: &Request<Bytes>, route: Route) -> Route
     }
 }
 
-/// The route of a path to which lines are posted, and of any other method or type.
+/// The route of a path to which lines are posted, and of a query behind it, any other method or type.
 fn posting(request: &Request<Bytes>, route: Route) -> Route
     ensures { result ≡ posting route (head_of request.now) }
 {
+    if request.uri().query().is_some() {
+        return Route::Refused(Refusal::NotFound);
+    }
     if request.method().as_str() != "POST" {
         return Route::Refused(Refusal::OnlyPosted);
     }

@@ -1,6 +1,6 @@
 //! Disks and configurations that are refused, and streams that fail.
-use super::{Broken, expect_eq, expect_formatted, expect_run};
-use club_commands::run_words;
+use super::{Broken, TEXTS, expect_eq, expect_formatted, expect_run};
+use club_commands::run_words_with;
 use club_disk::{lock, lock_to_read};
 use std::alloc::Global;
 use std::fs;
@@ -224,7 +224,15 @@ fn streams_that_fail_are_named(rt: HostRuntime) -> Result<(), Fail> {
     for words in rows {
         let mut input: &[u8] = b"1C\n";
         let mut errors = Vec::new(rt.alloc());
-        let status = run_words(&rt, rt.alloc(), words, &mut input, &mut Broken, &mut errors);
+        let status = run_words_with(
+            &rt,
+            rt.alloc(),
+            TEXTS,
+            words,
+            &mut input,
+            &mut Broken,
+            &mut errors,
+        );
         expect_eq(&rt, status, 3, words);
         expect_eq(
             &rt,
@@ -238,7 +246,15 @@ fn streams_that_fail_are_named(rt: HostRuntime) -> Result<(), Fail> {
         let mut input = Broken;
         let mut output = Vec::new(rt.alloc());
         let mut errors = Vec::new(rt.alloc());
-        let status = run_words(&rt, rt.alloc(), words, &mut input, &mut output, &mut errors);
+        let status = run_words_with(
+            &rt,
+            rt.alloc(),
+            TEXTS,
+            words,
+            &mut input,
+            &mut output,
+            &mut errors,
+        );
         expect_eq(&rt, status, 3, words);
         let line = b"cannot read input\n".as_slice();
         expect_eq(&rt, errors.as_slice(), line, words);

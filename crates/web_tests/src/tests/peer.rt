@@ -13,9 +13,18 @@ use std::hash::RandomState;
 use std::io::{Error, ErrorKind, Read, Result};
 use std::random::RandomSource;
 use std::test::Fail;
-use table_pages::{HostNames, TablePages, limits};
+use table_pages::{HostNames, PageTexts, TablePages, limits};
 use test_texts::TWO_TABLES;
 use web_loop::{Turn, take_turn};
+
+/// Texts of pages.
+const TEXTS: PageTexts = PageTexts {
+    page: "<!doctype html>",
+    style: "body { margin: 0; }",
+    shared_script: "let shared = 1;",
+    table_script: "let table = 2;",
+    director_script: "let director = 3;",
+};
 
 /// A store of a session on a disk in memory.
 pub type ClubStore = Store<MemoryDisk, Session>;
@@ -52,7 +61,7 @@ pub fn pages(alloc: Global) -> std::result::Result<TablePages<ClubStore>, Fail> 
     let names = HostNames::of_this_computer(alloc, 4000)?;
     let store = opened(alloc)?;
     let cache = Cache::new(alloc, 16)?;
-    Ok(TablePages::new(alloc, names, store, cache))
+    Ok(TablePages::new(alloc, names, TEXTS, store, cache))
 }
 
 /// Gives so many bytes at each read, and blocks before each and once all are given.

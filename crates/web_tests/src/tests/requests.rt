@@ -33,6 +33,13 @@ const ROWS: &[Row] = &[
         "200",
     ),
     (
+        "GET /shared.js?11 HTTP/1.1",
+        "127.0.0.1:4000",
+        "text/plain",
+        "",
+        "200",
+    ),
+    (
         "HEAD /table.js HTTP/1.1",
         "127.0.0.1:4000",
         "text/plain",
@@ -52,6 +59,13 @@ const ROWS: &[Row] = &[
         "127.0.0.1:4000",
         "text/plain",
         "",
+        "404",
+    ),
+    (
+        "POST /place?11 HTTP/1.1",
+        "127.0.0.1:4000",
+        "application/x-table-lines",
+        "11",
         "404",
     ),
     (
@@ -143,7 +157,7 @@ fn expect_limit<N: Abort + RandomSource>(
 ) -> Result<(), Fail> {
     let (target, field, body) = lengths;
     let mut bytes = Vec::new(alloc);
-    bytes.extend_from_slice(b"POST /lines?")?;
+    bytes.extend_from_slice(b"POST /lines")?;
     for _ in 0..target {
         bytes.push(b'a')?;
     }
@@ -167,10 +181,10 @@ fn expect_limit<N: Abort + RandomSource>(
 #[test]
 fn limits_are_kept(rt: HostRuntime) -> Result<(), Fail> {
     for (lengths, due) in [
-        ((1, 1, 10), "200"),
+        ((0, 1, 10), "200"),
         ((9000, 1, 10), "414"),
-        ((1, 9000, 10), "431"),
-        ((1, 1, 65_536), "413"),
+        ((0, 9000, 10), "431"),
+        ((0, 1, 65_536), "413"),
     ] {
         expect_limit(&rt, rt.alloc(), lengths, due)?;
     }

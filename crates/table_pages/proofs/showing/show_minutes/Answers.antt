@@ -1,9 +1,8 @@
-use Rattle.std.proofs.Common.{ap}
-use Rattle.std.specs.Prelude.{string_bytes}
-use Rattle.table_pages.proofs.Shown.{leads}
+use Rattle.table_pages.specs.Site.{site_of}
+use Rattle.table_pages.proofs.Shown.{leads, same_site}
 use Rattle.table_pages.proofs.showing.show_minutes.Goals as goal
 
 pub returns : goal.returns
 returns g c =
-    leads g.T.LineServer.answers g.T.LineServer.places g.T.LineServer.tables g.T.LineServer.results (λ pages. string_bytes pages.host) (λ pages. string_bytes pages.alias) (λ pages. pages.server) _
-    (λ old request response new x. (x.0, ap string_bytes x.1, ap string_bytes x.2)) c.args.pages.now c.serve_minutes.new.service c.serve_minutes.ensures
+    leads g.T.LineServer.answers g.T.LineServer.places g.T.LineServer.tables g.T.LineServer.results (λ pages. site_of pages.texts pages.names) (λ pages. pages.server) _
+    (λ old new request response x. (x.0, same_site new.texts old.texts new.names old.names x.1 x.2)) c.args.pages.now c.serve_minutes.new.service c.serve_minutes.ensures

@@ -1,11 +1,153 @@
-//! The rest of the page's script: how it shows hands, the table, claims and results, and when it looks.
+"use strict";
+// The players' page. It judges nothing: it greys what would be refused, and shows what the server tells.
 
-/// The script that begins with the text before and goes on with this one.
-macro_rules! followed_by_play {
-    ($before:literal) => {
-        concat!(
-            $before,
-            r##"// A hand; its cards can be clicked where they may be played.
+const SUITS = ["S", "H", "D", "C"];
+const SIGNS = { S: "\u2660", H: "\u2665", D: "\u2666", C: "\u2663" };
+const SUIT_NAMES = { S: "spades", H: "hearts", D: "diamonds", C: "clubs" };
+const RANK_NAMES = { A: "ace", K: "king", Q: "queen", J: "jack", T: "10" };
+const STRAINS = ["C", "D", "H", "S", "NT"];
+// Milliseconds: how long results last.
+const RESULTS_LAST = 60000;
+let results = { made: "", text: "", at: 0 };
+
+// The lines of a reply of several lines, by their first words.
+function fields(reply) {
+  const found = {};
+  for (const line of reply.split("\n")) {
+    const words = line.split(" ");
+    if (words.length > 1) found[words[0]] = words.slice(1);
+  }
+  return found;
+}
+
+function readPlace(reply) {
+  const f = fields(reply);
+  const some = (words, value) => (words[0] === "-" ? null : value(words));
+  return {
+    round: Number(f.ROUND[0]),
+    rounds: Number(f.ROUND[1]),
+    pair: Number(f.PLAYER[0]),
+    name: f.PLAYER[1],
+    table: some(f.TABLE, (w) => ({ number: w[0], seat: w[1], first: w[2], last: w[3] })),
+    names: some(f.NAMES, (w) => ({ N: w[0], E: w[1], S: w[2], W: w[3] })),
+    contract: some(f.CONTRACT, (w) => ({ bid: w[0], declarer: w[1] })),
+    answer: f.ANSWER[0] === "DUE",
+    next: some(f.NEXT, (w) => ({ number: w[0], seat: w[1] })),
+  };
+}
+
+function readHand(text) {
+  const suits = text.split(".");
+  return Object.fromEntries(SUITS.map((suit, i) => [suit, suits[i]]));
+}
+
+function readTrick(words) {
+  if (words[0] === "-") return [];
+  const leader = SEATS.indexOf(words[0]);
+  return words.slice(1).map((card, i) => ({ seat: SEATS[(leader + i) % 4], card }));
+}
+
+function readView(reply) {
+  const f = fields(reply);
+  const none = (words) => words[0] === "-";
+  return {
+    board: f.PLAY[3],
+    seat: f.SEAT[0],
+    dealer: f.DEALER[0],
+    vulnerable: f.DEALER[2],
+    playing: f.PHASE[0] === "PLAY",
+    turn: f.TURN[0],
+    calls: f.CALLS || [],
+    made: { calls: f.AT[0], cards: f.AT[1], claims: f.AT[2] },
+    hand: readHand(f.HAND[0]),
+    dummy: none(f.DUMMY) ? null : readHand(f.DUMMY[0]),
+    trick: readTrick(f.TRICK),
+    last: readTrick(f.LAST),
+    tricks: { NS: f.TRICKS[0], EW: f.TRICKS[1] },
+    claim: none(f.CLAIM) ? null : { seat: f.CLAIM[0], tricks: f.CLAIM[1] },
+  };
+}
+
+const partner = (seat) => SEATS[(SEATS.indexOf(seat) + 2) % 4];
+const rankName = (rank) => RANK_NAMES[rank] || rank;
+const cardName = (card) => rankName(card[1]) + " of " + SUIT_NAMES[card[0]];
+const rankText = (rank) => (rank === "T" ? "10" : rank);
+
+function suitSign(suit) {
+  return make("span", { className: suit === "H" || suit === "D" ? "red" : "", title: SUIT_NAMES[suit] }, SIGNS[suit]);
+}
+
+function cardNodes(card) {
+  return [suitSign(card[0]), rankText(card[1])];
+}
+
+// A call as text nodes; doubles stand behind the bid in a contract.
+function callNodes(call) {
+  if (call === "PASS") return ["pass"];
+  if (call === "X") return ["double"];
+  if (call === "XX") return ["redouble"];
+  const strain = call.slice(1).replace(/X+$/, "");
+  const doubles = call.slice(1 + strain.length);
+  return [call[0], SIGNS[strain] ? suitSign(strain) : strain, doubles];
+}
+
+function seatName(place, seat) {
+  return SEAT_NAMES[seat] + (place.names ? " (" + place.names[seat] + ")" : "");
+}
+
+function vulnerableText(words) {
+  return { None: "nobody vulnerable", NS: "North and South vulnerable", EW: "East and West vulnerable", All: "all vulnerable" }[words] || words;
+}
+
+// Whose call was the last that was no pass: [call, seat], or null.
+function lastCall(view, among) {
+  for (let i = view.calls.length - 1; i >= 0; i -= 1) {
+    if (among(view.calls[i])) return { call: view.calls[i], seat: SEATS[(SEATS.indexOf(view.dealer) + i) % 4] };
+  }
+  return null;
+}
+
+const isBid = (call) => call !== "PASS" && call !== "X" && call !== "XX";
+const isOther = (view, seat) => seat !== view.seat && seat !== partner(view.seat);
+const height = (bid) => Number(bid[0]) * 5 + STRAINS.indexOf(bid.slice(1));
+
+function allowedCall(view, call) {
+  if (call === "PASS") return true;
+  const last = lastCall(view, (made) => made !== "PASS");
+  if (call === "X") return last !== null && isBid(last.call) && isOther(view, last.seat);
+  if (call === "XX") return last !== null && last.call === "X" && isOther(view, last.seat);
+  const bid = lastCall(view, isBid);
+  return bid === null || height(call) > height(bid.call);
+}
+
+function biddingBox(view) {
+  const call = (word, label, name) =>
+    button(label, name, "call-" + word, allowedCall(view, word), () => act("CALL " + key + " " + view.board + " " + view.made.calls + " " + word));
+  const bids = make("div", { className: "bids" });
+  for (let level = 1; level <= 7; level += 1) {
+    for (const strain of STRAINS) {
+      const word = level + strain;
+      const label = make("span", null, ...callNodes(word));
+      bids.append(call(word, label, level + " " + (SUIT_NAMES[strain] || "no trump")));
+    }
+  }
+  return make("section", { aria_label: "Bidding box" },
+    make("div", { className: "row" }, call("PASS", "Pass"), call("X", "Double"), call("XX", "Redouble")), bids);
+}
+
+function auctionTable(view) {
+  const columns = ["W", "N", "E", "S"];
+  const head = make("tr", null, ...columns.map((seat) => make("th", { scope: "col" }, SEAT_NAMES[seat])));
+  const cells = Array(columns.indexOf(view.dealer)).fill(null).concat(view.calls);
+  const rows = [];
+  for (let i = 0; i < cells.length; i += 4) {
+    const row = [0, 1, 2, 3].map((j) => make("td", null, ...(cells[i + j] ? callNodes(cells[i + j]) : [""])));
+    rows.push(make("tr", null, ...row));
+  }
+  return make("table", { aria_label: "Auction" }, make("thead", null, head), make("tbody", null, ...rows));
+}
+
+// A hand; its cards can be clicked where they may be played.
 function handNode(view, hand, label, mine) {
   const led = view.trick.length > 0 && view.trick.length < 4 ? view.trick[0].card[0] : null;
   const follows = led !== null && hand[led] !== "";
@@ -131,23 +273,6 @@ function headText(place) {
   return place.name + ", pair " + place.pair;
 }
 
-// Shows these nodes, where what they are made of is new; the focus and what is open stay.
-function show(made, status, nodes) {
-  say("status", status);
-  const mark = made + (busy && made !== LOGIN ? " busy" : "");
-  if (mark === shown) return;
-  shown = mark;
-  const main = at("main");
-  const focus = document.activeElement && main.contains(document.activeElement) ? document.activeElement.id : "";
-  const open = [...main.querySelectorAll("details[open]")].map((node) => node.id);
-  const claim = at("claim");
-  const typed = claim && claim.value !== claim.defaultValue ? claim.value : null;
-  main.replaceChildren(...nodes());
-  for (const id of open) if (at(id)) at(id).open = true;
-  if (typed !== null && open.includes("claiming") && at("claim")) at("claim").value = typed;
-  if (focus && at(focus) && !at(focus).disabled) at(focus).focus();
-}
-
 function showView(placeReply, reply) {
   const place = readPlace(placeReply);
   at("title").textContent = headText(place);
@@ -166,14 +291,6 @@ function showView(placeReply, reply) {
   } else {
     show(made, SENTENCES[refused] || reply, head);
   }
-}
-
-function rankingNode(field, reply) {
-  const lines = reply.split("\n").filter((line) => /^\d/.test(line)).map((line) => line.split(" "));
-  const titles = ["Place", "Pair", "Score", "Per cent"].slice(0, lines.length ? lines[0].length : 0);
-  const head = make("tr", null, ...titles.map((title) => make("th", { scope: "col" }, title)));
-  const rows = lines.map((words) => make("tr", null, ...words.map((word) => make("td", null, word))));
-  return [make("h2", null, "Ranking, field " + field), make("table", { aria_label: "Ranking of field " + field }, make("thead", null, head), make("tbody", null, ...rows))];
 }
 
 async function showClosed(placeReply, asked, mine) {
@@ -195,77 +312,14 @@ async function showClosed(placeReply, asked, mine) {
   show(made + results.text, "The session is closed.", () => [...both.flatMap((one) => rankingNode(one[0], one[1])), make("h2", null, "Results"), make("pre", { id: "results" }, results.text)]);
 }
 
-function showLogin() {
-  at("title").textContent = "Bridge table";
-  at("leave").hidden = true;
-  show(LOGIN, "", () => {
-    const field = make("input", { id: "key", type: "text", inputMode: "numeric", autocomplete: "off", pattern: "[0-9]+", required: true });
-    const enter = (event) => {
-      event.preventDefault();
-      key = field.value.trim();
-      say("notice", "");
-      look();
-    };
-    const form = make("form", { onsubmit: enter }, make("label", { for: "key" }, "Your key"), " ", field, " ", make("button", { type: "submit" }, "Sit down"));
-    return [form];
-  });
-}
-
-function leave() {
-  key = null;
-  turn += 1;
-  sessionStorage.removeItem("key");
-  say("notice", "");
-  showLogin();
-}
-
-function unreachable() {
-  say("status", "The server does not answer. Trying again.");
-}
-
-// Looks once, and again after a second.
-async function look() {
-  clearTimeout(timer);
-  const asked = key;
-  if (asked === null) return showLogin();
-  if (!busy) {
-    const mine = turn + 1;
-    // What is no answer of this server, as that of a network's own login page, cannot be read.
-    await lookOnce(asked).catch(unreachable);
-    // After a later look, an act or Leave those go on.
-    if (turn !== mine) return;
-  }
-  clearTimeout(timer);
-  if (key !== null) timer = setTimeout(look, document.hidden ? HIDDEN_LOOK : LOOK);
-}
-
-async function lookOnce(asked) {
-  turn += 1;
-  const mine = turn;
-  const place = await ask("/place", asked);
-  if (mine !== turn) return;
-  if (place === null) return unreachable();
-  const refused = refusal(place);
-  if (refused === "NotAllowed") {
-    enter(asked);
-    return showDirector(asked, mine);
-  }
-  if (refused) {
-    leave();
-    return say("notice", SENTENCES[refused] || "That is no key.");
-  }
-  enter(asked);
+// Shows where a player sits, and the play there, or what came of the session.
+async function showPlayer(place, asked, mine) {
   const where = readPlace(place);
   if (where.round > where.rounds) return showClosed(place, asked, mine);
   const view = await ask("/lines", "SEE " + asked + "\n");
   if (mine !== turn) return;
   if (view === null) return unreachable();
   showView(place, view);
-}
-
-function enter(asked) {
-  sessionStorage.setItem("key", asked);
-  at("leave").hidden = false;
 }
 
 // Sends one line, and shows what has become of it.
@@ -284,13 +338,3 @@ async function act(line) {
   else if (refusal(reply)) say("notice", SENTENCES[refusal(reply)] || reply);
   return look();
 }
-
-at("leave").onclick = leave;
-document.addEventListener("visibilitychange", () => { if (!document.hidden) look(); });
-look();
-"##
-        )
-    };
-}
-
-pub(crate) use followed_by_play;

@@ -1,0 +1,191 @@
+"use strict";
+// What the players' page and the director's share: how they ask, what is said of a refusal, how nodes are made and shown, who
+// has logged in, and when they look.
+
+const SEATS = ["N", "E", "S", "W"];
+const SEAT_NAMES = { N: "North", E: "East", S: "South", W: "West" };
+const LOGIN = "login";
+// Milliseconds: an answer that comes later is none; how often the page looks, also where it is hidden.
+const LATE = 8000;
+const LOOK = 1000;
+const HIDDEN_LOOK = 5000;
+const SENTENCES = {
+  NoKey: "Nobody has this key.",
+  NotAllowed: "That is not yours to do.",
+  Closed: "The session is closed.",
+  SitsOut: "You sit out in this round.",
+  NotCurrent: "That board is not being played at your table now.",
+  NotDealt: "The board is not dealt yet.",
+  WrongPhase: "That is not possible now.",
+  Stale: "Something else came first. Look again.",
+  NoClaim: "No claim stands.",
+  ClaimStands: "A claim stands and has to be answered first.",
+  NotAsked: "This claim does not ask you, or you have answered.",
+  NotYourTurn: "It is not your turn.",
+  MidTrick: "Claims are made between tricks.",
+  TooManyTricks: "There are not so many tricks left.",
+  InsufficientBid: "That bid is not sufficient.",
+  InadmissibleDouble: "There is nothing that you may double.",
+  InadmissibleRedouble: "There is nothing that you may redouble.",
+  NotHeld: "That card is not in the hand.",
+  MustFollow: "The hand has to follow suit.",
+  ClaimsSpent: "No more claims can be made on this board.",
+  Disk: "The server's disk has failed. Call the director.",
+  EpochsSpent: "The server's disk is used up. Call the director.",
+  BadLine: "That cannot be read.",
+};
+
+const at = (id) => document.getElementById(id);
+let key = sessionStorage.getItem("key");
+let busy = false;
+let shown = "";
+let timer = 0;
+// Raised by each look, each act and Leave: an answer that an earlier look gets is shown no more.
+let turn = 0;
+
+function make(tag, properties, ...children) {
+  const node = document.createElement(tag);
+  for (const [name, value] of Object.entries(properties || {})) {
+    if (name.startsWith("aria") || name === "role" || name === "for" || name === "scope") node.setAttribute(name.replace("aria_", "aria-"), value);
+    else node[name] = value;
+  }
+  node.append(...children);
+  return node;
+}
+
+function button(label, name, id, enabled, act) {
+  const node = make("button", { type: "button", id, disabled: busy || !enabled, onclick: act }, label);
+  if (name) node.setAttribute("aria-label", name);
+  return node;
+}
+
+function say(id, text) {
+  const node = at(id);
+  if (node && node.textContent !== text) node.textContent = text;
+}
+
+async function ask(path, body) {
+  const stop = new AbortController();
+  const late = setTimeout(() => stop.abort(), LATE);
+  try {
+    const response = await fetch(path, {
+      method: "POST",
+      headers: { "content-type": "application/x-table-lines" },
+      body,
+      signal: stop.signal,
+    });
+    return response.ok ? await response.text() : null;
+  } catch (_error) {
+    return null;
+  } finally {
+    clearTimeout(late);
+  }
+}
+
+// The first refusal of a reply, or an empty text.
+function refusal(reply) {
+  const words = reply.split("\n")[0].split(" ");
+  return words[0] === "ERR" ? words[2] : "";
+}
+
+// ---- what is shown
+
+// Shows these nodes, where what they are made of is new; the focus and what is open stay.
+function show(made, status, nodes) {
+  say("status", status);
+  const mark = made + (busy && made !== LOGIN ? " busy" : "");
+  if (mark === shown) return;
+  shown = mark;
+  const main = at("main");
+  const focus = document.activeElement && main.contains(document.activeElement) ? document.activeElement.id : "";
+  const open = [...main.querySelectorAll("details[open]")].map((node) => node.id);
+  const claim = at("claim");
+  const typed = claim && claim.value !== claim.defaultValue ? claim.value : null;
+  main.replaceChildren(...nodes());
+  for (const id of open) if (at(id)) at(id).open = true;
+  if (typed !== null && open.includes("claiming") && at("claim")) at("claim").value = typed;
+  if (focus && at(focus) && !at(focus).disabled) at(focus).focus();
+}
+
+function rankingNode(field, reply) {
+  const lines = reply.split("\n").filter((line) => /^\d/.test(line)).map((line) => line.split(" "));
+  const titles = ["Place", "Pair", "Score", "Per cent"].slice(0, lines.length ? lines[0].length : 0);
+  const head = make("tr", null, ...titles.map((title) => make("th", { scope: "col" }, title)));
+  const rows = lines.map((words) => make("tr", null, ...words.map((word) => make("td", null, word))));
+  return [make("h2", null, "Ranking, field " + field), make("table", { aria_label: "Ranking of field " + field }, make("thead", null, head), make("tbody", null, ...rows))];
+}
+
+// ---- who has logged in, and when the page looks
+
+function showLogin() {
+  at("title").textContent = "Bridge table";
+  at("leave").hidden = true;
+  show(LOGIN, "", () => {
+    const field = make("input", { id: "key", type: "text", inputMode: "numeric", autocomplete: "off", pattern: "[0-9]+", required: true });
+    const enter = (event) => {
+      event.preventDefault();
+      key = field.value.trim();
+      say("notice", "");
+      look();
+    };
+    const form = make("form", { onsubmit: enter }, make("label", { for: "key" }, "Your key"), " ", field, " ", make("button", { type: "submit" }, "Sit down"));
+    return [form];
+  });
+}
+
+function leave() {
+  key = null;
+  turn += 1;
+  sessionStorage.removeItem("key");
+  say("notice", "");
+  showLogin();
+}
+
+function unreachable() {
+  say("status", "The server does not answer. Trying again.");
+}
+
+// Looks once, and again after a second.
+async function look() {
+  clearTimeout(timer);
+  const asked = key;
+  if (asked === null) return showLogin();
+  if (!busy) {
+    const mine = turn + 1;
+    // What is no answer of this server, as that of a network's own login page, cannot be read.
+    await lookOnce(asked).catch(unreachable);
+    // After a later look, an act or Leave those go on.
+    if (turn !== mine) return;
+  }
+  clearTimeout(timer);
+  if (key !== null) timer = setTimeout(look, document.hidden ? HIDDEN_LOOK : LOOK);
+}
+
+async function lookOnce(asked) {
+  turn += 1;
+  const mine = turn;
+  const place = await ask("/place", asked);
+  if (mine !== turn) return;
+  if (place === null) return unreachable();
+  const refused = refusal(place);
+  if (refused === "NotAllowed") {
+    enter(asked);
+    return showDirector(asked, mine);
+  }
+  if (refused) {
+    leave();
+    return say("notice", SENTENCES[refused] || "That is no key.");
+  }
+  enter(asked);
+  return showPlayer(place, asked, mine);
+}
+
+function enter(asked) {
+  sessionStorage.setItem("key", asked);
+  at("leave").hidden = false;
+}
+
+at("leave").onclick = leave;
+document.addEventListener("visibilitychange", () => { if (!document.hidden) look(); });
+// Once the scripts of both pages are there.
+document.addEventListener("DOMContentLoaded", () => look());

@@ -1,0 +1,197 @@
+"use strict";
+// The director's page: each click sends its lines and no others, once it was asked where it asks, and each reply shows what it
+// says.
+const assert = require("node:assert");
+const { Page, run } = require("./page.js");
+
+const KEY = "52817";
+// What the page says of a refusal.
+const SAID = {
+  AlreadyDealt: /already dealt/, BadDeal: /not four hands/, BadLine: /cannot be read/, LongLine: /cannot be read/, NoSuchPlay: /no such play/,
+  NotYet: /has not begun/, RoundOpen: /still at play/, NoContract: /no contract/, NotFinished: /not over/, NotAnEnding: /six whole tricks/,
+  NotMatchPoints: /for matchpoints/, WrongPhase: /not possible/, Stale: /not the round/, Closed: /closed/, Disk: /disk has failed/, EpochsSpent: /used up/,
+};
+
+const AT_PLAY = ["TABLE 1 1 8 4 AUCTION E 3 0", "TABLE 2 2 9 6 PLAY S 7 21", "TABLE 3 3 10 - NotDealt", "TABLE 4 4 0 - SitsOut"];
+const DONE = ["TABLE 1 1 8 - NotCurrent", "TABLE 2 2 9 - NotCurrent"];
+const tables = (lines, round = 2) => ["OK", `ROUND ${round} 7`, "BOARDS 3 21", ...lines, ".", ""].join("\n");
+
+// A page at which the director has logged in; lines are answered so.
+async function opened(told, done = "OK\n") {
+  const page = new Page((where, body) => {
+    if (where === "/place") return "ERR 2 NotAllowed\n";
+    return where === "/tables" ? told : typeof done === "function" ? done(where, body) : done;
+  }, { key: KEY });
+  await page.settle();
+  assert.deepStrictEqual(page.asked, [`/place ${KEY}`, `/tables ${KEY}`]);
+  return page;
+}
+
+const LOOKS = [`/place ${KEY}`, `/tables ${KEY}`];
+
+function fill(page, values) {
+  for (const [id, value] of Object.entries(values)) page.at(id).value = value;
+}
+
+// What is sent at a click, and at Yes where it asks; a look follows.
+async function sent(page, id, question) {
+  const first = await page.click(id);
+  if (!question) {
+    assert.deepStrictEqual(first.slice(1), LOOKS);
+    return first[0];
+  }
+  assert.deepStrictEqual(first, []);
+  assert.match(page.text("main"), question);
+  const [line, ...rest] = await page.click("yes");
+  assert.deepStrictEqual(rest, LOOKS);
+  assert.strictEqual(page.at("yes"), null);
+  return line;
+}
+
+// The seed that the random bytes of the test make.
+const SEED = [...Array(32).keys()].map((i) => (i + 1).toString(16).padStart(2, "0")).join("");
+
+run({
+  "the tables stand as they are told": async () => {
+    const page = await opened(tables(AT_PLAY));
+    assert.deepStrictEqual(page.rows(page.at("tables")), [
+      ["Table", "N-S", "E-W", "Board", "What goes on", "Min."],
+      ["1", "1", "8", "4", "auction, 3 calls, East in turn", "0"],
+      ["2", "2", "9", "6", "play, 21 cards, South in turn", "0"],
+      ["3", "3", "10", "", "waits for its deal", "0"],
+      ["4", "4", "0", "", "nobody plays here", "0"],
+    ]);
+    assert.strictEqual(page.text("status"), "Round 2 of 7. Still at play: tables 1, 2, 3.");
+    assert.strictEqual(page.text("title"), "Director");
+    page.now += 119000;
+    assert.deepStrictEqual(await page.look(), LOOKS);
+    assert.deepStrictEqual(page.rows(page.at("tables")).map((row) => row[5]), ["Min.", "2", "2", "2", "2"]);
+    assert.strictEqual(page.at("shuffle-last").value, "21");
+  },
+
+  "a round is ended once all tables are done": async () => {
+    assert.ok((await opened(tables(AT_PLAY))).at("end-round").disabled);
+    const page = await opened(tables(DONE));
+    assert.strictEqual(page.text("status"), "Round 2 of 7. All tables have done their boards.");
+    await page.click("end-round");
+    assert.deepStrictEqual(await page.click("no"), []);
+    assert.strictEqual(page.at("yes"), null);
+    assert.strictEqual(await sent(page, "end-round", /End round 2\?/), `/lines NEXT ${KEY} 2\n`);
+    assert.strictEqual(page.text("told"), "End of round 2: done.");
+    const last = await opened(tables(DONE, 7));
+    assert.strictEqual(await sent(last, "end-round", /End round 7, and close the session\?/), `/lines NEXT ${KEY} 7\n`);
+    const closed = await opened(tables([], 8));
+    assert.ok(closed.at("end-round").disabled);
+    assert.strictEqual(closed.text("status"), "The session is closed.");
+  },
+
+  "boards are shuffled by numbers that nobody can guess": async () => {
+    const page = await opened(tables(AT_PLAY), "OK\nERR 22 AlreadyDealt\nOK\n");
+    fill(page, { "shuffle-first": "4", "shuffle-last": "6" });
+    assert.strictEqual(await sent(page, "shuffle"), `/lines ${[4, 5, 6].map((board) => `SHUFFLE ${KEY} ${board} ${SEED}\n`).join("")}`);
+    assert.strictEqual(page.text("told"), "Dealt: 4, 6. Board 5: already dealt.");
+    fill(page, { "shuffle-last": "37" });
+    assert.deepStrictEqual(await page.click("shuffle"), []);
+    assert.match(page.text("told"), /in its range/);
+  },
+
+  "deals of a text are sent as they stand": async () => {
+    const page = await opened(tables(AT_PLAY), "OK\nOK\nERR 23 BadDeal\n");
+    const deal = "N:AKQJ.T98.765.432 432.AKQJ.T98.765 765.432.AKQJ.T98 T98.765.432.AKQJ";
+    fill(page, { "deal-text": `1 ${deal}\nDEAL 100 2 ${deal}\n[Event "x"]\n[Board "7"]\n[Deal "${deal}"]\n` });
+    assert.strictEqual(await sent(page, "deal"), `/lines ${[1, 2, 7].map((board) => `DEAL ${KEY} ${board} ${deal}\n`).join("")}`);
+    assert.strictEqual(page.text("told"), "Dealt: 1, 2. Board 7: these are not four hands of thirteen cards.");
+    fill(page, { "deal-text": "nothing" });
+    assert.deepStrictEqual(await page.click("deal"), []);
+    assert.strictEqual(page.text("told"), "No deal was found in this text.");
+  },
+
+  "a file of deals is read into the text": async () => {
+    const page = await opened(tables(AT_PLAY));
+    page.at("deal-file").files = [{ text: async () => "1 N:... " }];
+    assert.deepStrictEqual(await page.asks(() => page.at("deal-file").onchange()), []);
+    assert.strictEqual(page.at("deal-text").value, "1 N:... ");
+  },
+
+  "a ruling sends its play and what is ruled": async () => {
+    const page = await opened(tables(AT_PLAY));
+    fill(page, { "rule-round": "2", "rule-table": "2", "rule-board": "6", "rule-tricks": "9" });
+    const play = "round 2, table 2, board 6";
+    assert.strictEqual(await sent(page, "rule-set", new RegExp(`Set declarer's tricks to 9, ${play}\\?`)), `/lines TRICKS ${KEY} 2 2 3 9\n`);
+    assert.strictEqual(page.text("told"), `Set declarer's tricks to 9, ${play}: done.`);
+    for (const [ns, ew] of [["60", "40"], ["40", "60"], ["50", "60"]]) {
+      fill(page, { "rule-ns": ns, "rule-ew": ew });
+      assert.strictEqual(await sent(page, "rule-average", new RegExp(`Award ${ns} and ${ew} per cent, ${play}\\?`)), `/lines ADJUST ${KEY} 2 2 3 ${ns} ${ew}\n`);
+    }
+    assert.strictEqual(await sent(page, "rule-void", new RegExp(`Take the play out, ${play}\\?`)), `/lines VOID ${KEY} 2 2 3\n`);
+    assert.strictEqual(await sent(page, "rule-restore", new RegExp(`Take the ruling back, ${play}\\?`)), `/lines RESTORE ${KEY} 2 2 3\n`);
+    fill(page, { "rule-board": "9" });
+    assert.deepStrictEqual(await page.click("rule-void"), []);
+    assert.strictEqual(page.text("told"), "In round 2 table 2 has boards 4 to 6.");
+    fill(page, { "rule-board": "" });
+    assert.deepStrictEqual(await page.click("rule-void"), []);
+    assert.match(page.text("told"), /has to be there/);
+  },
+
+  "averages are chosen for each side": async () => {
+    const page = await opened(tables(AT_PLAY));
+    const label = (id) => page.document.root.all().find((element) => element.tag === "label" && element.getAttribute("for") === id).textContent;
+    assert.deepStrictEqual([label("rule-ns"), label("rule-ew")], ["North and South, per cent", "East and West, per cent"]);
+    const options = (id) => page.at(id).nodes.map((option) => [option.value, option.textContent.slice(0, 2)]);
+    for (const id of ["rule-ns", "rule-ew"]) assert.deepStrictEqual(options(id), [["60", "60"], ["50", "50"], ["40", "40"]]);
+  },
+
+  "each refusal has its sentence": async () => {
+    for (const [name, said] of Object.entries(SAID)) {
+      const page = await opened(tables(AT_PLAY), `ERR 5 ${name}\n`);
+      await sent(page, "rule-void", /Take the play out/);
+      assert.match(page.text("told"), said, name);
+    }
+  },
+
+  "an ending is solved for both sides": async () => {
+    const page = await opened(tables(AT_PLAY), "OK 6 0\n");
+    fill(page, { "solve-round": "2", "solve-table": "1", "solve-board": "5", "solve-tricks": "7" });
+    assert.deepStrictEqual(await page.click("solve"), [`/lines SOLVE ${KEY} 2 1 2 28\n`]);
+    assert.strictEqual(page.text("solved"), "Of the tricks left North and South can win 6, and East and West 0.");
+  },
+
+  "each field stands under its heading": async () => {
+    const ranks = { 1: "OK\n1 2 6.0/8.0 75.00\n.\n", 2: "OK\n1 8 3.0/8.0 37.50\n.\n" };
+    const page = await opened(tables(AT_PLAY), (_where, body) => ranks[body.trim().split(" ")[2]]);
+    assert.deepStrictEqual(await page.click("rank"), [`/lines RANK ${KEY} 1\n`, `/lines RANK ${KEY} 2\n`]);
+    const shown = page.at("rankings").nodes;
+    assert.deepStrictEqual(shown.filter((node) => node.tag === "h2").map((node) => node.textContent), ["Ranking, field 1", "Ranking, field 2"]);
+    assert.deepStrictEqual(shown.filter((node) => node.tag === "table").map((table) => page.rows(table)[1][1]), ["2", "8"]);
+    assert.strictEqual(shown[shown.indexOf(page.named("Ranking of field 1")) - 1].textContent, "Ranking, field 1");
+  },
+
+  "results are shown, and printed": async () => {
+    const page = await opened(tables(AT_PLAY), "Club-Night\n");
+    assert.deepStrictEqual(await page.click("show-results"), [`/results ${KEY}`]);
+    assert.strictEqual(page.text("results"), "Club-Night\n");
+    await page.click("print");
+    assert.strictEqual(page.printed, 1);
+  },
+
+  "lines are sent with the key": async () => {
+    const page = await opened(tables(AT_PLAY), "OK\nERR 4 NoSuchPlay\n");
+    fill(page, { box: " SYNC\n\nVOID 1 1 1 \n" });
+    assert.deepStrictEqual(await page.click("send"), [`/lines SYNC\nVOID ${KEY} 1 1 1\n`]);
+    assert.strictEqual(page.text("replies"), "OK\nERR 4 NoSuchPlay\n");
+  },
+
+  "no answer says so, and nothing is sent beside what is out": async () => {
+    const page = await opened(tables(AT_PLAY), null);
+    fill(page, { "shuffle-first": "1", "shuffle-last": "1" });
+    assert.deepStrictEqual((await page.click("shuffle")).length, 1);
+    assert.match(page.text("told"), /No answer came/);
+    let release;
+    page.answer = () => new Promise((resolve) => { release = () => resolve("OK\n"); });
+    assert.deepStrictEqual((await page.click("shuffle")).length, 1);
+    assert.deepStrictEqual(await page.click("shuffle"), []);
+    assert.match(page.text("told"), /still waited for/);
+    release();
+    await page.settle();
+  },
+});

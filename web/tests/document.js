@@ -1,0 +1,127 @@
+"use strict";
+// A document of a few words: as much of a browser's as the pages use, so that their scripts run without one.
+
+// Elements that have nothing within.
+const EMPTY = new Set(["meta", "link", "br", "input"]);
+
+class Element {
+  constructor(owner, tag) {
+    Object.assign(this, { owner, tag, id: "", className: "", nodes: [], parent: null, attributes: new Map(), hidden: false, disabled: false, open: false, defaultValue: "" });
+    this.typed = null;
+  }
+
+  get value() {
+    if (this.typed !== null) return this.typed;
+    return this.tag === "select" && this.nodes.length > 0 ? this.nodes[0].value : String(this.defaultValue);
+  }
+
+  set value(text) {
+    this.typed = String(text);
+  }
+
+  append(...nodes) {
+    for (const node of nodes) {
+      if (node instanceof Element) node.parent = this;
+      this.nodes.push(node instanceof Element ? node : String(node));
+    }
+  }
+
+  replaceChildren(...nodes) {
+    for (const node of this.nodes) if (node instanceof Element) node.parent = null;
+    this.nodes = [];
+    this.append(...nodes);
+  }
+
+  replaceWith(node) {
+    const { parent } = this;
+    parent.nodes[parent.nodes.indexOf(this)] = node;
+    node.parent = parent;
+    this.parent = null;
+  }
+
+  setAttribute(name, value) {
+    this.attributes.set(name, String(value));
+  }
+
+  getAttribute(name) {
+    return this.attributes.has(name) ? this.attributes.get(name) : null;
+  }
+
+  get textContent() {
+    return this.nodes.map((node) => (node instanceof Element ? node.textContent : node)).join("");
+  }
+
+  set textContent(text) {
+    this.replaceChildren(...(text === "" ? [] : [text]));
+  }
+
+  // This element and all within, in the order of the page.
+  all() {
+    return [this, ...this.nodes.flatMap((node) => (node instanceof Element ? node.all() : []))];
+  }
+
+  // The elements within that have a tag, and where it is asked for an attribute: `tag`, `tag[name]` or `tag[name=value]`.
+  querySelectorAll(selector) {
+    const [, tag, name, value] = /^(\w+)(?:\[(\w+)(?:=(\w+))?\])?$/.exec(selector);
+    const has = (element) => name === undefined || (value === undefined ? Boolean(element[name]) : element[name] === value);
+    return this.all().slice(1).filter((element) => element.tag === tag && has(element));
+  }
+
+  contains(other) {
+    return this.all().includes(other);
+  }
+
+  isEqualNode(other) {
+    return this.textContent === other.textContent && this.hidden === other.hidden;
+  }
+
+  focus() {
+    this.owner.activeElement = this;
+  }
+
+  // A number that is there, whole, and in the field's range.
+  checkValidity() {
+    if (this.value === "") return !this.required;
+    const number = Number(this.value);
+    return Number.isInteger(number) && (this.min === undefined || number >= this.min) && (this.max === undefined || number <= this.max);
+  }
+
+  // Whether it and all round it are shown, but for what is folded together.
+  get isShown() {
+    return !this.hidden && (this.parent === null || this.parent.isShown);
+  }
+
+  // A click as a user makes it, which a button that is greyed or hidden does not get.
+  click() {
+    if (this.disabled || !this.isShown) throw new Error(`#${this.id} cannot be clicked`);
+    return this.onclick({ preventDefault() {} });
+  }
+}
+
+// The document of a page's text, with the addresses of its scripts in their order.
+function readPage(text) {
+  const found = { scripts: [], styles: [], listeners: new Map(), activeElement: null, hidden: false };
+  found.createElement = (tag) => new Element(found, tag);
+  found.root = found.createElement("root");
+  found.getElementById = (id) => found.root.all().find((element) => element.id === id) || null;
+  found.addEventListener = (name, act) => found.listeners.set(name, act);
+  let within = found.root;
+  for (const [, end, tag, words] of text.matchAll(/<(\/?)(\w+)([^>]*)>/g)) {
+    if (end) {
+      within = within.parent;
+      continue;
+    }
+    const element = found.createElement(tag);
+    for (const [, name, value] of words.matchAll(/([\w-]+)(?:="([^"]*)")?/g)) {
+      if (name === "id" || name === "hidden") element[name] = value === undefined ? true : value;
+      else element.setAttribute(name, value);
+    }
+    within.append(element);
+    if (tag === "script") found.scripts.push(element.getAttribute("src"));
+    if (tag === "link" && element.getAttribute("rel") === "stylesheet") found.styles.push(element.getAttribute("href"));
+    if (!EMPTY.has(tag)) within = element;
+  }
+  return found;
+}
+
+module.exports = { readPage };

@@ -1,0 +1,267 @@
+"use strict";
+// The players' page: each click sends its line and no other, and each reply shows what it says.
+const assert = require("node:assert");
+const { Page, run } = require("./page.js");
+
+const KEY = "31007";
+const SEATS = ["N", "E", "S", "W"];
+const STRAINS = ["C", "D", "H", "S", "NT"];
+const BIDS = [1, 2, 3, 4, 5, 6, 7].flatMap((level) => STRAINS.map((strain) => level + strain));
+// What a sentence for each refusal speaks of.
+const SAID = {
+  NoKey: /nobody/i, NotAllowed: /not yours/, Closed: /closed/, SitsOut: /sit out/, NotCurrent: /not being played/, NotDealt: /not dealt/,
+  WrongPhase: /not possible/, Stale: /came first/, NoClaim: /no claim/i, ClaimStands: /claim stands/, NotAsked: /does not ask/,
+  NotYourTurn: /not your turn/, MidTrick: /between tricks/, TooManyTricks: /not so many tricks/, InsufficientBid: /not sufficient/,
+  InadmissibleDouble: /may double/, InadmissibleRedouble: /may redouble/, NotHeld: /not in the hand/, MustFollow: /follow suit/,
+  ClaimsSpent: /no more claims/i, Disk: /disk has failed/, EpochsSpent: /used up/, BadLine: /cannot be read/,
+};
+
+const reply = (lines) => ["OK", ...Object.entries(lines).map(([word, rest]) => (rest === "" ? word : `${word} ${rest}`)), ".", ""].join("\n");
+
+// The place of South at table 2, and what is told of it otherwise.
+const place = (other = {}) => reply({ ROUND: "1 3", PLAYER: "2 Dan", TABLE: "2 S 4 6", NAMES: "Cat Eve Dan Fay", CONTRACT: "-", ANSWER: "-", NEXT: "1 W 7 9", ...other });
+
+// What South sees in the auction, in turn, and otherwise.
+const view = (other = {}) => reply({
+  PLAY: "1 2 1 4", SEAT: "S", DEALER: "N VUL EW", PHASE: "AUCTION", TURN: "S", AT: "2 0 0", HAND: "AK2.QJ3.T98.7654", DUMMY: "-", CALLS: "PASS PASS",
+  TRICK: "-", LAST: "-", TRICKS: "0 0", CLAIM: "-", ...other,
+});
+
+// What South sees in the play of a contract, on lead, and otherwise.
+const play = (other = {}) => view({ PHASE: "PLAY", AT: "7 0 0", CALLS: "PASS PASS 1H PASS 2S PASS PASS", ...other });
+
+// A page at which a player has logged in; what is done is answered so, and then the same is seen.
+async function seated(placed, seen, done = "OK\n") {
+  const page = new Page((where, body) => {
+    if (where === "/place") return placed;
+    return body.startsWith("SEE ") ? seen : done;
+  }, { key: KEY });
+  await page.settle();
+  assert.deepStrictEqual(page.asked, [`/place ${KEY}`, `/lines SEE ${KEY}\n`]);
+  return page;
+}
+
+// What is sent first at a click; a look follows it.
+async function sent(page, id) {
+  const [first, ...rest] = await page.click(id);
+  assert.deepStrictEqual(rest, [`/place ${KEY}`, `/lines SEE ${KEY}\n`]);
+  return first;
+}
+
+const enabled = (page, prefix) => page.document.root.all().filter((element) => element.id.startsWith(prefix) && !element.disabled).map((element) => element.id.slice(prefix.length));
+
+run({
+  "a key is asked for, and sent in a body": async () => {
+    const page = new Page(() => "ERR 1 NoKey\n");
+    await page.settle();
+    assert.deepStrictEqual(page.asked, []);
+    assert.ok(page.at("leave").hidden);
+    page.at("key").value = " 31007 ";
+    const form = page.document.root.all().find((element) => element.tag === "form");
+    assert.deepStrictEqual(await page.asks(() => form.onsubmit({ preventDefault() {} })), ["/place 31007"]);
+    assert.match(page.text("notice"), /nobody/i);
+    assert.ok(page.at("key"));
+    assert.deepStrictEqual([...page.kept], []);
+  },
+
+  "Leave forgets the key": async () => {
+    const page = await seated(place(), view());
+    assert.deepStrictEqual([...page.kept], [["key", KEY]]);
+    assert.deepStrictEqual(await page.click("leave"), []);
+    assert.deepStrictEqual([...page.kept], []);
+    assert.ok(page.at("key") && !page.named("Auction"));
+  },
+
+  "an answer that comes after Leave is not shown": async () => {
+    let release;
+    const page = new Page(() => new Promise((resolve) => { release = () => resolve(place()); }), { key: KEY });
+    await page.settle();
+    page.at("leave").hidden = false;
+    page.at("leave").click();
+    release();
+    await page.settle();
+    assert.deepStrictEqual(page.asked, [`/place ${KEY}`]);
+    assert.deepStrictEqual([...page.kept], []);
+    assert.ok(page.at("key"));
+  },
+
+  "each call sends its line": async () => {
+    for (const call of ["PASS", ...BIDS]) {
+      assert.strictEqual(await sent(await seated(place(), view()), `call-${call}`), `/lines CALL ${KEY} 4 2 ${call}\n`);
+    }
+    const doubled = { AT: "2 0 0", CALLS: "1H PASS" };
+    assert.strictEqual(await sent(await seated(place(), view({ ...doubled, CALLS: "PASS 1H" })), "call-X"), `/lines CALL ${KEY} 4 2 X\n`);
+    assert.strictEqual(await sent(await seated(place(), view({ ...doubled, CALLS: "1H X" })), "call-XX"), `/lines CALL ${KEY} 4 2 XX\n`);
+  },
+
+  "only calls that are legal can be clicked": async () => {
+    for (const [calls, due] of [
+      ["PASS PASS", ["PASS", ...BIDS]],
+      ["1H PASS", ["PASS", ...BIDS.slice(3)]],
+      ["PASS 1H", ["PASS", "X", ...BIDS.slice(3)]],
+      ["1H X", ["PASS", "XX", ...BIDS.slice(3)]],
+      ["PASS 7NT", ["PASS", "X"]],
+    ]) {
+      assert.deepStrictEqual(enabled(await seated(place(), view({ CALLS: calls })), "call-"), due, calls);
+    }
+    assert.deepStrictEqual(enabled(await seated(place(), view({ TURN: "W" })), "call-"), []);
+  },
+
+  "the auction stands under who called": async () => {
+    const page = await seated(place(), view({ DEALER: "E VUL None", CALLS: "1C X PASS 2NT XX" }));
+    assert.deepStrictEqual(page.rows(page.named("Auction")), [["West", "North", "East", "South"], ["", "", "1\u2663", "double"], ["pass", "2NT", "redouble", ""]]);
+  },
+
+  "each card sends its line": async () => {
+    const cards = ["SA", "SK", "S2", "HQ", "HJ", "H3", "DT", "D9", "D8", "C7", "C6", "C5", "C4"];
+    const lead = place({ CONTRACT: "1H E" });
+    assert.deepStrictEqual(enabled(await seated(lead, play()), "card-"), cards);
+    for (const card of cards) {
+      assert.strictEqual(await sent(await seated(lead, play()), `card-${card}`), `/lines CARD ${KEY} 4 0 ${card}\n`);
+    }
+    const led = play({ AT: "7 2 0", TRICK: "E H7 H9", DUMMY: "5.A4.K2.KQJ" });
+    assert.deepStrictEqual(enabled(await seated(lead, led), "card-"), ["HQ", "HJ", "H3"]);
+  },
+
+  "declarer plays dummy's cards, and dummy none": async () => {
+    const seen = { AT: "7 9 0", TURN: "N", TRICK: "W D7", DUMMY: "QJ.A.K2.Q" };
+    const page = await seated(place({ CONTRACT: "2H S" }), play(seen));
+    assert.deepStrictEqual(enabled(page, "card-"), ["DK", "D2"]);
+    assert.strictEqual(await sent(page, "card-DK"), `/lines CARD ${KEY} 4 9 DK\n`);
+    const dummy = await seated(place({ CONTRACT: "2H N" }), play({ ...seen, TURN: "S" }));
+    assert.deepStrictEqual(enabled(dummy, "card-"), []);
+    assert.ok(dummy.named("Your hand, which is dummy"));
+  },
+
+  "a claim sends the tricks that its side wins": async () => {
+    for (const tricks of ["0", "3", "8"]) {
+      const page = await seated(place({ CONTRACT: "1H E" }), play({ AT: "7 20 1", TRICKS: "2 3", HAND: "AK.QJ3.T98." }));
+      assert.strictEqual(page.at("claim").value, "8");
+      page.at("claim").value = tricks;
+      assert.strictEqual(await sent(page, "claim-button"), `/lines CLAIM ${KEY} 4 1 ${tricks}\n`);
+    }
+    const page = await seated(place({ CONTRACT: "1H E" }), play({ TRICKS: "2 3" }));
+    page.at("claim").value = "9";
+    assert.deepStrictEqual(await page.click("claim-button"), []);
+    assert.match(page.text("notice"), /from 0 to 8/);
+  },
+
+  "Agree agrees, and Refuse refuses": async () => {
+    for (const [id, word] of [["agree", "AGREE"], ["refuse", "REFUSE"]]) {
+      const page = await seated(place({ CONTRACT: "1H E", ANSWER: "DUE" }), play({ AT: "7 20 1", CLAIM: "E 5" }));
+      assert.match(page.text("status"), /^East \(Eve\) claims 5 of the tricks left\. Do you agree\?$/);
+      assert.strictEqual(page.text(id).toUpperCase(), word);
+      assert.strictEqual(await sent(page, id), `/lines ${word} ${KEY} 4 1\n`);
+    }
+    const page = await seated(place({ CONTRACT: "1H E" }), play({ CLAIM: "S 5" }));
+    assert.strictEqual(page.at("agree"), null);
+    assert.match(page.text("status"), /^You claim 5 of the tricks left\. An answer is waited for\.$/);
+  },
+
+  "the table shows what is seen": async () => {
+    const page = await seated(place({ CONTRACT: "4SX W" }), play({ TURN: "N", AT: "9 6 0", TRICK: "W ST H2", LAST: "W CA C2 C3 C4", TRICKS: "1 0", DUMMY: "-" }));
+    const main = page.text("main");
+    assert.ok(main.includes("Round 1 of 3. Table 2, South, with Cat. Boards 4 to 6."));
+    assert.ok(main.includes("Board 4, dealer North, East and West vulnerable."));
+    assert.ok(main.includes("Contract 4\u2660X by West (Fay). Tricks: North and South 1, East and West 0."));
+    assert.ok(main.includes("Last trick: West \u2663A, North \u26632, East \u26633, South \u26634"));
+    assert.strictEqual(page.named("West: 10 of spades").textContent, "\u266010");
+    assert.strictEqual(page.named("North: 2 of hearts").textContent, "\u26652");
+    assert.strictEqual(page.named("West: 10 of spades").className, "played left");
+    assert.strictEqual(page.text("status"), "North (Cat) is to play.");
+    const hand = page.named("Your hand").querySelectorAll("button").map((card) => card.getAttribute("aria-label"));
+    assert.deepStrictEqual(hand.slice(0, 4), ["ace of spades", "king of spades", "2 of spades", "queen of hearts"]);
+    assert.strictEqual(page.text("title"), "Dan, pair 2");
+  },
+
+  "whose turn it is": async () => {
+    for (const [turn, contract, seen, due] of [
+      ["S", "-", view(), "You are to call."],
+      ["W", "-", view({ TURN: "W" }), "West (Fay) is to call."],
+      ["S", "1H E", play(), "You are to play the opening lead."],
+      ["N", "1H S", play({ AT: "7 5 0", TURN: "N" }), "You are to play from dummy."],
+      ["E", "1H W", play({ AT: "7 5 0", TURN: "E" }), "West (Fay) is to play from dummy."],
+    ]) {
+      assert.strictEqual((await seated(place({ CONTRACT: contract }), seen)).text("status"), due, turn);
+    }
+  },
+
+  "where nothing is played it says why": async () => {
+    for (const [why, placed, due] of [
+      ["NotDealt", place(), "The next board is not dealt yet."],
+      ["NotCurrent", place(), "Your boards of this round are done. Next round: table 1, West."],
+      ["NotCurrent", place({ ROUND: "3 3", NEXT: "-" }), "Your boards of this round are done. "],
+      ["SitsOut", place({ TABLE: "-", NAMES: "-" }), "You sit out in this round. Next round: table 1, West."],
+      ["SitsOut", place({ TABLE: "-", NAMES: "-", NEXT: "-" }), "You sit out in this round. You sit out in the next round."],
+    ]) {
+      assert.strictEqual((await seated(placed, `ERR 8 ${why}\n`)).text("status"), due, why);
+    }
+  },
+
+  "each refusal has its sentence": async () => {
+    for (const [name, said] of Object.entries(SAID)) {
+      const page = await seated(place(), view(), `ERR 5 ${name}\n`);
+      await page.click("call-PASS");
+      assert.match(page.text("notice"), said, name);
+    }
+  },
+
+  "no answer says so, and the page looks again": async () => {
+    const page = await seated(place(), view(), null);
+    await page.click("call-PASS");
+    assert.match(page.text("notice"), /No answer came/);
+    assert.deepStrictEqual(await page.look(), [`/place ${KEY}`, `/lines SEE ${KEY}\n`]);
+    page.answer = () => null;
+    await page.look();
+    assert.match(page.text("status"), /does not answer/);
+  },
+
+  "an answer that does not come within 8 seconds is none": async () => {
+    const page = await seated(place(), view());
+    page.answer = () => new Promise(() => {});
+    await page.asks(() => { page.at("call-PASS").click(); });
+    page.answer = (where) => (where === "/place" ? place() : view());
+    assert.deepStrictEqual(await page.pass(8000), [`/place ${KEY}`, `/lines SEE ${KEY}\n`]);
+    assert.match(page.text("notice"), /No answer came/);
+  },
+
+  "where the page is hidden it looks every 5 seconds, and at once when it is shown": async () => {
+    const page = await seated(place(), view());
+    page.document.hidden = true;
+    await page.look();
+    assert.deepStrictEqual(await page.pass(5000), [`/place ${KEY}`, `/lines SEE ${KEY}\n`]);
+    page.document.hidden = false;
+    assert.deepStrictEqual(await page.asks(page.document.listeners.get("visibilitychange")), [`/place ${KEY}`, `/lines SEE ${KEY}\n`]);
+  },
+
+  "one click, one line": async () => {
+    const page = await seated(place(), view());
+    const asked = await page.asks(() => {
+      page.at("call-1C").click();
+      assert.throws(() => page.at("call-1D").click(), /cannot be clicked/);
+    });
+    assert.deepStrictEqual(asked.filter((one) => one.includes("CALL")), [`/lines CALL ${KEY} 4 2 1C\n`]);
+  },
+
+  "once the session is closed each field stands under its heading, and the results are asked for again after a minute": async () => {
+    const closed = place({ ROUND: "4 3", TABLE: "-", NAMES: "-", NEXT: "-" });
+    const ranks = { 1: "OK\n1 2 6.0/8.0 75.00\n2 1 2.0/8.0 25.00\n.\n", 2: "OK\n1 4 5.0/8.0 62.50\n.\n" };
+    const page = new Page((where, body) => {
+      if (where === "/place") return closed;
+      return where === "/results" ? "Club-Night\n" : ranks[body.trim().split(" ")[2]];
+    }, { key: KEY });
+    await page.settle();
+    const asked = [`/place ${KEY}`, `/lines RANK ${KEY} 1\n`, `/lines RANK ${KEY} 2\n`];
+    assert.deepStrictEqual(page.asked, [...asked, `/results ${KEY}`]);
+    const titles = ["Place", "Pair", "Score", "Per cent"];
+    assert.deepStrictEqual(page.rows(page.named("Ranking of field 1")), [titles, ["1", "2", "6.0/8.0", "75.00"], ["2", "1", "2.0/8.0", "25.00"]]);
+    assert.deepStrictEqual(page.rows(page.named("Ranking of field 2")), [titles, ["1", "4", "5.0/8.0", "62.50"]]);
+    const main = page.at("main").nodes;
+    assert.strictEqual(main[main.indexOf(page.named("Ranking of field 2")) - 1].textContent, "Ranking, field 2");
+    assert.strictEqual(page.text("results"), "Club-Night\n");
+    assert.strictEqual(page.text("status"), "The session is closed.");
+    assert.deepStrictEqual(await page.look(), asked);
+    page.now += 60000;
+    assert.deepStrictEqual(await page.look(), [...asked, `/results ${KEY}`]);
+  },
+});
