@@ -343,6 +343,10 @@ async function showDirector(asked, mine) {
   if (reply === null) return unreachable();
   if (refusal(reply)) return leave();
   at("title").textContent = "Director";
+  at("below").textContent = "";
+  at("chip").hidden = true;
+  at("settings").hidden = true;
+  document.body.className = "director";
   const state = readTables(reply);
   if (!at("tables")) {
     shown = "director";

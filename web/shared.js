@@ -90,28 +90,28 @@ function refusal(reply) {
 
 // ---- what is shown
 
-// Shows these nodes, where what they are made of is new; the focus and what is open stay.
-function show(made, status, nodes) {
+// Shows these nodes on a page of that shape, where what they are made of is new; the focus and what is open stay.
+function show(made, status, shape, nodes) {
   say("status", status);
+  at("status").className = shape.split(" ").includes("mine") ? "turn" : "";
   const mark = made + (busy && made !== LOGIN ? " busy" : "");
   if (mark === shown) return;
   shown = mark;
   const main = at("main");
   const focus = document.activeElement && main.contains(document.activeElement) ? document.activeElement.id : "";
   const open = [...main.querySelectorAll("details[open]")].map((node) => node.id);
-  const claim = at("claim");
-  const typed = claim && claim.value !== claim.defaultValue ? claim.value : null;
+  document.body.className = shape;
   main.replaceChildren(...nodes());
   for (const id of open) if (at(id)) at(id).open = true;
-  if (typed !== null && open.includes("claiming") && at("claim")) at("claim").value = typed;
+  movedAt = Date.now();
   if (focus && at(focus) && !at(focus).disabled) at(focus).focus();
 }
 
-function rankingNode(field, reply) {
+function rankingNode(field, reply, own) {
   const lines = reply.split("\n").filter((line) => /^\d/.test(line)).map((line) => line.split(" "));
   const titles = ["Place", "Pair", "Score", "Per cent"].slice(0, lines.length ? lines[0].length : 0);
   const head = make("tr", null, ...titles.map((title) => make("th", { scope: "col" }, title)));
-  const rows = lines.map((words) => make("tr", null, ...words.map((word) => make("td", null, word))));
+  const rows = lines.map((words) => make("tr", { className: Number(words[1]) === own ? "own" : "" }, ...words.map((word) => make("td", null, word))));
   return [make("h2", null, "Ranking, field " + field), make("table", { aria_label: "Ranking of field " + field }, make("thead", null, head), make("tbody", null, ...rows))];
 }
 
@@ -120,15 +120,19 @@ function rankingNode(field, reply) {
 function showLogin() {
   at("title").textContent = "Bridge table";
   at("leave").hidden = true;
-  show(LOGIN, "", () => {
-    const field = make("input", { id: "key", type: "text", inputMode: "numeric", autocomplete: "off", pattern: "[0-9]+", required: true });
+  at("below").textContent = "";
+  at("chip").hidden = true;
+  at("settings").hidden = true;
+  show(LOGIN, "", "login", () => {
+    const field = make("input", { id: "key", type: "text", inputMode: "numeric", autocomplete: "off", pattern: "[0-9 ]+", required: true });
     const enter = (event) => {
       event.preventDefault();
-      key = field.value.trim();
+      key = field.value.replace(/\s/g, "");
       say("notice", "");
       look();
     };
-    const form = make("form", { onsubmit: enter }, make("label", { for: "key" }, "Your key"), " ", field, " ", make("button", { type: "submit" }, "Sit down"));
+    const form = make("form", { onsubmit: enter, className: "panel" }, make("label", { for: "key" }, "Your key"), field,
+      make("p", { className: "second" }, "The number on your slip. Spaces do not matter."), make("button", { type: "submit", className: "send" }, "Sit down"));
     return [form];
   });
 }

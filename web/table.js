@@ -1,8 +1,10 @@
 "use strict";
 // The players' page. It judges nothing: it greys what would be refused, and shows what the server tells.
 
-const SUITS = ["S", "H", "D", "C"];
-const SIGNS = { S: "\u2660", H: "\u2665", D: "\u2666", C: "\u2663" };
+const SUITS = ["S", "H", "C", "D"];
+const HAND_SUITS = ["S", "H", "D", "C"];
+const SIGNS = { S: "\u2660\ufe0e", H: "\u2665\ufe0e", D: "\u2666\ufe0e", C: "\u2663\ufe0e" };
+const SUIT_WORDS = { S: "spade", H: "heart", D: "diamond", C: "club", N: "no trump" };
 const SUIT_NAMES = { S: "spades", H: "hearts", D: "diamonds", C: "clubs" };
 const RANK_NAMES = { A: "ace", K: "king", Q: "queen", J: "jack", T: "10" };
 const STRAINS = ["C", "D", "H", "S", "NT"];
@@ -38,7 +40,7 @@ function readPlace(reply) {
 
 function readHand(text) {
   const suits = text.split(".");
-  return Object.fromEntries(SUITS.map((suit, i) => [suit, suits[i]]));
+  return Object.fromEntries(HAND_SUITS.map((suit, i) => [suit, suits[i]]));
 }
 
 function readTrick(words) {
@@ -74,25 +76,33 @@ const cardName = (card) => rankName(card[1]) + " of " + SUIT_NAMES[card[0]];
 const rankText = (rank) => (rank === "T" ? "10" : rank);
 
 function suitSign(suit) {
-  return make("span", { className: suit === "H" || suit === "D" ? "red" : "", title: SUIT_NAMES[suit] }, SIGNS[suit]);
+  return make("span", { className: "suit" + (isRed(suit) ? " red" : ""), aria_hidden: "true" }, SIGNS[suit]);
 }
 
+const isRed = (suit) => suit === "H" || suit === "D";
+const strainOf = (call) => call.slice(1).replace(/X+$/, "");
+
 function cardNodes(card) {
-  return [suitSign(card[0]), rankText(card[1])];
+  return [make("span", { className: card[1] === "T" ? "ten" : "" }, rankText(card[1])), make("span", { className: "suit", aria_hidden: "true" }, SIGNS[card[0]])];
 }
 
 // A call as text nodes; doubles stand behind the bid in a contract.
 function callNodes(call) {
-  if (call === "PASS") return ["pass"];
-  if (call === "X") return ["double"];
-  if (call === "XX") return ["redouble"];
-  const strain = call.slice(1).replace(/X+$/, "");
-  const doubles = call.slice(1 + strain.length);
-  return [call[0], SIGNS[strain] ? suitSign(strain) : strain, doubles];
+  if (call === "PASS") return [make("span", { className: "pass" }, "Pass")];
+  if (call === "X") return [make("span", { className: "double" }, "X")];
+  if (call === "XX") return [make("span", { className: "redouble" }, "XX")];
+  const strain = strainOf(call);
+  return [make("span", { className: "bid" }, call[0], SIGNS[strain] ? suitSign(strain) : strain, call.slice(1 + strain.length))];
 }
 
-function seatName(place, seat) {
-  return SEAT_NAMES[seat] + (place.names ? " (" + place.names[seat] + ")" : "");
+// A call in words.
+function callName(call) {
+  if (call === "PASS") return "pass";
+  if (call === "X") return "double";
+  if (call === "XX") return "redouble";
+  const strain = strainOf(call);
+  const doubled = { X: " doubled", XX: " redoubled" }[call.slice(1 + strain.length)] || "";
+  return call[0] + " " + SUIT_WORDS[strain[0]] + (strain !== "NT" && call[0] !== "1" ? "s" : "") + doubled;
 }
 
 function vulnerableText(words) {
@@ -120,147 +130,376 @@ function allowedCall(view, call) {
   return bid === null || height(call) > height(bid.call);
 }
 
+// ---- what is marked before it is sent
+
+// A call or card that was tapped once; which board's claim is being made, and of how many tricks; whether the last trick is looked at.
+let marked = null;
+let claiming = null;
+let looking = false;
+let drawn = () => {};
+let movedAt = 0;
+// Milliseconds in which a finger's tap counts for nothing, once what can be tapped has moved; and between two taps.
+const DEAF = 400;
+const TWICE = 250;
+
+// A tap marks and a second one sends, or one sends at once: as is set, and else by what points.
+function isSafe() {
+  const set = sessionStorage.getItem("sent");
+  if (set !== null) return set === "twice";
+  return typeof matchMedia === "function" && matchMedia("(pointer: coarse)").matches;
+}
+
+const isDeaf = (event) => Boolean(event && event.pointerType === "touch" && Date.now() - movedAt < DEAF);
+
+function unmark() {
+  marked = null;
+  claiming = null;
+  looking = false;
+}
+
+// What is tapped is marked, and sent by a second tap, or sent at once.
+function choose(what, line, event) {
+  if (isDeaf(event)) return;
+  if (!isSafe()) return send(line);
+  if (marked && marked.what === what) {
+    if (Date.now() - marked.at >= TWICE) send(line);
+    return;
+  }
+  marked = { what, line, at: Date.now() };
+  drawn();
+}
+
+function send(line) {
+  unmark();
+  act(line);
+}
+
+function confirmButton(prompt, sending) {
+  const ready = marked !== null && !busy;
+  const label = busy ? "Sending \u2026" : marked ? [sending, ...(marked.what.startsWith("card-") ? cardNodes(marked.what.slice(5)) : callNodes(marked.what.slice(5)))] : prompt;
+  const node = button(make("span", null, ...[].concat(label)), "", "confirm", ready, () => { if (marked) send(marked.line); });
+  if (ready) node.className = "send";
+  return node;
+}
+
+// ---- the table
+
+const placeOf = (view, seat) => ["bottom", "left", "top", "right"][(SEATS.indexOf(seat) - SEATS.indexOf(view.seat) + 4) % 4];
+const isVulnerable = (view, seat) => view.vulnerable === "All" || view.vulnerable === (seat === "N" || seat === "S" ? "NS" : "EW");
+const count = (hand) => SUITS.reduce((sum, suit) => sum + hand[suit].length, 0);
+const dummyOf = (place) => (place.contract ? partner(place.contract.declarer) : null);
+const onTurn = (view) => view.claim === null && view.turn;
+
+// Whose hand plays and whether this player plays it: his own, or dummy's as declarer.
+function handPlayed(place, view) {
+  if (!view.playing || !place.contract || view.claim) return null;
+  const dummy = dummyOf(place);
+  if (view.turn === dummy) return view.seat === place.contract.declarer ? "dummy" : null;
+  return view.turn === view.seat ? "own" : null;
+}
+
+function ledSuit(view) {
+  return view.trick.length > 0 && view.trick.length < 4 ? view.trick[0].card[0] : null;
+}
+
 function biddingBox(view) {
-  const call = (word, label, name) =>
-    button(label, name, "call-" + word, allowedCall(view, word), () => act("CALL " + key + " " + view.board + " " + view.made.calls + " " + word));
-  const bids = make("div", { className: "bids" });
+  const mine = view.turn === view.seat;
+  const call = (word, label, name, className) => {
+    const id = "call-" + word;
+    const line = "CALL " + key + " " + view.board + " " + view.made.calls + " " + word;
+    const node = button(label, name, id, mine && allowedCall(view, word), (event) => choose(id, line, event));
+    node.className = className;
+    node.setAttribute("aria-pressed", String(marked !== null && marked.what === id));
+    return node;
+  };
+  const cells = [call("PASS", "Pass", "", "box-call"), call("X", "X", "Double", "box-call"), call("XX", "XX", "Redouble", "box-call"),
+    confirmButton(mine ? (isSafe() ? "Tap a call" : "Your call") : SEAT_NAMES[view.turn] + " to call", "Call ")];
   for (let level = 1; level <= 7; level += 1) {
     for (const strain of STRAINS) {
       const word = level + strain;
-      const label = make("span", null, ...callNodes(word));
-      bids.append(call(word, label, level + " " + (SUIT_NAMES[strain] || "no trump")));
+      cells.push(call(word, make("span", null, String(level), SIGNS[strain] ? suitSign(strain) : strain), callName(word), "bid"));
     }
   }
-  return make("section", { aria_label: "Bidding box" },
-    make("div", { className: "row" }, call("PASS", "Pass"), call("X", "Double"), call("XX", "Redouble")), bids);
+  const box = make("section", { id: "dock", className: "box", aria_label: "Bidding box" }, ...cells);
+  box.onkeydown = (event) => boxKey(event);
+  return box;
 }
 
-function auctionTable(view) {
+// In the box keys choose: p, x, r, or a level and then c, d, h, s or n.
+let level = "";
+function boxKey(event) {
+  const word = event.key.toLowerCase();
+  if (/^[1-7]$/.test(word)) {
+    level = word;
+    return;
+  }
+  const strain = { c: "C", d: "D", h: "H", s: "S", n: "NT" }[word];
+  const chosen = { p: "PASS", x: "X", r: "XX" }[word] || (level && strain ? level + strain : "");
+  level = "";
+  const node = chosen ? at("call-" + chosen) : null;
+  if (node && !node.disabled) {
+    node.focus();
+    node.click();
+  }
+}
+
+function auctionTable(place, view) {
   const columns = ["W", "N", "E", "S"];
-  const head = make("tr", null, ...columns.map((seat) => make("th", { scope: "col" }, SEAT_NAMES[seat])));
-  const cells = Array(columns.indexOf(view.dealer)).fill(null).concat(view.calls);
+  const due = view.playing ? null : view.turn;
+  const head = make("tr", null, ...columns.map((seat) => make("th", { scope: "col", className: seat === due ? "turn" : "" },
+    make("span", { className: "seat" + (isVulnerable(view, seat) ? " vul" : ""), aria_hidden: "true" }, seat), seat === view.dealer ? " deals" : "", make("br"),
+    make("span", { aria_label: SEAT_NAMES[seat] }, seat === view.seat ? "You" : place.names ? place.names[seat] : ""))));
+  const cells = Array(columns.indexOf(view.dealer)).fill("").concat(view.calls);
   const rows = [];
-  for (let i = 0; i < cells.length; i += 4) {
-    const row = [0, 1, 2, 3].map((j) => make("td", null, ...(cells[i + j] ? callNodes(cells[i + j]) : [""])));
-    rows.push(make("tr", null, ...row));
+  for (let i = 0; i < cells.length + (due ? 1 : 0); i += 4) {
+    rows.push(make("tr", null, ...[0, 1, 2, 3].map((j) => {
+      const dueHere = due !== null && i + j === cells.length;
+      if (dueHere) return make("td", { className: "turn", aria_label: "to call" }, "?");
+      return make("td", null, ...(cells[i + j] ? callNodes(cells[i + j]) : [""]));
+    })));
   }
   return make("table", { aria_label: "Auction" }, make("thead", null, head), make("tbody", null, ...rows));
 }
 
-// A hand; its cards can be clicked where they may be played.
-function handNode(view, hand, label, mine) {
-  const led = view.trick.length > 0 && view.trick.length < 4 ? view.trick[0].card[0] : null;
+// Which suits stand in which of two rows, for as long as the board is played: so that neither row has more than seven cards.
+const rowsKept = new Map();
+function rowsOf(hand, board, whose) {
+  const name = board + whose;
+  if (!rowsKept.has(name)) {
+    const pairings = [[["S", "H"], ["C", "D"]], [["S", "D"], ["C", "H"]], [["S", "C"], ["H", "D"]]];
+    const fits = pairings.find((rows) => rows.every((row) => row.reduce((sum, suit) => sum + hand[suit].length, 0) <= 7));
+    rowsKept.set(name, fits || pairings[0]);
+  }
+  return rowsKept.get(name);
+}
+
+// A hand; its cards can be tapped where they may be played.
+function handNode(view, hand, label, id, mine) {
+  const led = ledSuit(view);
   const follows = led !== null && hand[led] !== "";
-  const node = make("section", { aria_label: label }, make("h2", null, label));
-  for (const suit of SUITS) {
-    const cards = [...hand[suit]].map((rank) => {
-      const card = suit + rank;
-      const may = mine && view.claim === null && (!follows || suit === led);
-      return button(rankText(rank), cardName(card), "card-" + card, may, () => act("CARD " + key + " " + view.board + " " + view.made.cards + " " + card));
-    });
-    node.append(make("div", { className: "suit" }, suitSign(suit), ...cards));
-  }
-  return node;
-}
-
-function tableNode(place, view) {
-  const own = SEATS.indexOf(view.seat);
-  const where = (seat) => ["bottom", "left", "top", "right"][(SEATS.indexOf(seat) - own + 4) % 4];
-  const node = make("section", { className: "table", aria_label: "Table" });
-  for (const seat of SEATS) {
-    const turn = view.claim === null && view.turn === seat;
-    const text = [SEAT_NAMES[seat], make("br"), place.names ? place.names[seat] : ""];
-    node.append(make("div", { className: "seat " + where(seat) + (turn ? " turn" : "") }, ...text));
-  }
-  const trick = make("div", { className: "trick", role: "group", aria_label: "Trick" });
-  for (const { seat, card } of view.trick) {
-    trick.append(make("span", { className: "played " + where(seat), role: "img", aria_label: SEAT_NAMES[seat] + ": " + cardName(card) }, ...cardNodes(card)));
-  }
-  node.append(trick);
-  return node;
-}
-
-function contractNode(place, view) {
-  const node = make("p", null);
-  if (place.contract) {
-    node.append("Contract ", ...callNodes(place.contract.bid), " by " + seatName(place, place.contract.declarer) + ". ");
-  }
-  node.append("Tricks: North and South " + view.tricks.NS + ", East and West " + view.tricks.EW + ".");
-  return node;
-}
-
-function lastNode(view) {
-  const node = make("p", { className: "small" }, "Last trick: ");
-  view.last.forEach(({ seat, card }, i) => node.append(i ? ", " : "", SEAT_NAMES[seat] + " ", ...cardNodes(card)));
-  return node;
-}
-
-function claimNode(place, view) {
-  const line = (word, rest) => word + " " + key + " " + view.board + " " + view.made.claims + rest;
-  if (view.claim) {
-    const box = make("div", { className: "row" });
-    if (place.answer) {
-      box.append(button("Agree", "", "agree", true, () => act(line("AGREE", ""))), button("Refuse", "", "refuse", true, () => act(line("REFUSE", ""))));
-    }
-    return box;
-  }
-  const left = 13 - Number(view.tricks.NS) - Number(view.tricks.EW);
-  const dummy = place.contract && partner(place.contract.declarer) === view.seat;
-  const between = view.trick.length === 0;
-  const count = make("input", { id: "claim", type: "number", min: 0, max: left, defaultValue: left, required: true });
-  const claim = () => {
-    if (count.checkValidity()) act(line("CLAIM", " " + Number(count.value)));
-    else say("notice", "Give a number of tricks from 0 to " + left + ".");
+  const node = make("section", { className: "hand" + (mine ? " on" : ""), id, aria_label: label }, make("h2", null, label));
+  const card = (suit, rank) => {
+    const name = "card-" + suit + rank;
+    const line = "CARD " + key + " " + view.board + " " + view.made.cards + " " + suit + rank;
+    const made = button("", cardName(suit + rank), name, mine && (!follows || suit === led), (event) => choose(name, line, event));
+    made.append(...cardNodes(suit + rank));
+    made.className = "card" + (isRed(suit) ? " red" : "");
+    if (mine) made.setAttribute("aria-pressed", String(marked !== null && marked.what === name));
+    return made;
   };
-  const open = make("details", { id: "claiming" }, make("summary", null, "Claim or concede"),
-    make("div", { className: "row" }, make("label", { for: "claim" }, "My side wins of the tricks left"), count,
-      button("Claim", "", "claim-button", between && !dummy, claim)));
-  open.hidden = dummy === true;
-  return open;
+  const group = (suit) => make("div", { className: "group" }, ...[...hand[suit]].map((rank) => card(suit, rank)));
+  const rows = rowsOf(hand, view.board, id).map((row) => row.filter((suit) => hand[suit] !== "")).filter((row) => row.length > 0);
+  node.append(make("div", { className: "cards" }, ...rows.map((row) => make("div", { className: "line" }, ...row.map(group)))));
+  return node;
+}
+
+function plate(place, view, seat) {
+  const declarer = place.contract ? place.contract.declarer : null;
+  const node = make("div", { className: "plate" + (onTurn(view) === seat ? " turn" : "") },
+    make("b", { className: isVulnerable(view, seat) ? "vul" : "", aria_label: SEAT_NAMES[seat] }, seat), make("span", null, place.names ? place.names[seat] : SEAT_NAMES[seat]));
+  if (seat === declarer) node.append(make("em", { aria_label: "declarer" }, "decl."));
+  if (view.playing && seat === dummyOf(place)) node.append(make("em", null, "dummy"));
+  return node;
+}
+
+// The trick on the table: the one at play, or the last whole one until the next card is led.
+function trickNode(view) {
+  const whole = view.trick.length === 0;
+  const trick = whole ? view.last : view.trick;
+  const node = make("div", { className: "trick", role: "group", aria_label: whole && trick.length ? "Last trick" : "Trick" });
+  for (const { seat, card } of trick) {
+    const won = whole && seat === view.turn;
+    node.append(make("span", { className: "played " + placeOf(view, seat) + (isRed(card[0]) ? " red" : "") + (won ? " won" : ""), role: "img",
+      aria_label: SEAT_NAMES[seat] + ": " + cardName(card) }, ...cardNodes(card)));
+  }
+  if (!whole && onTurn(view)) node.append(make("span", { className: "due " + placeOf(view, view.turn), aria_hidden: "true" }, view.turn));
+  return node;
+}
+
+function stageNode(place, view, middle) {
+  const node = make("section", { id: "stage", aria_label: "Table" });
+  const dummy = dummyOf(place);
+  for (const seat of SEATS) {
+    const where = placeOf(view, seat);
+    if (where === "bottom") continue;
+    const box = make("div", { className: "at-" + where }, plate(place, view, seat));
+    if (view.playing && seat === dummy && view.dummy) box.append(handNode(view, view.dummy, "Dummy, " + SEAT_NAMES[seat], "dummy", handPlayed(place, view) === "dummy"));
+    node.append(box);
+  }
+  node.append(middle);
+  return node;
+}
+
+// The tricks as cards are turned at a table: ours upright, theirs lying.
+function tallyNode(place, view) {
+  const [we, they] = view.seat === "N" || view.seat === "S" ? [view.tricks.NS, view.tricks.EW] : [view.tricks.EW, view.tricks.NS];
+  const marks = Array(Number(we)).fill("ours").concat(Array(Number(they)).fill("theirs"), Array(13 - Number(we) - Number(they)).fill(""));
+  return [make("span", { className: "tally", role: "img", aria_label: "Tricks: we " + we + ", they " + they }, ...marks.map((mark) => make("i", { className: mark }))),
+    make("span", { className: "score", aria_hidden: "true" }, we + "\u2013" + they)];
+}
+
+function contractNodes(place, view) {
+  const { bid, declarer } = place.contract;
+  const ours = declarer === view.seat || declarer === partner(view.seat);
+  const needs = 6 + Number(bid[0]);
+  const words = (declarer === view.seat ? "by you" : "by " + SEAT_NAMES[declarer]) + (ours ? ", needs " + needs : ", we need " + (14 - needs));
+  return [make("span", { className: "contract", aria_label: callName(bid) }, ...callNodes(bid)), make("span", null, words)];
+}
+
+function stripNode(place, view) {
+  const calls = make("details", { id: "calls" }, make("summary", null, ...contractNodes(place, view)), make("div", null, auctionTable(place, view)));
+  return make("section", { id: "strip", aria_label: "Contract" }, calls, ...tallyNode(place, view));
+}
+
+function lastTrickNodes(view) {
+  return view.last.map(({ seat, card }) => make("span", { className: "field" }, seat + " ", make("span", { className: isRed(card[0]) ? "red" : "", role: "img", aria_label: SEAT_NAMES[seat] + ": " + cardName(card) }, ...cardNodes(card).reverse())));
+}
+
+function sideNode(place, view) {
+  const node = make("aside", { id: "side", aria_label: "The board" }, make("p", null, ...contractNodes(place, view)), make("h2", null, "Tricks"), make("p", { className: "row" }, ...tallyNode(place, view)));
+  if (view.last.length) node.append(make("h2", null, "Last trick"), make("p", { className: "row" }, ...lastTrickNodes(view)));
+  node.append(make("h2", null, "Auction"), auctionTable(place, view));
+  return node;
+}
+
+// What a contract comes to with so many tricks, in words.
+function resultWords(bid, tricks) {
+  const over = tricks - 6 - Number(bid[0]);
+  const made = ["made", "one over", "two over", "three over"][over] || over + " over";
+  const down = ["", "one down", "two down", "three down"][-over] || -over + " down";
+  return callName(bid) + (over === 0 ? " " : ", ") + (over >= 0 ? made : down);
+}
+
+// What the claim of a side comes to, by the tricks that it has and those that it claims.
+function claimWords(place, view, seat, tricks) {
+  const bid = place.contract.bid;
+  const north = seat === "N" || seat === "S";
+  const has = Number(north ? view.tricks.NS : view.tricks.EW) + tricks;
+  const declares = (place.contract.declarer === "N" || place.contract.declarer === "S") === north;
+  return resultWords(bid, declares ? has : 13 - has);
+}
+
+const leftOf = (view) => 13 - Number(view.tricks.NS) - Number(view.tricks.EW);
+
+function claimSheet(place, view) {
+  const left = leftOf(view);
+  const choice = (tricks, label) => {
+    const node = button(label, "", "claim-" + tricks, true, () => { claiming = { board: view.board, tricks }; drawn(); });
+    node.setAttribute("aria-pressed", String(claiming.tricks === tricks));
+    return node;
+  };
+  const numbers = Array.from({ length: left + 1 }, (_none, tricks) => choice(tricks, tricks === 0 ? "None" : tricks === left ? "All " + left : String(tricks)));
+  const line = "CLAIM " + key + " " + view.board + " " + view.made.claims + " " + claiming.tricks;
+  const claim = button("Claim " + claiming.tricks + (claiming.tricks === 1 ? " trick" : " tricks"), "", "claim-button", true, (event) => { if (!isDeaf(event)) send(line); });
+  claim.className = "send";
+  return make("section", { id: "claiming", className: "sheet", aria_label: "Claim or concede" },
+    make("h2", null, "Of the " + left + " tricks left my side wins"), make("div", { className: "numbers" }, ...numbers),
+    make("p", null, claimWords(place, view, view.seat, claiming.tricks) + "."), make("p", { className: "second" }, "Say your line aloud. Who is asked agrees or refuses."),
+    make("div", { className: "row" }, button("Back", "", "claim-back", true, () => { claiming = null; drawn(); }), claim));
+}
+
+function lastSheet(view) {
+  return make("section", { id: "last-trick", className: "sheet", aria_label: "Last trick" }, make("h2", null, "Last trick"),
+    make("div", { className: "row" }, ...lastTrickNodes(view)), button("Close", "", "last-close", true, () => { looking = false; drawn(); }));
+}
+
+// Answers to a claim that this player is asked for.
+function answerDock(place, view) {
+  const line = (word) => word + " " + key + " " + view.board + " " + view.made.claims;
+  return make("section", { id: "dock", className: "claimed", aria_label: "The claim" },
+    make("p", null, claimWords(place, view, view.claim.seat, Number(view.claim.tricks)) + ", if all agree."),
+    button("Refuse", "", "refuse", true, (event) => { if (!isDeaf(event)) send(line("REFUSE")); }),
+    button("Agree", "", "agree", true, (event) => { if (!isDeaf(event)) send(line("AGREE")); }));
+}
+
+function playDock(place, view) {
+  const played = handPlayed(place, view);
+  const isDummy = dummyOf(place) === view.seat;
+  const cells = [button("Last trick", "", "last", view.last.length > 0, () => { looking = !looking; drawn(); })];
+  const claim = button("Claim", "", "claim-open", !isDummy && !view.claim && view.trick.length === 0, () => { claiming = { board: view.board, tricks: leftOf(view) }; drawn(); });
+  claim.hidden = isDummy;
+  cells.push(claim, confirmButton(played ? (isSafe() ? "Tap a card" : "Your card") : "Please wait", "Play "));
+  return make("section", { id: "dock", className: "play", aria_label: "What you can do" }, ...cells);
 }
 
 // What is waited for, in a sentence.
 function waiting(place, view) {
-  const who = (seat) => (seat === view.seat ? "You are" : seatName(place, seat) + " is");
+  const who = (seat) => (seat === view.seat ? "You are" : SEAT_NAMES[seat] + " is");
   if (view.claim) {
-    const claims = (view.claim.seat === view.seat ? "You claim " : seatName(place, view.claim.seat) + " claims ") + view.claim.tricks + " of the tricks left. ";
-    return claims + (place.answer ? "Do you agree?" : "An answer is waited for.");
+    const claims = (view.claim.seat === view.seat ? "You claim " : SEAT_NAMES[view.claim.seat] + " claims ") + view.claim.tricks + " of the " + leftOf(view) + " left. ";
+    return claims + (place.answer ? "Agree?" : "Please wait.");
   }
-  if (!view.playing) return who(view.turn) + " to call.";
+  if (!view.playing) return view.turn === view.seat ? "Your turn to call" : who(view.turn) + " to call.";
+  const played = handPlayed(place, view);
+  if (played) {
+    const hand = played === "own" ? view.hand : view.dummy;
+    const led = ledSuit(view);
+    if (led && hand && hand[led] !== "") return (played === "own" ? "Your turn: follow with a " : "Your turn: from dummy, a ") + SUIT_WORDS[led];
+    if (view.made.cards === "0") return "Your turn: the opening lead";
+    return played === "own" ? "Your turn" : "Your turn: play from dummy";
+  }
   if (!place.contract) return who(view.turn) + " to play.";
-  const declarer = place.contract.declarer;
-  const dummy = partner(declarer);
-  if (view.turn === dummy) return (declarer === view.seat ? "You are" : seatName(place, declarer) + " is") + " to play from dummy.";
+  if (view.turn === dummyOf(place)) return SEAT_NAMES[place.contract.declarer] + " is to play from dummy.";
   return who(view.turn) + " to play" + (view.made.cards === "0" ? " the opening lead." : ".");
 }
 
+function isMine(place, view) {
+  if (view.claim) return place.answer;
+  return view.playing ? handPlayed(place, view) !== null : view.turn === view.seat;
+}
+
 function playNodes(place, view) {
-  const contract = place.contract;
-  const dummySeat = contract ? partner(contract.declarer) : null;
-  const mine = view.playing && contract && view.turn === view.seat && view.seat !== dummySeat;
-  const forDummy = view.playing && contract && view.turn === dummySeat && view.seat === contract.declarer;
-  const nodes = [make("p", null, "Board " + view.board + ", dealer " + SEAT_NAMES[view.dealer] + ", " + vulnerableText(view.vulnerable) + "."), tableNode(place, view)];
-  if (view.playing) {
-    nodes.push(contractNode(place, view));
-    if (view.last.length) nodes.push(lastNode(view));
-  } else {
-    nodes.push(auctionTable(view));
+  const dummy = dummyOf(place);
+  const own = handNode(view, view.hand, view.seat === dummy && view.playing ? "Your hand, which is dummy" : "Your hand, " + SEAT_NAMES[view.seat], "hand", handPlayed(place, view) === "own");
+  if (!view.playing || !place.contract) {
+    return [stageNode(place, view, make("div", { id: "auction", className: "auction" }, auctionTable(place, view))), own, biddingBox(view)];
   }
-  if (view.dummy && view.seat !== dummySeat) nodes.push(handNode(view, view.dummy, "Dummy", forDummy));
-  nodes.push(handNode(view, view.hand, view.seat === dummySeat && view.playing ? "Your hand, which is dummy" : "Your hand", mine));
-  if (!view.playing && view.turn === view.seat) nodes.push(biddingBox(view));
-  if (view.playing) {
-    nodes.push(claimNode(place, view), make("details", { id: "calls" }, make("summary", null, "Auction"), auctionTable(view)));
-  }
+  const nodes = [stripNode(place, view), stageNode(place, view, trickNode(view)), own];
+  if (claiming && (claiming.board !== view.board || view.claim || view.trick.length > 0)) claiming = null;
+  if (claiming) nodes.push(claimSheet(place, view));
+  else if (looking && view.last.length) nodes.push(lastSheet(view));
+  nodes.push(view.claim && place.answer ? answerDock(place, view) : playDock(place, view), sideNode(place, view));
   return nodes;
 }
+
+// ---- what is heard, and what plays itself
+
+let before = null;
+
+// What came since the last view of the same board, in words.
+function news(view) {
+  const old = before;
+  before = view;
+  if (!old || old.board !== view.board) return "Board " + view.board;
+  const said = [];
+  view.calls.slice(old.calls.length).forEach((call, i) => said.push(SEAT_NAMES[SEATS[(SEATS.indexOf(view.dealer) + old.calls.length + i) % 4]] + ": " + callName(call)));
+  const cards = view.trick.length ? view.trick : view.made.cards === old.made.cards ? [] : view.last;
+  const fresh = Number(view.made.cards) - Number(old.made.cards);
+  cards.slice(Math.max(0, cards.length - fresh)).forEach(({ seat, card }) => said.push(SEAT_NAMES[seat] + ": " + cardName(card)));
+  if (view.last.length && view.trick.length === 0 && fresh > 0) said.push("Trick to " + SEAT_NAMES[view.turn]);
+  return said.join(". ");
+}
+
+// The only card of the last trick is played by the page.
+const ITSELF = 700;
+let played = "";
+function playLast(place, view) {
+  const whose = handPlayed(place, view);
+  const hand = whose === "own" ? view.hand : view.dummy;
+  if (!whose || !hand || count(hand) !== 1) return;
+  const suit = SUITS.find((one) => hand[one] !== "");
+  const line = "CARD " + key + " " + view.board + " " + view.made.cards + " " + suit + hand[suit];
+  if (played === line) return;
+  played = line;
+  setTimeout(() => { if (!busy && key !== null) act(line); }, ITSELF);
+}
+
+// ---- pages between the boards
 
 function placeText(place) {
   const table = place.table;
   if (!table) return "You sit out in this round.";
-  const boards = table.first === table.last ? "Board " + table.first + "." : "Boards " + table.first + " to " + table.last + ".";
-  const mate = place.names ? ", with " + place.names[partner(table.seat)] : "";
-  return "Table " + table.number + ", " + SEAT_NAMES[table.seat] + mate + ". " + boards;
+  return table.first === table.last ? "Board " + table.first : "Boards " + table.first + " to " + table.last;
 }
 
 function nextText(place) {
@@ -273,29 +512,94 @@ function headText(place) {
   return place.name + ", pair " + place.pair;
 }
 
+// Who sits at a table, this player and his partner first.
+function namesNode(place) {
+  const seat = place.table.seat;
+  const around = [seat, partner(seat), ...SEATS.filter((one) => one !== seat && one !== partner(seat))];
+  return make("ul", { className: "names" }, ...around.map((one) => make("li", null, make("span", { className: "mark", aria_label: SEAT_NAMES[one] }, one), one === seat ? "You, " + place.names[one] : place.names[one])));
+}
+
+function betweenNodes(place, done) {
+  const nodes = [];
+  const next = done && place.next;
+  if (next) {
+    nodes.push(make("section", { className: "panel" }, make("p", { className: "second" }, "Next, round " + (place.round + 1) + " of " + place.rounds),
+      make("p", { className: "large" }, "Table " + next.number + ", " + SEAT_NAMES[next.seat]),
+      make("p", null, "Boards " + next.first + (next.first === next.last ? "" : " to " + next.last) + ". ", make("b", null, place.table && next.number === place.table.number ? "Stay at your table." : "Go to table " + next.number + ".")),
+      make("p", { className: "second" }, "The next round begins when the director ends this one.")));
+  }
+  const here = make("section", { className: "panel" }, make("p", { className: "second" }, "Round " + place.round + " of " + place.rounds));
+  if (place.table) here.append(make("p", { className: "large" }, "Table " + place.table.number + ", " + SEAT_NAMES[place.table.seat]), make("p", null, placeText(place) + "."), namesNode(place));
+  else here.append(make("p", { className: "large" }, "You sit out"));
+  nodes.push(here);
+  return nodes;
+}
+
+// ---- the bar
+
+function barFor(place, view) {
+  const chip = at("chip");
+  chip.hidden = !view;
+  at("settings").hidden = false;
+  if (!view) {
+    at("title").textContent = headText(place);
+    at("below").textContent = place.table ? "Table " + place.table.number + ", round " + place.round + " of " + place.rounds : "Round " + Math.min(place.round, place.rounds) + " of " + place.rounds;
+    return;
+  }
+  const ours = view.seat === "N" || view.seat === "S" ? "NS" : "EW";
+  const theirs = ours === "NS" ? "EW" : "NS";
+  const is = (side) => view.vulnerable === "All" || view.vulnerable === side;
+  chip.className = (is(ours) ? "vul-we " : "") + (is(theirs) ? "vul-they " : "") + "deals-" + placeOf(view, view.dealer);
+  chip.textContent = view.board;
+  chip.setAttribute("aria-label", "Board " + view.board + ", dealer " + SEAT_NAMES[view.dealer] + ", " + vulnerableText(view.vulnerable));
+  at("title").textContent = "Board " + view.board;
+  at("below").textContent = view.dealer + " deals \u00b7 " + { None: "nobody vul", NS: "N\u2013S vul", EW: "E\u2013W vul", All: "all vul" }[view.vulnerable]
+    + " \u00b7 table " + place.table.number + " \u00b7 round " + place.round + " of " + place.rounds;
+}
+
+// The classes by which the style lays the page out.
+function shapeOf(place, view) {
+  if (!view) return "between";
+  const dummy = dummyOf(place);
+  const side = view.playing && dummy && view.dummy ? placeOf(view, dummy) : "";
+  return "at-table " + (view.playing && place.contract ? "playing" : "bidding") + (side ? " dummy-" + side : "");
+}
+
+function turnTitle(mine) {
+  document.title = mine ? "\u25cf Your turn \u2013 Bridge table" : "Bridge table";
+}
+
 function showView(placeReply, reply) {
   const place = readPlace(placeReply);
-  at("title").textContent = headText(place);
-  const head = () => [make("p", null, "Round " + place.round + " of " + place.rounds + ". " + placeText(place))];
   const refused = refusal(reply);
   const made = placeReply + reply;
-  if (!refused) {
-    const view = readView(reply);
-    show(made, waiting(place, view), () => head().concat(playNodes(place, view)));
-  } else if (refused === "NotDealt") {
-    show(made, "The next board is not dealt yet.", head);
-  } else if (refused === "NotCurrent") {
-    show(made, "Your boards of this round are done. " + nextText(place), head);
-  } else if (refused === "SitsOut") {
-    show(made, "You sit out in this round. " + nextText(place), head);
-  } else {
-    show(made, SENTENCES[refused] || reply, head);
+  if (refused) {
+    before = null;
+    unmark();
+    turnTitle(false);
+    const done = refused === "NotCurrent";
+    const status = refused === "NotDealt" ? "The next board is not dealt yet." : done ? "Your boards of this round are done. " + nextText(place)
+      : refused === "SitsOut" ? "You sit out in this round. " + nextText(place) : SENTENCES[refused] || reply;
+    barFor(place, null);
+    show(made, status, "between", () => betweenNodes(place, done || refused === "SitsOut"));
+    return;
   }
+  const view = readView(reply);
+  if (marked && !marked.line.startsWith(marked.what.startsWith("card-") ? "CARD " + key + " " + view.board + " " + view.made.cards + " " : "CALL " + key + " " + view.board + " " + view.made.calls + " ")) marked = null;
+  const mine = isMine(place, view);
+  barFor(place, view);
+  turnTitle(mine);
+  drawn = () => show(made + JSON.stringify([marked, claiming, looking, isSafe()]), waiting(place, view), shapeOf(place, view) + (mine ? " mine" : ""), () => playNodes(place, view));
+  drawn();
+  // The newest row of a long auction is in view.
+  if (at("auction")) at("auction").scrollTop = at("auction").scrollHeight;
+  const said = news(view);
+  if (said) say("heard", said);
+  playLast(place, view);
 }
 
 async function showClosed(placeReply, asked, mine) {
   const place = readPlace(placeReply);
-  at("title").textContent = headText(place);
   const first = await ask("/lines", "RANK " + asked + " 1\n");
   const second = await ask("/lines", "RANK " + asked + " 2\n");
   if (mine !== turn) return;
@@ -308,8 +612,11 @@ async function showClosed(placeReply, asked, mine) {
     if (text === null) return unreachable();
     results = { made, text, at: Date.now() };
   }
+  barFor(place, null);
+  turnTitle(false);
   const both = [[1, first], [2, second]].filter((one) => !refusal(one[1]));
-  show(made + results.text, "The session is closed.", () => [...both.flatMap((one) => rankingNode(one[0], one[1])), make("h2", null, "Results"), make("pre", { id: "results" }, results.text)]);
+  show(made + results.text, "The session is closed.", "final",
+    () => [...both.map((one) => make("section", { className: "panel" }, ...rankingNode(one[0], one[1], place.pair))), make("h2", null, "Results"), make("pre", { id: "results" }, results.text)]);
 }
 
 // Shows where a player sits, and the play there, or what came of the session.
@@ -338,3 +645,19 @@ async function act(line) {
   else if (refusal(reply)) say("notice", SENTENCES[refusal(reply)] || reply);
   return look();
 }
+
+// How calls and cards are sent, for this tab.
+at("settings").onclick = () => {
+  sessionStorage.setItem("sent", isSafe() ? "once" : "twice");
+  unmark();
+  sayHow();
+  drawn();
+};
+
+function sayHow() {
+  at("settings").textContent = isSafe() ? "2 taps send" : "1 tap sends";
+  at("settings").setAttribute("aria-label", isSafe() ? "A call or card is sent by a second tap. Send it at once" : "A call or card is sent at once. Send it by a second tap");
+}
+
+document.addEventListener("keydown", (event) => { if (event.key === "Escape" && (marked || claiming || looking)) { unmark(); drawn(); } });
+sayHow();

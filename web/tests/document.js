@@ -92,9 +92,9 @@ class Element {
   }
 
   // A click as a user makes it, which a button that is greyed or hidden does not get.
-  click() {
+  click(pointerType = "mouse") {
     if (this.disabled || !this.isShown) throw new Error(`#${this.id} cannot be clicked`);
-    return this.onclick({ preventDefault() {} });
+    return this.onclick({ preventDefault() {}, pointerType });
   }
 }
 
@@ -103,6 +103,8 @@ function readPage(text) {
   const found = { scripts: [], styles: [], listeners: new Map(), activeElement: null, hidden: false };
   found.createElement = (tag) => new Element(found, tag);
   found.root = found.createElement("root");
+  found.title = "";
+  Object.defineProperty(found, "body", { get: () => found.root.all().find((element) => element.tag === "body") });
   found.getElementById = (id) => found.root.all().find((element) => element.id === id) || null;
   found.addEventListener = (name, act) => found.listeners.set(name, act);
   let within = found.root;

@@ -112,8 +112,8 @@ class Page {
     return this.document.root.all().find((element) => element.tag === "button" && element.textContent === label);
   }
 
-  async click(id) {
-    return this.asks(() => this.at(id).click());
+  async click(id, pointerType) {
+    return this.asks(() => this.at(id).click(pointerType));
   }
 
   // The cells of a table, row by row.

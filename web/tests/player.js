@@ -109,11 +109,12 @@ run({
 
   "the auction stands under who called": async () => {
     const page = await seated(place(), view({ DEALER: "E VUL None", CALLS: "1C X PASS 2NT XX" }));
-    assert.deepStrictEqual(page.rows(page.named("Auction")), [["West", "North", "East", "South"], ["", "", "1\u2663", "double"], ["pass", "2NT", "redouble", ""]]);
+    assert.deepStrictEqual(page.rows(page.named("Auction")), [["WFay", "NCat", "E dealsEve", "SYou"], ["", "", "1\u2663\ufe0e", "X"], ["Pass", "2NT", "XX", "?"]]);
+    assert.strictEqual(page.named("to call").textContent, "?");
   },
 
   "each card sends its line": async () => {
-    const cards = ["SA", "SK", "S2", "HQ", "HJ", "H3", "DT", "D9", "D8", "C7", "C6", "C5", "C4"];
+    const cards = ["SA", "SK", "S2", "HQ", "HJ", "H3", "C7", "C6", "C5", "C4", "DT", "D9", "D8"];
     const lead = place({ CONTRACT: "1H E" });
     assert.deepStrictEqual(enabled(await seated(lead, play()), "card-"), cards);
     for (const card of cards) {
@@ -134,53 +135,131 @@ run({
   },
 
   "a claim sends the tricks that its side wins": async () => {
-    for (const tricks of ["0", "3", "8"]) {
+    for (const [tricks, comes] of [["0", "1 heart, four over"], ["3", "1 heart, one over"], ["8", "1 heart, four down"]]) {
       const page = await seated(place({ CONTRACT: "1H E" }), play({ AT: "7 20 1", TRICKS: "2 3", HAND: "AK.QJ3.T98." }));
-      assert.strictEqual(page.at("claim").value, "8");
-      page.at("claim").value = tricks;
+      assert.deepStrictEqual(await page.click("claim-open"), []);
+      assert.strictEqual(page.text("claim-button"), "Claim 8 tricks");
+      assert.strictEqual(page.at("claim-9"), null);
+      assert.deepStrictEqual(await page.click(`claim-${tricks}`), []);
+      assert.ok(page.text("claiming").includes(comes.replace("four over", "4 over").replace("four down", "4 down")), page.text("claiming"));
       assert.strictEqual(await sent(page, "claim-button"), `/lines CLAIM ${KEY} 4 1 ${tricks}\n`);
     }
     const page = await seated(place({ CONTRACT: "1H E" }), play({ TRICKS: "2 3" }));
-    page.at("claim").value = "9";
-    assert.deepStrictEqual(await page.click("claim-button"), []);
-    assert.match(page.text("notice"), /from 0 to 8/);
+    await page.click("claim-open");
+    assert.deepStrictEqual(await page.click("claim-back"), []);
+    assert.strictEqual(page.at("claiming"), null);
+    assert.ok((await seated(place({ CONTRACT: "1H E" }), play({ TRICK: "E H7" }))).at("claim-open").disabled);
+    assert.ok((await seated(place({ CONTRACT: "1H N" }), play())).at("claim-open").hidden);
   },
 
   "Agree agrees, and Refuse refuses": async () => {
     for (const [id, word] of [["agree", "AGREE"], ["refuse", "REFUSE"]]) {
       const page = await seated(place({ CONTRACT: "1H E", ANSWER: "DUE" }), play({ AT: "7 20 1", CLAIM: "E 5" }));
-      assert.match(page.text("status"), /^East \(Eve\) claims 5 of the tricks left\. Do you agree\?$/);
+      assert.match(page.text("status"), /^East claims 5 of the 13 left\. Agree\?$/);
       assert.strictEqual(page.text(id).toUpperCase(), word);
       assert.strictEqual(await sent(page, id), `/lines ${word} ${KEY} 4 1\n`);
     }
     const page = await seated(place({ CONTRACT: "1H E" }), play({ CLAIM: "S 5" }));
     assert.strictEqual(page.at("agree"), null);
-    assert.match(page.text("status"), /^You claim 5 of the tricks left\. An answer is waited for\.$/);
+    assert.match(page.text("status"), /^You claim 5 of the 13 left\. Please wait\.$/);
   },
 
   "the table shows what is seen": async () => {
     const page = await seated(place({ CONTRACT: "4SX W" }), play({ TURN: "N", AT: "9 6 0", TRICK: "W ST H2", LAST: "W CA C2 C3 C4", TRICKS: "1 0", DUMMY: "-" }));
-    const main = page.text("main");
-    assert.ok(main.includes("Round 1 of 3. Table 2, South, with Cat. Boards 4 to 6."));
-    assert.ok(main.includes("Board 4, dealer North, East and West vulnerable."));
-    assert.ok(main.includes("Contract 4\u2660X by West (Fay). Tricks: North and South 1, East and West 0."));
-    assert.ok(main.includes("Last trick: West \u2663A, North \u26632, East \u26633, South \u26634"));
-    assert.strictEqual(page.named("West: 10 of spades").textContent, "\u266010");
-    assert.strictEqual(page.named("North: 2 of hearts").textContent, "\u26652");
+    assert.strictEqual(page.text("title"), "Board 4");
+    assert.strictEqual(page.text("below"), "N deals \u00b7 E\u2013W vul \u00b7 table 2 \u00b7 round 1 of 3");
+    assert.strictEqual(page.at("chip").getAttribute("aria-label"), "Board 4, dealer North, East and West vulnerable");
+    assert.strictEqual(page.at("chip").className, "vul-they deals-top");
+    assert.ok(page.text("strip").includes("4\u2660\ufe0eXby West, we need 4"), page.text("strip"));
+    assert.ok(page.named("Tricks: we 1, they 0"));
+    assert.strictEqual(page.named("West: 10 of spades").textContent, "10\u2660\ufe0e");
+    assert.strictEqual(page.named("North: 2 of hearts").textContent, "2\u2665\ufe0e");
     assert.strictEqual(page.named("West: 10 of spades").className, "played left");
-    assert.strictEqual(page.text("status"), "North (Cat) is to play.");
-    const hand = page.named("Your hand").querySelectorAll("button").map((card) => card.getAttribute("aria-label"));
+    assert.ok(page.text("side").includes("W A\u2663\ufe0eN 2\u2663\ufe0eE 3\u2663\ufe0eS 4\u2663\ufe0e".replace(/(.)\u2663\ufe0e/g, "\u2663\ufe0e$1")), page.text("side"));
+    assert.strictEqual(page.text("status"), "North is to play.");
+    const hand = page.named("Your hand, South").querySelectorAll("button").map((card) => card.getAttribute("aria-label"));
     assert.deepStrictEqual(hand.slice(0, 4), ["ace of spades", "king of spades", "2 of spades", "queen of hearts"]);
-    assert.strictEqual(page.text("title"), "Dan, pair 2");
+    assert.strictEqual(page.document.title, "Bridge table");
+  },
+
+  "a whole trick stays with its winner marked until the next card": async () => {
+    const page = await seated(place({ CONTRACT: "4S W" }), play({ TURN: "N", AT: "9 4 0", LAST: "W CA C2 C3 C4", TRICKS: "1 0" }));
+    assert.strictEqual(page.named("North: 2 of clubs").className, "played top won");
+    assert.strictEqual(page.named("West: ace of clubs").className, "played left");
+    await page.click("last");
+    assert.ok(page.at("last-trick"));
+    await page.click("last-close");
+    assert.strictEqual(page.at("last-trick"), null);
+  },
+
+  "where two taps send, the first marks": async () => {
+    const twice = async (seen, placed = place()) => {
+      const page = new Page((where, body) => (where === "/place" ? placed : body.startsWith("SEE ") ? seen : "OK\n"), { key: KEY, sent: "twice" });
+      await page.settle();
+      return page;
+    };
+    let page = await twice(view());
+    assert.deepStrictEqual(await page.click("call-1H"), []);
+    assert.strictEqual(page.at("call-1H").getAttribute("aria-pressed"), "true");
+    assert.deepStrictEqual(await page.click("call-1H"), [], "a second tap that is too soon");
+    assert.deepStrictEqual(await page.click("call-2C"), []);
+    assert.strictEqual(page.at("call-1H").getAttribute("aria-pressed"), "false");
+    page.now += 250;
+    assert.deepStrictEqual((await page.click("call-2C"))[0], `/lines CALL ${KEY} 4 2 2C\n`);
+    page = await twice(play(), place({ CONTRACT: "1H E" }));
+    assert.ok(page.at("confirm").disabled);
+    assert.deepStrictEqual(await page.click("card-HQ"), []);
+    page.document.listeners.get("keydown")({ key: "Escape" });
+    assert.strictEqual(page.at("card-HQ").getAttribute("aria-pressed"), "false");
+    assert.deepStrictEqual(await page.click("card-HJ"), []);
+    assert.deepStrictEqual((await page.click("confirm"))[0], `/lines CARD ${KEY} 4 0 HJ\n`);
+    await page.click("settings");
+    assert.strictEqual(page.kept.get("sent"), "once");
+  },
+
+  "a finger's tap counts for nothing just after the table has moved": async () => {
+    const page = await seated(place(), view());
+    assert.deepStrictEqual(await page.click("call-1H", "touch"), []);
+    page.now += 400;
+    assert.deepStrictEqual((await page.click("call-1H", "touch"))[0], `/lines CALL ${KEY} 4 2 1H\n`);
+  },
+
+  "the last card plays itself": async () => {
+    const page = await seated(place({ CONTRACT: "1H E" }), play({ AT: "7 50 0", HAND: "..A.", TRICK: "N D2 D3", TRICKS: "6 6" }));
+    assert.deepStrictEqual((await page.pass(700))[0], `/lines CARD ${KEY} 4 50 DA\n`);
+  },
+
+  "what comes is said": async () => {
+    const page = await seated(place(), view({ TURN: "E", CALLS: "PASS" }));
+    assert.strictEqual(page.text("heard"), "Board 4");
+    page.answer = (where) => (where === "/place" ? place() : view());
+    await page.look();
+    assert.strictEqual(page.text("heard"), "East: pass");
+    assert.ok(page.document.title.includes("Your turn"));
+    page.answer = (where) => (where === "/place" ? place({ CONTRACT: "1H E" }) : play({ AT: "7 0 0" }));
+    await page.look();
+    page.answer = (where) => (where === "/place" ? place({ CONTRACT: "1H E" }) : play({ AT: "7 4 0", LAST: "S HQ H2 H3 H4", TRICKS: "1 0" }));
+    await page.look();
+    assert.strictEqual(page.text("heard"), "South: queen of hearts. West: 2 of hearts. North: 3 of hearts. East: 4 of hearts. Trick to South");
+  },
+
+  "in the box keys choose": async () => {
+    const page = await seated(place(), view());
+    const press = (key) => page.asks(() => page.at("dock").onkeydown({ key }));
+    assert.deepStrictEqual(await press("3"), []);
+    assert.deepStrictEqual((await press("n"))[0], `/lines CALL ${KEY} 4 2 3NT\n`);
+    assert.deepStrictEqual((await press("p"))[0], `/lines CALL ${KEY} 4 2 PASS\n`);
+    assert.deepStrictEqual(await press("x"), []);
   },
 
   "whose turn it is": async () => {
     for (const [turn, contract, seen, due] of [
-      ["S", "-", view(), "You are to call."],
-      ["W", "-", view({ TURN: "W" }), "West (Fay) is to call."],
-      ["S", "1H E", play(), "You are to play the opening lead."],
-      ["N", "1H S", play({ AT: "7 5 0", TURN: "N" }), "You are to play from dummy."],
-      ["E", "1H W", play({ AT: "7 5 0", TURN: "E" }), "West (Fay) is to play from dummy."],
+      ["S", "-", view(), "Your turn to call"],
+      ["W", "-", view({ TURN: "W" }), "West is to call."],
+      ["S", "1H E", play(), "Your turn: the opening lead"],
+      ["S", "1H E", play({ AT: "7 2 0", TRICK: "E H7 H9" }), "Your turn: follow with a heart"],
+      ["N", "1H S", play({ AT: "7 5 0", TURN: "N" }), "Your turn: play from dummy"],
+      ["E", "1H W", play({ AT: "7 5 0", TURN: "E" }), "West is to play from dummy."],
     ]) {
       assert.strictEqual((await seated(place({ CONTRACT: contract }), seen)).text("status"), due, turn);
     }
@@ -256,8 +335,8 @@ run({
     const titles = ["Place", "Pair", "Score", "Per cent"];
     assert.deepStrictEqual(page.rows(page.named("Ranking of field 1")), [titles, ["1", "2", "6.0/8.0", "75.00"], ["2", "1", "2.0/8.0", "25.00"]]);
     assert.deepStrictEqual(page.rows(page.named("Ranking of field 2")), [titles, ["1", "4", "5.0/8.0", "62.50"]]);
-    const main = page.at("main").nodes;
-    assert.strictEqual(main[main.indexOf(page.named("Ranking of field 2")) - 1].textContent, "Ranking, field 2");
+    assert.strictEqual(page.named("Ranking of field 2").parent.nodes[0].textContent, "Ranking, field 2");
+    assert.strictEqual(page.named("Ranking of field 1").querySelectorAll("tr")[1].className, "own");
     assert.strictEqual(page.text("results"), "Club-Night\n");
     assert.strictEqual(page.text("status"), "The session is closed.");
     assert.deepStrictEqual(await page.look(), asked);

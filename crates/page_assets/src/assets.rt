@@ -5,7 +5,8 @@ pub const PAGE: &str = r##"<!doctype html>
 <html lang="en">
 <head>
 <meta charset="utf-8">
-<meta name="viewport" content="width=device-width, initial-scale=1">
+<meta name="viewport" content="width=device-width, initial-scale=1, viewport-fit=cover">
+<meta name="color-scheme" content="light dark">
 <title>Bridge table</title>
 <link rel="icon" href="data:,">
 <link rel="stylesheet" href="/table.css">
@@ -14,65 +15,270 @@ pub const PAGE: &str = r##"<!doctype html>
 <script src="/director.js" defer></script>
 </head>
 <body>
-<header>
-<h1 id="title">Bridge table</h1>
+<header id="bar">
+<div id="chip" role="img" hidden></div>
+<div id="heads"><h1 id="title">Bridge table</h1><p id="below"></p></div>
+<button id="settings" type="button" hidden>Text and play</button>
 <button id="leave" type="button" hidden>Leave</button>
 </header>
 <p id="notice" role="alert"></p>
-<p id="status" role="status"></p>
 <main id="main"><noscript>This page needs JavaScript.</noscript></main>
+<p id="status" role="status"></p>
+<p id="heard" role="status"></p>
 </body>
 </html>
 "##;
 
 /// Its style.
-pub const STYLE: &str = r##"/* For a telephone as for a large screen, and for print. */
-:root { color-scheme: light; --felt: #e3efe6; --line: #51635a; --ink: #16211b; --red: #a3001e; --turn: #ffd84d; }
+pub const STYLE: &str = r##"/* For a telephone as for a large screen, light and dark, and for print.
+   Sizes grow with the reader's letters. */
+:root {
+  color-scheme: light dark;
+  --page: #f4f1e8; --panel: #fff; --soft: #ece8dc; --ink: #14201b; --second: #4a574f; --edge: #7c877f;
+  --bar: #143d31; --on-bar: #fff; --bar-second: #c9dad2; --felt: #1f5c49; --strip: #174a3a; --on-felt: #fff;
+  --plate: #e6efe9; --plate-ink: #14201b; --gold: #ffd84d; --gold-ink: #14201b; --vul: #b3151f; --not-vul: #1b7443;
+  --blue: #0b57a4; --on-blue: #fff; --note: #ffe7b0; --note-ink: #3d2a00; --good: #0f6b3a; --bad: #a8001c; --own: #fff3c4;
+  --off: #5b645f; --face: #fffdf7; --black: #12181c; --red: #a8001c; --shut: #d9d5c8; --shut-red: #6f0012; --lifted: #fff4c6;
+  --text-red: #a8001c; --felt-red: #ffb3b3; --pass: #10603a; --double: #a8121c; --redouble: #12449c;
+}
+@media (prefers-color-scheme: dark) {
+  :root {
+    --page: #0d1311; --panel: #17201c; --soft: #202b26; --ink: #e9ede9; --second: #a8b5ae; --edge: #64736b;
+    --bar: #0a201a; --on-bar: #e9ede9; --bar-second: #a8c0b5; --felt: #12352b; --strip: #0c271f; --on-felt: #e9ede9;
+    --plate: #21302a; --plate-ink: #e9ede9; --vul: #c4262f; --not-vul: #1f7a48;
+    --blue: #8cc2ff; --on-blue: #071a2e; --note: #3d2f0a; --note-ink: #ffe7b0; --good: #7fd8a0; --bad: #ff8d8d; --own: #3a3312;
+    --off: #97a39c; --face: #e9e4d6; --red: #980019; --shut: #cdc8ba; --text-red: #ff8d8d;
+  }
+}
 * { box-sizing: border-box; }
 [hidden] { display: none !important; }
-body { margin: 0 auto; max-width: 60rem; padding: 0 .6rem 2rem; font: 1.05rem/1.4 system-ui, sans-serif; color: var(--ink); background: #fff; }
-header { display: flex; justify-content: space-between; align-items: center; gap: 1rem; }
-h1 { font-size: 1.3rem; margin: .5rem 0; }
-h2 { font-size: 1.1rem; margin: .8rem 0 .3rem; }
+body {
+  margin: 0; min-height: 100vh; min-height: 100dvh; color: var(--ink); background: var(--page); font-size: 1rem; line-height: 1.35;
+  font-family: -apple-system, "Segoe UI", Roboto, "Helvetica Neue", "Liberation Sans", Arial, system-ui, sans-serif; font-variant-numeric: tabular-nums;
+}
 p { margin: .35rem 0; }
-#notice:empty, #status:empty { display: none; }
-#notice { background: #fff1d6; border: 2px solid #8a5a00; padding: .4rem .6rem; }
-#status { font-weight: bold; }
-button, input, textarea { font: inherit; color: inherit; }
-button { min-height: 2.75rem; min-width: 2.75rem; padding: .2rem .6rem; background: #fff; border: 1px solid var(--line); border-radius: .4rem; cursor: pointer; }
-button:focus-visible, input:focus-visible, textarea:focus-visible { outline: 3px solid #0b57d0; outline-offset: 2px; }
-button:disabled { color: #5c655f; background: #ececec; border-style: dashed; cursor: default; }
-input, textarea { padding: .4rem; border: 1px solid var(--line); border-radius: .4rem; }
-input { min-height: 2.75rem; width: 12rem; max-width: 100%; }
+h1 { font-size: 1.125rem; margin: 0; line-height: 1.2; overflow-wrap: break-word; }
+h2 { font-size: 1.0625rem; margin: .8rem 0 .3rem; }
+.suit { font-family: "Segoe UI Symbol", "Apple Symbols", "Noto Sans Symbols2", "DejaVu Sans", sans-serif; font-variant-emoji: text; }
+.red { color: var(--text-red); }
+#heard { position: absolute; width: 1px; height: 1px; margin: 0; overflow: hidden; clip-path: inset(50%); }
+
+/* What can be pressed. */
+button, input, textarea, select { font: inherit; color: inherit; }
+button {
+  min-height: 2.75rem; min-width: 2.75rem; padding: .2rem .75rem; font-weight: bold; background: var(--panel); border: 1px solid var(--edge);
+  border-radius: .5rem; cursor: pointer; touch-action: manipulation;
+}
+button:disabled { color: var(--off); background: var(--soft); border-style: dashed; font-weight: normal; cursor: default; }
+button:focus-visible, input:focus-visible, textarea:focus-visible, select:focus-visible, summary:focus-visible { outline: 3px solid var(--blue); outline-offset: 2px; z-index: 2; }
+.send { color: var(--on-blue); background: var(--blue); border-color: var(--blue); }
+input, textarea, select { padding: .4rem; background: var(--panel); border: 1px solid var(--edge); border-radius: .5rem; max-width: 100%; }
+input { min-height: 2.75rem; width: 12rem; }
+select { min-height: 2.75rem; }
+input[type=checkbox], input[type=radio] { width: 1.4rem; min-height: 1.4rem; }
 textarea { width: 100%; min-height: 8rem; font-family: ui-monospace, monospace; }
-pre { background: #f4f4f4; padding: .5rem; overflow-x: auto; font-size: .8rem; }
-.red { color: var(--red); }
-.table { display: grid; grid-template-columns: 1fr minmax(9rem, 1.4fr) 1fr; gap: .3rem; background: var(--felt); border: 1px solid var(--line); border-radius: .6rem; padding: .4rem; }
-.seat { text-align: center; padding: .2rem; border-radius: .4rem; overflow-wrap: anywhere; border: 3px solid transparent; }
-.seat.turn { border-color: var(--line); background: var(--turn); }
-.top { grid-area: 1 / 2; } .left { grid-area: 2 / 1; align-self: center; } .right { grid-area: 2 / 3; align-self: center; } .bottom { grid-area: 3 / 2; }
-.trick { grid-area: 2 / 2; display: grid; grid-template-columns: repeat(3, 1fr); grid-template-rows: repeat(3, 2.6rem); align-items: center; justify-items: center; }
-.trick .top { grid-area: 1 / 2; } .trick .left { grid-area: 2 / 1; } .trick .right { grid-area: 2 / 3; } .trick .bottom { grid-area: 3 / 2; }
-.played { background: #fff; border: 1px solid var(--line); border-radius: .4rem; padding: .2rem .45rem; font-weight: bold; }
-.small { font-size: .9rem; }
-.suit { display: flex; flex-wrap: wrap; gap: .3rem; align-items: center; margin: .25rem 0; }
-.suit > span:first-child { width: 1.4rem; font-size: 1.3rem; text-align: center; }
-.suit button { font-weight: bold; border-width: 2px; }
-.suit button:disabled { color: var(--ink); background: #fff; border: 1px solid #aab5af; font-weight: normal; }
-.bids { display: grid; grid-template-columns: repeat(5, minmax(2.75rem, 5rem)); gap: .3rem; margin: .4rem 0; }
+label { display: inline-flex; align-items: center; gap: .4rem; min-height: 2.75rem; }
+
+/* The bar, and what is said. */
+#bar {
+  grid-area: bar; display: flex; align-items: center; gap: .6rem; min-height: 3.25rem; padding: .25rem .75rem; color: var(--on-bar); background: var(--bar);
+  padding-top: max(.25rem, env(safe-area-inset-top));
+}
+#bar button { color: inherit; background: transparent; border-color: var(--bar-second); font-weight: normal; }
+#bar button { padding: .2rem .5rem; font-size: .875rem; } #bar { flex-wrap: wrap; } #heads { flex: 1 1 4rem; min-width: 4rem; }
+#below { margin: 0; font-size: .875rem; color: var(--bar-second); white-space: nowrap; overflow: hidden; text-overflow: ellipsis; }
+#below:empty, #notice:empty, #status:empty { display: none; }
+#notice { grid-area: note; margin: 0; padding: .5rem .75rem; color: var(--note-ink); background: var(--note); font-weight: bold; }
+#status { grid-area: say; justify-self: center; margin: .25rem .5rem; padding: .2rem 1rem; max-width: calc(100% - 1rem); border-radius: 1rem; text-align: center; background: var(--soft); }
+#chip { display: grid; grid-template: 1fr / 1fr; place-items: center; width: 2.5rem; height: 2.5rem; flex: none; border: 1px solid var(--on-bar); border-radius: .25rem; overflow: hidden; }
+#chip { border-width: .6rem; border-color: var(--not-vul); color: #12181c; background: #fff; font-weight: bold; position: relative; overflow: visible; font-size: .8125rem; }
+#chip.vul-we { border-top-color: var(--vul); border-bottom-color: var(--vul); }
+#chip.vul-they { border-left-color: var(--vul); border-right-color: var(--vul); }
+#chip::after { content: ""; position: absolute; width: .4rem; height: .4rem; border-radius: 50%; background: #fff; }
+#chip.deals-bottom::after { bottom: -.5rem; } #chip.deals-top::after { top: -.5rem; }
+#chip.deals-left::after { left: -.5rem; } #chip.deals-right::after { right: -.5rem; }
+
+/* Pages that scroll: to log in, between boards, results, and the director's. */
+body:not(.at-table) main { max-width: 64rem; margin: 0 auto; padding: .75rem; }
+body:not(.at-table) { display: flex; flex-direction: column; } body:not(.at-table) main { order: 2; width: 100%; }
+body:not(.at-table) #status { order: 1; align-self: center; margin: .75rem .75rem 0; font-weight: bold; }
+.panel { max-width: 40rem; margin: 0 auto .75rem; padding: .75rem 1rem; background: var(--panel); border: 1px solid var(--edge); border-radius: .75rem; }
+.panel h2:first-child { margin-top: 0; }
+.large { font-size: 1.875rem; font-weight: bold; line-height: 1.2; margin: .2rem 0; }
+.second { color: var(--second); }
+body.login { background: var(--felt); }
+body.login #bar { background: transparent; }
+body.login .panel { max-width: 24rem; margin-top: 8vh; }
+body.login .panel input { width: 100%; font-size: 1.75rem; letter-spacing: .06em; text-align: center; }
+body.login .panel button { width: 100%; min-height: 3.25rem; margin-top: .75rem; }
+body.login .panel label { display: block; min-height: 0; margin-bottom: .3rem; font-weight: bold; }
+.names { list-style: none; margin: .3rem 0; padding: 0; }
+.names li { display: flex; gap: .5rem; align-items: center; margin: .25rem 0; overflow-wrap: anywhere; }
+.mark { flex: none; min-width: 1.6rem; padding: 0 .3rem; border-radius: .3rem; text-align: center; font-weight: bold; background: var(--soft); }
+table { border-collapse: collapse; background: var(--panel); }
+th, td { border: 1px solid var(--edge); padding: .2rem .6rem; text-align: center; }
+tr.own td { background: var(--own); font-weight: bold; }
+pre { background: var(--panel); padding: .5rem; overflow-x: auto; font-size: .8rem; }
 .row { display: flex; flex-wrap: wrap; gap: .4rem; align-items: center; margin: .4rem 0; }
-table { border-collapse: collapse; }
-th, td { border: 1px solid #9aa59f; padding: .2rem .6rem; text-align: center; }
-details { margin: .6rem 0; border-top: 1px solid var(--line); padding-top: .4rem; }
-summary { cursor: pointer; min-height: 2.2rem; font-weight: bold; }
-select { font: inherit; min-height: 2.75rem; padding: .3rem; background: #fff; border: 1px solid var(--line); border-radius: .4rem; max-width: 100%; }
-.tables td, .tables th { padding: .2rem .35rem; }
 .field { display: inline-flex; flex-wrap: wrap; gap: .3rem; align-items: center; }
 .field input[type=number] { width: 5.5rem; }
-#told { position: sticky; top: 0; background: #fff1d6; border: 2px solid #8a5a00; padding: .4rem .6rem; }
-#told:empty { display: none; }
-#results:empty, #replies:empty { display: none; }
-@media print { header button, button, summary, label, input, select, textarea, #status, #told, #tables, details:not(#publishing) { display: none !important; } }
+details { margin: .6rem 0; border-top: 1px solid var(--edge); padding-top: .4rem; }
+.director details { padding: .5rem 1rem; background: var(--panel); border: 1px solid var(--edge); border-radius: .75rem; } .director #tables table { width: 100%; }
+summary { cursor: pointer; min-height: 2.2rem; font-weight: bold; }
+.tables td, .tables th { padding: .2rem .35rem; }
+#told { position: sticky; top: 0; z-index: 1; color: var(--note-ink); background: var(--note); padding: .4rem .6rem; border-radius: .5rem; }
+#told:empty, #results:empty, #replies:empty { display: none; }
+
+/* The table: one grid, the player at the bottom. */
+.at-table { display: grid; grid-template: "bar" auto "note" auto "strip" auto "stage" 1fr "say" auto "hand" auto "dock" auto / minmax(0, 1fr); background: var(--felt); }
+.at-table main { display: contents; }
+.at-table #status { color: var(--plate-ink); background: var(--plate); }
+.at-table #status.turn { color: var(--gold-ink); background: var(--gold); font-weight: bold; }
+#strip { grid-area: strip; display: flex; align-items: center; gap: .5rem; min-height: 2.125rem; padding: .1rem .6rem; color: var(--on-felt); background: var(--strip); position: relative; }
+#strip .red { color: var(--felt-red); }
+#strip .suit, .face .suit { font-weight: normal; }
+.contract { font-size: 1.125rem; font-weight: bold; }
+#calls { border: 0; margin: 0; padding: 0; flex: 1; }
+#calls summary { min-height: 2rem; list-style: none; font-weight: normal; display: flex; gap: .4rem; align-items: center; }
+#calls summary::after { content: "\25be"; color: var(--bar-second); }
+#calls[open] > div { position: absolute; inset: 100% .4rem auto; z-index: 5; padding: .5rem; color: var(--ink); background: var(--panel); border: 1px solid var(--edge); border-radius: .75rem; }
+#calls .red { color: var(--text-red); } #calls summary .red { color: var(--felt-red); }
+.tally { display: flex; gap: 2px; align-items: center; }
+.tally i { width: .35rem; height: .35rem; border-radius: 50%; background: var(--bar-second); opacity: .7; }
+.tally .ours { width: .4rem; height: .85rem; border-radius: 1px; background: #fff; opacity: 1; }
+.tally .theirs { width: .85rem; height: .4rem; border-radius: 1px; background: var(--felt-red); opacity: 1; }
+#stage { grid-area: stage; display: grid; grid-template: auto minmax(0, 1fr) / 5rem minmax(0, 1fr) 5rem; grid-template-areas: "top top top" "left mid right"; gap: .4rem; align-items: center; padding: .4rem .5rem; min-height: 0; min-width: 0; }
+.at-top { grid-area: top; justify-self: center; max-width: 100%; min-width: 0; } .at-left { grid-area: left; min-width: 0; } .at-right { grid-area: right; min-width: 0; }
+.plate { display: flex; flex-wrap: wrap; justify-content: center; align-items: center; gap: .15rem .4rem; padding: .2rem .5rem; color: var(--plate-ink); background: var(--plate); border-radius: 1rem; text-align: center; overflow-wrap: anywhere; }
+.at-left > .plate, .at-right > .plate { border-radius: .5rem; padding: .2rem; font-size: .8125rem; line-height: 1.2; flex-direction: column; }
+.at-top > .plate { width: fit-content; max-width: 100%; margin: 0 auto .2rem; }
+.plate.turn { color: var(--gold-ink); background: var(--gold); }
+.plate b { display: inline-grid; place-items: center; width: 1.6rem; height: 1.6rem; border-radius: 50%; color: #fff; background: var(--not-vul); flex: none; }
+.plate b.vul { background: var(--vul); }
+.plate em { padding: 0 .25rem; border: 1px solid currentcolor; border-radius: .25rem; font-style: normal; font-size: .75rem; font-weight: bold; }
+.trick { grid-area: mid; justify-self: center; display: grid; grid-template: repeat(3, auto) / repeat(3, auto); grid-template-areas: ". t ." "l . r" ". b ."; place-items: center; gap: .15rem; }
+.trick .top { grid-area: t; } .trick .left { grid-area: l; } .trick .right { grid-area: r; } .trick .bottom { grid-area: b; }
+.trick { grid-template-areas: ". t ." "l t r" "l b r" ". b ."; grid-template-rows: repeat(4, auto); }
+.played, .due { display: grid; place-content: center; justify-items: center; width: var(--tw); height: var(--th); border-radius: .375rem; line-height: 1; }
+.played { color: var(--black); background: var(--face); border: 1px solid #8f8b7e; box-shadow: 0 1px 2px rgb(0 0 0 / 35%); font-size: 1.375rem; font-weight: bold; }
+.played.red { color: var(--red); }
+.played.won { outline: 3px solid var(--gold); }
+.due { color: var(--gold); border: 2px solid var(--gold); font-weight: bold; }
+.at-table { --tw: 3.125rem; --th: 4.25rem; --cw: calc((100vw - 3.125rem) / 7); --fw: var(--cw); --ch: clamp(3.25rem, 8.65dvh, 4.6rem); }
+.hand { min-width: 0; }
+#hand { grid-area: hand; padding: .25rem .4rem .4rem; min-width: 0; }
+.hand > h2 { position: absolute; width: 1px; height: 1px; overflow: hidden; clip-path: inset(50%); margin: 0; }
+.cards { display: flex; flex-direction: column; gap: .25rem; width: fit-content; max-width: 100%; margin: 0 auto; padding: .25rem; border: 2px solid transparent; border-radius: .7rem; }
+.hand.on .cards { border-color: var(--gold); background: rgb(255 216 77 / 16%); }
+.line, .group { display: flex; justify-content: center; min-width: 0; }
+.line { gap: .375rem; } .group { gap: .2rem; }
+.card {
+  display: grid; align-content: start; justify-items: start; width: var(--cw); min-width: 0; height: var(--ch); min-height: 0; padding: .15rem 0 0 .3rem; flex: none;
+  color: var(--black); background: var(--face); border: 1px solid #8f8b7e; border-radius: .375rem; box-shadow: 0 1px 2px rgb(0 0 0 / 35%); line-height: 1; font-size: 1.375rem; font-weight: bold; text-align: left;
+}
+.card .suit, .played .suit { font-size: 1.25rem; line-height: 1; margin-top: .1rem; }
+.card.red { color: var(--red); }
+.card:disabled { color: var(--black); background: var(--face); border: 1px solid #8f8b7e; font-weight: bold; }
+.card.red:disabled { color: var(--red); }
+.hand.on .card:disabled { background: var(--shut); box-shadow: none; } .hand.on .card.red:disabled { color: var(--shut-red); }
+.card[aria-pressed=true] { background: var(--lifted); transform: translateY(-.75rem); outline: 3px solid var(--gold); }
+.ten { letter-spacing: -.12em; }
+.at-left .cards, .at-right .cards { flex-direction: column; padding: .1rem; gap: .15rem; }
+.at-left, .at-right { --cw: 1.375rem; --fw: 2.1rem; --ch: clamp(2rem, 5.3dvh, 3.5rem); }
+.at-left .card, .at-right .card { width: var(--fw); margin-right: calc(var(--cw) - var(--fw)); font-size: 1.125rem; padding-left: .15rem; }
+.at-left .card:last-child, .at-right .card:last-child { margin-right: 0; }
+.at-left .card .suit, .at-right .card .suit { font-size: 1rem; }
+.at-left .line, .at-right .line { flex-direction: column; gap: .15rem; } .at-left .group, .at-right .group { justify-content: flex-start; gap: 0; }
+.void { padding: 0 .5rem; border-radius: .5rem; color: var(--plate-ink); background: var(--plate); font-size: .875rem; }
+.dummy-left .at-left > .plate, .dummy-right .at-right > .plate { flex-flow: row wrap; }
+.dummy-left #stage { grid-template-columns: 9rem minmax(0, 1fr) 4rem; } .dummy-right #stage { grid-template-columns: 4rem minmax(0, 1fr) 9rem; }
+.dummy-left, .dummy-right { --tw: 2.75rem; --th: 3.75rem; }
+
+/* The auction, and what is pressed. */
+.auction { grid-area: mid; align-self: start; width: 100%; max-height: 100%; overflow-y: auto; border-radius: .6rem; background: var(--panel); color: var(--ink); }
+@media (max-width: 39.99em), (max-height: 30em) {
+  .bidding #stage { position: relative; min-height: 6.5rem; } .bidding .auction { position: absolute; inset: .4rem .5rem auto; width: auto; max-height: calc(100% - .8rem); }
+}
+#dock.play #claim-open[hidden] + #confirm { grid-column: span 7; }
+.at-top.none, .bidding .at-left, .bidding .at-right, .bidding .at-top { display: none; }
+.bidding #stage { grid-template: minmax(0, 1fr) / minmax(0, 1fr); grid-template-areas: "mid"; }
+.auction table, #calls table, #side table { width: 100%; table-layout: fixed; background: none; }
+.auction th, .auction td, #calls th, #calls td, #side th, #side td { border: 0; padding: .2rem .1rem; overflow: hidden; text-overflow: ellipsis; white-space: nowrap; font-weight: normal; }
+.auction th, #calls th, #side th { font-size: .8125rem; line-height: 1.25; color: var(--plate-ink); background: var(--plate); } .auction th { position: sticky; top: 0; }
+.auction tbody tr:nth-child(even), #calls tbody tr:nth-child(even), #side tbody tr:nth-child(even) { background: var(--soft); }
+.auction td .bid, #calls td .bid, #side td .bid { font-weight: bold; }
+td .pass { color: var(--second); }
+.double, .redouble { padding: 0 .4rem; border-radius: .25rem; color: #fff; background: var(--double); font-weight: bold; } .redouble { background: var(--redouble); }
+.seat { display: inline-block; min-width: 1.4rem; border-radius: .25rem; color: #fff; background: var(--not-vul); font-weight: bold; } .seat.vul { background: var(--vul); }
+th.turn, td.turn, .auction th.turn { color: var(--gold-ink); background: var(--gold); } td.turn { font-weight: bold !important; }
+#dock { grid-area: dock; display: grid; grid-template-columns: repeat(10, minmax(0, 1fr)); gap: .25rem; align-content: start; padding: .4rem .5rem max(.4rem, env(safe-area-inset-bottom)); color: var(--ink); background: var(--page); border-top: 1px solid var(--edge); min-width: 0; }
+#dock button { padding: .1rem; min-width: 0; }
+.box { --bid: clamp(2.25rem, calc((100dvh - 24.2rem) / 7), 3rem); }
+#dock .bid { grid-column: span 2; min-height: var(--bid); color: var(--black); background: #fffdf7; font-size: 1.125rem; line-height: 1; }
+#dock .bid .red { color: #a8001c; }
+#dock .bid:disabled, #dock .bid:disabled .red { color: var(--off); background: var(--soft); border: 1px solid var(--soft); }
+#call-PASS { grid-column: span 3; } #call-X, #call-XX { grid-column: span 2; } .box #confirm { grid-column: span 3; }
+#dock #call-PASS:enabled { color: #fff; background: var(--pass); } #dock #call-X:enabled { color: #fff; background: var(--double); } #dock #call-XX:enabled { color: #fff; background: var(--redouble); }
+#dock .box-call[aria-pressed=true], #dock .bid[aria-pressed=true] { color: var(--gold-ink); background: var(--gold); outline: 3px solid var(--blue); }
+#last { grid-column: span 3; } #claim-open { grid-column: span 3; } #dock.play #confirm { grid-column: span 4; }
+#dock.play button { min-height: 2.75rem; } #dock.claimed { grid-template-columns: 1fr 1fr; color: var(--gold-ink); background: var(--gold); }
+#dock.claimed p { grid-column: 1 / -1; margin: 0; } #refuse { color: #a8001c; background: #fff; } #agree { color: #fff; background: #0b57a4; border-color: #0b57a4; }
+#dock.claimed button:disabled { color: #5b645f; background: #ece8dc; }
+.sheet { position: fixed; inset: auto .5rem 4.5rem; z-index: 6; max-width: 30rem; margin: 0 auto; padding: .75rem; color: var(--ink); background: var(--panel); border: 1px solid var(--edge); border-radius: .75rem; max-height: calc(100dvh - 5rem); overflow-y: auto; box-shadow: 0 2px 12px rgb(0 0 0 / 40%); }
+.sheet h2 { margin-top: 0; } .numbers { display: grid; grid-template-columns: repeat(auto-fill, minmax(2.75rem, 1fr)); gap: .25rem; margin: .5rem 0; } .numbers button { padding: 0; } .numbers button[aria-pressed=true] { color: var(--gold-ink); background: var(--gold); }
+.sheet .row { justify-content: space-between; }
+#side { display: none; }
+
+/* Shapes of screens. */
+@media (orientation: landscape) and (max-height: 30em) {
+  .at-table { --ch: 4rem; --cw: min(3rem, calc((100vw - 13rem) / 13.4)); --tw: 2.1rem; --th: 2.75rem; grid-template: "bar bar" auto "note note" auto "stage strip" auto "stage dock" 1fr "say dock" auto "hand dock" auto / minmax(0, 1fr) 11rem; }
+  .at-table.bidding { --cw: min(3rem, calc((100vw - 27rem) / 13.4)); grid-template: "bar bar" auto "note note" auto "stage dock" 1fr "say dock" auto "hand dock" auto / minmax(0, 1fr) 25rem; }
+  #bar { min-height: 2.75rem; padding-top: 0; padding-bottom: 0; } #chip { width: 2.25rem; height: 2.25rem; }
+  .cards { flex-direction: row; } .card { padding-left: .15rem; }
+  .box { --bid: calc((100dvh - 5.4rem) / 8); } #dock.box button { min-height: var(--bid); } #dock { align-content: end; } #dock.play { grid-template-columns: 1fr; align-content: end; } #dock.play button, #dock.play #confirm { grid-column: auto; }
+  #strip { flex-wrap: wrap; align-content: center; } #calls { flex-basis: 100%; } .at-left .line, .at-right .line { gap: .1rem; } .at-left, .at-right { --ch: 1.75rem; --cw: 1.9rem; --fw: 2.3rem; } .at-left .card, .at-right .card { align-content: center; justify-content: start; grid-auto-flow: column; padding: 0 0 0 .2rem; }
+  .dummy-left .at-left > .plate, .dummy-right .at-right > .plate { flex-flow: row nowrap; } .dummy-left .at-left > .plate span, .dummy-right .at-right > .plate span { overflow: hidden; text-overflow: ellipsis; white-space: nowrap; } .dummy-left #stage { grid-template-columns: 12rem minmax(0, 1fr) 4rem; } .dummy-right #stage { grid-template-columns: 4rem minmax(0, 1fr) 12rem; }
+}
+@media (min-width: 40em) and (orientation: portrait) and (min-height: 30.01em) {
+  .at-table { --cw: 3.4rem; --fw: 5rem; --ch: 7.5rem; --tw: 5.25rem; --th: 7.25rem; } .cards { flex-direction: row; }
+}
+@media (min-width: 56em) and (orientation: landscape) and (min-height: 30.01em) {
+  .at-table { --cw: 3.2rem; --fw: 4.375rem; --ch: 6.25rem; --tw: 4.5rem; --th: 6.25rem; grid-template: "bar bar" auto "note side" auto "stage side" 1fr "say side" auto "hand side" auto "dock side" auto / minmax(0, 1fr) 18rem; }
+  .at-table.bidding { --cw: 2.8rem; grid-template: "bar bar" auto "note dock" auto "stage dock" 1fr "say dock" auto "hand dock" auto / minmax(0, 1fr) 23rem; }
+  .cards { flex-direction: row; } #strip { display: none; } .bidding #side { display: none; }
+  #bar { min-height: 3.5rem; padding: .25rem 1rem; } #chip { width: 2.75rem; height: 2.75rem; }
+  #side { grid-area: side; display: block; padding: .75rem 1rem; color: var(--ink); background: var(--panel); overflow-y: auto; min-width: 0; }
+  #side h2 { font-size: .875rem; font-weight: normal; color: var(--second); margin: .9rem 0 .2rem; } #side .contract { font-size: 2.25rem; line-height: 1; } #side .tally i { background: var(--second); } #side .tally .ours { background: var(--good); } #side .tally .theirs { background: var(--bad); }
+  #side table { border: 1px solid var(--edge); border-radius: .5rem; }
+  .box { --bid: 2.75rem; } #dock.box { grid-template-rows: none; align-content: stretch; border-top: 0; border-left: 1px solid var(--edge); } #dock.box .bid { order: -1; } #dock.box button { min-height: 2.75rem; font-size: 1.375rem; } .box #confirm { grid-column: 1 / -1; font-size: 1.125rem !important; } .box #call-PASS { grid-column: span 4; } .box #call-X, .box #call-XX { grid-column: span 3; }
+  #dock.play button { min-height: 3.25rem; }
+  .bidding #stage { grid-template: auto minmax(0, 1fr) / 8rem minmax(0, 1fr) 8rem; grid-template-areas: "top top top" "left mid right"; } .bidding .at-left, .bidding .at-right, .bidding .at-top { display: block; } .bidding .auction { align-self: center; } .auction td { font-size: 1.0625rem; }
+  #stage { grid-template-columns: 8rem minmax(0, 1fr) 8rem; } .at-left > .plate, .at-right > .plate { font-size: .9375rem; }
+  .dummy-left #stage { grid-template-columns: 13.5rem minmax(0, 1fr) 8rem; } .dummy-right #stage { grid-template-columns: 8rem minmax(0, 1fr) 13.5rem; } .at-left, .at-right { --cw: 1.875rem; --fw: 3.25rem; --ch: 4.25rem; } .at-left .card, .at-right .card { font-size: 1.5rem; }
+}
+@media (min-width: 75em) and (orientation: landscape) and (min-height: 48em) {
+  .at-table { --cw: 4.2rem; --fw: 5.5rem; --ch: 7.75rem; --tw: 5.5rem; --th: 7.75rem; grid-template-columns: minmax(0, 1fr) 22rem; } .at-table.bidding { --cw: 4rem; grid-template-columns: minmax(0, 1fr) 27rem; }
+}
+@media (min-width: 40em) {
+  #hand .card, .at-top .card { width: var(--fw); margin-right: calc(var(--cw) - var(--fw)); } #hand .line:last-child .group:last-child .card:last-child, .at-top .line:last-child .group:last-child .card:last-child { margin-right: 0; }
+  #hand .line, .at-top .line, #hand .group, .at-top .group { gap: 0; } #hand .group + .group, #hand .line + .line, .at-top .group + .group, .at-top .line + .line { padding-left: .375rem; }
+  #hand .card, .at-top .card, .played { font-size: 1.9375rem; } #hand .card .suit, .at-top .card .suit, .played .suit { font-size: 2rem; }
+}
+@media (orientation: landscape) and (max-height: 30em) {
+  .at-table { --fw: 3.1rem; } #hand .card, .at-top .card, .played { font-size: 1.375rem; } #hand .card .suit, .at-top .card .suit, .played .suit { font-size: 1.2rem; } .at-left .card .suit, .at-right .card .suit { font-size: 1rem; }
+}
+.bidding #hand .cards { flex-direction: row; }
+@media (max-width: 39.99em) and (orientation: portrait) {
+  .bidding { --cw: calc((100vw - 4.3rem) / 13); --ch: clamp(3.25rem, 8.65dvh, 4.6rem); }
+  .bidding #hand .card { width: 3rem; margin-right: calc(var(--cw) - 3rem); } .bidding #hand .line, .bidding #hand .group { gap: 0; } .bidding #hand .line:last-child .group:last-child .card:last-child { margin-right: 0; }
+}
+@media (prefers-reduced-motion: no-preference) { .card { transition: transform 120ms ease-out; } }
+/* Large letters on a small screen: one below the other. */
+@media (max-width: 17em) {
+  .at-table { --tw: 2rem; --th: 2.75rem; } #strip { flex-wrap: wrap; } #strip #calls { flex-basis: 100%; }
+  .at-table:not(.bidding) #stage { grid-template: "top" auto "left" auto "mid" auto "right" auto / minmax(0, 1fr); } .at-left > .plate, .at-right > .plate { flex-direction: row; }
+}
+@media print { #bar button, button, summary, label, input, select, textarea, #status, #told, #tables, details:not(#publishing) { display: none !important; } body, #bar { color: #000; background: #fff; } }
 "##;
 
 /// What the two other scripts share.
@@ -168,28 +374,28 @@ function refusal(reply) {
 
 // ---- what is shown
 
-// Shows these nodes, where what they are made of is new; the focus and what is open stay.
-function show(made, status, nodes) {
+// Shows these nodes on a page of that shape, where what they are made of is new; the focus and what is open stay.
+function show(made, status, shape, nodes) {
   say("status", status);
+  at("status").className = shape.split(" ").includes("mine") ? "turn" : "";
   const mark = made + (busy && made !== LOGIN ? " busy" : "");
   if (mark === shown) return;
   shown = mark;
   const main = at("main");
   const focus = document.activeElement && main.contains(document.activeElement) ? document.activeElement.id : "";
   const open = [...main.querySelectorAll("details[open]")].map((node) => node.id);
-  const claim = at("claim");
-  const typed = claim && claim.value !== claim.defaultValue ? claim.value : null;
+  document.body.className = shape;
   main.replaceChildren(...nodes());
   for (const id of open) if (at(id)) at(id).open = true;
-  if (typed !== null && open.includes("claiming") && at("claim")) at("claim").value = typed;
+  movedAt = Date.now();
   if (focus && at(focus) && !at(focus).disabled) at(focus).focus();
 }
 
-function rankingNode(field, reply) {
+function rankingNode(field, reply, own) {
   const lines = reply.split("\n").filter((line) => /^\d/.test(line)).map((line) => line.split(" "));
   const titles = ["Place", "Pair", "Score", "Per cent"].slice(0, lines.length ? lines[0].length : 0);
   const head = make("tr", null, ...titles.map((title) => make("th", { scope: "col" }, title)));
-  const rows = lines.map((words) => make("tr", null, ...words.map((word) => make("td", null, word))));
+  const rows = lines.map((words) => make("tr", { className: Number(words[1]) === own ? "own" : "" }, ...words.map((word) => make("td", null, word))));
   return [make("h2", null, "Ranking, field " + field), make("table", { aria_label: "Ranking of field " + field }, make("thead", null, head), make("tbody", null, ...rows))];
 }
 
@@ -198,15 +404,19 @@ function rankingNode(field, reply) {
 function showLogin() {
   at("title").textContent = "Bridge table";
   at("leave").hidden = true;
-  show(LOGIN, "", () => {
-    const field = make("input", { id: "key", type: "text", inputMode: "numeric", autocomplete: "off", pattern: "[0-9]+", required: true });
+  at("below").textContent = "";
+  at("chip").hidden = true;
+  at("settings").hidden = true;
+  show(LOGIN, "", "login", () => {
+    const field = make("input", { id: "key", type: "text", inputMode: "numeric", autocomplete: "off", pattern: "[0-9 ]+", required: true });
     const enter = (event) => {
       event.preventDefault();
-      key = field.value.trim();
+      key = field.value.replace(/\s/g, "");
       say("notice", "");
       look();
     };
-    const form = make("form", { onsubmit: enter }, make("label", { for: "key" }, "Your key"), " ", field, " ", make("button", { type: "submit" }, "Sit down"));
+    const form = make("form", { onsubmit: enter, className: "panel" }, make("label", { for: "key" }, "Your key"), field,
+      make("p", { className: "second" }, "The number on your slip. Spaces do not matter."), make("button", { type: "submit", className: "send" }, "Sit down"));
     return [form];
   });
 }
@@ -273,8 +483,10 @@ document.addEventListener("DOMContentLoaded", () => look());
 pub const TABLE_SCRIPT: &str = r##""use strict";
 // The players' page. It judges nothing: it greys what would be refused, and shows what the server tells.
 
-const SUITS = ["S", "H", "D", "C"];
-const SIGNS = { S: "\u2660", H: "\u2665", D: "\u2666", C: "\u2663" };
+const SUITS = ["S", "H", "C", "D"];
+const HAND_SUITS = ["S", "H", "D", "C"];
+const SIGNS = { S: "\u2660\ufe0e", H: "\u2665\ufe0e", D: "\u2666\ufe0e", C: "\u2663\ufe0e" };
+const SUIT_WORDS = { S: "spade", H: "heart", D: "diamond", C: "club", N: "no trump" };
 const SUIT_NAMES = { S: "spades", H: "hearts", D: "diamonds", C: "clubs" };
 const RANK_NAMES = { A: "ace", K: "king", Q: "queen", J: "jack", T: "10" };
 const STRAINS = ["C", "D", "H", "S", "NT"];
@@ -310,7 +522,7 @@ function readPlace(reply) {
 
 function readHand(text) {
   const suits = text.split(".");
-  return Object.fromEntries(SUITS.map((suit, i) => [suit, suits[i]]));
+  return Object.fromEntries(HAND_SUITS.map((suit, i) => [suit, suits[i]]));
 }
 
 function readTrick(words) {
@@ -346,25 +558,33 @@ const cardName = (card) => rankName(card[1]) + " of " + SUIT_NAMES[card[0]];
 const rankText = (rank) => (rank === "T" ? "10" : rank);
 
 function suitSign(suit) {
-  return make("span", { className: suit === "H" || suit === "D" ? "red" : "", title: SUIT_NAMES[suit] }, SIGNS[suit]);
+  return make("span", { className: "suit" + (isRed(suit) ? " red" : ""), aria_hidden: "true" }, SIGNS[suit]);
 }
 
+const isRed = (suit) => suit === "H" || suit === "D";
+const strainOf = (call) => call.slice(1).replace(/X+$/, "");
+
 function cardNodes(card) {
-  return [suitSign(card[0]), rankText(card[1])];
+  return [make("span", { className: card[1] === "T" ? "ten" : "" }, rankText(card[1])), make("span", { className: "suit", aria_hidden: "true" }, SIGNS[card[0]])];
 }
 
 // A call as text nodes; doubles stand behind the bid in a contract.
 function callNodes(call) {
-  if (call === "PASS") return ["pass"];
-  if (call === "X") return ["double"];
-  if (call === "XX") return ["redouble"];
-  const strain = call.slice(1).replace(/X+$/, "");
-  const doubles = call.slice(1 + strain.length);
-  return [call[0], SIGNS[strain] ? suitSign(strain) : strain, doubles];
+  if (call === "PASS") return [make("span", { className: "pass" }, "Pass")];
+  if (call === "X") return [make("span", { className: "double" }, "X")];
+  if (call === "XX") return [make("span", { className: "redouble" }, "XX")];
+  const strain = strainOf(call);
+  return [make("span", { className: "bid" }, call[0], SIGNS[strain] ? suitSign(strain) : strain, call.slice(1 + strain.length))];
 }
 
-function seatName(place, seat) {
-  return SEAT_NAMES[seat] + (place.names ? " (" + place.names[seat] + ")" : "");
+// A call in words.
+function callName(call) {
+  if (call === "PASS") return "pass";
+  if (call === "X") return "double";
+  if (call === "XX") return "redouble";
+  const strain = strainOf(call);
+  const doubled = { X: " doubled", XX: " redoubled" }[call.slice(1 + strain.length)] || "";
+  return call[0] + " " + SUIT_WORDS[strain[0]] + (strain !== "NT" && call[0] !== "1" ? "s" : "") + doubled;
 }
 
 function vulnerableText(words) {
@@ -392,147 +612,376 @@ function allowedCall(view, call) {
   return bid === null || height(call) > height(bid.call);
 }
 
+// ---- what is marked before it is sent
+
+// A call or card that was tapped once; which board's claim is being made, and of how many tricks; whether the last trick is looked at.
+let marked = null;
+let claiming = null;
+let looking = false;
+let drawn = () => {};
+let movedAt = 0;
+// Milliseconds in which a finger's tap counts for nothing, once what can be tapped has moved; and between two taps.
+const DEAF = 400;
+const TWICE = 250;
+
+// A tap marks and a second one sends, or one sends at once: as is set, and else by what points.
+function isSafe() {
+  const set = sessionStorage.getItem("sent");
+  if (set !== null) return set === "twice";
+  return typeof matchMedia === "function" && matchMedia("(pointer: coarse)").matches;
+}
+
+const isDeaf = (event) => Boolean(event && event.pointerType === "touch" && Date.now() - movedAt < DEAF);
+
+function unmark() {
+  marked = null;
+  claiming = null;
+  looking = false;
+}
+
+// What is tapped is marked, and sent by a second tap, or sent at once.
+function choose(what, line, event) {
+  if (isDeaf(event)) return;
+  if (!isSafe()) return send(line);
+  if (marked && marked.what === what) {
+    if (Date.now() - marked.at >= TWICE) send(line);
+    return;
+  }
+  marked = { what, line, at: Date.now() };
+  drawn();
+}
+
+function send(line) {
+  unmark();
+  act(line);
+}
+
+function confirmButton(prompt, sending) {
+  const ready = marked !== null && !busy;
+  const label = busy ? "Sending \u2026" : marked ? [sending, ...(marked.what.startsWith("card-") ? cardNodes(marked.what.slice(5)) : callNodes(marked.what.slice(5)))] : prompt;
+  const node = button(make("span", null, ...[].concat(label)), "", "confirm", ready, () => { if (marked) send(marked.line); });
+  if (ready) node.className = "send";
+  return node;
+}
+
+// ---- the table
+
+const placeOf = (view, seat) => ["bottom", "left", "top", "right"][(SEATS.indexOf(seat) - SEATS.indexOf(view.seat) + 4) % 4];
+const isVulnerable = (view, seat) => view.vulnerable === "All" || view.vulnerable === (seat === "N" || seat === "S" ? "NS" : "EW");
+const count = (hand) => SUITS.reduce((sum, suit) => sum + hand[suit].length, 0);
+const dummyOf = (place) => (place.contract ? partner(place.contract.declarer) : null);
+const onTurn = (view) => view.claim === null && view.turn;
+
+// Whose hand plays and whether this player plays it: his own, or dummy's as declarer.
+function handPlayed(place, view) {
+  if (!view.playing || !place.contract || view.claim) return null;
+  const dummy = dummyOf(place);
+  if (view.turn === dummy) return view.seat === place.contract.declarer ? "dummy" : null;
+  return view.turn === view.seat ? "own" : null;
+}
+
+function ledSuit(view) {
+  return view.trick.length > 0 && view.trick.length < 4 ? view.trick[0].card[0] : null;
+}
+
 function biddingBox(view) {
-  const call = (word, label, name) =>
-    button(label, name, "call-" + word, allowedCall(view, word), () => act("CALL " + key + " " + view.board + " " + view.made.calls + " " + word));
-  const bids = make("div", { className: "bids" });
+  const mine = view.turn === view.seat;
+  const call = (word, label, name, className) => {
+    const id = "call-" + word;
+    const line = "CALL " + key + " " + view.board + " " + view.made.calls + " " + word;
+    const node = button(label, name, id, mine && allowedCall(view, word), (event) => choose(id, line, event));
+    node.className = className;
+    node.setAttribute("aria-pressed", String(marked !== null && marked.what === id));
+    return node;
+  };
+  const cells = [call("PASS", "Pass", "", "box-call"), call("X", "X", "Double", "box-call"), call("XX", "XX", "Redouble", "box-call"),
+    confirmButton(mine ? (isSafe() ? "Tap a call" : "Your call") : SEAT_NAMES[view.turn] + " to call", "Call ")];
   for (let level = 1; level <= 7; level += 1) {
     for (const strain of STRAINS) {
       const word = level + strain;
-      const label = make("span", null, ...callNodes(word));
-      bids.append(call(word, label, level + " " + (SUIT_NAMES[strain] || "no trump")));
+      cells.push(call(word, make("span", null, String(level), SIGNS[strain] ? suitSign(strain) : strain), callName(word), "bid"));
     }
   }
-  return make("section", { aria_label: "Bidding box" },
-    make("div", { className: "row" }, call("PASS", "Pass"), call("X", "Double"), call("XX", "Redouble")), bids);
+  const box = make("section", { id: "dock", className: "box", aria_label: "Bidding box" }, ...cells);
+  box.onkeydown = (event) => boxKey(event);
+  return box;
 }
 
-function auctionTable(view) {
+// In the box keys choose: p, x, r, or a level and then c, d, h, s or n.
+let level = "";
+function boxKey(event) {
+  const word = event.key.toLowerCase();
+  if (/^[1-7]$/.test(word)) {
+    level = word;
+    return;
+  }
+  const strain = { c: "C", d: "D", h: "H", s: "S", n: "NT" }[word];
+  const chosen = { p: "PASS", x: "X", r: "XX" }[word] || (level && strain ? level + strain : "");
+  level = "";
+  const node = chosen ? at("call-" + chosen) : null;
+  if (node && !node.disabled) {
+    node.focus();
+    node.click();
+  }
+}
+
+function auctionTable(place, view) {
   const columns = ["W", "N", "E", "S"];
-  const head = make("tr", null, ...columns.map((seat) => make("th", { scope: "col" }, SEAT_NAMES[seat])));
-  const cells = Array(columns.indexOf(view.dealer)).fill(null).concat(view.calls);
+  const due = view.playing ? null : view.turn;
+  const head = make("tr", null, ...columns.map((seat) => make("th", { scope: "col", className: seat === due ? "turn" : "" },
+    make("span", { className: "seat" + (isVulnerable(view, seat) ? " vul" : ""), aria_hidden: "true" }, seat), seat === view.dealer ? " deals" : "", make("br"),
+    make("span", { aria_label: SEAT_NAMES[seat] }, seat === view.seat ? "You" : place.names ? place.names[seat] : ""))));
+  const cells = Array(columns.indexOf(view.dealer)).fill("").concat(view.calls);
   const rows = [];
-  for (let i = 0; i < cells.length; i += 4) {
-    const row = [0, 1, 2, 3].map((j) => make("td", null, ...(cells[i + j] ? callNodes(cells[i + j]) : [""])));
-    rows.push(make("tr", null, ...row));
+  for (let i = 0; i < cells.length + (due ? 1 : 0); i += 4) {
+    rows.push(make("tr", null, ...[0, 1, 2, 3].map((j) => {
+      const dueHere = due !== null && i + j === cells.length;
+      if (dueHere) return make("td", { className: "turn", aria_label: "to call" }, "?");
+      return make("td", null, ...(cells[i + j] ? callNodes(cells[i + j]) : [""]));
+    })));
   }
   return make("table", { aria_label: "Auction" }, make("thead", null, head), make("tbody", null, ...rows));
 }
 
-// A hand; its cards can be clicked where they may be played.
-function handNode(view, hand, label, mine) {
-  const led = view.trick.length > 0 && view.trick.length < 4 ? view.trick[0].card[0] : null;
+// Which suits stand in which of two rows, for as long as the board is played: so that neither row has more than seven cards.
+const rowsKept = new Map();
+function rowsOf(hand, board, whose) {
+  const name = board + whose;
+  if (!rowsKept.has(name)) {
+    const pairings = [[["S", "H"], ["C", "D"]], [["S", "D"], ["C", "H"]], [["S", "C"], ["H", "D"]]];
+    const fits = pairings.find((rows) => rows.every((row) => row.reduce((sum, suit) => sum + hand[suit].length, 0) <= 7));
+    rowsKept.set(name, fits || pairings[0]);
+  }
+  return rowsKept.get(name);
+}
+
+// A hand; its cards can be tapped where they may be played.
+function handNode(view, hand, label, id, mine) {
+  const led = ledSuit(view);
   const follows = led !== null && hand[led] !== "";
-  const node = make("section", { aria_label: label }, make("h2", null, label));
-  for (const suit of SUITS) {
-    const cards = [...hand[suit]].map((rank) => {
-      const card = suit + rank;
-      const may = mine && view.claim === null && (!follows || suit === led);
-      return button(rankText(rank), cardName(card), "card-" + card, may, () => act("CARD " + key + " " + view.board + " " + view.made.cards + " " + card));
-    });
-    node.append(make("div", { className: "suit" }, suitSign(suit), ...cards));
-  }
-  return node;
-}
-
-function tableNode(place, view) {
-  const own = SEATS.indexOf(view.seat);
-  const where = (seat) => ["bottom", "left", "top", "right"][(SEATS.indexOf(seat) - own + 4) % 4];
-  const node = make("section", { className: "table", aria_label: "Table" });
-  for (const seat of SEATS) {
-    const turn = view.claim === null && view.turn === seat;
-    const text = [SEAT_NAMES[seat], make("br"), place.names ? place.names[seat] : ""];
-    node.append(make("div", { className: "seat " + where(seat) + (turn ? " turn" : "") }, ...text));
-  }
-  const trick = make("div", { className: "trick", role: "group", aria_label: "Trick" });
-  for (const { seat, card } of view.trick) {
-    trick.append(make("span", { className: "played " + where(seat), role: "img", aria_label: SEAT_NAMES[seat] + ": " + cardName(card) }, ...cardNodes(card)));
-  }
-  node.append(trick);
-  return node;
-}
-
-function contractNode(place, view) {
-  const node = make("p", null);
-  if (place.contract) {
-    node.append("Contract ", ...callNodes(place.contract.bid), " by " + seatName(place, place.contract.declarer) + ". ");
-  }
-  node.append("Tricks: North and South " + view.tricks.NS + ", East and West " + view.tricks.EW + ".");
-  return node;
-}
-
-function lastNode(view) {
-  const node = make("p", { className: "small" }, "Last trick: ");
-  view.last.forEach(({ seat, card }, i) => node.append(i ? ", " : "", SEAT_NAMES[seat] + " ", ...cardNodes(card)));
-  return node;
-}
-
-function claimNode(place, view) {
-  const line = (word, rest) => word + " " + key + " " + view.board + " " + view.made.claims + rest;
-  if (view.claim) {
-    const box = make("div", { className: "row" });
-    if (place.answer) {
-      box.append(button("Agree", "", "agree", true, () => act(line("AGREE", ""))), button("Refuse", "", "refuse", true, () => act(line("REFUSE", ""))));
-    }
-    return box;
-  }
-  const left = 13 - Number(view.tricks.NS) - Number(view.tricks.EW);
-  const dummy = place.contract && partner(place.contract.declarer) === view.seat;
-  const between = view.trick.length === 0;
-  const count = make("input", { id: "claim", type: "number", min: 0, max: left, defaultValue: left, required: true });
-  const claim = () => {
-    if (count.checkValidity()) act(line("CLAIM", " " + Number(count.value)));
-    else say("notice", "Give a number of tricks from 0 to " + left + ".");
+  const node = make("section", { className: "hand" + (mine ? " on" : ""), id, aria_label: label }, make("h2", null, label));
+  const card = (suit, rank) => {
+    const name = "card-" + suit + rank;
+    const line = "CARD " + key + " " + view.board + " " + view.made.cards + " " + suit + rank;
+    const made = button("", cardName(suit + rank), name, mine && (!follows || suit === led), (event) => choose(name, line, event));
+    made.append(...cardNodes(suit + rank));
+    made.className = "card" + (isRed(suit) ? " red" : "");
+    if (mine) made.setAttribute("aria-pressed", String(marked !== null && marked.what === name));
+    return made;
   };
-  const open = make("details", { id: "claiming" }, make("summary", null, "Claim or concede"),
-    make("div", { className: "row" }, make("label", { for: "claim" }, "My side wins of the tricks left"), count,
-      button("Claim", "", "claim-button", between && !dummy, claim)));
-  open.hidden = dummy === true;
-  return open;
+  const group = (suit) => make("div", { className: "group" }, ...[...hand[suit]].map((rank) => card(suit, rank)));
+  const rows = rowsOf(hand, view.board, id).map((row) => row.filter((suit) => hand[suit] !== "")).filter((row) => row.length > 0);
+  node.append(make("div", { className: "cards" }, ...rows.map((row) => make("div", { className: "line" }, ...row.map(group)))));
+  return node;
+}
+
+function plate(place, view, seat) {
+  const declarer = place.contract ? place.contract.declarer : null;
+  const node = make("div", { className: "plate" + (onTurn(view) === seat ? " turn" : "") },
+    make("b", { className: isVulnerable(view, seat) ? "vul" : "", aria_label: SEAT_NAMES[seat] }, seat), make("span", null, place.names ? place.names[seat] : SEAT_NAMES[seat]));
+  if (seat === declarer) node.append(make("em", { aria_label: "declarer" }, "decl."));
+  if (view.playing && seat === dummyOf(place)) node.append(make("em", null, "dummy"));
+  return node;
+}
+
+// The trick on the table: the one at play, or the last whole one until the next card is led.
+function trickNode(view) {
+  const whole = view.trick.length === 0;
+  const trick = whole ? view.last : view.trick;
+  const node = make("div", { className: "trick", role: "group", aria_label: whole && trick.length ? "Last trick" : "Trick" });
+  for (const { seat, card } of trick) {
+    const won = whole && seat === view.turn;
+    node.append(make("span", { className: "played " + placeOf(view, seat) + (isRed(card[0]) ? " red" : "") + (won ? " won" : ""), role: "img",
+      aria_label: SEAT_NAMES[seat] + ": " + cardName(card) }, ...cardNodes(card)));
+  }
+  if (!whole && onTurn(view)) node.append(make("span", { className: "due " + placeOf(view, view.turn), aria_hidden: "true" }, view.turn));
+  return node;
+}
+
+function stageNode(place, view, middle) {
+  const node = make("section", { id: "stage", aria_label: "Table" });
+  const dummy = dummyOf(place);
+  for (const seat of SEATS) {
+    const where = placeOf(view, seat);
+    if (where === "bottom") continue;
+    const box = make("div", { className: "at-" + where }, plate(place, view, seat));
+    if (view.playing && seat === dummy && view.dummy) box.append(handNode(view, view.dummy, "Dummy, " + SEAT_NAMES[seat], "dummy", handPlayed(place, view) === "dummy"));
+    node.append(box);
+  }
+  node.append(middle);
+  return node;
+}
+
+// The tricks as cards are turned at a table: ours upright, theirs lying.
+function tallyNode(place, view) {
+  const [we, they] = view.seat === "N" || view.seat === "S" ? [view.tricks.NS, view.tricks.EW] : [view.tricks.EW, view.tricks.NS];
+  const marks = Array(Number(we)).fill("ours").concat(Array(Number(they)).fill("theirs"), Array(13 - Number(we) - Number(they)).fill(""));
+  return [make("span", { className: "tally", role: "img", aria_label: "Tricks: we " + we + ", they " + they }, ...marks.map((mark) => make("i", { className: mark }))),
+    make("span", { className: "score", aria_hidden: "true" }, we + "\u2013" + they)];
+}
+
+function contractNodes(place, view) {
+  const { bid, declarer } = place.contract;
+  const ours = declarer === view.seat || declarer === partner(view.seat);
+  const needs = 6 + Number(bid[0]);
+  const words = (declarer === view.seat ? "by you" : "by " + SEAT_NAMES[declarer]) + (ours ? ", needs " + needs : ", we need " + (14 - needs));
+  return [make("span", { className: "contract", aria_label: callName(bid) }, ...callNodes(bid)), make("span", null, words)];
+}
+
+function stripNode(place, view) {
+  const calls = make("details", { id: "calls" }, make("summary", null, ...contractNodes(place, view)), make("div", null, auctionTable(place, view)));
+  return make("section", { id: "strip", aria_label: "Contract" }, calls, ...tallyNode(place, view));
+}
+
+function lastTrickNodes(view) {
+  return view.last.map(({ seat, card }) => make("span", { className: "field" }, seat + " ", make("span", { className: isRed(card[0]) ? "red" : "", role: "img", aria_label: SEAT_NAMES[seat] + ": " + cardName(card) }, ...cardNodes(card).reverse())));
+}
+
+function sideNode(place, view) {
+  const node = make("aside", { id: "side", aria_label: "The board" }, make("p", null, ...contractNodes(place, view)), make("h2", null, "Tricks"), make("p", { className: "row" }, ...tallyNode(place, view)));
+  if (view.last.length) node.append(make("h2", null, "Last trick"), make("p", { className: "row" }, ...lastTrickNodes(view)));
+  node.append(make("h2", null, "Auction"), auctionTable(place, view));
+  return node;
+}
+
+// What a contract comes to with so many tricks, in words.
+function resultWords(bid, tricks) {
+  const over = tricks - 6 - Number(bid[0]);
+  const made = ["made", "one over", "two over", "three over"][over] || over + " over";
+  const down = ["", "one down", "two down", "three down"][-over] || -over + " down";
+  return callName(bid) + (over === 0 ? " " : ", ") + (over >= 0 ? made : down);
+}
+
+// What the claim of a side comes to, by the tricks that it has and those that it claims.
+function claimWords(place, view, seat, tricks) {
+  const bid = place.contract.bid;
+  const north = seat === "N" || seat === "S";
+  const has = Number(north ? view.tricks.NS : view.tricks.EW) + tricks;
+  const declares = (place.contract.declarer === "N" || place.contract.declarer === "S") === north;
+  return resultWords(bid, declares ? has : 13 - has);
+}
+
+const leftOf = (view) => 13 - Number(view.tricks.NS) - Number(view.tricks.EW);
+
+function claimSheet(place, view) {
+  const left = leftOf(view);
+  const choice = (tricks, label) => {
+    const node = button(label, "", "claim-" + tricks, true, () => { claiming = { board: view.board, tricks }; drawn(); });
+    node.setAttribute("aria-pressed", String(claiming.tricks === tricks));
+    return node;
+  };
+  const numbers = Array.from({ length: left + 1 }, (_none, tricks) => choice(tricks, tricks === 0 ? "None" : tricks === left ? "All " + left : String(tricks)));
+  const line = "CLAIM " + key + " " + view.board + " " + view.made.claims + " " + claiming.tricks;
+  const claim = button("Claim " + claiming.tricks + (claiming.tricks === 1 ? " trick" : " tricks"), "", "claim-button", true, (event) => { if (!isDeaf(event)) send(line); });
+  claim.className = "send";
+  return make("section", { id: "claiming", className: "sheet", aria_label: "Claim or concede" },
+    make("h2", null, "Of the " + left + " tricks left my side wins"), make("div", { className: "numbers" }, ...numbers),
+    make("p", null, claimWords(place, view, view.seat, claiming.tricks) + "."), make("p", { className: "second" }, "Say your line aloud. Who is asked agrees or refuses."),
+    make("div", { className: "row" }, button("Back", "", "claim-back", true, () => { claiming = null; drawn(); }), claim));
+}
+
+function lastSheet(view) {
+  return make("section", { id: "last-trick", className: "sheet", aria_label: "Last trick" }, make("h2", null, "Last trick"),
+    make("div", { className: "row" }, ...lastTrickNodes(view)), button("Close", "", "last-close", true, () => { looking = false; drawn(); }));
+}
+
+// Answers to a claim that this player is asked for.
+function answerDock(place, view) {
+  const line = (word) => word + " " + key + " " + view.board + " " + view.made.claims;
+  return make("section", { id: "dock", className: "claimed", aria_label: "The claim" },
+    make("p", null, claimWords(place, view, view.claim.seat, Number(view.claim.tricks)) + ", if all agree."),
+    button("Refuse", "", "refuse", true, (event) => { if (!isDeaf(event)) send(line("REFUSE")); }),
+    button("Agree", "", "agree", true, (event) => { if (!isDeaf(event)) send(line("AGREE")); }));
+}
+
+function playDock(place, view) {
+  const played = handPlayed(place, view);
+  const isDummy = dummyOf(place) === view.seat;
+  const cells = [button("Last trick", "", "last", view.last.length > 0, () => { looking = !looking; drawn(); })];
+  const claim = button("Claim", "", "claim-open", !isDummy && !view.claim && view.trick.length === 0, () => { claiming = { board: view.board, tricks: leftOf(view) }; drawn(); });
+  claim.hidden = isDummy;
+  cells.push(claim, confirmButton(played ? (isSafe() ? "Tap a card" : "Your card") : "Please wait", "Play "));
+  return make("section", { id: "dock", className: "play", aria_label: "What you can do" }, ...cells);
 }
 
 // What is waited for, in a sentence.
 function waiting(place, view) {
-  const who = (seat) => (seat === view.seat ? "You are" : seatName(place, seat) + " is");
+  const who = (seat) => (seat === view.seat ? "You are" : SEAT_NAMES[seat] + " is");
   if (view.claim) {
-    const claims = (view.claim.seat === view.seat ? "You claim " : seatName(place, view.claim.seat) + " claims ") + view.claim.tricks + " of the tricks left. ";
-    return claims + (place.answer ? "Do you agree?" : "An answer is waited for.");
+    const claims = (view.claim.seat === view.seat ? "You claim " : SEAT_NAMES[view.claim.seat] + " claims ") + view.claim.tricks + " of the " + leftOf(view) + " left. ";
+    return claims + (place.answer ? "Agree?" : "Please wait.");
   }
-  if (!view.playing) return who(view.turn) + " to call.";
+  if (!view.playing) return view.turn === view.seat ? "Your turn to call" : who(view.turn) + " to call.";
+  const played = handPlayed(place, view);
+  if (played) {
+    const hand = played === "own" ? view.hand : view.dummy;
+    const led = ledSuit(view);
+    if (led && hand && hand[led] !== "") return (played === "own" ? "Your turn: follow with a " : "Your turn: from dummy, a ") + SUIT_WORDS[led];
+    if (view.made.cards === "0") return "Your turn: the opening lead";
+    return played === "own" ? "Your turn" : "Your turn: play from dummy";
+  }
   if (!place.contract) return who(view.turn) + " to play.";
-  const declarer = place.contract.declarer;
-  const dummy = partner(declarer);
-  if (view.turn === dummy) return (declarer === view.seat ? "You are" : seatName(place, declarer) + " is") + " to play from dummy.";
+  if (view.turn === dummyOf(place)) return SEAT_NAMES[place.contract.declarer] + " is to play from dummy.";
   return who(view.turn) + " to play" + (view.made.cards === "0" ? " the opening lead." : ".");
 }
 
+function isMine(place, view) {
+  if (view.claim) return place.answer;
+  return view.playing ? handPlayed(place, view) !== null : view.turn === view.seat;
+}
+
 function playNodes(place, view) {
-  const contract = place.contract;
-  const dummySeat = contract ? partner(contract.declarer) : null;
-  const mine = view.playing && contract && view.turn === view.seat && view.seat !== dummySeat;
-  const forDummy = view.playing && contract && view.turn === dummySeat && view.seat === contract.declarer;
-  const nodes = [make("p", null, "Board " + view.board + ", dealer " + SEAT_NAMES[view.dealer] + ", " + vulnerableText(view.vulnerable) + "."), tableNode(place, view)];
-  if (view.playing) {
-    nodes.push(contractNode(place, view));
-    if (view.last.length) nodes.push(lastNode(view));
-  } else {
-    nodes.push(auctionTable(view));
+  const dummy = dummyOf(place);
+  const own = handNode(view, view.hand, view.seat === dummy && view.playing ? "Your hand, which is dummy" : "Your hand, " + SEAT_NAMES[view.seat], "hand", handPlayed(place, view) === "own");
+  if (!view.playing || !place.contract) {
+    return [stageNode(place, view, make("div", { id: "auction", className: "auction" }, auctionTable(place, view))), own, biddingBox(view)];
   }
-  if (view.dummy && view.seat !== dummySeat) nodes.push(handNode(view, view.dummy, "Dummy", forDummy));
-  nodes.push(handNode(view, view.hand, view.seat === dummySeat && view.playing ? "Your hand, which is dummy" : "Your hand", mine));
-  if (!view.playing && view.turn === view.seat) nodes.push(biddingBox(view));
-  if (view.playing) {
-    nodes.push(claimNode(place, view), make("details", { id: "calls" }, make("summary", null, "Auction"), auctionTable(view)));
-  }
+  const nodes = [stripNode(place, view), stageNode(place, view, trickNode(view)), own];
+  if (claiming && (claiming.board !== view.board || view.claim || view.trick.length > 0)) claiming = null;
+  if (claiming) nodes.push(claimSheet(place, view));
+  else if (looking && view.last.length) nodes.push(lastSheet(view));
+  nodes.push(view.claim && place.answer ? answerDock(place, view) : playDock(place, view), sideNode(place, view));
   return nodes;
 }
+
+// ---- what is heard, and what plays itself
+
+let before = null;
+
+// What came since the last view of the same board, in words.
+function news(view) {
+  const old = before;
+  before = view;
+  if (!old || old.board !== view.board) return "Board " + view.board;
+  const said = [];
+  view.calls.slice(old.calls.length).forEach((call, i) => said.push(SEAT_NAMES[SEATS[(SEATS.indexOf(view.dealer) + old.calls.length + i) % 4]] + ": " + callName(call)));
+  const cards = view.trick.length ? view.trick : view.made.cards === old.made.cards ? [] : view.last;
+  const fresh = Number(view.made.cards) - Number(old.made.cards);
+  cards.slice(Math.max(0, cards.length - fresh)).forEach(({ seat, card }) => said.push(SEAT_NAMES[seat] + ": " + cardName(card)));
+  if (view.last.length && view.trick.length === 0 && fresh > 0) said.push("Trick to " + SEAT_NAMES[view.turn]);
+  return said.join(". ");
+}
+
+// The only card of the last trick is played by the page.
+const ITSELF = 700;
+let played = "";
+function playLast(place, view) {
+  const whose = handPlayed(place, view);
+  const hand = whose === "own" ? view.hand : view.dummy;
+  if (!whose || !hand || count(hand) !== 1) return;
+  const suit = SUITS.find((one) => hand[one] !== "");
+  const line = "CARD " + key + " " + view.board + " " + view.made.cards + " " + suit + hand[suit];
+  if (played === line) return;
+  played = line;
+  setTimeout(() => { if (!busy && key !== null) act(line); }, ITSELF);
+}
+
+// ---- pages between the boards
 
 function placeText(place) {
   const table = place.table;
   if (!table) return "You sit out in this round.";
-  const boards = table.first === table.last ? "Board " + table.first + "." : "Boards " + table.first + " to " + table.last + ".";
-  const mate = place.names ? ", with " + place.names[partner(table.seat)] : "";
-  return "Table " + table.number + ", " + SEAT_NAMES[table.seat] + mate + ". " + boards;
+  return table.first === table.last ? "Board " + table.first : "Boards " + table.first + " to " + table.last;
 }
 
 function nextText(place) {
@@ -545,29 +994,94 @@ function headText(place) {
   return place.name + ", pair " + place.pair;
 }
 
+// Who sits at a table, this player and his partner first.
+function namesNode(place) {
+  const seat = place.table.seat;
+  const around = [seat, partner(seat), ...SEATS.filter((one) => one !== seat && one !== partner(seat))];
+  return make("ul", { className: "names" }, ...around.map((one) => make("li", null, make("span", { className: "mark", aria_label: SEAT_NAMES[one] }, one), one === seat ? "You, " + place.names[one] : place.names[one])));
+}
+
+function betweenNodes(place, done) {
+  const nodes = [];
+  const next = done && place.next;
+  if (next) {
+    nodes.push(make("section", { className: "panel" }, make("p", { className: "second" }, "Next, round " + (place.round + 1) + " of " + place.rounds),
+      make("p", { className: "large" }, "Table " + next.number + ", " + SEAT_NAMES[next.seat]),
+      make("p", null, "Boards " + next.first + (next.first === next.last ? "" : " to " + next.last) + ". ", make("b", null, place.table && next.number === place.table.number ? "Stay at your table." : "Go to table " + next.number + ".")),
+      make("p", { className: "second" }, "The next round begins when the director ends this one.")));
+  }
+  const here = make("section", { className: "panel" }, make("p", { className: "second" }, "Round " + place.round + " of " + place.rounds));
+  if (place.table) here.append(make("p", { className: "large" }, "Table " + place.table.number + ", " + SEAT_NAMES[place.table.seat]), make("p", null, placeText(place) + "."), namesNode(place));
+  else here.append(make("p", { className: "large" }, "You sit out"));
+  nodes.push(here);
+  return nodes;
+}
+
+// ---- the bar
+
+function barFor(place, view) {
+  const chip = at("chip");
+  chip.hidden = !view;
+  at("settings").hidden = false;
+  if (!view) {
+    at("title").textContent = headText(place);
+    at("below").textContent = place.table ? "Table " + place.table.number + ", round " + place.round + " of " + place.rounds : "Round " + Math.min(place.round, place.rounds) + " of " + place.rounds;
+    return;
+  }
+  const ours = view.seat === "N" || view.seat === "S" ? "NS" : "EW";
+  const theirs = ours === "NS" ? "EW" : "NS";
+  const is = (side) => view.vulnerable === "All" || view.vulnerable === side;
+  chip.className = (is(ours) ? "vul-we " : "") + (is(theirs) ? "vul-they " : "") + "deals-" + placeOf(view, view.dealer);
+  chip.textContent = view.board;
+  chip.setAttribute("aria-label", "Board " + view.board + ", dealer " + SEAT_NAMES[view.dealer] + ", " + vulnerableText(view.vulnerable));
+  at("title").textContent = "Board " + view.board;
+  at("below").textContent = view.dealer + " deals \u00b7 " + { None: "nobody vul", NS: "N\u2013S vul", EW: "E\u2013W vul", All: "all vul" }[view.vulnerable]
+    + " \u00b7 table " + place.table.number + " \u00b7 round " + place.round + " of " + place.rounds;
+}
+
+// The classes by which the style lays the page out.
+function shapeOf(place, view) {
+  if (!view) return "between";
+  const dummy = dummyOf(place);
+  const side = view.playing && dummy && view.dummy ? placeOf(view, dummy) : "";
+  return "at-table " + (view.playing && place.contract ? "playing" : "bidding") + (side ? " dummy-" + side : "");
+}
+
+function turnTitle(mine) {
+  document.title = mine ? "\u25cf Your turn \u2013 Bridge table" : "Bridge table";
+}
+
 function showView(placeReply, reply) {
   const place = readPlace(placeReply);
-  at("title").textContent = headText(place);
-  const head = () => [make("p", null, "Round " + place.round + " of " + place.rounds + ". " + placeText(place))];
   const refused = refusal(reply);
   const made = placeReply + reply;
-  if (!refused) {
-    const view = readView(reply);
-    show(made, waiting(place, view), () => head().concat(playNodes(place, view)));
-  } else if (refused === "NotDealt") {
-    show(made, "The next board is not dealt yet.", head);
-  } else if (refused === "NotCurrent") {
-    show(made, "Your boards of this round are done. " + nextText(place), head);
-  } else if (refused === "SitsOut") {
-    show(made, "You sit out in this round. " + nextText(place), head);
-  } else {
-    show(made, SENTENCES[refused] || reply, head);
+  if (refused) {
+    before = null;
+    unmark();
+    turnTitle(false);
+    const done = refused === "NotCurrent";
+    const status = refused === "NotDealt" ? "The next board is not dealt yet." : done ? "Your boards of this round are done. " + nextText(place)
+      : refused === "SitsOut" ? "You sit out in this round. " + nextText(place) : SENTENCES[refused] || reply;
+    barFor(place, null);
+    show(made, status, "between", () => betweenNodes(place, done || refused === "SitsOut"));
+    return;
   }
+  const view = readView(reply);
+  if (marked && !marked.line.startsWith(marked.what.startsWith("card-") ? "CARD " + key + " " + view.board + " " + view.made.cards + " " : "CALL " + key + " " + view.board + " " + view.made.calls + " ")) marked = null;
+  const mine = isMine(place, view);
+  barFor(place, view);
+  turnTitle(mine);
+  drawn = () => show(made + JSON.stringify([marked, claiming, looking, isSafe()]), waiting(place, view), shapeOf(place, view) + (mine ? " mine" : ""), () => playNodes(place, view));
+  drawn();
+  // The newest row of a long auction is in view.
+  if (at("auction")) at("auction").scrollTop = at("auction").scrollHeight;
+  const said = news(view);
+  if (said) say("heard", said);
+  playLast(place, view);
 }
 
 async function showClosed(placeReply, asked, mine) {
   const place = readPlace(placeReply);
-  at("title").textContent = headText(place);
   const first = await ask("/lines", "RANK " + asked + " 1\n");
   const second = await ask("/lines", "RANK " + asked + " 2\n");
   if (mine !== turn) return;
@@ -580,8 +1094,11 @@ async function showClosed(placeReply, asked, mine) {
     if (text === null) return unreachable();
     results = { made, text, at: Date.now() };
   }
+  barFor(place, null);
+  turnTitle(false);
   const both = [[1, first], [2, second]].filter((one) => !refusal(one[1]));
-  show(made + results.text, "The session is closed.", () => [...both.flatMap((one) => rankingNode(one[0], one[1])), make("h2", null, "Results"), make("pre", { id: "results" }, results.text)]);
+  show(made + results.text, "The session is closed.", "final",
+    () => [...both.map((one) => make("section", { className: "panel" }, ...rankingNode(one[0], one[1], place.pair))), make("h2", null, "Results"), make("pre", { id: "results" }, results.text)]);
 }
 
 // Shows where a player sits, and the play there, or what came of the session.
@@ -610,6 +1127,22 @@ async function act(line) {
   else if (refusal(reply)) say("notice", SENTENCES[refusal(reply)] || reply);
   return look();
 }
+
+// How calls and cards are sent, for this tab.
+at("settings").onclick = () => {
+  sessionStorage.setItem("sent", isSafe() ? "once" : "twice");
+  unmark();
+  sayHow();
+  drawn();
+};
+
+function sayHow() {
+  at("settings").textContent = isSafe() ? "2 taps send" : "1 tap sends";
+  at("settings").setAttribute("aria-label", isSafe() ? "A call or card is sent by a second tap. Send it at once" : "A call or card is sent at once. Send it by a second tap");
+}
+
+document.addEventListener("keydown", (event) => { if (event.key === "Escape" && (marked || claiming || looking)) { unmark(); drawn(); } });
+sayHow();
 "##;
 
 /// The director's script.
@@ -958,6 +1491,10 @@ async function showDirector(asked, mine) {
   if (reply === null) return unreachable();
   if (refusal(reply)) return leave();
   at("title").textContent = "Director";
+  at("below").textContent = "";
+  at("chip").hidden = true;
+  at("settings").hidden = true;
+  document.body.className = "director";
   const state = readTables(reply);
   if (!at("tables")) {
     shown = "director";
