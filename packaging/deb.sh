@@ -14,9 +14,10 @@ trap 'rm -rf "$work"' EXIT
 . "$top/bench/build.sh"
 club_program
 
-version=$("$program" version | sed -n 's/^bridge_club \([0-9][0-9.]*\),.*/\1/p')
-[ -n "$version" ] || {
-    echo "the program does not say its version" >&2
+said=$("$program" version)
+version=$(printf '%s\n' "$said" | sed -n 's/^bridge_club \([0-9][0-9.]*\),.*/\1/p')
+[ -n "$version" ] && printf '%s\n' "$said" | grep -qF "$(rt version)" || {
+    echo "the program says another version or another kit than it was proved with: $said" >&2
     exit 1
 }
 tree=$work/bridge-club_${version}_amd64
