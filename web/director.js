@@ -109,6 +109,14 @@ function minutesText(table, now) {
   return String(Math.floor((now - since.get(table.number).at) / MINUTE));
 }
 
+// How a table stands, for its colour: done, at play, slow, or not dealt.
+const SLOW = 5;
+function standsAs(table, minutes) {
+  if (table.idle === "NotCurrent" || table.idle === "SitsOut") return "done";
+  if (table.idle) return "waits";
+  return minutes >= SLOW ? "slow" : "plays";
+}
+
 function noteSets(state) {
   for (const table of state.tables.filter((one) => !one.idle)) {
     const board = Number(table.board);
@@ -119,8 +127,11 @@ function noteSets(state) {
 function tablesTable(state) {
   const titles = ["Table", "N-S", "E-W", "Board", "What goes on", "Min."];
   const now = Date.now();
-  const rows = state.tables.map((table) => make("tr", null,
-    ...[table.number, table.ns, table.ew, table.idle ? "" : table.board, progressText(table), minutesText(table, now)].map((word) => make("td", null, word))));
+  const rows = state.tables.map((table) => {
+    const minutes = minutesText(table, now);
+    return make("tr", { className: standsAs(table, Number(minutes)) },
+      ...[table.number, table.ns, table.ew, table.idle ? "" : table.board, progressText(table), minutes].map((word) => make("td", null, word)));
+  });
   return make("table", { id: "tables", className: "tables", hidden: rows.length === 0, aria_label: "Tables" },
     make("thead", null, make("tr", null, ...titles.map((title) => make("th", { scope: "col" }, title)))), make("tbody", null, ...rows));
 }
@@ -346,6 +357,7 @@ async function showDirector(asked, mine) {
   at("below").textContent = "";
   at("chip").hidden = true;
   at("settings").hidden = true;
+  at("choices").hidden = true;
   document.body.className = "director";
   const state = readTables(reply);
   if (!at("tables")) {

@@ -107,11 +107,18 @@ function show(made, status, shape, nodes) {
   if (focus && at(focus) && !at(focus).disabled) at(focus).focus();
 }
 
-function rankingNode(field, reply, own) {
-  const lines = reply.split("\n").filter((line) => /^\d/.test(line)).map((line) => line.split(" "));
+const rankingLines = (reply) => reply.split("\n").filter((line) => /^\d/.test(line)).map((line) => line.split(" "));
+
+// A field's ranking, with the names of the pairs where they are known.
+function rankingNode(field, reply, own, names = new Map()) {
+  const lines = rankingLines(reply);
+  const named = names.size > 0;
   const titles = ["Place", "Pair", "Score", "Per cent"].slice(0, lines.length ? lines[0].length : 0);
+  if (named) titles.splice(2, 0, "Names");
   const head = make("tr", null, ...titles.map((title) => make("th", { scope: "col" }, title)));
-  const rows = lines.map((words) => make("tr", { className: Number(words[1]) === own ? "own" : "" }, ...words.map((word) => make("td", null, word))));
+  const cells = (words) => (named ? [...words.slice(0, 2), names.get(Number(words[1])) || "", ...words.slice(2)] : words);
+  const rows = lines.map((words) => make("tr", { className: Number(words[1]) === own ? "own" : "" },
+    ...cells(words).map((word, i) => make("td", { className: named && i === 2 ? "who" : "" }, word))));
   return [make("h2", null, "Ranking, field " + field), make("table", { aria_label: "Ranking of field " + field }, make("thead", null, head), make("tbody", null, ...rows))];
 }
 
@@ -123,6 +130,7 @@ function showLogin() {
   at("below").textContent = "";
   at("chip").hidden = true;
   at("settings").hidden = true;
+  at("choices").hidden = true;
   show(LOGIN, "", "login", () => {
     const field = make("input", { id: "key", type: "text", inputMode: "numeric", autocomplete: "off", pattern: "[0-9 ]+", required: true });
     const enter = (event) => {
@@ -186,10 +194,26 @@ async function lookOnce(asked) {
 
 function enter(asked) {
   sessionStorage.setItem("key", asked);
+  sayLeave();
   at("leave").hidden = false;
 }
 
-at("leave").onclick = leave;
+// Leave is asked: it wants a second press within some seconds.
+const ASKED = 4000;
+let askedAt = -ASKED;
+const isAsked = () => Date.now() - askedAt < ASKED;
+
+function sayLeave() {
+  const label = isAsked() ? "Really leave?" : "Leave";
+  if (at("leave").textContent !== label) at("leave").textContent = label;
+}
+
+at("leave").onclick = () => {
+  const again = isAsked();
+  askedAt = again ? -ASKED : Date.now();
+  sayLeave();
+  if (again) leave();
+};
 document.addEventListener("visibilitychange", () => { if (!document.hidden) look(); });
 // Once the scripts of both pages are there.
 document.addEventListener("DOMContentLoaded", () => look());

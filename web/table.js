@@ -75,11 +75,13 @@ const rankName = (rank) => RANK_NAMES[rank] || rank;
 const cardName = (card) => rankName(card[1]) + " of " + SUIT_NAMES[card[0]];
 const rankText = (rank) => (rank === "T" ? "10" : rank);
 
+// The classes that give a suit its colour: of two, or of four where these are chosen.
+const SUIT_CLASSES = { S: "", H: " red", D: " red diamond", C: " club" };
+
 function suitSign(suit) {
-  return make("span", { className: "suit" + (isRed(suit) ? " red" : ""), aria_hidden: "true" }, SIGNS[suit]);
+  return make("span", { className: "suit" + SUIT_CLASSES[suit], aria_hidden: "true" }, SIGNS[suit]);
 }
 
-const isRed = (suit) => suit === "H" || suit === "D";
 const strainOf = (call) => call.slice(1).replace(/X+$/, "");
 
 function cardNodes(card) {
@@ -283,7 +285,7 @@ function handNode(view, hand, label, id, mine) {
     const line = "CARD " + key + " " + view.board + " " + view.made.cards + " " + suit + rank;
     const made = button("", cardName(suit + rank), name, mine && (!follows || suit === led), (event) => choose(name, line, event));
     made.append(...cardNodes(suit + rank));
-    made.className = "card" + (isRed(suit) ? " red" : "");
+    made.className = "card" + SUIT_CLASSES[suit];
     if (mine) made.setAttribute("aria-pressed", String(marked !== null && marked.what === name));
     return made;
   };
@@ -309,7 +311,7 @@ function trickNode(view) {
   const node = make("div", { className: "trick", role: "group", aria_label: whole && trick.length ? "Last trick" : "Trick" });
   for (const { seat, card } of trick) {
     const won = whole && seat === view.turn;
-    node.append(make("span", { className: "played " + placeOf(view, seat) + (isRed(card[0]) ? " red" : "") + (won ? " won" : ""), role: "img",
+    node.append(make("span", { className: "played " + placeOf(view, seat) + SUIT_CLASSES[card[0]] + (won ? " won" : ""), role: "img",
       aria_label: SEAT_NAMES[seat] + ": " + cardName(card) }, ...cardNodes(card)));
   }
   if (!whole && onTurn(view)) node.append(make("span", { className: "due " + placeOf(view, view.turn), aria_hidden: "true" }, view.turn));
@@ -352,7 +354,7 @@ function stripNode(place, view) {
 }
 
 function lastTrickNodes(view) {
-  return view.last.map(({ seat, card }) => make("span", { className: "field" }, seat + " ", make("span", { className: isRed(card[0]) ? "red" : "", role: "img", aria_label: SEAT_NAMES[seat] + ": " + cardName(card) }, ...cardNodes(card).reverse())));
+  return view.last.map(({ seat, card }) => make("span", { className: "field" }, seat + " ", make("span", { className: SUIT_CLASSES[card[0]].trim(), role: "img", aria_label: SEAT_NAMES[seat] + ": " + cardName(card) }, ...cardNodes(card).reverse())));
 }
 
 function sideNode(place, view) {
@@ -615,8 +617,43 @@ async function showClosed(placeReply, asked, mine) {
   barFor(place, null);
   turnTitle(false);
   const both = [[1, first], [2, second]].filter((one) => !refusal(one[1]));
-  show(made + results.text, "The session is closed.", "final",
-    () => [...both.map((one) => make("section", { className: "panel" }, ...rankingNode(one[0], one[1], place.pair))), make("h2", null, "Results"), make("pre", { id: "results" }, results.text)]);
+  show(made + results.text, "The session is closed.", "final", () => finalNodes(place, both));
+}
+
+// The names of each pair, and the score card of one, as the results have them.
+function namesIn(text) {
+  return new Map([...text.matchAll(/^Pair (\d+): (.*)$/gm)].map((found) => [Number(found[1]), found[2]]));
+}
+
+function cardIn(text, pair) {
+  const from = text.search(new RegExp("^Pair " + pair + ": ", "m"));
+  const card = from < 0 ? "" : text.slice(from);
+  const next = card.slice(1).search(/^Pair /m);
+  return next < 0 ? card : card.slice(0, next + 1);
+}
+
+const ORDINALS = ["first", "second", "third", "fourth", "fifth", "sixth", "seventh", "eighth", "ninth", "tenth", "eleventh", "twelfth"];
+
+// What has come of the evening for this player's pair: [place, pair, score, per cent] among so many.
+function bannerNode(place, own, among, names) {
+  const large = (words) => make("p", { className: "large" }, words);
+  return make("section", { id: "own", className: "banner" }, large("You are " + (ORDINALS[own[0] - 1] || "at place " + own[0]) + " of " + among),
+    large(own[3] ? own[3] + " %" : own[2]), make("p", null, names.get(place.pair) || headText(place)), make("p", null, own[3] ? own[2].replace("/", " of ") : ""));
+}
+
+function finalNodes(place, both) {
+  const names = namesIn(results.text);
+  const nodes = [];
+  for (const lines of both.map((one) => rankingLines(one[1]))) {
+    const own = lines.find((words) => Number(words[1]) === place.pair);
+    if (own) nodes.push(bannerNode(place, own, lines.length, names));
+  }
+  nodes.push(make("div", { className: "sides" }, ...both.map((one) => make("section", { className: "panel" }, ...rankingNode(one[0], one[1], place.pair, names)))));
+  const card = cardIn(results.text, place.pair);
+  if (card) nodes.push(make("details", { id: "own-card", open: true }, make("summary", null, "My score card"), make("pre", null, card)));
+  nodes.push(make("details", { id: "all-results" }, make("summary", null, "All boards"), make("pre", { id: "results" }, results.text)),
+    button("Print", "", "print", true, () => window.print()));
+  return nodes;
 }
 
 // Shows where a player sits, and the play there, or what came of the session.
@@ -646,18 +683,36 @@ async function act(line) {
   return look();
 }
 
-// How calls and cards are sent, for this tab.
-at("settings").onclick = () => {
-  sessionStorage.setItem("sent", isSafe() ? "once" : "twice");
-  unmark();
-  sayHow();
-  drawn();
-};
+// ---- choices, kept for the tab
 
-function sayHow() {
-  at("settings").textContent = isSafe() ? "2 taps send" : "1 tap sends";
-  at("settings").setAttribute("aria-label", isSafe() ? "A call or card is sent by a second tap. Send it at once" : "A call or card is sent at once. Send it by a second tap");
+// One choice of two: what it is about, the name under which it is kept, and for each its value and words.
+function choiceOf(title, name, now, options) {
+  const radio = ([value, words]) => make("label", null, make("input", {
+    type: "radio", name, id: name + "-" + value, checked: value === now, onchange: () => { sessionStorage.setItem(name, value); chosen(); },
+  }), words);
+  return make("fieldset", null, make("legend", null, title), ...options.map(radio));
 }
 
-document.addEventListener("keydown", (event) => { if (event.key === "Escape" && (marked || claiming || looking)) { unmark(); drawn(); } });
-sayHow();
+function chosen() {
+  unmark();
+  document.documentElement.className = sessionStorage.getItem("suits") === "four" ? "four" : "";
+  drawn();
+}
+
+function showChoices() {
+  const sheet = at("choices");
+  sheet.replaceChildren(make("h2", null, "Settings"),
+    choiceOf("A call or card is sent", "sent", isSafe() ? "twice" : "once", [["twice", "by a second tap, or the button below"], ["once", "at once"]]),
+    choiceOf("Suits", "suits", sessionStorage.getItem("suits") || "two", [["two", "in two colours"], ["four", "in four colours"]]),
+    button("Done", "", "chosen", true, () => { sheet.hidden = true; }));
+  sheet.hidden = false;
+  at("chosen").focus();
+}
+
+at("settings").onclick = () => { if (at("choices").hidden) showChoices(); else at("choices").hidden = true; };
+document.addEventListener("keydown", (event) => {
+  if (event.key !== "Escape") return;
+  at("choices").hidden = true;
+  if (marked || claiming || looking) { unmark(); drawn(); }
+});
+chosen();

@@ -172,6 +172,7 @@ def other_sites(browser, disk):
 def leaves(window):
     """Who leaves is asked for a key, in the next seconds too and on a page loaded anew, and the window keeps none."""
     window.click("#leave")
+    window.click("#leave")
     for is_loaded_anew in [False, True]:
         if is_loaded_anew:
             window.go(f"http://127.0.0.1:{PORT}/")

@@ -19,6 +19,7 @@ FOLDER = sys.argv[3] if len(sys.argv) > 3 else None
 PORT = 27461
 SIZES = [(360, 640), (390, 844), (844, 390), (768, 1024), (1024, 768), (1440, 900)]
 NORTH, EAST, SOUTH, WEST = SEATS = ["40213", "26751", "71850", "60482"]
+DIRECTOR = "52817"
 DEAL = "N:K73.AK652.2.Q652 J652.Q8.QT97.K43 AQ94.J7.K43.JT98 T8.T943.AJ865.A7"
 CALLS = ["1C", "PASS", "1D", "PASS", "1H", "PASS", "1S", "X", "XX", "PASS", "2C", "PASS"]
 NAMES = {"A.Berger": "Maximiliana-Berger-Lange", "M.Okafor": "Chukwuemeka.Okafor-Adae1",
@@ -50,13 +51,13 @@ def run(*words, text=""):
     return subprocess.run([PROGRAM, *words], input=text, text=True, check=True, capture_output=True).stdout
 
 
-def measure(window, name, width, height, dark=False):
+def measure(window, name, width, height, dark=False, scrolls=False):
     window.ask("Emulation.setEmulatedMedia", features=[{"name": "prefers-color-scheme", "value": "dark" if dark else "light"}])
     window.size(width, height)
     time.sleep(0.6)
     where = f"{name} at {width}x{height}{', dark' if dark else ''}"
     long, high, wide, across = window.value("[document.documentElement.scrollHeight, innerHeight, document.documentElement.scrollWidth, innerWidth]")
-    if long > high or wide > across:
+    if (long > high and not scrolls) or wide > across:
         found.append(f"{where} is {wide}x{long}")
     for text, ratio in window.value(FAINT):
         found.append(f"{where}: {text!r} has a contrast of {ratio}")
@@ -67,10 +68,10 @@ def measure(window, name, width, height, dark=False):
         window.picture(os.path.join(FOLDER, f"{name}-{width}x{height}{'-dark' if dark else ''}.png"))
 
 
-def measure_all(window, name):
+def measure_all(window, name, scrolls=False):
     for width, height in SIZES:
-        measure(window, name, width, height)
-    measure(window, name, 390, 844, dark=True)
+        measure(window, name, width, height, scrolls=scrolls)
+    measure(window, name, 390, 844, dark=True, scrolls=scrolls)
 
 
 def large_letters(window, name):
@@ -106,14 +107,14 @@ def main():
             login = Window(browser, f"http://127.0.0.1:{PORT}/")
             login.wait("document.getElementById('key')")
             measure_all(login, "login")
-            for key in SEATS:
+            for key in [*SEATS, DIRECTOR]:
                 window = windows[key] = Window(browser, f"http://127.0.0.1:{PORT}/")
                 window.wait("document.getElementById('key')")
                 window.type("#key", key)
                 window.key("Enter", 13, "\r")
                 window.wait("!document.getElementById('leave').hidden")
             measure_all(windows[NORTH], "waiting")
-            send(f"DEAL 52817 1 {DEAL}")
+            send(f"DEAL {DIRECTOR} 1 {DEAL}")
             send(*[f"CALL {SEATS[i % 4]} 1 {i} {call}" for i, call in enumerate(CALLS)])
             measure_all(windows[NORTH], "auction")
             measure_all(windows[EAST], "auction-waiting")
@@ -123,11 +124,17 @@ def main():
             send(f"CARD {EAST} 1 0 D7")
             measure_all(windows[NORTH], "declarer")
             measure_all(windows[WEST], "defender")
+            windows[WEST].click("#settings")
+            windows[WEST].click("#suits-four")
+            measure_all(windows[WEST], "settings")
+            windows[WEST].click("#chosen")
+            measure_all(windows[WEST], "defender-four-colours")
             measure_all(windows[SOUTH], "dummy")
             large_letters(windows[SOUTH], "dummy")
             send(f"CARD {NORTH} 1 1 DK", f"CARD {WEST} 1 2 DA", f"CARD {NORTH} 1 3 D2", f"CARD {WEST} 1 4 D5", f"CARD {NORTH} 1 5 C2", f"CARD {EAST} 1 6 D9", f"CARD {NORTH} 1 7 D3")
             measure_all(windows[NORTH], "whole-trick")
             send(f"CLAIM {NORTH} 1 0 9")
+            measure_all(windows[DIRECTOR], "director", scrolls=True)
             measure_all(windows[WEST], "asked")
             measure_all(windows[NORTH], "claimed")
         finally:

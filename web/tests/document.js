@@ -105,6 +105,7 @@ function readPage(text) {
   found.root = found.createElement("root");
   found.title = "";
   Object.defineProperty(found, "body", { get: () => found.root.all().find((element) => element.tag === "body") });
+  Object.defineProperty(found, "documentElement", { get: () => found.root.all().find((element) => element.tag === "html") });
   found.getElementById = (id) => found.root.all().find((element) => element.id === id) || null;
   found.addEventListener = (name, act) => found.listeners.set(name, act);
   let within = found.root;

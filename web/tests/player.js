@@ -68,6 +68,12 @@ run({
     const page = await seated(place(), view());
     assert.deepStrictEqual([...page.kept], [["key", KEY]]);
     assert.deepStrictEqual(await page.click("leave"), []);
+    assert.deepStrictEqual([...page.kept], [["key", KEY]]);
+    assert.strictEqual(page.text("leave"), "Really leave?");
+    page.now += 4000;
+    await page.click("leave");
+    assert.deepStrictEqual([...page.kept], [["key", KEY]]);
+    assert.deepStrictEqual(await page.click("leave"), []);
     assert.deepStrictEqual([...page.kept], []);
     assert.ok(page.at("key") && !page.named("Auction"));
   },
@@ -77,6 +83,7 @@ run({
     const page = new Page(() => new Promise((resolve) => { release = () => resolve(place()); }), { key: KEY });
     await page.settle();
     page.at("leave").hidden = false;
+    page.at("leave").click();
     page.at("leave").click();
     release();
     await page.settle();
@@ -184,8 +191,8 @@ run({
 
   "a whole trick stays with its winner marked until the next card": async () => {
     const page = await seated(place({ CONTRACT: "4S W" }), play({ TURN: "N", AT: "9 4 0", LAST: "W CA C2 C3 C4", TRICKS: "1 0" }));
-    assert.strictEqual(page.named("North: 2 of clubs").className, "played top won");
-    assert.strictEqual(page.named("West: ace of clubs").className, "played left");
+    assert.strictEqual(page.named("North: 2 of clubs").className, "played top club won");
+    assert.strictEqual(page.named("West: ace of clubs").className, "played left club");
     await page.click("last");
     assert.ok(page.at("last-trick"));
     await page.click("last-close");
@@ -214,7 +221,13 @@ run({
     assert.deepStrictEqual(await page.click("card-HJ"), []);
     assert.deepStrictEqual((await page.click("confirm"))[0], `/lines CARD ${KEY} 4 0 HJ\n`);
     await page.click("settings");
-    assert.strictEqual(page.kept.get("sent"), "once");
+    assert.ok(page.at("sent-twice").checked && page.at("suits-two").checked);
+    page.at("sent-once").onchange();
+    page.at("suits-four").onchange();
+    assert.deepStrictEqual([page.kept.get("sent"), page.kept.get("suits")], ["once", "four"]);
+    assert.strictEqual(page.document.documentElement.className, "four");
+    await page.click("chosen");
+    assert.ok(page.at("choices").hidden);
   },
 
   "a finger's tap counts for nothing just after the table has moved": async () => {
@@ -323,21 +336,24 @@ run({
   },
 
   "once the session is closed each field stands under its heading, and the results are asked for again after a minute": async () => {
+    const RESULTS = "Club-Night\nScore cards\n\nPair 1: Ann and Bob\n\nPair 2: Cy and Di\n  Total: 6.0 of 8.0\n\nPair 3: Eve and Flo\n";
     const closed = place({ ROUND: "4 3", TABLE: "-", NAMES: "-", NEXT: "-" });
     const ranks = { 1: "OK\n1 2 6.0/8.0 75.00\n2 1 2.0/8.0 25.00\n.\n", 2: "OK\n1 4 5.0/8.0 62.50\n.\n" };
     const page = new Page((where, body) => {
       if (where === "/place") return closed;
-      return where === "/results" ? "Club-Night\n" : ranks[body.trim().split(" ")[2]];
+      return where === "/results" ? RESULTS : ranks[body.trim().split(" ")[2]];
     }, { key: KEY });
     await page.settle();
     const asked = [`/place ${KEY}`, `/lines RANK ${KEY} 1\n`, `/lines RANK ${KEY} 2\n`];
     assert.deepStrictEqual(page.asked, [...asked, `/results ${KEY}`]);
-    const titles = ["Place", "Pair", "Score", "Per cent"];
-    assert.deepStrictEqual(page.rows(page.named("Ranking of field 1")), [titles, ["1", "2", "6.0/8.0", "75.00"], ["2", "1", "2.0/8.0", "25.00"]]);
-    assert.deepStrictEqual(page.rows(page.named("Ranking of field 2")), [titles, ["1", "4", "5.0/8.0", "62.50"]]);
+    const titles = ["Place", "Pair", "Names", "Score", "Per cent"];
+    assert.deepStrictEqual(page.rows(page.named("Ranking of field 1")), [titles, ["1", "2", "Cy and Di", "6.0/8.0", "75.00"], ["2", "1", "Ann and Bob", "2.0/8.0", "25.00"]]);
+    assert.deepStrictEqual(page.rows(page.named("Ranking of field 2")), [titles, ["1", "4", "", "5.0/8.0", "62.50"]]);
+    assert.strictEqual(page.text("own"), "You are first of 275.00 %Cy and Di6.0 of 8.0");
+    assert.strictEqual(page.text("own-card"), "My score cardPair 2: Cy and Di\n  Total: 6.0 of 8.0\n\n");
     assert.strictEqual(page.named("Ranking of field 2").parent.nodes[0].textContent, "Ranking, field 2");
     assert.strictEqual(page.named("Ranking of field 1").querySelectorAll("tr")[1].className, "own");
-    assert.strictEqual(page.text("results"), "Club-Night\n");
+    assert.strictEqual(page.text("results"), RESULTS);
     assert.strictEqual(page.text("status"), "The session is closed.");
     assert.deepStrictEqual(await page.look(), asked);
     page.now += 60000;

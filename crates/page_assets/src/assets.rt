@@ -18,11 +18,12 @@ pub const PAGE: &str = r##"<!doctype html>
 <header id="bar">
 <div id="chip" role="img" hidden></div>
 <div id="heads"><h1 id="title">Bridge table</h1><p id="below"></p></div>
-<button id="settings" type="button" hidden>Text and play</button>
+<button id="settings" type="button" hidden>Settings</button>
 <button id="leave" type="button" hidden>Leave</button>
 </header>
 <p id="notice" role="alert"></p>
 <main id="main"><noscript>This page needs JavaScript.</noscript></main>
+<section id="choices" class="sheet" aria-label="Settings" hidden></section>
 <p id="status" role="status"></p>
 <p id="heard" role="status"></p>
 </body>
@@ -38,6 +39,7 @@ pub const STYLE: &str = r##"/* For a telephone as for a large screen, light and 
   --bar: #143d31; --on-bar: #fff; --bar-second: #c9dad2; --felt: #1f5c49; --strip: #174a3a; --on-felt: #fff;
   --plate: #e6efe9; --plate-ink: #14201b; --gold: #ffd84d; --gold-ink: #14201b; --vul: #b3151f; --not-vul: #1b7443;
   --blue: #0b57a4; --on-blue: #fff; --note: #ffe7b0; --note-ink: #3d2a00; --good: #0f6b3a; --bad: #a8001c; --own: #fff3c4;
+  --diamond: #953a00; --club: #005c2b; --text-diamond: #953a00; --text-club: #005c2b; --wait: #a86400;
   --off: #5b645f; --face: #fffdf7; --black: #12181c; --red: #a8001c; --shut: #d9d5c8; --shut-red: #6f0012; --lifted: #fff4c6;
   --text-red: #a8001c; --felt-red: #ffb3b3; --pass: #10603a; --double: #a8121c; --redouble: #12449c;
 }
@@ -47,6 +49,7 @@ pub const STYLE: &str = r##"/* For a telephone as for a large screen, light and 
     --bar: #0a201a; --on-bar: #e9ede9; --bar-second: #a8c0b5; --felt: #12352b; --strip: #0c271f; --on-felt: #e9ede9;
     --plate: #21302a; --plate-ink: #e9ede9; --vul: #c4262f; --not-vul: #1f7a48;
     --blue: #8cc2ff; --on-blue: #071a2e; --note: #3d2f0a; --note-ink: #ffe7b0; --good: #7fd8a0; --bad: #ff8d8d; --own: #3a3312;
+    --diamond: #7d2f00; --club: #00522a; --text-diamond: #ffb067; --text-club: #7fd8a0; --wait: #ffb84d;
     --off: #97a39c; --face: #e9e4d6; --red: #980019; --shut: #cdc8ba; --text-red: #ff8d8d;
   }
 }
@@ -123,7 +126,28 @@ pre { background: var(--panel); padding: .5rem; overflow-x: auto; font-size: .8r
 .field { display: inline-flex; flex-wrap: wrap; gap: .3rem; align-items: center; }
 .field input[type=number] { width: 5.5rem; }
 details { margin: .6rem 0; border-top: 1px solid var(--edge); padding-top: .4rem; }
-.director details { padding: .5rem 1rem; background: var(--panel); border: 1px solid var(--edge); border-radius: .75rem; } .director #tables table { width: 100%; }
+/* The results. */
+.final #main { max-width: 72rem; } .sides { display: grid; grid-template-columns: repeat(auto-fit, minmax(min(100%, 24rem), 1fr)); gap: 0 1rem; }
+.sides .panel { width: 100%; max-width: none; } .sides table { width: 100%; } .sides th, .sides td { border: 0; border-bottom: 1px solid var(--edge); padding: .35rem .3rem; } .who { text-align: left; overflow-wrap: anywhere; }
+.banner { display: grid; grid-template-columns: 1fr auto; align-items: baseline; padding: .5rem 1rem; margin-bottom: .75rem; color: var(--on-felt); background: var(--felt); border-radius: .75rem; } .banner .large { font-size: 1.375rem; } .banner p { margin: 0; }
+.sheet fieldset { border: 1px solid var(--edge); border-radius: .5rem; margin: .5rem 0; } .sheet fieldset label { display: flex; } #chosen { width: 100%; color: var(--on-blue); background: var(--blue); }
+/* The director's tables: a card each. */
+.director #tables { display: block; background: none; } .director #tables thead { position: absolute; width: 1px; height: 1px; overflow: hidden; clip-path: inset(50%); }
+.director #tables tbody { display: grid; grid-template-columns: repeat(auto-fill, minmax(min(100%, 18rem), 1fr)); gap: .6rem; }
+.director #tables tr { display: grid; grid-template: "n b b m" auto "w w w w" auto "p p q q" auto / auto auto 1fr auto; gap: .1rem .75rem; align-items: baseline; padding: .5rem .75rem; background: var(--panel); border: 1px solid var(--edge); border-left: .5rem solid var(--edge); border-radius: .75rem; }
+.director #tables td { border: 0; padding: 0; text-align: left; } .director #tables td:nth-child(1) { grid-area: n; font-size: 1.5rem; font-weight: bold; }
+.director #tables td:nth-child(2) { grid-area: p; } .director #tables td:nth-child(2)::before { content: "N\2013S pair "; } .director #tables td:nth-child(3) { grid-area: q; } .director #tables td:nth-child(3)::before { content: "E\2013W pair "; }
+.director #tables td:nth-child(2), .director #tables td:nth-child(3) { color: var(--second); font-size: .9375rem; }
+.director #tables td:nth-child(4) { grid-area: b; font-weight: bold; } .director #tables td:nth-child(4):not(:empty)::before { content: "Board "; } .director #tables td:nth-child(5) { grid-area: w; }
+.director #tables td:nth-child(6) { grid-area: m; font-size: .875rem; color: var(--second); } .director #tables td:nth-child(6)::after { content: " min"; }
+.director #tables .done { border-left-color: var(--good); } .director #tables .waits { border-left-color: var(--blue); } .director #tables .slow { border-color: var(--wait); }
+.director #tables .slow td:nth-child(6) { padding: 0 .5rem; border-radius: 1rem; color: var(--gold-ink); background: var(--gold); font-weight: bold; }
+.director summary { min-height: 0; padding: .45rem 0; }
+@media (min-width: 60em) {
+  .director #main { display: grid; grid-template-columns: minmax(0, 1fr) 22rem; gap: 0 1rem; align-items: start; max-width: 90rem; } .director #main > * { grid-column: 2; min-width: 0; }
+  .director #main > #tables { grid-column: 1; grid-row: 2 / span 6; } .director #main > .row { grid-row: 2; margin-top: 0; } .director #main > #told, .director #main > #publishing, .director #main > #lines { grid-column: 1 / -1; }
+}
+.director details { padding: .5rem 1rem; background: var(--panel); border: 1px solid var(--edge); border-radius: .75rem; } 
 summary { cursor: pointer; min-height: 2.2rem; font-weight: bold; }
 .tables td, .tables th { padding: .2rem .35rem; }
 #told { position: sticky; top: 0; z-index: 1; color: var(--note-ink); background: var(--note); padding: .4rem .6rem; border-radius: .5rem; }
@@ -135,14 +159,14 @@ summary { cursor: pointer; min-height: 2.2rem; font-weight: bold; }
 .at-table #status { color: var(--plate-ink); background: var(--plate); }
 .at-table #status.turn { color: var(--gold-ink); background: var(--gold); font-weight: bold; }
 #strip { grid-area: strip; display: flex; align-items: center; gap: .5rem; min-height: 2.125rem; padding: .1rem .6rem; color: var(--on-felt); background: var(--strip); position: relative; }
-#strip .red { color: var(--felt-red); }
+#strip .red { color: var(--felt-red); } .four #strip .diamond { color: #ffc48a; } .four #strip .club { color: #a8e6bd; }
 #strip .suit, .face .suit { font-weight: normal; }
 .contract { font-size: 1.125rem; font-weight: bold; }
 #calls { border: 0; margin: 0; padding: 0; flex: 1; }
 #calls summary { min-height: 2rem; list-style: none; font-weight: normal; display: flex; gap: .4rem; align-items: center; }
 #calls summary::after { content: "\25be"; color: var(--bar-second); }
 #calls[open] > div { position: absolute; inset: 100% .4rem auto; z-index: 5; padding: .5rem; color: var(--ink); background: var(--panel); border: 1px solid var(--edge); border-radius: .75rem; }
-#calls .red { color: var(--text-red); } #calls summary .red { color: var(--felt-red); }
+#calls .red { color: var(--text-red); } .four #calls td .diamond { color: var(--text-diamond); } .four #calls td .club { color: var(--text-club); } #calls summary .red { color: var(--felt-red); }
 .tally { display: flex; gap: 2px; align-items: center; }
 .tally i { width: .35rem; height: .35rem; border-radius: 50%; background: var(--bar-second); opacity: .7; }
 .tally .ours { width: .4rem; height: .85rem; border-radius: 1px; background: #fff; opacity: 1; }
@@ -181,6 +205,9 @@ summary { cursor: pointer; min-height: 2.2rem; font-weight: bold; }
 .card:disabled { color: var(--black); background: var(--face); border: 1px solid #8f8b7e; font-weight: bold; }
 .card.red:disabled { color: var(--red); }
 .hand.on .card:disabled { background: var(--shut); box-shadow: none; } .hand.on .card.red:disabled { color: var(--shut-red); }
+.four .diamond { color: var(--text-diamond); } .four .club { color: var(--text-club); }
+.four .card.diamond, .four .played.diamond { color: var(--diamond); } .four .card.club, .four .played.club { color: var(--club); }
+.four .hand.on .card.diamond:disabled { color: #5c2400; } .four .hand.on .card.club:disabled { color: #00401f; } .four .card[aria-pressed=true].diamond { color: #853200; }
 .card[aria-pressed=true] { background: var(--lifted); transform: translateY(-.75rem); outline: 3px solid var(--gold); }
 .ten { letter-spacing: -.12em; }
 .at-left .cards, .at-right .cards { flex-direction: column; padding: .1rem; gap: .15rem; }
@@ -215,7 +242,7 @@ th.turn, td.turn, .auction th.turn { color: var(--gold-ink); background: var(--g
 #dock button { padding: .1rem; min-width: 0; }
 .box { --bid: clamp(2.25rem, calc((100dvh - 24.2rem) / 7), 3rem); }
 #dock .bid { grid-column: span 2; min-height: var(--bid); color: var(--black); background: #fffdf7; font-size: 1.125rem; line-height: 1; }
-#dock .bid .red { color: #a8001c; }
+#dock .bid .red { color: #a8001c; } .four #dock .bid .diamond { color: #953a00; } .four #dock .bid .club { color: #005c2b; }
 #dock .bid:disabled, #dock .bid:disabled .red { color: var(--off); background: var(--soft); border: 1px solid var(--soft); }
 #call-PASS { grid-column: span 3; } #call-X, #call-XX { grid-column: span 2; } .box #confirm { grid-column: span 3; }
 #dock #call-PASS:enabled { color: #fff; background: var(--pass); } #dock #call-X:enabled { color: #fff; background: var(--double); } #dock #call-XX:enabled { color: #fff; background: var(--redouble); }
@@ -278,7 +305,7 @@ th.turn, td.turn, .auction th.turn { color: var(--gold-ink); background: var(--g
   .at-table { --tw: 2rem; --th: 2.75rem; } #strip { flex-wrap: wrap; } #strip #calls { flex-basis: 100%; }
   .at-table:not(.bidding) #stage { grid-template: "top" auto "left" auto "mid" auto "right" auto / minmax(0, 1fr); } .at-left > .plate, .at-right > .plate { flex-direction: row; }
 }
-@media print { #bar button, button, summary, label, input, select, textarea, #status, #told, #tables, details:not(#publishing) { display: none !important; } body, #bar { color: #000; background: #fff; } }
+@media print { #bar button, button, summary, label, input, select, textarea, #status, #told, #tables, .director details:not(#publishing) { display: none !important; } body, #bar { color: #000; background: #fff; } }
 "##;
 
 /// What the two other scripts share.
@@ -391,11 +418,18 @@ function show(made, status, shape, nodes) {
   if (focus && at(focus) && !at(focus).disabled) at(focus).focus();
 }
 
-function rankingNode(field, reply, own) {
-  const lines = reply.split("\n").filter((line) => /^\d/.test(line)).map((line) => line.split(" "));
+const rankingLines = (reply) => reply.split("\n").filter((line) => /^\d/.test(line)).map((line) => line.split(" "));
+
+// A field's ranking, with the names of the pairs where they are known.
+function rankingNode(field, reply, own, names = new Map()) {
+  const lines = rankingLines(reply);
+  const named = names.size > 0;
   const titles = ["Place", "Pair", "Score", "Per cent"].slice(0, lines.length ? lines[0].length : 0);
+  if (named) titles.splice(2, 0, "Names");
   const head = make("tr", null, ...titles.map((title) => make("th", { scope: "col" }, title)));
-  const rows = lines.map((words) => make("tr", { className: Number(words[1]) === own ? "own" : "" }, ...words.map((word) => make("td", null, word))));
+  const cells = (words) => (named ? [...words.slice(0, 2), names.get(Number(words[1])) || "", ...words.slice(2)] : words);
+  const rows = lines.map((words) => make("tr", { className: Number(words[1]) === own ? "own" : "" },
+    ...cells(words).map((word, i) => make("td", { className: named && i === 2 ? "who" : "" }, word))));
   return [make("h2", null, "Ranking, field " + field), make("table", { aria_label: "Ranking of field " + field }, make("thead", null, head), make("tbody", null, ...rows))];
 }
 
@@ -407,6 +441,7 @@ function showLogin() {
   at("below").textContent = "";
   at("chip").hidden = true;
   at("settings").hidden = true;
+  at("choices").hidden = true;
   show(LOGIN, "", "login", () => {
     const field = make("input", { id: "key", type: "text", inputMode: "numeric", autocomplete: "off", pattern: "[0-9 ]+", required: true });
     const enter = (event) => {
@@ -470,10 +505,26 @@ async function lookOnce(asked) {
 
 function enter(asked) {
   sessionStorage.setItem("key", asked);
+  sayLeave();
   at("leave").hidden = false;
 }
 
-at("leave").onclick = leave;
+// Leave is asked: it wants a second press within some seconds.
+const ASKED = 4000;
+let askedAt = -ASKED;
+const isAsked = () => Date.now() - askedAt < ASKED;
+
+function sayLeave() {
+  const label = isAsked() ? "Really leave?" : "Leave";
+  if (at("leave").textContent !== label) at("leave").textContent = label;
+}
+
+at("leave").onclick = () => {
+  const again = isAsked();
+  askedAt = again ? -ASKED : Date.now();
+  sayLeave();
+  if (again) leave();
+};
 document.addEventListener("visibilitychange", () => { if (!document.hidden) look(); });
 // Once the scripts of both pages are there.
 document.addEventListener("DOMContentLoaded", () => look());
@@ -557,11 +608,13 @@ const rankName = (rank) => RANK_NAMES[rank] || rank;
 const cardName = (card) => rankName(card[1]) + " of " + SUIT_NAMES[card[0]];
 const rankText = (rank) => (rank === "T" ? "10" : rank);
 
+// The classes that give a suit its colour: of two, or of four where these are chosen.
+const SUIT_CLASSES = { S: "", H: " red", D: " red diamond", C: " club" };
+
 function suitSign(suit) {
-  return make("span", { className: "suit" + (isRed(suit) ? " red" : ""), aria_hidden: "true" }, SIGNS[suit]);
+  return make("span", { className: "suit" + SUIT_CLASSES[suit], aria_hidden: "true" }, SIGNS[suit]);
 }
 
-const isRed = (suit) => suit === "H" || suit === "D";
 const strainOf = (call) => call.slice(1).replace(/X+$/, "");
 
 function cardNodes(card) {
@@ -765,7 +818,7 @@ function handNode(view, hand, label, id, mine) {
     const line = "CARD " + key + " " + view.board + " " + view.made.cards + " " + suit + rank;
     const made = button("", cardName(suit + rank), name, mine && (!follows || suit === led), (event) => choose(name, line, event));
     made.append(...cardNodes(suit + rank));
-    made.className = "card" + (isRed(suit) ? " red" : "");
+    made.className = "card" + SUIT_CLASSES[suit];
     if (mine) made.setAttribute("aria-pressed", String(marked !== null && marked.what === name));
     return made;
   };
@@ -791,7 +844,7 @@ function trickNode(view) {
   const node = make("div", { className: "trick", role: "group", aria_label: whole && trick.length ? "Last trick" : "Trick" });
   for (const { seat, card } of trick) {
     const won = whole && seat === view.turn;
-    node.append(make("span", { className: "played " + placeOf(view, seat) + (isRed(card[0]) ? " red" : "") + (won ? " won" : ""), role: "img",
+    node.append(make("span", { className: "played " + placeOf(view, seat) + SUIT_CLASSES[card[0]] + (won ? " won" : ""), role: "img",
       aria_label: SEAT_NAMES[seat] + ": " + cardName(card) }, ...cardNodes(card)));
   }
   if (!whole && onTurn(view)) node.append(make("span", { className: "due " + placeOf(view, view.turn), aria_hidden: "true" }, view.turn));
@@ -834,7 +887,7 @@ function stripNode(place, view) {
 }
 
 function lastTrickNodes(view) {
-  return view.last.map(({ seat, card }) => make("span", { className: "field" }, seat + " ", make("span", { className: isRed(card[0]) ? "red" : "", role: "img", aria_label: SEAT_NAMES[seat] + ": " + cardName(card) }, ...cardNodes(card).reverse())));
+  return view.last.map(({ seat, card }) => make("span", { className: "field" }, seat + " ", make("span", { className: SUIT_CLASSES[card[0]].trim(), role: "img", aria_label: SEAT_NAMES[seat] + ": " + cardName(card) }, ...cardNodes(card).reverse())));
 }
 
 function sideNode(place, view) {
@@ -1097,8 +1150,43 @@ async function showClosed(placeReply, asked, mine) {
   barFor(place, null);
   turnTitle(false);
   const both = [[1, first], [2, second]].filter((one) => !refusal(one[1]));
-  show(made + results.text, "The session is closed.", "final",
-    () => [...both.map((one) => make("section", { className: "panel" }, ...rankingNode(one[0], one[1], place.pair))), make("h2", null, "Results"), make("pre", { id: "results" }, results.text)]);
+  show(made + results.text, "The session is closed.", "final", () => finalNodes(place, both));
+}
+
+// The names of each pair, and the score card of one, as the results have them.
+function namesIn(text) {
+  return new Map([...text.matchAll(/^Pair (\d+): (.*)$/gm)].map((found) => [Number(found[1]), found[2]]));
+}
+
+function cardIn(text, pair) {
+  const from = text.search(new RegExp("^Pair " + pair + ": ", "m"));
+  const card = from < 0 ? "" : text.slice(from);
+  const next = card.slice(1).search(/^Pair /m);
+  return next < 0 ? card : card.slice(0, next + 1);
+}
+
+const ORDINALS = ["first", "second", "third", "fourth", "fifth", "sixth", "seventh", "eighth", "ninth", "tenth", "eleventh", "twelfth"];
+
+// What has come of the evening for this player's pair: [place, pair, score, per cent] among so many.
+function bannerNode(place, own, among, names) {
+  const large = (words) => make("p", { className: "large" }, words);
+  return make("section", { id: "own", className: "banner" }, large("You are " + (ORDINALS[own[0] - 1] || "at place " + own[0]) + " of " + among),
+    large(own[3] ? own[3] + " %" : own[2]), make("p", null, names.get(place.pair) || headText(place)), make("p", null, own[3] ? own[2].replace("/", " of ") : ""));
+}
+
+function finalNodes(place, both) {
+  const names = namesIn(results.text);
+  const nodes = [];
+  for (const lines of both.map((one) => rankingLines(one[1]))) {
+    const own = lines.find((words) => Number(words[1]) === place.pair);
+    if (own) nodes.push(bannerNode(place, own, lines.length, names));
+  }
+  nodes.push(make("div", { className: "sides" }, ...both.map((one) => make("section", { className: "panel" }, ...rankingNode(one[0], one[1], place.pair, names)))));
+  const card = cardIn(results.text, place.pair);
+  if (card) nodes.push(make("details", { id: "own-card", open: true }, make("summary", null, "My score card"), make("pre", null, card)));
+  nodes.push(make("details", { id: "all-results" }, make("summary", null, "All boards"), make("pre", { id: "results" }, results.text)),
+    button("Print", "", "print", true, () => window.print()));
+  return nodes;
 }
 
 // Shows where a player sits, and the play there, or what came of the session.
@@ -1128,21 +1216,39 @@ async function act(line) {
   return look();
 }
 
-// How calls and cards are sent, for this tab.
-at("settings").onclick = () => {
-  sessionStorage.setItem("sent", isSafe() ? "once" : "twice");
-  unmark();
-  sayHow();
-  drawn();
-};
+// ---- choices, kept for the tab
 
-function sayHow() {
-  at("settings").textContent = isSafe() ? "2 taps send" : "1 tap sends";
-  at("settings").setAttribute("aria-label", isSafe() ? "A call or card is sent by a second tap. Send it at once" : "A call or card is sent at once. Send it by a second tap");
+// One choice of two: what it is about, the name under which it is kept, and for each its value and words.
+function choiceOf(title, name, now, options) {
+  const radio = ([value, words]) => make("label", null, make("input", {
+    type: "radio", name, id: name + "-" + value, checked: value === now, onchange: () => { sessionStorage.setItem(name, value); chosen(); },
+  }), words);
+  return make("fieldset", null, make("legend", null, title), ...options.map(radio));
 }
 
-document.addEventListener("keydown", (event) => { if (event.key === "Escape" && (marked || claiming || looking)) { unmark(); drawn(); } });
-sayHow();
+function chosen() {
+  unmark();
+  document.documentElement.className = sessionStorage.getItem("suits") === "four" ? "four" : "";
+  drawn();
+}
+
+function showChoices() {
+  const sheet = at("choices");
+  sheet.replaceChildren(make("h2", null, "Settings"),
+    choiceOf("A call or card is sent", "sent", isSafe() ? "twice" : "once", [["twice", "by a second tap, or the button below"], ["once", "at once"]]),
+    choiceOf("Suits", "suits", sessionStorage.getItem("suits") || "two", [["two", "in two colours"], ["four", "in four colours"]]),
+    button("Done", "", "chosen", true, () => { sheet.hidden = true; }));
+  sheet.hidden = false;
+  at("chosen").focus();
+}
+
+at("settings").onclick = () => { if (at("choices").hidden) showChoices(); else at("choices").hidden = true; };
+document.addEventListener("keydown", (event) => {
+  if (event.key !== "Escape") return;
+  at("choices").hidden = true;
+  if (marked || claiming || looking) { unmark(); drawn(); }
+});
+chosen();
 "##;
 
 /// The director's script.
@@ -1257,6 +1363,14 @@ function minutesText(table, now) {
   return String(Math.floor((now - since.get(table.number).at) / MINUTE));
 }
 
+// How a table stands, for its colour: done, at play, slow, or not dealt.
+const SLOW = 5;
+function standsAs(table, minutes) {
+  if (table.idle === "NotCurrent" || table.idle === "SitsOut") return "done";
+  if (table.idle) return "waits";
+  return minutes >= SLOW ? "slow" : "plays";
+}
+
 function noteSets(state) {
   for (const table of state.tables.filter((one) => !one.idle)) {
     const board = Number(table.board);
@@ -1267,8 +1381,11 @@ function noteSets(state) {
 function tablesTable(state) {
   const titles = ["Table", "N-S", "E-W", "Board", "What goes on", "Min."];
   const now = Date.now();
-  const rows = state.tables.map((table) => make("tr", null,
-    ...[table.number, table.ns, table.ew, table.idle ? "" : table.board, progressText(table), minutesText(table, now)].map((word) => make("td", null, word))));
+  const rows = state.tables.map((table) => {
+    const minutes = minutesText(table, now);
+    return make("tr", { className: standsAs(table, Number(minutes)) },
+      ...[table.number, table.ns, table.ew, table.idle ? "" : table.board, progressText(table), minutes].map((word) => make("td", null, word)));
+  });
   return make("table", { id: "tables", className: "tables", hidden: rows.length === 0, aria_label: "Tables" },
     make("thead", null, make("tr", null, ...titles.map((title) => make("th", { scope: "col" }, title)))), make("tbody", null, ...rows));
 }
@@ -1494,6 +1611,7 @@ async function showDirector(asked, mine) {
   at("below").textContent = "";
   at("chip").hidden = true;
   at("settings").hidden = true;
+  at("choices").hidden = true;
   document.body.className = "director";
   const state = readTables(reply);
   if (!at("tables")) {
