@@ -295,10 +295,11 @@ async function showRankings() {
   const asked = key;
   tell("");
   const replies = [await ask("/lines", "RANK " + asked + " 1\n"), await ask("/lines", "RANK " + asked + " 2\n")];
+  const text = await ask("/results", asked);
   if (key !== asked) return;
-  if (replies.includes(null)) return tell("No answer came.");
+  if (text === null || replies.includes(null)) return tell("No answer came.");
   const time = make("p", { className: "small" }, "As of " + new Date().toLocaleTimeString() + ".");
-  if (at("rankings")) at("rankings").replaceChildren(time, ...replies.flatMap((reply, i) => (refusal(reply) ? [] : rankingNode(i + 1, reply))));
+  if (at("rankings")) at("rankings").replaceChildren(time, ...replies.flatMap((reply, i) => (refusal(reply) ? [] : rankingNode(i + 1, reply, 0, namesIn(text)))));
 }
 
 async function showResults() {

@@ -109,6 +109,9 @@ function show(made, status, shape, nodes) {
 
 const rankingLines = (reply) => reply.split("\n").filter((line) => /^\d/.test(line)).map((line) => line.split(" "));
 
+// The names of each pair, as the results have them.
+const namesIn = (text) => new Map([...text.matchAll(/^Pair (\d+): (.*)$/gm)].map((found) => [Number(found[1]), found[2]]));
+
 // A field's ranking, with the names of the pairs where they are known.
 function rankingNode(field, reply, own, names = new Map()) {
   const lines = rankingLines(reply);

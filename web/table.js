@@ -620,11 +620,7 @@ async function showClosed(placeReply, asked, mine) {
   show(made + results.text, "The session is closed.", "final", () => finalNodes(place, both));
 }
 
-// The names of each pair, and the score card of one, as the results have them.
-function namesIn(text) {
-  return new Map([...text.matchAll(/^Pair (\d+): (.*)$/gm)].map((found) => [Number(found[1]), found[2]]));
-}
-
+// The score card of a pair, as the results have it.
 function cardIn(text, pair) {
   const from = text.search(new RegExp("^Pair " + pair + ": ", "m"));
   const card = from < 0 ? "" : text.slice(from);

@@ -201,7 +201,7 @@ class Page:
         self.told(f"End of round {round_}: done.")
 
     def ranking(self, field):
-        return self.window.value(f"[...document.querySelectorAll(\"[aria-label='Ranking of field {field}'] tbody tr\")].map((row) => [...row.cells].map((cell) => cell.textContent).join(' '))")
+        return self.window.value(f"[...document.querySelectorAll(\"[aria-label='Ranking of field {field}'] tbody tr\")].map((row) => [...row.cells].filter((cell) => !cell.matches('.who')).map((cell) => cell.textContent).join(' '))")
 
     def goes_on(self):
         assert self.window.value("window.loadedOnce === true"), "the page was loaded anew"

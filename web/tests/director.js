@@ -158,11 +158,11 @@ run({
 
   "each field stands under its heading": async () => {
     const ranks = { 1: "OK\n1 2 6.0/8.0 75.00\n.\n", 2: "OK\n1 8 3.0/8.0 37.50\n.\n" };
-    const page = await opened(tables(AT_PLAY), (_where, body) => ranks[body.trim().split(" ")[2]]);
-    assert.deepStrictEqual(await page.click("rank"), [`/lines RANK ${KEY} 1\n`, `/lines RANK ${KEY} 2\n`]);
+    const page = await opened(tables(AT_PLAY), (where, body) => (where === "/results" ? "Pair 2: Cy and Di\n" : ranks[body.trim().split(" ")[2]]));
+    assert.deepStrictEqual(await page.click("rank"), [`/lines RANK ${KEY} 1\n`, `/lines RANK ${KEY} 2\n`, `/results ${KEY}`]);
     const shown = page.at("rankings").nodes;
     assert.deepStrictEqual(shown.filter((node) => node.tag === "h2").map((node) => node.textContent), ["Ranking, field 1", "Ranking, field 2"]);
-    assert.deepStrictEqual(shown.filter((node) => node.tag === "table").map((table) => page.rows(table)[1][1]), ["2", "8"]);
+    assert.deepStrictEqual(shown.filter((node) => node.tag === "table").map((table) => page.rows(table)[1].slice(1, 3)), [["2", "Cy and Di"], ["8", ""]]);
     assert.strictEqual(shown[shown.indexOf(page.named("Ranking of field 1")) - 1].textContent, "Ranking, field 1");
   },
 

@@ -420,6 +420,9 @@ function show(made, status, shape, nodes) {
 
 const rankingLines = (reply) => reply.split("\n").filter((line) => /^\d/.test(line)).map((line) => line.split(" "));
 
+// The names of each pair, as the results have them.
+const namesIn = (text) => new Map([...text.matchAll(/^Pair (\d+): (.*)$/gm)].map((found) => [Number(found[1]), found[2]]));
+
 // A field's ranking, with the names of the pairs where they are known.
 function rankingNode(field, reply, own, names = new Map()) {
   const lines = rankingLines(reply);
@@ -1153,11 +1156,7 @@ async function showClosed(placeReply, asked, mine) {
   show(made + results.text, "The session is closed.", "final", () => finalNodes(place, both));
 }
 
-// The names of each pair, and the score card of one, as the results have them.
-function namesIn(text) {
-  return new Map([...text.matchAll(/^Pair (\d+): (.*)$/gm)].map((found) => [Number(found[1]), found[2]]));
-}
-
+// The score card of a pair, as the results have it.
 function cardIn(text, pair) {
   const from = text.search(new RegExp("^Pair " + pair + ": ", "m"));
   const card = from < 0 ? "" : text.slice(from);
@@ -1549,10 +1548,11 @@ async function showRankings() {
   const asked = key;
   tell("");
   const replies = [await ask("/lines", "RANK " + asked + " 1\n"), await ask("/lines", "RANK " + asked + " 2\n")];
+  const text = await ask("/results", asked);
   if (key !== asked) return;
-  if (replies.includes(null)) return tell("No answer came.");
+  if (text === null || replies.includes(null)) return tell("No answer came.");
   const time = make("p", { className: "small" }, "As of " + new Date().toLocaleTimeString() + ".");
-  if (at("rankings")) at("rankings").replaceChildren(time, ...replies.flatMap((reply, i) => (refusal(reply) ? [] : rankingNode(i + 1, reply))));
+  if (at("rankings")) at("rankings").replaceChildren(time, ...replies.flatMap((reply, i) => (refusal(reply) ? [] : rankingNode(i + 1, reply, 0, namesIn(text)))));
 }
 
 async function showResults() {
