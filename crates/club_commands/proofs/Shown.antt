@@ -96,6 +96,11 @@ pub made_site : (web : WebHost) (made texts : PageTexts) (used names : HostNames
     → string_bytes names.host ≡ host_at web → string_bytes names.alias ≡ alias_at web → site_of made used ≡ site_at texts web
 made_site web made texts used names n t host alias = rw (n, t, host, alias) refl
 
+-- a showing that stopped at one site and store did at the same site and store
+stops_at : (web : WebHost) (site at : Site) (served start last : ClubStore) (output : Stream) (fault : RunFault)
+    → site ≡ at → served ≡ start → StopsShowing web site served last output fault → StopsShowing web at start last output fault
+stops_at web site at served start last output fault p s stops = rw (← p, ← s) stops
+
 -- pages were shown over a store at the site of the program and the words, and its disk is handed out
 pub shows_over : (texts : PageTexts) (web : WebHost) (site : Site) (start served last : ClubStore) (output : Stream) (ended handed : Ended) (left : ClubDisk)
     → site ≡ site_at texts web → served ≡ start → handed ≡ ended → left ≡ last.disk
@@ -103,5 +108,5 @@ pub shows_over : (texts : PageTexts) (web : WebHost) (site : Site) (start served
     → Leads (ShowsOver texts web output handed) start left
 shows_over texts web site start served last output (Ok _) handed left p s is left_by shown stops =
     rw is (last, left_by, rw (← p, ← s) shown)
-shows_over texts web site start served last output (Err _) handed left p s is left_by shown stops =
-    rw is (last, left_by, inr (rw (← p, ← s) stops))
+shows_over texts web site start served last output (Err fault) handed left p s is left_by shown stops =
+    rw is (last, left_by, inr (stops_at web site (site_at texts web) served start last output fault p s stops))
