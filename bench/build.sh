@@ -1,5 +1,6 @@
 # Builds what a benchmark or a check runs; read by a script that has set $top, the repository, and $work, a folder of its own.
-# PROGRAM names a program that was built before, and then nothing is built. Whatever is built is proved first.
+# Where PROGRAM names a program that was built before, club_program and evening_program build nothing. Whatever is built is
+# proved first.
 
 build() { # FOLDER, the words of a first run
     echo "building" >&2
