@@ -55,7 +55,7 @@ date=$(git -C "$top" log -1 --format=%aD 2> /dev/null || date -R)
 maintainer='Bridge Club Server <server@bridge-club.org>'
 {
     printf 'bridge-club (%s) unstable; urgency=medium\n\n' "$version"
-    sed -n "/^## $version/,/^## /p" "$top/CHANGELOG.md" | sed -n 's/^- /  * /p'
+    sed -n "/^## $version/,/^## /p" "$top/CHANGELOG.md" | sed -n 's/^- //p' | while read -r change; do printf '%s\n' "$change" | fold -s -w 74 | sed -e '1s/^/  * /' -e '2,$s/^/    /' -e 's/ *$//'; done
     printf '\n -- %s  %s\n' "$maintainer" "$date"
 } > "$docs/changelog"
 gzip -9n "$docs/changelog"
@@ -71,7 +71,7 @@ Version: $version
 Architecture: amd64
 Maintainer: $maintainer
 Depends: adduser, libc6 (>= 2.34)
-Section: games
+Section: misc
 Priority: optional
 Installed-Size: $(du -sk "$tree" | cut -f 1)
 Description: server of a duplicate bridge pairs session

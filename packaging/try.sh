@@ -7,6 +7,7 @@ package=$(cd "$(dirname "$1")" && pwd)/$(basename "$1")
 suite=${2:-bookworm}
 lintian --fail-on error "$package"
 root=$(mktemp -d)
+chmod 755 "$root"
 trap 'rm -rf "$root"' EXIT
 debootstrap --variant=minbase --include=adduser,man-db "$suite" "$root" > "$root.log" 2>&1 || {
     tail "$root.log" >&2
