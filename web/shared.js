@@ -158,6 +158,7 @@ function leave() {
 
 function unreachable() {
   say("status", "The server does not answer. Trying again.");
+  at("status").className = "lost";
 }
 
 // Looks once, and again after a second.

@@ -189,6 +189,8 @@ function confirmButton(prompt, sending) {
 const placeOf = (view, seat) => ["bottom", "left", "top", "right"][(SEATS.indexOf(seat) - SEATS.indexOf(view.seat) + 4) % 4];
 const isVulnerable = (view, seat) => view.vulnerable === "All" || view.vulnerable === (seat === "N" || seat === "S" ? "NS" : "EW");
 const count = (hand) => SUITS.reduce((sum, suit) => sum + hand[suit].length, 0);
+// A name, which may break behind its signs.
+const nameNodes = (name) => (name.match(/[^._-]*[._-]+|[^._-]+/g) || []).flatMap((part, i) => (i ? [make("wbr"), part] : [part]));
 const dummyOf = (place) => (place.contract ? partner(place.contract.declarer) : null);
 const onTurn = (view) => view.claim === null && view.turn;
 
@@ -289,7 +291,7 @@ function handNode(view, hand, label, id, mine) {
     if (mine) made.setAttribute("aria-pressed", String(marked !== null && marked.what === name));
     return made;
   };
-  const group = (suit) => make("div", { className: "group" }, ...[...hand[suit]].map((rank) => card(suit, rank)));
+  const group = (suit) => make("div", { className: "group in-" + suit }, ...[...hand[suit]].map((rank) => card(suit, rank)));
   const rows = rowsOf(hand, view.board, id).map((row) => row.filter((suit) => hand[suit] !== "")).filter((row) => row.length > 0);
   node.append(make("div", { className: "cards" }, ...rows.map((row) => make("div", { className: "line" }, ...row.map(group)))));
   return node;
@@ -298,7 +300,7 @@ function handNode(view, hand, label, id, mine) {
 function plate(place, view, seat) {
   const declarer = place.contract ? place.contract.declarer : null;
   const node = make("div", { className: "plate" + (onTurn(view) === seat ? " turn" : "") },
-    make("b", { className: isVulnerable(view, seat) ? "vul" : "", aria_label: SEAT_NAMES[seat] }, seat), make("span", null, place.names ? place.names[seat] : SEAT_NAMES[seat]));
+    make("b", { className: isVulnerable(view, seat) ? "vul" : "", aria_label: SEAT_NAMES[seat] }, seat), make("span", null, ...nameNodes(place.names ? place.names[seat] : SEAT_NAMES[seat])));
   if (seat === declarer) node.append(make("em", { aria_label: "declarer" }, "decl."));
   if (view.playing && seat === dummyOf(place)) node.append(make("em", null, "dummy"));
   return node;
@@ -555,8 +557,8 @@ function barFor(place, view) {
   chip.textContent = view.board;
   chip.setAttribute("aria-label", "Board " + view.board + ", dealer " + SEAT_NAMES[view.dealer] + ", " + vulnerableText(view.vulnerable));
   at("title").textContent = "Board " + view.board;
-  at("below").textContent = view.dealer + " deals \u00b7 " + { None: "nobody vul", NS: "N\u2013S vul", EW: "E\u2013W vul", All: "all vul" }[view.vulnerable]
-    + " \u00b7 table " + place.table.number + " \u00b7 round " + place.round + " of " + place.rounds;
+  at("below").replaceChildren(view.dealer + " deals \u00b7 " + { None: "nobody vul", NS: "N\u2013S vul", EW: "E\u2013W vul", All: "all vul" }[view.vulnerable],
+    make("span", { className: "wide" }, " \u00b7 table " + place.table.number + " \u00b7 round " + place.round + " of " + place.rounds));
 }
 
 // The classes by which the style lays the page out.

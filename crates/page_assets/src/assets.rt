@@ -300,6 +300,59 @@ th.turn, td.turn, .auction th.turn { color: var(--gold-ink); background: var(--g
   .bidding #hand .card { width: 3rem; margin-right: calc(var(--cw) - 3rem); } .bidding #hand .line, .bidding #hand .group { gap: 0; } .bidding #hand .line:last-child .group:last-child .card:last-child { margin-right: 0; }
 }
 @media (prefers-reduced-motion: no-preference) { .card { transition: transform 120ms ease-out; } }
+/* 1 */
+.trick { grid-template-columns: repeat(3, var(--tw)); grid-template-rows: repeat(4, calc((var(--th) - .15rem) / 2)); }
+/* 2 */
+.at-left .cards, .at-right .cards { border: 0; padding: 0 calc(var(--fw) - var(--cw)) 0 0; }
+.at-left .group, .at-right .group { flex-wrap: wrap; max-width: calc(6 * var(--cw) + 1px); row-gap: .1rem; }
+.at-left .card:last-child, .at-right .card:last-child { margin-right: calc(var(--cw) - var(--fw)); }
+.plate em { flex: none; white-space: nowrap; }
+@media (max-width: 39.99em) and (orientation: portrait) {
+  .dummy-left, .dummy-right { --tw: clamp(2rem, calc((100vw - 15.5rem) / 3), 2.75rem); }
+  .at-left, .at-right { --ch: clamp(2.45rem, 6dvh, 3.5rem); }
+  .at-left .card, .at-right .card { padding-top: .1rem; }
+  .dummy-left .at-left > .plate, .dummy-right .at-right > .plate { display: grid; grid-template: "b n" "b e" / auto minmax(0, 1fr); gap: 0 .35rem; justify-items: start; text-align: left; margin-bottom: .2rem; }
+  .dummy-left .at-left > .plate b, .dummy-right .at-right > .plate b { grid-area: b; }
+  #stage { grid-template-columns: clamp(5rem, calc(50vw - 6rem), 6.25rem) minmax(0, 1fr) clamp(5rem, calc(50vw - 6rem), 6.25rem); }
+  .wide { display: none; }
+}
+@media (max-width: 39.99em) and (orientation: portrait) and (max-height: 44em) {
+  .bidding #status:not(.lost) { position: absolute; width: 1px; height: 1px; margin: 0; padding: 0; overflow: hidden; clip-path: inset(50%); }
+}
+/* 3 */
+@media (min-width: 40em) and (orientation: portrait) and (min-height: 30.01em) {
+  #stage { grid-template-columns: 8rem minmax(0, 1fr) 8rem; } .at-left > .plate, .at-right > .plate { font-size: .9375rem; }
+  .dummy-left #stage { grid-template-columns: 13.5rem minmax(0, 1fr) 8rem; } .dummy-right #stage { grid-template-columns: 8rem minmax(0, 1fr) 13.5rem; }
+  .dummy-left, .dummy-right { --tw: 4.25rem; --th: 6rem; } .at-left, .at-right { --cw: 1.875rem; --fw: 3.25rem; --ch: 4.25rem; } .at-left .card, .at-right .card { font-size: 1.5rem; }
+  #dock button { min-height: 3.25rem; } #dock .bid { font-size: 1.375rem; }
+}
+@media (min-width: 40em) and (min-height: 30.01em) { .at-left .card .suit, .at-right .card .suit { font-size: 1.5rem; } }
+/* 4 */
+@media (min-width: 40em) {
+  #hand .line, .at-top .line { display: contents; } #hand .cards, .at-top .cards { column-gap: .375rem; padding-right: calc(.25rem + var(--fw) - var(--cw)); }
+  #hand .group + .group, .at-top .group + .group { padding-left: 0; } .in-H { order: 1; } .in-C { order: 2; } .in-D { order: 3; }
+  #hand .line:last-child .group:last-child .card:last-child, .at-top .line:last-child .group:last-child .card:last-child { margin-right: calc(var(--cw) - var(--fw)); }
+}
+@media (max-width: 39.99em) and (orientation: portrait) {
+  .bidding #hand .line { display: contents; } .bidding #hand .cards { gap: 0 .2rem; padding-right: calc(3.25rem - var(--cw)); } .bidding .in-H { order: 1; } .bidding .in-C { order: 2; } .bidding .in-D { order: 3; }
+  .bidding #hand .line:last-child .group:last-child .card:last-child { margin-right: calc(var(--cw) - 3rem); }
+}
+/* 5 */
+@media (orientation: landscape) and (max-height: 30em) {
+  .dummy-left, .dummy-right { --tw: 2.75rem; --th: 3.5rem; }
+  .at-table:not(.dummy-left):not(.dummy-right) .played { font-size: 1.125rem; } .at-table:not(.dummy-left):not(.dummy-right) .played .suit { font-size: 1rem; margin-top: 0; }
+  #dock.play #claim-open[hidden] + #confirm { grid-column: auto; }
+  .sheet { inset: auto .5rem .4rem; max-height: calc(100dvh - .8rem); max-width: 46rem; padding: .5rem .75rem; }
+  #choices { display: grid; grid-template-columns: 1fr 1fr; gap: 0 .75rem; } #choices h2, #choices button { grid-column: 1 / -1; margin: 0; }
+  .dummy-left .at-left wbr, .dummy-right .at-right wbr { display: none; } .at-left .group, .at-right .group { row-gap: .05rem; } .at-left, .at-right { --ch: 1.6rem; }
+  .dummy-left .at-left .cards, .dummy-right .at-right .cards { gap: .05rem; } .at-left .line, .at-right .line { gap: .05rem; }
+}
+/* 6 */
+#side > p:first-child { display: flex; align-items: baseline; gap: .6rem; }
+/* 7 */
+#dock .bid { background: var(--face); } #dock .bid .red { color: var(--red); } .four #dock .bid .diamond { color: var(--diamond); } .four #dock .bid .club { color: var(--club); }
+#dock .bid:disabled { background: var(--soft); } #dock .bid:disabled .suit { color: var(--off); } #dock .bid[aria-pressed=true] { background: var(--gold); }
+#dock.claimed { column-gap: clamp(.5rem, 8vw, 6rem); } #dock.claimed button { min-height: 3.25rem; }
 /* Large letters on a small screen: one below the other. */
 @media (max-width: 17em) {
   .at-table { --tw: 2rem; --th: 2.75rem; } #strip { flex-wrap: wrap; } #strip #calls { flex-basis: 100%; }
@@ -469,6 +522,7 @@ function leave() {
 
 function unreachable() {
   say("status", "The server does not answer. Trying again.");
+  at("status").className = "lost";
 }
 
 // Looks once, and again after a second.
@@ -725,6 +779,8 @@ function confirmButton(prompt, sending) {
 const placeOf = (view, seat) => ["bottom", "left", "top", "right"][(SEATS.indexOf(seat) - SEATS.indexOf(view.seat) + 4) % 4];
 const isVulnerable = (view, seat) => view.vulnerable === "All" || view.vulnerable === (seat === "N" || seat === "S" ? "NS" : "EW");
 const count = (hand) => SUITS.reduce((sum, suit) => sum + hand[suit].length, 0);
+// A name, which may break behind its signs.
+const nameNodes = (name) => (name.match(/[^._-]*[._-]+|[^._-]+/g) || []).flatMap((part, i) => (i ? [make("wbr"), part] : [part]));
 const dummyOf = (place) => (place.contract ? partner(place.contract.declarer) : null);
 const onTurn = (view) => view.claim === null && view.turn;
 
@@ -825,7 +881,7 @@ function handNode(view, hand, label, id, mine) {
     if (mine) made.setAttribute("aria-pressed", String(marked !== null && marked.what === name));
     return made;
   };
-  const group = (suit) => make("div", { className: "group" }, ...[...hand[suit]].map((rank) => card(suit, rank)));
+  const group = (suit) => make("div", { className: "group in-" + suit }, ...[...hand[suit]].map((rank) => card(suit, rank)));
   const rows = rowsOf(hand, view.board, id).map((row) => row.filter((suit) => hand[suit] !== "")).filter((row) => row.length > 0);
   node.append(make("div", { className: "cards" }, ...rows.map((row) => make("div", { className: "line" }, ...row.map(group)))));
   return node;
@@ -834,7 +890,7 @@ function handNode(view, hand, label, id, mine) {
 function plate(place, view, seat) {
   const declarer = place.contract ? place.contract.declarer : null;
   const node = make("div", { className: "plate" + (onTurn(view) === seat ? " turn" : "") },
-    make("b", { className: isVulnerable(view, seat) ? "vul" : "", aria_label: SEAT_NAMES[seat] }, seat), make("span", null, place.names ? place.names[seat] : SEAT_NAMES[seat]));
+    make("b", { className: isVulnerable(view, seat) ? "vul" : "", aria_label: SEAT_NAMES[seat] }, seat), make("span", null, ...nameNodes(place.names ? place.names[seat] : SEAT_NAMES[seat])));
   if (seat === declarer) node.append(make("em", { aria_label: "declarer" }, "decl."));
   if (view.playing && seat === dummyOf(place)) node.append(make("em", null, "dummy"));
   return node;
@@ -1091,8 +1147,8 @@ function barFor(place, view) {
   chip.textContent = view.board;
   chip.setAttribute("aria-label", "Board " + view.board + ", dealer " + SEAT_NAMES[view.dealer] + ", " + vulnerableText(view.vulnerable));
   at("title").textContent = "Board " + view.board;
-  at("below").textContent = view.dealer + " deals \u00b7 " + { None: "nobody vul", NS: "N\u2013S vul", EW: "E\u2013W vul", All: "all vul" }[view.vulnerable]
-    + " \u00b7 table " + place.table.number + " \u00b7 round " + place.round + " of " + place.rounds;
+  at("below").replaceChildren(view.dealer + " deals \u00b7 " + { None: "nobody vul", NS: "N\u2013S vul", EW: "E\u2013W vul", All: "all vul" }[view.vulnerable],
+    make("span", { className: "wide" }, " \u00b7 table " + place.table.number + " \u00b7 round " + place.round + " of " + place.rounds));
 }
 
 // The classes by which the style lays the page out.

@@ -9,6 +9,7 @@ use bridge_config::read_config;
 use bridge_session::Session;
 use sector_disk::MemoryDisk;
 use session_store::{Store, format};
+use std::io::{Read, Write};
 use table_server::serve;
 use test_texts::TWO_TABLES;
 
@@ -26,9 +27,16 @@ fn main(rt: HostRuntime) -> Result<(), anyhow::Error> {
     let mut store: Store<MemoryDisk, Session> = Store::open(alloc, disk)
         .ok()
         .context("a session on the disk")?;
+    serve_lines(&mut store, &mut rt.stdin(), &mut rt.stdout())
+}
+
+/// Serves the lines over the store, of which nothing waits for its confirm then.
+fn serve_lines<R: Read, W: Write>(
+    store: &mut Store<MemoryDisk, Session>,
+    input: &mut R,
+    output: &mut W,
+) -> Result<(), anyhow::Error> {
     let _ = store.confirm();
-    serve(&mut store, None, &mut rt.stdin(), &mut rt.stdout())
-        .ok()
-        .context("a stream")?;
+    serve(store, None, input, output).ok().context("a stream")?;
     Ok(())
 }
