@@ -1,10 +1,14 @@
 -- Tests of the cards of the deck.
 use Rattle.std.proofs.Common.{◌≡◌, ℕ, ◌<◌, Bool, true, false, not, ◌&&◌, ◌||◌, cond, List, [], ◌∷◌, filter, map, refl, ap, ◌∙◌, arith, zero-add}
 use Rattle.std.specs.List.{list_any, list_all, range_with_len}
-use Rattle.std.proofs.lemmas.List.Folds.{list_all_at}
+use Rattle.std.proofs.lemmas.List.Folds.{list_all_at, Any-from_list_any}
 use Rattle.std.proofs.lemmas.List.Sums.{list_all-from_AllPass}
 use Rattle.std.proofs.lemmas.List.FromFn.{length-range_with_len, get_or-range_with_len}
 use Rattle.bridge_cards.specs.CardSet.{deck}
+
+-- a card of the deck that passes
+pub some_such : (p : ℕ → Bool) → list_any p deck ≡ true → (x : ℕ) × (p x ≡ true)
+some_such p some = let any = Any-from_list_any p deck some in (any.1, any.4)
 
 -- all do
 pub all_cards : (p : ℕ → Bool) → ((card : ℕ) → p card ≡ true) → list_all p deck ≡ true

@@ -1,10 +1,15 @@
 -- Which cards a hand may play, by the set of those that it holds.
 use Rattle.std.proofs.Common.{◌≡◌, ℕ, ◌<◌, Bool, true, false, not, ◌&&◌, ◌||◌, List, [], ◌∷◌, slice_get, Some, refl, sym, ap, ◌∙◌, IsTrue}
+use Rattle.std.proofs.lemmas.Bool.{and_parts}
 use Rattle.bridge_cards.specs.Card.{same_suit, card_suit}
 use Rattle.bridge_cards.specs.CardSet.{has_card, is_of_suit}
-use Rattle.bridge_cards.specs.Trick.{has_suit}
+use Rattle.bridge_cards.specs.Trick.{has_suit, follows_suit}
 use Rattle.bridge_cards.proofs.SuitHeld as held_of
 use Rattle.bridge_endings.specs.Worth.{may_be_played}
+
+-- a hand may play what it holds
+pub may_be_played-held : (hand : ℕ → Bool) (trick : List ℕ) (card : ℕ) → may_be_played hand trick card ≡ true → hand card ≡ true
+may_be_played-held hand trick card may = (and_parts (hand card) (follows_suit hand trick card) may).0
 
 -- the others follow suit where they can
 pub may_follow : (hand : ℕ → Bool) (cards : List ℕ) (led card : ℕ) → slice_get cards 0 ≡ Some led → may_be_played hand cards card ≡ (hand card && (same_suit card led || not (has_suit hand led)))

@@ -3,14 +3,14 @@ use Rattle.std.proofs.Common.{◌≡◌, ℕ, ◌<◌, ◌≤◌, Bool, true, fa
 use Rattle.std.specs.List.{list_any}
 use mathlib.Core.Bool.{beq}
 use Rattle.std.proofs.lemmas.Bool.{leb-true, le-leb, and_parts}
-use Rattle.std.proofs.lemmas.List.Folds.{Any-from_list_any}
 use Rattle.bridge_cards.specs.declared.seat.Side.{Side}
 use Rattle.bridge_cards.specs.CardSet.{deck}
 use Rattle.bridge_endings.specs.Worth.{best}
 use Rattle.bridge_endings.specs.Left.{is_sought}
 use Rattle.bridge_cards.proofs.SuitHeld.{some_card}
+use Rattle.bridge_endings.proofs.Deck.{some_such}
 use Rattle.bridge_endings.proofs.Minimax.{best_found, best_none, best_empty}
-use Rattle.bridge_endings.proofs.Answered.{same_answer, other_answer}
+use Rattle.bridge_endings.proofs.TwoAnswers.{same_answer, other_answer}
 
 -- a test that no card of the deck passes
 pub no_such : (p : ℕ → Bool) → ((x : ℕ) → p x ≡ true → x < 52) → list_any p deck ≡ false → (x : ℕ) → p x ≡ false
@@ -19,10 +19,6 @@ no_such p inside none x = at (p x) refl
     at : (is : Bool) → p x ≡ is → p x ≡ false
     at true is = let some = some_card p x (inside x is) is in cc
     at false is = is
-
--- a card of the deck that passes
-pub some_such : (p : ℕ → Bool) → list_any p deck ≡ true → (x : ℕ) × (p x ≡ true)
-some_such p some = let any = Any-from_list_any p deck some in (any.1, any.4)
 
 both : (a b : Bool) → a ≡ true → b ≡ true → (a && b) ≡ true
 both true b p q = q
@@ -35,12 +31,12 @@ same_needs a b same =
     omega arith
 
 -- f of the cards that pass p, and g of those that pass q
-module _ (side : Side) (f g : ℕ → ℕ) (p q : ℕ → Bool) (t : ℕ → ℕ) (p_inside : (x : ℕ) → p x ≡ true → x < 52) (q_inside : (x : ℕ) → q x ≡ true → x < 52) (there : (x : ℕ) → p x ≡ true → (q (t x) ≡ true) × (g (t x) ≡ f x)) (back : (y : ℕ) → q y ≡ true → (p (t y) ≡ true) × (f (t y) ≡ g y)) where
+module _ (side : Side) (f g : ℕ → ℕ) (p q : ℕ → Bool) (p_inside : (x : ℕ) → p x ≡ true → x < 52) (q_inside : (x : ℕ) → q x ≡ true → x < 52) (there : (x : ℕ) → p x ≡ true → (y : ℕ) × (q y ≡ true) × (g y ≡ f x)) (back : (y : ℕ) → q y ≡ true → (x : ℕ) × (p x ≡ true) × (f x ≡ g y)) where
   none_back : ((x : ℕ) → p x ≡ false) → (y : ℕ) → q y ≡ false
   none_back none y = at (q y) refl
     where
       at : (is : Bool) → q y ≡ is → q y ≡ false
-      at true is = let passes = (back y is).0 in let fails = none (t y) in cc
+      at true is = let some = back y is in let never = sym some.1 ∙ none some.0 in cc
       at false is = is
 
   wanted : ℕ → ℕ → Bool
@@ -55,13 +51,13 @@ module _ (side : Side) (f g : ℕ → ℕ) (p q : ℕ → Bool) (t : ℕ → ℕ
       let is : nat_le need (f x) ≡ is_sought side = same_answer (nat_le need (f x)) (is_sought side) parts.1 in
       let other = there x parts.0 in
       best_found need f p side x (p_inside x parts.0) parts.0 is
-      ∙ sym (best_found need g q side (t x) (q_inside (t x) other.0) other.0 (ap (nat_le need) other.1 ∙ is))
+      ∙ sym (best_found need g q side other.0 (q_inside other.0 other.1) other.1 (ap (nat_le need) other.2 ∙ is))
   answer need x0 may false none =
       let fails = no_such (wanted need) (λ x passes. p_inside x ((and_parts (p x) (beq (nat_le need (f x)) (is_sought side)) passes).0)) none in
       let against : (x : ℕ) → p x ≡ true → nat_le need (f x) ≡ not (is_sought side) = λ x legal. at x legal (beq (nat_le need (f x)) (is_sought side)) refl (fails x) in
       let other = there x0 may in
       best_none need f p side x0 (p_inside x0 may) may against
-      ∙ sym (best_none need g q side (t x0) (q_inside (t x0) other.0) other.0 (λ y legal. ap (nat_le need) (sym ((back y legal).1)) ∙ against (t y) ((back y legal).0)))
+      ∙ sym (best_none need g q side other.0 (q_inside other.0 other.1) other.1 (λ y legal. let here = back y legal in ap (nat_le need) (sym here.2) ∙ against here.0 here.1))
     where
       at : (x : ℕ) → p x ≡ true → (is : Bool) → beq (nat_le need (f x)) (is_sought side) ≡ is → (p x && beq (nat_le need (f x)) (is_sought side)) ≡ false → nat_le need (f x) ≡ not (is_sought side)
       at x legal true is fails = let passes = both (p x) (beq (nat_le need (f x)) (is_sought side)) legal is in cc
@@ -77,19 +73,3 @@ module _ (side : Side) (f g : ℕ → ℕ) (p q : ℕ → Bool) (t : ℕ → ℕ
 
   pub best_same : best side (map f (filter p deck)) ≡ best side (map g (filter q deck))
   best_same = some_or_none (list_any p deck) refl
-
--- tests that t carries into each other find a card alike
-pub any_same : (p q : ℕ → Bool) (t : ℕ → ℕ) → ((x : ℕ) → p x ≡ true → x < 52) → ((x : ℕ) → q x ≡ true → x < 52) → ((x : ℕ) → q (t x) ≡ p x) → ((x : ℕ) → p (t x) ≡ q x) → list_any p deck ≡ list_any q deck
-any_same p q t p_inside q_inside there back = at (list_any p deck) (list_any q deck) refl refl
-  where
-    carried : (r s : ℕ → Bool) → ((x : ℕ) → s x ≡ true → x < 52) → ((x : ℕ) → s (t x) ≡ r x) → list_any r deck ≡ true → list_any s deck ≡ true
-    carried r s inside same some =
-        let x = some_such r some in
-        let passes : s (t x.0) ≡ true = same x.0 ∙ x.1 in
-        some_card s (t x.0) (inside (t x.0) passes) passes
-
-    at : (a b : Bool) → list_any p deck ≡ a → list_any q deck ≡ b → list_any p deck ≡ list_any q deck
-    at true true is other = is ∙ sym other
-    at false false is other = is ∙ sym other
-    at true false is other = let has = carried p q q_inside there is in cc
-    at false true is other = let has = carried q p p_inside back other in cc

@@ -8,11 +8,10 @@ use Rattle.bridge_cards.specs.Seat.{clockwise_from, same_seat}
 use Rattle.bridge_cards.specs.Card.{same_suit}
 use Rattle.bridge_cards.specs.CardSet.{has_card, is_of_suit}
 use Rattle.bridge_cards.specs.Trick.{is_trump, is_or_beats}
-use Rattle.bridge_endings.specs.Ending.{IsEnding}
+use Rattle.bridge_endings.specs.Agree.{IsDealtOut}
 use Rattle.bridge_endings.specs.Worth.{dealt}
 use Rattle.bridge_endings.specs.Left.{left_to}
 use Rattle.bridge_endings.specs.Sure.{EachHasSome, IsSure, IsHighest}
-use Rattle.bridge_endings.proofs.Owners.{one_owner}
 use Rattle.bridge_endings.proofs.Seats.{first_place, other_place}
 
 -- a card of its suit that is not higher
@@ -30,7 +29,7 @@ left_not_in_hand true true p q = cc
 left_not_in_hand true false p q = refl
 left_not_in_hand false in_hand p q = cc
 
-module _ (hands : List ℕ) (ending : IsEnding hands) (trump : Option Suit) (left hand partner others : ℕ) (leader mate : Seat) (across : mate ≡ clockwise_from leader 2) (holds : (card : ℕ) → has_card hand card ≡ left_to hands left leader card) (holds_too : (card : ℕ) → has_card partner card ≡ left_to hands left mate card) (rest : (card : ℕ) → has_card others card ≡ (has_card left card && not (has_card hand card))) (each : EachHasSome (left_to hands left) leader) where
+module _ (hands : List ℕ) (trump : Option Suit) (left : ℕ) (out : IsDealtOut (left_to hands left)) (hand partner others : ℕ) (leader mate : Seat) (across : mate ≡ clockwise_from leader 2) (holds : (card : ℕ) → has_card hand card ≡ left_to hands left leader card) (holds_too : (card : ℕ) → has_card partner card ≡ left_to hands left mate card) (rest : (card : ℕ) → has_card others card ≡ (has_card left card && not (has_card hand card))) (each : EachHasSome (left_to hands left) leader) where
   is_left : (seat : Seat) (card : ℕ) → left_to hands left seat card ≡ true → has_card left card ≡ true
   is_left seat card has = (and_parts (dealt hands seat card) (has_card left card) has).1
 
@@ -38,10 +37,8 @@ module _ (hands : List ℕ) (ending : IsEnding hands) (trump : Option Suit) (lef
   among_others : (index : ℕ) → 0 < index → index < 4 → (card : ℕ) → left_to hands left (clockwise_from leader index) card ≡ true → has_card others card ≡ true
   among_others index some few card has =
       let seat : Seat = clockwise_from leader index in
-      let was_dealt = (and_parts (dealt hands seat card) (has_card left card) has).0 in
       let differs : same_seat leader seat ≡ false = ap (λ (s : Seat). same_seat s seat) (sym (first_place leader)) ∙ other_place leader index 0 few (omega arith) (λ e. omega arith) in
-      let not_dealt = one_owner hands ending seat card was_dealt leader differs in
-      rest card ∙ left_not_in_hand (has_card left card) (has_card hand card) (is_left seat card has) (holds card ∙ ap (λ b. b && has_card left card) not_dealt)
+      rest card ∙ left_not_in_hand (has_card left card) (has_card hand card) (is_left seat card has) (holds card ∙ out.once seat card has leader differs)
 
   pub sure_highest : (card : ℕ) → IsHighest hand partner left card → ((other : ℕ) → has_card others other ≡ true → is_trump trump other ≡ false) ⊎ (is_trump trump card ≡ true) → (led : ℕ) × IsSure trump (left_to hands left) leader card led
   sure_highest card is trumps = (

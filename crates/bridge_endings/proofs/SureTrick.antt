@@ -1,5 +1,5 @@
 -- A sure trick: the leader's side wins it whatever the others play, and so settles whether North and South reach what they need.
-use Rattle.std.proofs.Common.{◌≡◌, ℕ, suc, ◌+◌, ◌-◌, ◌*◌, ◌/◌, ◌<◌, ◌≤◌, ◌⊎◌, inl, inr, Bool, true, false, not, ◌&&◌, ◌||◌, ◌==◌, nat_le, nat_lt, List, [], ◌∷◌, Option, Some, None, IfSome, IsSome, refl, sym, ap, ◌∙◌, arith}
+use Rattle.std.proofs.Common.{◌≡◌, ℕ, suc, ◌+◌, ◌-◌, ◌*◌, ◌/◌, ◌<◌, ◌≤◌, ◌⊎◌, inl, inr, Bool, true, false, not, ◌&&◌, ◌||◌, ◌==◌, nat_le, nat_lt, [], ◌∷◌, Option, refl, sym, ap, ◌∙◌, arith}
 use Rattle.std.proofs.lemmas.Bool.{eqb-true, eq-eqb, and_parts, le-leb, lt-leb}
 use Rattle.std.proofs.lemmas.Bool.Decides.{nat_tests}
 use Rattle.bridge_cards.specs.declared.suit.Suit.{Suit}
@@ -9,20 +9,20 @@ use Rattle.bridge_cards.specs.declared.seat.Side.{Side}
 use Rattle.bridge_cards.specs.declared.seat.Side.TheVariants.{NorthSouth, EastWest}
 use Rattle.bridge_cards.specs.Seat.{clockwise_from, side_of}
 use Rattle.bridge_cards.specs.Card.{same_suit}
-use Rattle.bridge_cards.specs.CardSet.{has_card}
 use Rattle.bridge_cards.specs.Trick.{has_suit, is_trump, beats, is_or_beats}
-use Rattle.bridge_endings.specs.Ending.{IsEnding}
 use Rattle.bridge_endings.specs.TrickValue.{IsWinning}
-use Rattle.bridge_endings.specs.Worth.{dealt, after_playing, trick_for, worth_after, worth_with}
-use Rattle.bridge_endings.specs.Left.{left_to, is_sought}
+use Rattle.bridge_endings.specs.Worth.{after_playing, trick_for, worth_after, worth_with}
+use Rattle.bridge_endings.specs.Left.{is_sought}
 use Rattle.bridge_endings.specs.Sure.{IsSure, settled_by_one}
-use Rattle.bridge_endings.proofs.Owners.{one_owner}
+use Rattle.bridge_endings.specs.Agree.{IsDealtOut, IsUpward, Agree, AreAlike, Settles}
 use Rattle.bridge_endings.proofs.Seats.{first_place, other_place}
-use Rattle.bridge_endings.proofs.EqualWorth.{dealt_card}
 use Rattle.bridge_endings.proofs.Winning.{winning_led, winning_card, winning_kept}
 use Rattle.bridge_endings.proofs.WorthSteps.{worth_of_card, worth_with_le}
 use Rattle.bridge_endings.proofs.SearchSteps.{worth_after-part}
-use Rattle.bridge_endings.proofs.TrickWon.{IsDealtOut, dealt_out_after, kept_card, two_cards, in_suit, both_false, by_one, by_all, IsWon, won}
+use Rattle.bridge_endings.proofs.Agreeing.{suit_back, suit_then, agree_back, alike_suit}
+use Rattle.bridge_endings.proofs.Partners.{partner as card_like}
+use Rattle.bridge_endings.proofs.AgreedTrick.{counted_above}
+use Rattle.bridge_endings.proofs.TrickWon.{dealt_out_after, kept_card, two_cards, in_suit, by_one, by_all, IsWon, won}
 
 both_true : (a b : Bool) → a ≡ true → b ≡ true → (a && b) ≡ true
 both_true true b p q = q
@@ -73,10 +73,7 @@ partners_side East = refl
 partners_side South = refl
 partners_side West = refl
 
-module _ (hands : List ℕ) (ending : IsEnding hands) (trump : Option Suit) (left : ℕ) (leader : Seat) (card led : ℕ) (sure : IsSure trump (left_to hands left) leader card led) (tricks need : ℕ) (some : 0 < tricks) (is : need ≡ settled_by_one (side_of leader) tricks) where
-  abbrev held : Seat → ℕ → Bool
-  held = left_to hands left
-
+module _ (trump : Option Suit) (held : Seat → ℕ → Bool) (dealt_out : IsDealtOut held) (leader : Seat) (card led : ℕ) (sure : IsSure trump held leader card led) (tricks need : ℕ) (some : 0 < tricks) (is : need ≡ settled_by_one (side_of leader) tricks) where
   abbrev partner : Seat
   partner = clockwise_from leader 2
 
@@ -85,15 +82,6 @@ module _ (hands : List ℕ) (ending : IsEnding hands) (trump : Option Suit) (lef
 
   abbrev answer : Bool
   answer = is_sought (side_of leader)
-
-  was_dealt : (seat : Seat) (c : ℕ) → held seat c ≡ true → dealt hands seat c ≡ true
-  was_dealt seat c has = (and_parts (dealt hands seat c) (has_card left c) has).0
-
-  dealt_out : IsDealtOut held
-  dealt_out = record {
-    inside = λ seat c has. dealt_card hands ending seat c (was_dealt seat c has);
-    once = λ seat c has other differs. both_false (dealt hands other c) (has_card left c) (one_owner hands ending seat c (was_dealt seat c has) other differs);
-  }
 
   -- a seat of the side wins the trick
   then : (winner : Seat) → side_of winner ≡ side_of leader → (h : Seat → ℕ → Bool) → nat_le need (trick_for (side_of winner) + worth_with trump rest h winner []) ≡ answer
@@ -210,7 +198,43 @@ module _ (hands : List ℕ) (ending : IsEnding hands) (trump : Option Suit) (lef
       at (inl own) = lead_answer card own (own_answer (ap (λ (s : Seat). held s card) (first_place leader) ∙ own))
       at (inr partners) = lead_answer led sure.has_led (led_answer partners (ap (λ (s : Seat). held s led) (first_place leader) ∙ sure.has_led))
 
--- such a card was found
-pub sure_answer : (hands : List ℕ) (trump : Option Suit) (left : ℕ) (leader : Seat) (card : Option ℕ) → IfSome card (λ c. (led : ℕ) × IsSure trump (left_to hands left) leader c led) → IfSome card (λ _. IsEnding hands) → IsSome card → (tricks need : ℕ) → 0 < tricks → need ≡ settled_by_one (side_of leader) tricks → is_sought (side_of leader) ≡ nat_le need (worth_with trump (4 * tricks) (left_to hands left) leader [])
-sure_answer hands trump left leader None sure ending found = cc
-sure_answer hands trump left leader (Some card) sure ending found = sure_trick hands ending trump left leader card sure.0 sure.1
+-- ---- at each position that agrees
+
+-- A card that is sure here is sure there, where it counts and the cards above it.
+module _ (trump : Option Suit) (counts : ℕ → Bool) (upward : IsUpward counts) (held other : Seat → ℕ → Bool) (out : IsDealtOut held) (out_too : IsDealtOut other) (same : Agree counts held other) (leader : Seat) (card led : ℕ) (does : counts card ≡ true) (sure : IsSure trump held leader card led) where
+  -- each card there has one here like it
+  here_like : (seat : Seat) (c : ℕ) → other seat c ≡ true → (like : ℕ) × (held seat like ≡ true) × AreAlike counts c like
+  here_like seat c has = card_like counts other held (agree_back counts held other same) seat c (out_too.inside seat c has) has
+
+  there_like : (seat : Seat) (c : ℕ) → held seat c ≡ true → (like : ℕ) × (other seat like ≡ true) × AreAlike counts c like
+  there_like seat c has = card_like counts held other same seat c (out.inside seat c has) has
+
+  pub sure_there : (then : ℕ) × IsSure trump other leader card then
+  sure_there =
+      let lead = there_like leader led sure.has_led in (
+        lead.0,
+        record {
+          holder = at sure.holder;
+          has_led = lead.1;
+          suit = suit_then lead.0 led card (suit_back led lead.0 (alike_suit counts led lead.0 lead.2)) sure.suit;
+          not_above = sym (counted_above trump counts upward card card led lead.0 does lead.2) ∙ sure.not_above;
+          others = λ index some few.
+              let here = sure.others index some few in
+              let like = there_like (clockwise_from leader index) here.0 here.1 in
+              (like.0, like.1);
+          beats_each = λ index some few c has.
+              let like = here_like (clockwise_from leader index) c has in
+              counted_above trump counts upward card card c like.0 does like.2 ∙ sure.beats_each index some few like.0 like.1;
+        },
+      )
+    where
+      at : (held leader card ≡ true) ⊎ (held (clockwise_from leader 2) card ≡ true) → (other leader card ≡ true) ⊎ (other (clockwise_from leader 2) card ≡ true)
+      at (inl own) = inl (sym (same.high leader card does) ∙ own)
+      at (inr partners) = inr (sym (same.high (clockwise_from leader 2) card does) ∙ partners)
+
+-- a sure trick settles the answer wherever the card counts
+pub sure_settles : (trump : Option Suit) (counts : ℕ → Bool) → IsUpward counts → (held : Seat → ℕ → Bool) → IsDealtOut held → (leader : Seat) (card led : ℕ) → counts card ≡ true → IsSure trump held leader card led → (tricks need : ℕ) → 0 < tricks → need ≡ settled_by_one (side_of leader) tricks → Settles trump (4 * tricks) need counts (is_sought (side_of leader)) held leader []
+sure_settles trump counts upward held out leader card led does sure tricks need some is other out_too [] same same_trick =
+    let there = sure_there trump counts upward held other out out_too same leader card led does sure in
+    sym (sure_trick trump other out_too leader card there.0 there.1 tricks need some is)
+sure_settles trump counts upward held out leader card led does sure tricks need some is other out_too (c ∷ played) same same_trick = absurd (omega (arith, same_trick.long))

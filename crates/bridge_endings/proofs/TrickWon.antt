@@ -13,11 +13,12 @@ use Rattle.bridge_cards.specs.Trick.{has_suit, beats, next_leader}
 use Rattle.bridge_endings.specs.TrickValue.{IsWinning}
 use Rattle.bridge_endings.specs.Worth.{may_be_played, legal_cards, after_playing, best, trick_for, worth_after, worth_with}
 use Rattle.bridge_endings.specs.Left.{is_sought}
+use Rattle.bridge_endings.specs.Agree.{IsDealtOut}
 use Rattle.bridge_endings.proofs.Minimax.{best_found, best_none}
-use Rattle.bridge_endings.proofs.Answered.{same_answer, other_answer}
-use Rattle.bridge_endings.proofs.SameBest.{some_such}
+use Rattle.bridge_endings.proofs.TwoAnswers.{same_answer, other_answer}
+use Rattle.bridge_endings.proofs.Deck.{some_such}
 use Rattle.bridge_endings.proofs.Seats.{other_place}
-use Rattle.bridge_endings.proofs.SwappedWorth.{may_be_played-held}
+use Rattle.bridge_endings.proofs.LegalCards.{may_be_played-held}
 use Rattle.bridge_endings.proofs.Winning.{winning_is, winning_kept}
 use Rattle.bridge_endings.proofs.WorthSteps.{worth_of_card, worth_with-suc}
 use Rattle.bridge_endings.proofs.SearchSteps.{worth_after-part, worth_after-whole}
@@ -58,11 +59,6 @@ some_legal hand (led ∷ others) card has = at (has_suit hand led) refl
     at false is = (card, not_in_suit (hand card) (same_suit card led) (has_suit hand led) has is)
 
 -- ---- the hands while the trick is played
-
--- only cards of the deck are held, each by one seat at most
-pub record IsDealtOut (held : Seat → ℕ → Bool) : Type 0 where
-  pub inside : (seat : Seat) (card : ℕ) → held seat card ≡ true → card < 52
-  pub once : (seat : Seat) (card : ℕ) → held seat card ≡ true → (other : Seat) → same_seat other seat ≡ false → held other card ≡ false
 
 pub both_false : (a b : Bool) → a ≡ false → (a && b) ≡ false
 both_false true b is = cc

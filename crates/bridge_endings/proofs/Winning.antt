@@ -26,7 +26,7 @@ module _ (trump : Option Suit) (led : ℕ) where
   B = beats trump led
 
   -- a card that beats another is not beaten by it
-  asymmetric : (x y : ℕ) → B x y ≡ true → is_or_beats trump led y x ≡ false
+  pub asymmetric : (x y : ℕ) → B x y ≡ true → is_or_beats trump led y x ≡ false
   asymmetric x y does = grind (arith, nat_tests)
 
   -- of a card that beats the winner: it beats what the winner is or beats

@@ -1,12 +1,11 @@
 -- What a search asks: of the cards dealt, those that are left, and whether so many tricks are won.
-use Rattle.std.specs.Prelude.{◌≡◌, ℕ, ◌<◌, ◌⊎◌, Bool, true, false, ◌&&◌, List, length, slice_index}
+use Rattle.std.specs.Prelude.{◌≡◌, ℕ, ◌<◌, ◌⊎◌, Bool, true, false, ◌&&◌, List, count_by}
 use Rattle.bridge_cards.specs.declared.seat.Seat.{Seat}
 use Rattle.bridge_cards.specs.declared.seat.Side.{Side}
 use Rattle.bridge_cards.specs.declared.seat.Side.TheVariants.{NorthSouth, EastWest}
-use Rattle.bridge_cards.specs.CardSet.{has_card}
-use Rattle.bridge_cards.specs.Seat.{clockwise_from}
+use Rattle.bridge_cards.specs.declared.suit.Suit.{Suit}
+use Rattle.bridge_cards.specs.CardSet.{has_card, is_of_suit, deck}
 use Rattle.bridge_cards.specs.Deal.{hand_at}
-use Rattle.bridge_endings.specs.Worth.{dealt}
 
 -- whether the seat was dealt the card, and it is left
 abbrev pub left_to : List ℕ → ℕ → Seat → ℕ → Bool
@@ -21,6 +20,14 @@ is_sought EastWest = false
 abbrev pub IsForegone : ℕ → ℕ → ℕ → Type 0
 IsForegone played tricks need = (played ≡ 0) × ((need ≡ 0) ⊎ (tricks < need))
 
--- each card of the trick was dealt to the seat that played it
-abbrev pub EachDealt : List ℕ → Seat → List ℕ → Type 0
-EachDealt hands leader trick = (index : ℕ) → index < length trick → dealt hands (clockwise_from leader index) (slice_index trick index) ≡ true
+-- how many cards of the suit the hand has
+abbrev pub suit_length : ℕ → Suit → ℕ
+suit_length hand suit = count_by (λ card. has_card hand card && is_of_suit suit card) deck
+
+-- of each suit the hands have as many cards
+abbrev pub AreAsLong : ℕ → ℕ → Type 0
+AreAsLong hand other = (suit : Suit) → suit_length hand suit ≡ suit_length other suit
+
+-- of the cards that count the hands have the same
+abbrev pub HoldAlike : ℕ → ℕ → ℕ → Type 0
+HoldAlike counts hand other = (card : ℕ) → has_card counts card ≡ true → has_card hand card ≡ has_card other card

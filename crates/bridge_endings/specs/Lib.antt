@@ -3,9 +3,10 @@ pub mod Ending
 pub mod Worth
 pub mod TrickValue
 pub mod Left
+pub mod Agree
 pub mod Sure
-pub mod Equal
-pub mod Lowered
+pub mod Raised
 pub mod Between
 pub mod SearchValue
 pub mod CacheValue
+pub mod DealTricks

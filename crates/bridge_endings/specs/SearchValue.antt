@@ -1,40 +1,39 @@
--- What a contract sees of a search, and what its table says: bounds of hands at the start of a trick.
-use Rattle.std.specs.Prelude.{◌≡◌, ℕ, ◌*◌, ◌≤◌, List, [], All, Option}
+-- What the answers of a search say, and what its table says.
+use Rattle.std.specs.Prelude.{◌≡◌, ℕ, ◌*◌, ◌<◌, ◌≤◌, Bool, List, [], length, All, Option}
 use Rattle.bridge_cards.specs.declared.suit.Suit.{Suit}
+use Rattle.bridge_cards.specs.declared.seat.Seat.{Seat}
+use Rattle.bridge_cards.specs.CardSet.{has_card}
+use Rattle.bridge_endings.specs.declared.answer.Answer.{Answer}
 use Rattle.bridge_endings.specs.declared.found.Found.{Found}
-use Rattle.bridge_endings.specs.Ending.{IsEnding}
+use Rattle.bridge_endings.specs.declared.search.Search.{Search}
 use Rattle.bridge_endings.specs.Worth.{dealt, worth_with}
-use Rattle.bridge_endings.specs.Equal.{EachIsEqualTo}
+use Rattle.bridge_endings.specs.Agree.{IsDealtOut, IsUpward, Agree, Settles}
 use Rattle.bridge_endings.specs.Between.{IsBounded}
 
--- the hands and the trump suit of the ending, and how many cards were tried
-pub record SearchValue : Type 0 where
-  pub hands : List ℕ
-  pub trump : Option Suit
-  pub tried : ℕ
-
--- a search after some cards were tried: of the same hands and trump suit, and no fewer were tried
-pub record GoesOn (old new : SearchValue) : Type 0 where
-  pub hands : new.hands ≡ old.hands
+-- a search after some cards were tried: of the same trump suit, and no fewer were tried
+pub record GoesOn (old new : Search) : Type 0 where
   pub trump : new.trump ≡ old.trump
   pub tried : old.tried ≤ new.tried
 
--- the bounds are true of the hands and their leader
-abbrev pub IsFound : Option Suit → Found → Type 0
-IsFound trump found = IsBounded (worth_with trump (4 * found.tricks) (dealt found.hands) found.leader []) found.bounds
+-- the answer is right at each position that agrees with this one in the cards that counted, and with a card those above it count
+pub record IsAnswer (trump : Option Suit) (cards need : ℕ) (answer : Answer) (held : Seat → ℕ → Bool) (leader : Seat) (trick : List ℕ) : Type 0 where
+  pub upward : IsUpward (has_card answer.counts)
+  pub settled : Settles trump cards need (has_card answer.counts) answer.yes held leader trick
 
--- the bounds of each entry of a table are true
-abbrev pub EachIsFound : Option Suit → List Found → Type 0
-EachIsFound trump table = All (IsFound trump) table
+-- the bounds are true of each position that agrees with these hands in the cards that counted
+pub record IsFound (found : Found) : Type 0 where
+  pub upward : IsUpward (has_card found.counts)
+  pub bounded : (other : Seat → ℕ → Bool) → IsDealtOut other → Agree (has_card found.counts) (dealt found.hands) other
+      → IsBounded (worth_with found.trump (4 * found.tricks) other found.leader []) found.bounds
+
+-- a table has some entry, and the bounds of each are true
+pub record IsTable (table : List Found) : Type 0 where
+  pub some : 0 < length table
+  pub found : All IsFound table
 
 -- of no tricks none is won
 pub record IsNothing (found : Found) : Type 0 where
   pub tricks : found.tricks ≡ 0
+  pub counts : found.counts ≡ 0
   pub least : found.bounds.least ≡ 0
   pub most : found.bounds.most ≡ 0
-
--- what a search keeps: the hands of an ending, their equal cards, and bounds that are true of the hands in its table
-pub record IsKept (hands : List ℕ) (trump : Option Suit) (equals : List ℕ) (table : List Found) : Type 0 where
-  pub ending : IsEnding hands
-  pub equal : EachIsEqualTo hands equals
-  pub found : EachIsFound trump table

@@ -8,13 +8,15 @@
 //! ```
 #![tactic(auto)]
 
+mod answer;
 mod bounds;
 pub mod cache;
+pub mod deal_solver;
 pub mod ending;
-mod equal;
 mod found;
-mod lowered;
+mod like_hands;
 mod move_order;
+mod raised;
 mod reaching;
 mod search;
 pub mod solver;
@@ -22,5 +24,6 @@ mod sure_card;
 mod trick;
 
 pub use cache::Cache;
+pub use deal_solver::DealSolver;
 pub use ending::{Ending, EndingRefused};
 pub use solver::solve;

@@ -3,7 +3,7 @@ ghost use Rattle.std.specs.Prelude.{◌≡◌, ◌<◌, ◌↔◌, ℕ, true, Is
 ghost use Rattle.bridge_cards.specs.Card.{IsCard};
 ghost use Rattle.bridge_cards.specs.CardSet.{has_card};
 
-use crate::search::Search;
+use crate::search::{Search, held};
 use crate::trick::Trick;
 use bridge_cards::{Card, CardSet, Seat, Suit};
 
@@ -20,27 +20,25 @@ pub struct Seen {
 
 impl Search {
     /// What is seen of the other hands before one of the cards is played to the trick; nothing where there is no choice.
-    pub fn seen(&self, left: CardSet, cards: CardSet, trick: &Trick) -> Seen {
+    pub fn seen(&self, hands: &[CardSet; 4], left: CardSet, cards: CardSet, trick: &Trick) -> Seen {
         if !is_choice(cards) {
             return Seen::default();
         }
         match trick.led() {
-            None => self.leads(left, trick.turn()),
+            None => self.leads(hands, left, trick.turn()),
             Some(led) => Seen {
-                next: self.best_of_next(left, trick, led),
+                next: self.best_of_next(hands, left, trick, led),
                 ..Seen::default()
             },
         }
     }
 
     /// Which cards are good to lead.
-    fn leads(&self, left: CardSet, leader: Seat) -> Seen {
+    fn leads(&self, hands: &[CardSet; 4], left: CardSet, leader: Seat) -> Seen {
         let mut seen = Seen::default();
-        let side = self
-            .held(left, leader)
-            .union(self.held(left, leader.partner()));
-        let next = self.held(left, leader.left());
-        let last = self.held(left, leader.clockwise(3));
+        let side = held(hands, left, leader).union(held(hands, left, leader.partner()));
+        let next = held(hands, left, leader.left());
+        let last = held(hands, left, leader.clockwise(3));
         for suit in Suit::ALL {
             if self.ruffs(next, suit) || self.ruffs(last, suit) {
                 continue;
@@ -55,14 +53,20 @@ impl Search {
     }
 
     /// The best card that the next hand may play to the trick, if it would win so far; the leader has played already.
-    fn best_of_next(&self, left: CardSet, trick: &Trick, led: Card) -> Option<Card> {
+    fn best_of_next(
+        &self,
+        hands: &[CardSet; 4],
+        left: CardSet,
+        trick: &Trick,
+        led: Card,
+    ) -> Option<Card> {
         if trick.len() > 2 {
             return None;
         }
-        let next = self.held(left, trick.turn().left());
+        let next = held(hands, left, trick.turn().left());
         let suited = next.of_suit(led.suit());
         let best = if suited.is_empty() {
-            next.of_suit(self.trump()?).highest()?
+            next.of_suit(self.trump?).highest()?
         } else {
             suited.highest()?
         };
@@ -77,7 +81,7 @@ impl Search {
     fn ruffs(&self, hand: CardSet, suit: Suit) -> bool {
         hand.of_suit(suit).is_empty()
             && self
-                .trump()
+                .trump
                 .is_some_and(|trump| !hand.of_suit(trump).is_empty())
     }
 }

@@ -1,14 +1,16 @@
 //! Whether North and South win at least so many of the tricks left.
-ghost use Rattle.std.specs.Prelude.{◌≡◌, ℕ, ◌-◌, ◌*◌, ◌<◌, ◌≤◌, nat_le, true, length, MatchBool, ◌++◌, ◌∷◌, []};
-ghost use Rattle.bridge_cards.specs.Seat.{clockwise_from, side_of};
-ghost use Rattle.bridge_endings.specs.Worth.{after_playing, trick_for, worth_with, worth_after};
-ghost use Rattle.bridge_endings.specs.Left.{left_to, is_sought, IsForegone, EachDealt};
-ghost use Rattle.bridge_endings.specs.SearchValue.{GoesOn};
+ghost use Rattle.std.specs.Prelude.{◌≡◌, ℕ, ◌-◌, ◌*◌, ◌<◌, ◌≤◌, ◌==◌, length, MatchBool, IsTrue, ◌++◌, ◌∷◌, []};
+ghost use Rattle.bridge_cards.specs.Seat.{side_of};
+ghost use Rattle.bridge_endings.specs.Worth.{after_playing, dealt, trick_for};
+ghost use Rattle.bridge_endings.specs.Left.{left_to, is_sought, IsForegone};
+ghost use Rattle.bridge_endings.specs.Agree.{IsDealtOut};
+ghost use Rattle.bridge_endings.specs.SearchValue.{GoesOn, IsAnswer, IsTable};
 
-use crate::bounds::narrowed;
-use crate::found::Found;
+use crate::answer::{Answer, still_to_try, upwards};
+use crate::found::{Found, known, note};
 use crate::move_order::next_card;
-use crate::search::Search;
+use crate::raised::{all_cards, counted, raised};
+use crate::search::{Search, legal_cards};
 use crate::sure_card::settled_by_one;
 use crate::trick::Trick;
 use bridge_cards::{Card, CardSet, Seat, Side};
@@ -16,94 +18,160 @@ use bridge_cards::{Card, CardSet, Seat, Side};
 impl Search {
     /// Whether North and South win at least `need` of so many tricks left, to the first of which that seat leads.
     #[cycle(search)]
-    pub fn reaches_from(&mut self, left: CardSet, leader: Seat, tricks: u8, need: u8) -> bool
-        ensures worth { result ≡ nat_le need (worth_with self.old.trump (4 * tricks) (left_to self.old.hands left) leader []) }
+    pub fn reaches_from(
+        &mut self,
+        table: &mut [Found],
+        hands: &[CardSet; 4],
+        left: CardSet,
+        leader: Seat,
+        tricks: u8,
+        need: u8,
+    ) -> Answer
+        requires table { IsTable table.old }
+        requires dealt { IsDealtOut (left_to hands.now left) }
+        ensures answer { IsAnswer self.old.trump (4 * tricks) need result (left_to hands.now left) leader [] }
         ensures later { GoesOn self.old self.new }
+        ensures table { IsTable table.new }
     {
-        let trick = Trick::new(self.trump(), leader);
+        let trick = Trick::new(self.trump, leader);
         if is_settled(&trick, tricks, need) {
-            return need == 0;
+            return without_cards(need);
         }
         if tricks < 2 {
-            return self.reaches(left, &trick, tricks, need);
+            return self.reaches(table, hands, left, &trick, tricks, need);
         }
-        if need == settled_by_one(leader, tricks) && self.sure_card(left, leader).is_some() {
-            return is_sought(leader);
+        if need == settled_by_one(leader, tricks)
+            && let Some(card) = self.sure_card(hands, left, leader)
+        {
+            return Answer {
+                yes: is_sought(leader),
+                counts: upwards(card),
+            };
         }
-        let hands = self.lowered(left);
-        let known = self.bounds(&hands, leader, tricks);
-        if need <= known.least || need > known.most {
-            return need <= known.least;
+        let raised = raised(hands, left);
+        let all = all_cards(&raised);
+        let answer = self.reaches_raised(table, &raised, all, &trick, tricks, need);
+        Answer {
+            yes: answer.yes,
+            counts: counted(hands, left, answer.counts),
         }
-        let answer = self.reaches(left, &trick, tricks, need);
-        let bounds = narrowed(known, need, answer);
-        self.note(Found {
-            hands,
-            leader,
-            tricks,
-            bounds,
-        });
+    }
+
+    /// The same of hands that are raised, of which the table may know it.
+    #[cycle(search)]
+    fn reaches_raised(
+        &mut self,
+        table: &mut [Found],
+        hands: &[CardSet; 4],
+        left: CardSet,
+        trick: &Trick,
+        tricks: u8,
+        need: u8,
+    ) -> Answer
+        requires table { IsTable table.old }
+        requires dealt { IsDealtOut (left_to hands.now left) }
+        requires all { left_to hands.now left ≡ dealt hands.now }
+        requires first { (trick.now.cards ≡ []) × (trick.now.trump ≡ self.old.trump) }
+        requires some { 0 < need }
+        ensures answer { IsAnswer self.old.trump (4 * tricks) need result (dealt hands.now) trick.now.leader [] }
+        ensures later { GoesOn self.old self.new }
+        ensures table { IsTable table.new }
+    {
+        let leader = trick.turn();
+        if let Some(answer) = known(table, hands, self.trump, leader, tricks, need) {
+            return answer;
+        }
+        let answer = self.reaches(table, hands, left, trick, tricks, need);
+        let found = Found::by(hands, self.trump, leader, tricks, need, &answer);
+        note(table, &found, self.tried);
         answer
     }
 
     /// The same at any card of a trick, with which so many tricks are left.
     #[cycle(search)]
-    fn reaches(&mut self, left: CardSet, trick: &Trick, tricks: u8, need: u8) -> bool
-        requires part { length trick.now.cards < 4 }
-        requires enough { length trick.now.cards ≤ 4 * tricks }
-        requires trump { trick.now.trump ≡ self.old.trump }
-        requires dealt { EachDealt self.old.hands trick.now.leader trick.now.cards }
-        ensures worth { result ≡ nat_le need (worth_with self.old.trump (4 * tricks - length trick.now.cards)
-            (left_to self.old.hands left) trick.now.leader trick.now.cards) }
+    fn reaches(
+        &mut self,
+        table: &mut [Found],
+        hands: &[CardSet; 4],
+        left: CardSet,
+        trick: &Trick,
+        tricks: u8,
+        need: u8,
+    ) -> Answer
+        requires part { (length trick.now.cards < 4) × (length trick.now.cards ≤ 4 * tricks) }
+        requires given { (trick.now.trump ≡ self.old.trump) × IsTable table.old × IsDealtOut (left_to hands.now left) }
+        ensures answer { IsAnswer self.old.trump (4 * tricks - length trick.now.cards) need result
+            (left_to hands.now left) trick.now.leader trick.now.cards }
         ensures later { GoesOn self.old self.new }
+        ensures table { IsTable table.new }
     {
         if is_settled(trick, tricks, need) {
-            return need == 0;
+            return without_cards(need);
         }
-        let legal = self.legal_cards(left, trick);
+        let legal = legal_cards(hands, left, trick);
         if legal.is_empty() {
-            return need == 0;
+            return without_cards(need);
         }
         let sought = is_sought(trick.turn());
-        let seen = self.seen(left, legal, trick);
+        let seen = self.seen(hands, left, legal, trick);
         let mut rest = legal;
+        let mut counts = CardSet::new();
         while let Some(card) = next_card(rest, trick, &seen) {
-            rest = rest.without(card).difference(self.equals(card));
-            if self.reaches_with(left, trick, card, tricks, need) == sought {
-                return sought;
+            let answer = self.reaches_with(table, hands, left, trick, card, tricks, need);
+            if answer.yes == sought {
+                return answer;
             }
+            rest = still_to_try(rest, card, answer.counts);
+            counts = counts.union(answer.counts);
         }
-        !sought
+        let yes = !sought;
+        Answer { yes, counts }
     }
 
     /// Whether they do once the card is played.
     #[cycle(search)]
     fn reaches_with(
         &mut self,
+        table: &mut [Found],
+        hands: &[CardSet; 4],
         left: CardSet,
         trick: &Trick,
         card: Card,
         tricks: u8,
         need: u8,
-    ) -> bool
-        requires part { length trick.now.cards < 4 }
-        requires some { 0 < tricks }
+    ) -> Answer
+        requires part { (length trick.now.cards < 4) × (0 < tricks) }
         requires trump { trick.now.trump ≡ self.old.trump }
-        requires dealt { EachDealt self.old.hands trick.now.leader trick.now.cards }
-        requires held { left_to self.old.hands left (clockwise_from trick.now.leader (length trick.now.cards)) card ≡ true }
-        ensures worth { result ≡ nat_le need (worth_after self.old.trump (worth_with self.old.trump (4 * tricks - length trick.now.cards - 1))
-            (after_playing card (left_to self.old.hands left)) trick.now.leader (trick.now.cards ++ card ∷ [])) }
+        requires given { IsTable table.old × IsDealtOut (left_to hands.now left) }
+        ensures answer { IsAnswer self.old.trump (4 * tricks - length trick.now.cards - 1) need result
+            (after_playing card (left_to hands.now left)) trick.now.leader (trick.now.cards ++ card ∷ []) }
         ensures later { GoesOn self.old self.new }
+        ensures table { IsTable table.new }
     {
         self.count_card();
         let left = left.without(card);
         let trick = trick.with(card);
         if trick.len() < 4 {
-            return self.reaches(left, &trick, tricks, need);
+            return self.reaches(table, hands, left, &trick, tricks, need);
         }
         let winner = trick.winner();
         let need = need_after(winner, need);
-        self.reaches_from(left, winner, tricks - 1, need)
+        let answer = self.reaches_from(table, hands, left, winner, tricks - 1, need);
+        Answer {
+            yes: answer.yes,
+            counts: answer.counts.union(trick.rank_that_counts()),
+        }
+    }
+}
+
+/// The answer where no card is played: no card counts.
+fn without_cards(need: u8) -> Answer
+    ensures yes { result.yes ≡ (need == 0) }
+    ensures counts { result.counts ≡ 0 }
+{
+    Answer {
+        yes: need == 0,
+        counts: CardSet::new(),
     }
 }
 
@@ -111,7 +179,8 @@ impl Search {
 fn is_settled(trick: &Trick, tricks: u8, need: u8) -> bool
     requires part { length trick.now.cards < 4 }
     requires enough { length trick.now.cards ≤ 4 * tricks }
-    ensures { MatchBool result (IsForegone (length trick.now.cards) tricks need) (length trick.now.cards < 4 * tricks) }
+    ensures cases { MatchBool result (IsForegone (length trick.now.cards) tricks need) (length trick.now.cards < 4 * tricks) }
+    ensures needless { length trick.now.cards ≡ 0 → need ≡ 0 → IsTrue result }
 {
     trick.len() == 0 && (need == 0 || need > tricks)
 }

@@ -1,14 +1,17 @@
 //! The worth of an ending.
-ghost use Rattle.std.specs.Prelude.{◌≡◌, ◌≤◌, length};
-ghost use Rattle.bridge_endings.specs.Worth.{dealt, worth_of};
-ghost use Rattle.bridge_endings.specs.Left.{left_to};
+ghost use Rattle.std.specs.Prelude.{◌≡◌, ◌*◌, ◌≤◌, []};
+ghost use Rattle.bridge_endings.specs.Worth.{dealt, worth_of, worth_with};
+ghost use Rattle.bridge_endings.specs.Agree.{IsDealtOut};
+ghost use Rattle.bridge_endings.specs.SearchValue.{IsTable};
 ghost use Rattle.bridge_endings.specs.CacheValue.{OfCache, Solving};
 
 use crate::bounds::{Bounds, narrowed};
 use crate::cache::Cache;
 use crate::ending::Ending;
+use crate::found::{Found, empty_table};
+use crate::raised::all_cards;
 use crate::search::Search;
-use bridge_cards::CardSet;
+use bridge_cards::{CardSet, Seat};
 
 /// The tricks of North and South where each of the four sees all the cards, and both sides play for as many as they can.
 /// A cache answers at once for an ending that it keeps. For any other the ending is searched and then kept, unless memory
@@ -20,7 +23,13 @@ pub fn solve(ending: &Ending, cache: Option<&mut Cache>) -> u8
 {
     match cache {
         Some(cache) => solve_with(ending, cache),
-        None => tricks_won(ending, &mut Search::new(ending, 0)),
+        None => worth_by(
+            ending,
+            &mut Search {
+                trump: ending.trump(),
+                tried: 0,
+            },
+        ),
     }
 }
 
@@ -35,40 +44,51 @@ fn solve_with(ending: &Ending, cache: &mut Cache) -> u8
         cache.keep(ending, worth, tried);
         return worth;
     }
-    let mut search = Search::new(ending, tried);
-    let worth = tricks_won(ending, &mut search);
-    cache.keep(ending, worth, search.tried());
+    let mut search = Search {
+        trump: ending.trump(),
+        tried,
+    };
+    let worth = worth_by(ending, &mut search);
+    cache.keep(ending, worth, search.tried);
     worth
 }
 
-/// The tricks of North and South by a search, which is asked for the middle of what they may be until that is known.
-fn tricks_won(ending: &Ending, search: &mut Search) -> u8
-    requires hands { search.old.hands ≡ ending.now.hands }
+/// The same by a search with a table of its own.
+fn worth_by(ending: &Ending, search: &mut Search) -> u8
     requires trump { search.old.trump ≡ ending.now.trump }
     ensures worth { result ≡ worth_of ending.now }
     ensures few { result ≤ 6 }
     ensures tried { search.old.tried ≤ search.new.tried }
 {
-    let left = all_cards(&ending.hands());
-    let leader = ending.leader();
-    let tricks = ending.tricks();
+    let hands = ending.hands();
+    let mut table = empty_table();
+    tricks_won(search, &mut table, &hands, ending.leader(), ending.tricks())
+}
+
+/// The tricks of North and South by a search of so many, which is asked for the middle of what they may be until that is known.
+pub fn tricks_won(
+    search: &mut Search,
+    table: &mut [Found],
+    hands: &[CardSet; 4],
+    leader: Seat,
+    tricks: u8,
+) -> u8
+    requires table { IsTable table.old }
+    requires dealt { IsDealtOut (dealt hands.now) }
+    ensures worth { result ≡ worth_with search.old.trump (4 * tricks) (dealt hands.now) leader [] }
+    ensures few { result ≤ tricks }
+    ensures tried { search.old.tried ≤ search.new.tried }
+    ensures table { IsTable table.new }
+{
+    let left = all_cards(hands);
     let mut bounds = Bounds {
         least: 0,
         most: tricks,
     };
     while bounds.least < bounds.most {
         let need = bounds.most - (bounds.most - bounds.least) / 2;
-        let answer = search.reaches_from(left, leader, tricks, need);
-        bounds = narrowed(bounds, need, answer);
+        let answer = search.reaches_from(table, hands, left, leader, tricks, need);
+        bounds = narrowed(bounds, need, answer.yes);
     }
     bounds.least
-}
-
-/// The cards of all four hands.
-fn all_cards(hands: &[CardSet; 4]) -> CardSet
-    requires { length hands.now ≡ 4 }
-    ensures { left_to hands.now result ≡ dealt hands.now }
-{
-    let [north, east, south, west] = hands;
-    north.union(*east).union(*south).union(*west)
 }

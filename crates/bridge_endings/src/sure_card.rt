@@ -3,32 +3,20 @@ ghost use Rattle.std.specs.Prelude.{◌≡◌, ℕ, true, false, Some, IfSome, I
 ghost use Rattle.bridge_cards.specs.CardSet.{has_card, is_of_suit};
 ghost use Rattle.bridge_cards.specs.Trick.{is_trump};
 ghost use Rattle.bridge_cards.specs.Seat.{side_of};
-ghost use Rattle.bridge_endings.specs.Ending.{IsEnding};
+ghost use Rattle.bridge_endings.specs.Agree.{IsDealtOut};
 ghost use Rattle.bridge_endings.specs.Left.{left_to};
 ghost use Rattle.bridge_endings.specs.Sure.{EachHasSome, IsSure, IsHighest, settled_by_one};
 
-use crate::search::Search;
+use crate::search::{Search, held};
 use bridge_cards::{Card, CardSet, Seat, Side, Suit};
 
 impl Search {
-    /// Whether each hand but the leader's has a card left.
-    fn others_have_cards(&self, left: CardSet, leader: Seat) -> bool
-        ensures { IsTrue result → EachHasSome (left_to self.now.hands left) leader }
-    {
-        for index in 1..4_usize {
-            if self.held(left, leader.clockwise(index)).is_empty() {
-                return false;
-            }
-        }
-        true
-    }
-
     /// The trump suit, if one of the cards is a trump.
     fn trump_among(&self, cards: CardSet) -> Option<Suit>
         ensures some { IfSome result (λ suit. self.now.trump ≡ Some suit) }
         ensures none { IfNone result ((card : ℕ) → has_card cards card ≡ true → is_trump self.now.trump card ≡ false) }
     {
-        let trump = self.trump()?;
+        let trump = self.trump?;
         if cards.of_suit(trump).is_empty() {
             None
         } else {
@@ -38,20 +26,32 @@ impl Search {
 
     /// A card with which the leader's side wins the trick whatever the others play, if one is seen at once: the highest left
     /// of a suit that the leader has, in either of the side's hands, where it is a trump or no hand but the leader's has one.
-    pub fn sure_card(&self, left: CardSet, leader: Seat) -> Option<Card>
-        ensures sure { IfSome result (λ card. (led : ℕ) × IsSure self.now.trump (left_to self.now.hands left) leader card led) }
-        ensures ending { IfSome result (λ _. IsEnding self.now.hands) }
+    pub fn sure_card(&self, hands: &[CardSet; 4], left: CardSet, leader: Seat) -> Option<Card>
+        requires { IsDealtOut (left_to hands.now left) }
+        ensures { IfSome result (λ card. (led : ℕ) × IsSure self.now.trump (left_to hands.now left) leader card led) }
     {
-        if !self.others_have_cards(left, leader) {
+        if !others_have_cards(hands, left, leader) {
             return None;
         }
-        let hand = self.held(left, leader);
-        let partner = self.held(left, leader.partner());
+        let hand = held(hands, left, leader);
+        let partner = held(hands, left, leader.partner());
         match self.trump_among(left.difference(hand)) {
             Some(trump) => highest_of_suit(hand, partner, left, trump),
             None => highest_of_any_suit(hand, partner, left),
         }
     }
+}
+
+/// Whether each hand but the leader's has a card left.
+fn others_have_cards(hands: &[CardSet; 4], left: CardSet, leader: Seat) -> bool
+    ensures { IsTrue result → EachHasSome (left_to hands.now left) leader }
+{
+    for index in 1..4_usize {
+        if held(hands, left, leader.clockwise(index)).is_empty() {
+            return false;
+        }
+    }
+    true
 }
 
 /// How many tricks North and South need, where one trick more for the seat's side settles whether they reach them.

@@ -4,8 +4,10 @@ ghost use Rattle.bridge_cards.specs.Seat.{clockwise_from};
 ghost use Rattle.bridge_cards.specs.Trick.{next_leader};
 ghost use Rattle.bridge_cards.specs.CardSet.{has_card};
 ghost use Rattle.bridge_endings.specs.TrickValue.{IsKeptWinner};
+ghost use Rattle.bridge_endings.specs.Agree.{IsRanked, IsUpward};
 
-use bridge_cards::trick::beats;
+use crate::answer::upwards;
+use bridge_cards::trick::{beats, same_suit};
 use bridge_cards::{Card, CardSet, Seat, Suit};
 use std::marker::Model;
 
@@ -156,6 +158,21 @@ impl Trick {
             Some(trump) if trump != best.suit() => higher.union(cards.of_suit(trump)),
             _ => higher,
         }
+    }
+
+    /// The cards that count in the trick: where another card of the winner's suit was played, the winner's and those above it.
+    pub fn rank_that_counts(&self) -> CardSet
+        requires { 0 < length self.now.cards }
+        ensures rank { IsRanked self.now.trump (has_card result) self.now.cards }
+        ensures upward { IsUpward (has_card result) }
+    {
+        let winner = self.winning;
+        for index in 0..self.played {
+            if index != winner.index && same_suit(self.cards[usize::from(index)], winner.card) {
+                return upwards(winner.card);
+            }
+        }
+        CardSet::new()
     }
 
     /// Who wins the trick, and so leads to the next (Law 44).

@@ -20,9 +20,9 @@ untold {A} P told none some = let never : IsSome {T = A} None = subst (λ (o : O
 pub returns-clause-cache : goal.returns-clause-cache
 returns-clause-cache c = record {
   keeping = c.keep-2.ensures.keeping;
-  tried = omega (arith, c.keep-2.ensures.tried, c.tried.ensures, c.tricks_won-worth.ensures.tried, c.new-search.ensures.tried, c.tried-tried.ensures);
+  tried = omega (arith, c.keep-2.ensures.tried, c.worth_by-worth.ensures.tried, c.tried-tried.ensures);
   known = λ kept is. untold _ _ c.in_default.is (c.worth.ensures.known kept is);
 }
 
 pub keep-requires-2 : goal.keep-requires-2
-keep-requires-2 c = c.tricks_won-worth.ensures.worth
+keep-requires-2 c = c.worth_by-worth.ensures.worth

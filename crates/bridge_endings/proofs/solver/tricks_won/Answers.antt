@@ -1,16 +1,17 @@
-use Rattle.std.proofs.Common.{◌≡◌, ◌+◌, ◌∙◌, arith}
-use Rattle.bridge_endings.specs.Worth.{dealt, worth_of}
-use Rattle.bridge_endings.specs.Left.{left_to}
-use Rattle.bridge_endings.proofs.Root.{worth_of_le, asked}
+use Rattle.std.proofs.Common.{◌-◌, ◌*◌, ◌/◌, ◌∙◌, [], nat_le, refl, ap, subst, arith}
+use Rattle.bridge_endings.specs.Worth.{dealt, worth_with}
+use Rattle.bridge_endings.specs.SearchValue.{IsAnswer}
+use Rattle.bridge_endings.proofs.Root.{worth_le}
+use Rattle.bridge_endings.proofs.Reached.{told_here}
 use Rattle.bridge_endings.proofs.solver.tricks_won.Goals as goal
 
 pub loop-bounds-init : goal.loop-bounds-init
 loop-bounds-init c = record {
-  bounded = record { least = omega arith; most = omega (arith, worth_of_le c.args.ending.now, c.tricks-tricks.ensures.tricks) };
-  few = c.tricks-tricks.ensures.few;
-  hands = c.requires.hands;
-  trump = c.requires.trump;
+  bounded = record { least = omega arith; most = worth_le c.args.search.now.trump c.args.tricks (dealt c.args.hands.now) c.args.leader };
+  few = omega arith;
+  trump = refl;
   tried = omega arith;
+  table = c.requires.table;
 }
 
 pub loop-bounds-smaller : goal.loop-bounds-smaller
@@ -18,14 +19,17 @@ loop-bounds-smaller c = omega (arith, (c.narrowed-bounds.ensures.closer (omega a
 
 pub loop-bounds-preserved : goal.loop-bounds-preserved
 loop-bounds-preserved c =
-    let ending = c.args.ending.now in
-    let all : left_to ending.hands c.all_cards-left.result ≡ dealt ending.hands = rw (← c.hands.ensures.hands) c.all_cards-left.ensures in
-    let told = asked ending c.loop-bounds.search.hands c.loop-bounds.search.trump c.leader-leader.result c.tricks-tricks.result c.all_cards-left.result _ c.reaches_from-answer.result
-    c.loop-bounds.invariant.hands c.loop-bounds.invariant.trump c.leader-leader.ensures c.tricks-tricks.ensures.tricks all c.reaches_from-answer.ensures.worth in
+    let here = dealt c.args.hands.now in
+    let need = c.loop-bounds.bounds.most - (c.loop-bounds.bounds.most - c.loop-bounds.bounds.least) / 2 in
+    let answer = c.reaches_from-answer.result in
+    let is : IsAnswer c.loop-bounds.search.trump (4 * c.args.tricks) need answer here c.args.leader [] =
+    subst (λ held. IsAnswer c.loop-bounds.search.trump (4 * c.args.tricks) need answer held c.args.leader []) c.all_cards-left.ensures.all c.reaches_from-answer.ensures.answer in
+    let told = told_here here c.requires.dealt c.loop-bounds.search.trump c.args.tricks need c.args.leader answer is in
     record {
-      bounded = c.narrowed-bounds.ensures.bounded (worth_of ending) c.loop-bounds.invariant.bounded told;
+      bounded = c.narrowed-bounds.ensures.bounded (worth_with c.args.search.now.trump (4 * c.args.tricks) here c.args.leader []) c.loop-bounds.invariant.bounded
+          (told ∙ ap (λ t. nat_le need (worth_with t (4 * c.args.tricks) here c.args.leader [])) c.loop-bounds.invariant.trump);
       few = omega (arith, (c.narrowed-bounds.ensures.closer (omega arith)).0, c.loop-bounds.invariant.few);
-      hands = c.reaches_from-answer.ensures.later.hands ∙ c.loop-bounds.invariant.hands;
       trump = c.reaches_from-answer.ensures.later.trump ∙ c.loop-bounds.invariant.trump;
       tried = omega (arith, c.reaches_from-answer.ensures.later.tried, c.loop-bounds.invariant.tried);
+      table = c.reaches_from-answer.ensures.table;
     }

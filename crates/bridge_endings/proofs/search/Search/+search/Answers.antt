@@ -1,92 +1,113 @@
-use Rattle.std.proofs.Common.{rules, ◌≡◌, ℕ, ◌-◌, ◌*◌, true, not, nat_le, List, [], length, refl, sym, ap, ◌∙◌, subst, arith}
-use Rattle.bridge_cards.specs.CardSet.{has_card}
-use Rattle.bridge_cards.proofs.CardSetLaws.{has_card-zero}
+use Rattle.std.proofs.Common.{rules, subst, ◌≡◌, ◌<◌, ◌⊎◌, inl, inr, ◌-◌, ◌*◌, ◌++◌, ◌∷◌, not, [], length, refl, sym, ap, ◌∙◌, arith}
+use Rattle.std.proofs.lemmas.Bool.{cases_eq}
 use Rattle.bridge_cards.specs.declared.seat.Seat.{Seat}
-use Rattle.bridge_cards.specs.Seat.{clockwise_from}
-use Rattle.bridge_endings.specs.Ending.{IsEnding}
-use Rattle.bridge_endings.specs.Left.{left_to, EachDealt}
-use Rattle.bridge_endings.specs.Equal.{IsEqualTo}
-use Rattle.bridge_endings.specs.Worth.{worth_with}
-use Rattle.bridge_endings.proofs.WorthSteps.{worth_of_card}
-use Rattle.bridge_endings.proofs.Answered.{same_answer, other_answer}
+use Rattle.bridge_endings.specs.Worth.{dealt, after_playing}
+use Rattle.bridge_endings.specs.Left.{left_to}
+use Rattle.bridge_endings.specs.SearchValue.{IsAnswer}
+use Rattle.bridge_endings.proofs.TwoAnswers.{other_answer, same_answer}
 use Rattle.bridge_endings.proofs.GoingOn.{goes_on_again, told_before}
-use Rattle.bridge_endings.proofs.SearchSteps.{settled, none_legal, found, none_found, after_part, after_whole}
-use Rattle.bridge_endings.proofs.EqualSteps.{legal_held, answered_with_equals, fewer}
-use Rattle.bridge_endings.proofs.SureTrick.{sure_answer}
+use Rattle.bridge_endings.proofs.Answered.{answered_step, fewer}
+use Rattle.bridge_endings.proofs.Reached.{foregone, foregone_first, none_legal, found, none_found, after_part, after_whole, sure_answer, raised_dealt, raised_answer}
 use Rattle.bridge_endings.proofs.search.Search.+search.Goals as goal
 
-pub reaches_from-returns-then-is_settled-clause-worth : goal.reaches_from-returns-then-is_settled-clause-worth
-reaches_from-returns-then-is_settled-clause-worth t c =
-    let held = left_to c.args.self.now.hands c.args.left in
-    let whole : 4 * c.args.tricks - length {A = ℕ} [] ≡ 4 * c.args.tricks = omega arith in
-    settled c.args.self.now.trump c.args.tricks c.args.need held c.args.leader [] (refl, c.if-is_settled.ensures.1)
-    ∙ ap (λ n. nat_le c.args.need (worth_with c.args.self.now.trump n held c.args.leader [])) whole
+pub reaches-returns-then-is_settled-clause-answer : goal.reaches-returns-then-is_settled-clause-answer
+reaches-returns-then-is_settled-clause-answer t c =
+    foregone c.args.self.now.trump c.args.tricks c.args.need c.without_cards.result (left_to c.args.hands.now c.args.left) c.args.trick.now.leader c.args.trick.now.cards
+    c.if-is_settled.ensures.cases c.without_cards.ensures.yes c.without_cards.ensures.counts
 
-pub reaches_from-returns-then-is_some-clause-worth : goal.reaches_from-returns-then-is_some-clause-worth
-reaches_from-returns-then-is_some-clause-worth t c =
-    c.is_sought.ensures
-    ∙ sure_answer c.args.self.now.hands c.args.self.now.trump c.args.left c.args.leader c.sure_card.result c.sure_card.ensures.sure c.sure_card.ensures.ending (sym c.is_some.ensures ∙ c.if-is_some.true) c.args.tricks c.args.need (omega arith) (omega arith)
+pub reaches-returns-then-is_empty-clause-answer : goal.reaches-returns-then-is_empty-clause-answer
+reaches-returns-then-is_empty-clause-answer t c =
+    none_legal c.args.self.now.trump c.args.tricks c.args.need (left_to c.args.hands.now c.args.left) c.requires.given.2
+    c.args.trick.now.leader c.args.trick.now.cards c.requires.part.0 c.legal_cards-legal.result c.if-is_settled.ensures.cases c.legal_cards-legal.ensures.legal
+    c.without_cards-then-is_empty.result (c.if-is_empty.ensures.zero.0 refl) c.without_cards-then-is_empty.ensures.yes c.without_cards-then-is_empty.ensures.counts
 
-pub reaches-returns-then-is_settled-clause-worth : goal.reaches-returns-then-is_settled-clause-worth
-reaches-returns-then-is_settled-clause-worth t c =
-    settled c.args.self.now.trump c.args.tricks c.args.need (left_to c.args.self.now.hands c.args.left) c.args.trick.now.leader c.args.trick.now.cards c.if-is_settled.ensures
-
-pub reaches-returns-then-is_empty-clause-worth : goal.reaches-returns-then-is_empty-clause-worth
-reaches-returns-then-is_empty-clause-worth t c =
-    none_legal c.args.self.now.trump c.args.tricks c.args.need (left_to c.args.self.now.hands c.args.left) c.args.trick.now.leader c.args.trick.now.cards c.legal_cards-legal.result c.if-is_settled.ensures c.legal_cards-legal.ensures.legal (c.if-is_empty.ensures.zero.0 refl)
-
-pub reaches-returns-then-reaches_with-sought-clause-worth : goal.reaches-returns-then-reaches_with-sought-clause-worth
-reaches-returns-then-reaches_with-sought-clause-worth t c =
-    let told = told_before c.args.self.now c.loop-card.self (λ hands trump. c.reaches_with.result ≡ nat_le c.args.need (worth_of_card trump (4 * c.args.tricks - length c.args.trick.now.cards - 1) (left_to hands c.args.left) c.args.trick.now.leader c.args.trick.now.cards c.in-Some.card)) c.loop-card.invariant.later c.reaches_with.ensures.worth in
-    found c.args.self.now.trump c.args.tricks c.args.need (left_to c.args.self.now.hands c.args.left) c.args.trick.now.leader c.args.trick.now.cards c.legal_cards-legal.result c.if-is_settled.ensures c.legal_cards-legal.ensures.legal
-    c.in-Some.card c.is_sought-sought.result c.reaches_with.result c.in-Some.ensures.card.0 (c.loop-card.invariant.answered.among c.in-Some.card c.in-Some.ensures.card.1) (rw (← c.turn.ensures) c.is_sought-sought.ensures) told (same_answer c.reaches_with.result c.is_sought-sought.result c.if-reaches_with-sought.true)
+pub reaches-returns-then-answer-sought-clause-answer : goal.reaches-returns-then-answer-sought-clause-answer
+reaches-returns-then-answer-sought-clause-answer t c =
+    let told = told_before c.args.self.now c.loop-card.self
+    (λ trump. IsAnswer trump (4 * c.args.tricks - length c.args.trick.now.cards - 1) c.args.need c.reaches_with-answer.result (after_playing c.in-Some.card (left_to c.args.hands.now c.args.left)) c.args.trick.now.leader (c.args.trick.now.cards ++ c.in-Some.card ∷ []))
+    c.loop-card.invariant.later c.reaches_with-answer.ensures.answer in
+    found c.args.self.now.trump c.args.tricks c.args.need (left_to c.args.hands.now c.args.left) c.requires.given.2
+    c.args.trick.now.leader c.args.trick.now.cards c.requires.part.0 c.legal_cards-legal.result c.if-is_settled.ensures.cases c.legal_cards-legal.ensures.legal
+    c.in-Some.card c.is_sought-sought.result c.reaches_with-answer.result (c.loop-card.invariant.answered.among c.in-Some.card c.in-Some.ensures.card.1) (rw (← c.turn.ensures) c.is_sought-sought.ensures) told
+    (same_answer c.reaches_with-answer.result.yes c.is_sought-sought.result c.if-answer-sought.true)
 
 pub reaches-loop-card-smaller : goal.reaches-loop-card-smaller
 reaches-loop-card-smaller t c =
-    fewer c.loop-card.rest c.without.result c.equals.result c.difference-rest.result c.in-Some.card c.in-Some.ensures.card.0 c.in-Some.ensures.card.1 c.without.ensures c.difference-rest.ensures
-
-pub reaches-returns-clause-worth : goal.reaches-returns-clause-worth
-reaches-returns-clause-worth t c =
-    let empty : c.loop-card.rest ≡ 0 = c.in_default.ensures.none.0 refl in
-    none_found c.args.self.now.trump c.args.tricks c.args.need (left_to c.args.self.now.hands c.args.left) c.args.trick.now.leader c.args.trick.now.cards c.legal_cards-legal.result c.if-is_settled.ensures c.legal_cards-legal.ensures.legal
-    c.is_sought-sought.result c.legal_cards-legal.ensures.deck c.if-is_empty.ensures.cards (rw (← c.turn.ensures) c.is_sought-sought.ensures)
-    (λ card has. c.loop-card.invariant.answered.tried card has (ap (λ rest. has_card rest card) empty ∙ has_card-zero card))
-
-pub reaches_with-returns-then-len-lt4-clause-worth : goal.reaches_with-returns-then-len-lt4-clause-worth
-reaches_with-returns-then-len-lt4-clause-worth t c =
-    let told = c.reaches.ensures.worth
-    ∙ after_part c.count_card.new.self.trump c.count_card.new.self.hands c.args.left c.without-left.result c.args.trick.now.leader c.args.trick.now.cards c.args.card c.args.tricks c.args.need c.without-left.ensures
-    c.with-trick.result.leader c.with-trick.result.cards c.with-trick.ensures.cards c.with-trick.ensures.leader (omega arith) in
-    told_before c.args.self.now c.count_card.new.self
-    (λ hands trump. c.reaches.result ≡ nat_le c.args.need (worth_of_card trump (4 * c.args.tricks - length c.args.trick.now.cards - 1) (left_to hands c.args.left) c.args.trick.now.leader c.args.trick.now.cards c.args.card))
-    c.count_card.ensures.later told
-
-pub reaches_with-returns-clause-worth : goal.reaches_with-returns-clause-worth
-reaches_with-returns-clause-worth t c =
-    let trump_is : c.with-trick.result.trump ≡ c.count_card.new.self.trump = c.with-trick.ensures.trump ∙ c.requires.trump ∙ sym c.count_card.ensures.later.trump in
-    let told = c.reaches_from.ensures.worth
-    ∙ after_whole c.count_card.new.self.trump c.count_card.new.self.hands c.args.left c.without-left.result c.args.trick.now.leader c.args.trick.now.cards c.args.card c.args.tricks c.args.need c.without-left.ensures
-    c.with-trick.result.leader c.winner-winner.result c.with-trick.result.cards c.need_after-need.result c.with-trick.ensures.cards c.with-trick.ensures.leader (omega arith) (omega arith)
-    (rw (← trump_is) c.winner-winner.ensures) c.need_after-need.ensures in
-    told_before c.args.self.now c.count_card.new.self
-    (λ hands trump. c.reaches_from.result ≡ nat_le c.args.need (worth_of_card trump (4 * c.args.tricks - length c.args.trick.now.cards - 1) (left_to hands c.args.left) c.args.trick.now.leader c.args.trick.now.cards c.args.card))
-    c.count_card.ensures.later told
-
-pub reaches-reaches_with-requires : goal.reaches-reaches_with-requires
-reaches-reaches_with-requires t c =
-    let turn : Seat = clockwise_from c.args.trick.now.leader (length c.args.trick.now.cards) in
-    let dealt_too = subst (λ (hands : List ℕ). EachDealt hands c.args.trick.now.leader c.args.trick.now.cards) (sym c.loop-card.invariant.later.hands) c.requires.dealt in
-    let held_too = subst (λ (hands : List ℕ). left_to hands c.args.left turn c.in-Some.card ≡ true) (sym c.loop-card.invariant.later.hands)
-    (legal_held (left_to c.args.self.now.hands c.args.left turn) c.args.trick.now.cards c.legal_cards-legal.result c.legal_cards-legal.ensures.legal c.in-Some.card (c.loop-card.invariant.answered.among c.in-Some.card c.in-Some.ensures.card.1)) in
-    (search rules, (c.requires.part, (omega arith, (c.requires.trump ∙ sym c.loop-card.invariant.later.trump, (dealt_too, held_too)))))
+    fewer c.loop-card.rest c.still_to_try-rest.result c.in-Some.card c.in-Some.ensures.card.0 c.in-Some.ensures.card.1 c.still_to_try-rest.ensures.among
 
 pub reaches-loop-card-preserved : goal.reaches-loop-card-preserved
 reaches-loop-card-preserved t c =
-    let told = told_before c.args.self.now c.loop-card.self (λ hands trump. c.reaches_with.result ≡ nat_le c.args.need (worth_of_card trump (4 * c.args.tricks - length c.args.trick.now.cards - 1) (left_to hands c.args.left) c.args.trick.now.leader c.args.trick.now.cards c.in-Some.card)) c.loop-card.invariant.later c.reaches_with.ensures.worth in
+    let told = told_before c.args.self.now c.loop-card.self
+    (λ trump. IsAnswer trump (4 * c.args.tricks - length c.args.trick.now.cards - 1) c.args.need c.reaches_with-answer.result (after_playing c.in-Some.card (left_to c.args.hands.now c.args.left)) c.args.trick.now.leader (c.args.trick.now.cards ++ c.in-Some.card ∷ []))
+    c.loop-card.invariant.later c.reaches_with-answer.ensures.answer in
     record {
-      answered = answered_with_equals c.args.self.now.hands (subst (λ (hands : List ℕ). IsEnding hands) c.loop-card.invariant.later.hands c.equals.ensures.ending) c.args.self.now.trump (4 * c.args.tricks - length c.args.trick.now.cards - 1) c.args.need c.args.left c.args.trick.now.leader c.args.trick.now.cards c.requires.part c.requires.dealt c.legal_cards-legal.result c.legal_cards-legal.ensures.legal
-          c.loop-card.rest c.without.result c.equals.result c.difference-rest.result c.in-Some.card (not c.is_sought-sought.result) c.loop-card.invariant.answered c.in-Some.ensures.card.1 c.without.ensures c.difference-rest.ensures
-          (subst (λ (hands : List ℕ). IsEqualTo hands c.in-Some.card c.equals.result) c.loop-card.invariant.later.hands c.equals.ensures.equal)
-          (sym told ∙ other_answer c.reaches_with.result c.is_sought-sought.result c.if-reaches_with-sought.false);
-      later = goes_on_again c.args.self.now c.loop-card.self c.reaches_with.new.self c.loop-card.invariant.later c.reaches_with.ensures.later;
+      answered = answered_step c.args.self.now.trump (4 * c.args.tricks - length c.args.trick.now.cards - 1) c.args.need (left_to c.args.hands.now c.args.left) c.args.trick.now.leader c.args.trick.now.cards
+          c.legal_cards-legal.result (not c.is_sought-sought.result) c.requires.given.2 c.requires.part.0 c.legal_cards-legal.ensures.legal
+          c.loop-card.rest c.still_to_try-rest.result c.loop-card.counts c.reaches_with-answer.result.counts c.union-counts.result c.in-Some.card c.loop-card.invariant.answered c.in-Some.ensures.card.1
+          c.still_to_try-rest.ensures.among c.still_to_try-rest.ensures.gone c.union-counts.ensures.cards told.upward
+          (rw (← other_answer c.reaches_with-answer.result.yes c.is_sought-sought.result c.if-answer-sought.false) told.settled);
+      later = goes_on_again c.args.self.now c.loop-card.self c.reaches_with-answer.new.self c.loop-card.invariant.later c.reaches_with-answer.ensures.later;
+      table = c.reaches_with-answer.ensures.table;
     }
+
+pub reaches-returns-clause-answer : goal.reaches-returns-clause-answer
+reaches-returns-clause-answer t c =
+    none_found c.args.self.now.trump c.args.tricks c.args.need (left_to c.args.hands.now c.args.left) c.requires.given.2
+    c.args.trick.now.leader c.args.trick.now.cards c.requires.part.0 c.legal_cards-legal.result c.if-is_settled.ensures.cases c.legal_cards-legal.ensures.legal
+    (not c.is_sought-sought.result) c.loop-card.rest c.loop-card.counts c.if-is_empty.ensures.cards c.loop-card.invariant.answered (c.in_default.ensures.none.0 refl)
+
+pub reaches_from-returns-then-is_settled-clause-answer : goal.reaches_from-returns-then-is_settled-clause-answer
+reaches_from-returns-then-is_settled-clause-answer t c =
+    foregone_first c.args.self.now.trump c.args.tricks c.args.need c.without_cards.result (left_to c.args.hands.now c.args.left) c.args.leader
+    c.if-is_settled.ensures.cases.1 c.without_cards.ensures.yes c.without_cards.ensures.counts
+
+pub reaches_from-returns-clause-answer : goal.reaches_from-returns-clause-answer
+reaches_from-returns-clause-answer t c =
+    sure_answer c.args.hands.now c.args.left c.requires.dealt c.args.self.now.trump c.args.leader c.in-Some.card c.upwards.result c.in-Some.ensures c.upwards.ensures
+    c.args.tricks c.args.need (omega arith) (omega arith) c.is_sought.result c.is_sought.ensures
+
+pub reaches_from-reaches_raised-answer-requires : goal.reaches_from-reaches_raised-answer-requires
+reaches_from-reaches_raised-answer-requires t c = (
+  search rules,
+  (
+    c.requires.table,
+    (
+      raised_dealt c.args.hands.now c.raised-raised.result c.args.left c.all_cards-all.result c.requires.dealt c.raised-raised.ensures c.all_cards-all.ensures.all,
+      (
+        c.all_cards-all.ensures.all,
+        (
+          (c.new-trick.ensures.cards, c.new-trick.ensures.trump),
+          at (cases_eq c.args.need 0),
+        ),
+      ),
+    ),
+  ),
+)
+  where
+    at : (c.args.need ≡ 0) ⊎ (c.args.need ≡ 0 → ⊥) → 0 < c.args.need
+    at (inl none) = let never = sym c.if-is_settled.false ∙ c.is_settled.ensures.needless (ap length c.new-trick.ensures.cards) none in cc
+    at (inr some) = omega (arith, some)
+
+pub reaches_from-returns-2-clause-answer : goal.reaches_from-returns-2-clause-answer
+reaches_from-returns-2-clause-answer t c =
+    raised_answer c.args.self.now.trump c.args.tricks c.args.need c.args.hands.now c.raised-raised.result c.args.left c.counted.result c.args.leader c.reaches_raised-answer.result c.requires.dealt
+    c.raised-raised.ensures c.counted.ensures.upward c.counted.ensures.counted
+    (subst (λ (seat : Seat). IsAnswer c.args.self.now.trump (4 * c.args.tricks) c.args.need c.reaches_raised-answer.result (dealt c.raised-raised.result) seat []) c.new-trick.ensures.leader c.reaches_raised-answer.ensures.answer)
+
+pub reaches_with-returns-then-len-lt4-clause-answer : goal.reaches_with-returns-then-len-lt4-clause-answer
+reaches_with-returns-then-len-lt4-clause-answer t c =
+    told_before c.args.self.now c.count_card.new.self
+    (λ trump. IsAnswer trump (4 * c.args.tricks - length c.args.trick.now.cards - 1) c.args.need c.reaches.result (after_playing c.args.card (left_to c.args.hands.now c.args.left)) c.args.trick.now.leader (c.args.trick.now.cards ++ c.args.card ∷ []))
+    c.count_card.ensures.later
+    (after_part c.count_card.new.self.trump c.args.hands.now c.args.left c.without-left.result c.args.trick.now.leader c.args.trick.now.cards c.args.card c.args.tricks c.args.need c.without-left.ensures
+    c.with-trick.result.leader c.with-trick.result.cards c.reaches.result c.with-trick.ensures.cards c.with-trick.ensures.leader c.reaches.ensures.answer)
+
+pub reaches_with-returns-clause-answer : goal.reaches_with-returns-clause-answer
+reaches_with-returns-clause-answer t c =
+    let trump_is : c.with-trick.result.trump ≡ c.count_card.new.self.trump = c.with-trick.ensures.trump ∙ c.requires.trump ∙ sym c.count_card.ensures.later.trump in
+    told_before c.args.self.now c.count_card.new.self
+    (λ trump. IsAnswer trump (4 * c.args.tricks - length c.args.trick.now.cards - 1) c.args.need (record { yes = c.reaches_from-answer.result.yes; counts = c.union.result }) (after_playing c.args.card (left_to c.args.hands.now c.args.left)) c.args.trick.now.leader (c.args.trick.now.cards ++ c.args.card ∷ []))
+    c.count_card.ensures.later
+    (after_whole c.count_card.new.self.trump c.args.hands.now c.args.left c.without-left.result c.args.trick.now.leader c.args.trick.now.cards c.args.card c.args.tricks c.args.need c.without-left.ensures
+    c.with-trick.result.leader c.winner-winner.result c.with-trick.result.cards c.need_after-need.result c.reaches_from-answer.result c.rank_that_counts.result c.union.result c.with-trick.ensures.cards c.with-trick.ensures.leader (omega arith) (omega arith)
+    (rw (← trump_is) c.winner-winner.ensures) c.need_after-need.ensures c.reaches_from-answer.ensures.answer (rw (← trump_is) c.rank_that_counts.ensures.rank) c.rank_that_counts.ensures.upward c.union.ensures.cards)

@@ -1,0 +1,102 @@
+-- What a table tells: of cards left that agree in those that counted, and what an answer adds to it.
+use Rattle.std.proofs.Common.{◌≡◌, ℕ, ◌*◌, ◌<◌, ◌≤◌, Bool, true, false, ◌&&◌, nat_le, count_by, List, [], ◌∷◌, Option, refl, sym, ap, ◌∙◌, arith, All, replicate, subst, length}
+use Rattle.std.proofs.lemmas.List.{length-replicate}
+use Rattle.std.proofs.lemmas.List.Elements.{All-replicate}
+use Rattle.std.proofs.Math.Path.{fun_ext}
+use Rattle.std.proofs.lemmas.Bool.{le-leb, lt-leb}
+use Rattle.bridge_cards.specs.declared.suit.Suit.{Suit}
+use Rattle.bridge_cards.specs.declared.seat.Seat.{Seat}
+use Rattle.bridge_cards.specs.Card.{same_suit, card_suit}
+use Rattle.bridge_cards.specs.CardSet.{has_card, is_of_suit, deck, card_count}
+use Rattle.bridge_cards.specs.Deal.{hand_at}
+use Rattle.bridge_cards.proofs.CardSetLaws.{has_card-zero}
+use Rattle.bridge_cards.proofs.SuitHeld.{is_of_suit-card_suit}
+use Rattle.bridge_endings.specs.declared.answer.Answer.{Answer}
+use Rattle.bridge_endings.specs.declared.bounds.Bounds.{Bounds}
+use Rattle.bridge_endings.specs.declared.found.Found.{Found}
+use Rattle.bridge_endings.specs.Between.{IsBounded}
+use Rattle.bridge_endings.specs.Worth.{dealt, worth_with}
+use Rattle.bridge_endings.specs.Left.{suit_length, AreAsLong, HoldAlike}
+use Rattle.bridge_endings.specs.Agree.{IsDealtOut, Agree, Settles}
+use Rattle.bridge_endings.specs.SearchValue.{IsAnswer, IsFound, IsTable, IsNothing}
+use Rattle.bridge_endings.proofs.WorthSteps.{worth_with_le}
+use Rattle.bridge_endings.proofs.Agreeing.{agree_then}
+use Rattle.bridge_endings.proofs.Raising.{count_parts, counted_alike}
+
+-- ---- cards left that agree
+
+-- how many cards of a suit a hand has, by the set of them
+pub suit_length_is : (hand suited : ℕ) (suit : Suit) → ((card : ℕ) → has_card suited card ≡ (has_card hand card && is_of_suit suit card)) → suit_length hand suit ≡ card_count suited
+unfolding card_count
+suit_length_is hand suited suit suits =
+    ap (λ p. count_by p deck) (fun_ext {B = λ _. Bool} (λ card. sym (suits card)))
+
+module _ (hands others : List ℕ) (counts : ℕ) (alike : (seat : Seat) → HoldAlike counts (hand_at hands seat) (hand_at others seat)) (long : (seat : Seat) → AreAsLong (hand_at hands seat) (hand_at others seat)) where
+  length_is : (hand led : ℕ) → led < 52 → suit_length hand (card_suit led) ≡ count_by (λ card. has_card hand card && same_suit card led) deck
+  length_is hand led inside = ap (λ p. count_by p deck) (fun_ext {B = λ _. Bool} (λ card. ap (λ b. has_card hand card && b) (is_of_suit-card_suit led card inside)))
+
+  -- hands that are alike agree
+  pub hands_agree : Agree (has_card counts) (dealt hands) (dealt others)
+  hands_agree = record {
+    high = λ seat card does. alike seat card does;
+    small = λ seat led inside.
+        omega (
+          arith,
+          length_is (hand_at hands seat) led inside,
+          length_is (hand_at others seat) led inside,
+          long seat (card_suit led),
+          count_parts (dealt hands seat) (has_card counts) led,
+          count_parts (dealt others seat) (has_card counts) led,
+          counted_alike (has_card counts) (dealt hands) (dealt others) alike seat led,
+        );
+  }
+
+-- ---- what is found, and what is answered by it
+
+-- what was found of hands is true of others that agree
+pub found_there : (found : Found) → IsFound found → (hands : List ℕ) (trump : Option Suit) (tricks : ℕ) (leader : Seat) → found.trump ≡ trump → found.leader ≡ leader → found.tricks ≡ tricks
+    → Agree (has_card found.counts) (dealt found.hands) (dealt hands)
+    → (other : Seat → ℕ → Bool) → IsDealtOut other → Agree (has_card found.counts) (dealt hands) other → IsBounded (worth_with trump (4 * tricks) other leader []) found.bounds
+found_there found is hands trump tricks leader same_trump same_leader same_tricks agree other out same =
+    rw (← same_trump, ← same_leader, ← same_tricks) (is.bounded other out (agree_then (has_card found.counts) (dealt found.hands) (dealt hands) other agree same))
+
+module _ (trump : Option Suit) (tricks need : ℕ) (counts : ℕ) (bounds : Bounds) (held : Seat → ℕ → Bool) (leader : Seat) (bounded : (other : Seat → ℕ → Bool) → IsDealtOut other → Agree (has_card counts) held other → IsBounded (worth_with trump (4 * tricks) other leader []) bounds) where
+  pub told_yes : need ≤ bounds.least → Settles trump (4 * tricks) need (has_card counts) true held leader []
+  told_yes reached other out [] same same_trick =
+      le-leb need (worth_with trump (4 * tricks) other leader []) (omega (arith, reached, (bounded other out same).least))
+  told_yes reached other out (c ∷ played) same same_trick = absurd (omega (arith, same_trick.long))
+
+  pub told_no : bounds.most < need → Settles trump (4 * tricks) need (has_card counts) false held leader []
+  told_no beyond other out [] same same_trick =
+      lt-leb need (worth_with trump (4 * tricks) other leader []) (omega (arith, beyond, (bounded other out same).most))
+  told_no beyond other out (c ∷ played) same same_trick = absurd (omega (arith, same_trick.long))
+
+-- an answer gives bounds
+pub answer_found : (hands : List ℕ) (trump : Option Suit) (tricks need : ℕ) (leader : Seat) (answer : Answer) (bounds : Bounds) → IsAnswer trump (4 * tricks) need answer (dealt hands) leader []
+    → ((worth : ℕ) → IsBounded worth (record { least = 0; most = tricks }) → answer.yes ≡ nat_le need worth → IsBounded worth bounds)
+    → IsFound (record { hands = hands; counts = answer.counts; trump = trump; leader = leader; tricks = tricks; bounds = bounds })
+answer_found hands trump tricks need leader answer bounds is narrowed = record {
+  upward = is.upward;
+  bounded = λ other out same.
+      narrowed (worth_with trump (4 * tricks) other leader [])
+      (record { least = omega arith; most = omega (arith, worth_with_le trump (4 * tricks) other leader [] (omega arith)) })
+      (sym (is.settled other out [] same (record { long = refl; each = λ index within. absurd (omega (arith, within)) })));
+}
+
+-- of no tricks none is won
+pub nothing_found : (found : Found) → IsNothing found → IsFound found
+nothing_found found is = record {
+  upward = λ card above suit less does.
+      let none = sym does ∙ ap (λ cards. has_card cards card) is.counts ∙ has_card-zero card in
+      cc;
+  bounded = λ other out same.
+      let few = worth_with_le found.trump (4 * found.tricks) other found.leader [] (omega arith) in
+      record { least = omega (arith, is.least); most = omega (arith, few, is.tricks, is.most) };
+}
+
+-- a table in which nothing is found yet
+pub nothing_table : (count : ℕ) → 0 < count → (found : Found) → IsNothing found → (table : List Found) → table ≡ replicate count found → IsTable table
+nothing_table count some found is table all = record {
+  some = subst (λ xs. 0 < length xs) (sym all) (subst (λ n. 0 < n) (sym (length-replicate count found)) some);
+  found = subst (All IsFound) (sym all) (All-replicate IsFound count found (nothing_found found is));
+}

@@ -1,8 +1,0 @@
-use Rattle.std.proofs.Common.{ℕ, ◌<◌, IsTrue}
-use Rattle.bridge_cards.specs.Seat.{clockwise_from}
-use Rattle.bridge_endings.specs.Left.{left_to}
-use Rattle.bridge_endings.proofs.search.Search.others_have_cards.Given as goal
-
-abbrev pub invariant-loop-index : goal.invariant-loop-index
-invariant-loop-index l =
-    (index : ℕ) → 0 < index → index < l.index → (card : ℕ) × IsTrue (left_to l.self.hands l.left (clockwise_from l.leader index) card)

@@ -1,0 +1,46 @@
+//! Answers of a search, with the cards that counted: whatever the others are, the answer is the same.
+ghost use Rattle.std.specs.Prelude.{◌≡◌, ℕ, ◌==◌, ◌&&◌, nat_le, IsTrue, true, false};
+ghost use Rattle.bridge_cards.specs.Card.{same_suit};
+ghost use Rattle.bridge_cards.specs.CardSet.{has_card};
+ghost use Rattle.bridge_endings.specs.Agree.{AreAlike};
+
+use crate::search::suit_of;
+use bridge_cards::trick::same_suit;
+use bridge_cards::{Card, CardSet};
+
+/// Whether North and South reach what they need, and which cards counted.
+#[derive(Clone, Copy)]
+pub struct Answer {
+    /// Whether they do.
+    pub yes: bool,
+    /// The cards that counted; of each of their suits the highest.
+    pub counts: CardSet,
+}
+
+/// The card and those of its suit above it.
+pub fn upwards(card: Card) -> CardSet
+    ensures { (other : ℕ) → has_card result other ≡ (same_suit card other && nat_le card other) }
+{
+    let mut cards = CardSet::new();
+    for number in card.number()..Card::COUNT {
+        match Card::new(number) {
+            Some(next) if same_suit(card, next) => cards = cards.with(next),
+            _ => return cards,
+        }
+    }
+    cards
+}
+
+/// Those of the cards that are still to be tried after one of them. Where it did not count, the others of its suit that did
+/// not have its answer.
+pub fn still_to_try(cards: CardSet, card: Card, counts: CardSet) -> CardSet
+    ensures among { (other : ℕ) → has_card result other ≡ true → IsTrue (has_card cards other) × ((other == card) ≡ false) }
+    ensures gone { (other : ℕ) → has_card cards other ≡ true → has_card result other ≡ false → AreAlike (has_card counts) card other }
+{
+    let others = cards.without(card);
+    if counts.has(card) {
+        others
+    } else {
+        others.difference(others.of_suit(suit_of(card)).difference(counts))
+    }
+}
