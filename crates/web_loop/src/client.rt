@@ -46,6 +46,16 @@ impl<T: Read + Write + Drop> Client<T> {
         }
     }
 
+    /// Whether an answer to it is not sent yet.
+    pub fn is_pending(&self) -> bool {
+        self.connection.wants_write()
+    }
+
+    /// Where it came from.
+    pub fn address(&self) -> IpAddr {
+        self.address
+    }
+
     /// When it last read or wrote.
     pub fn heard(&self) -> Instant {
         self.heard

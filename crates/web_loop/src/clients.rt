@@ -19,6 +19,9 @@ use std::time::Instant;
 /// The most clients at once.
 pub const MOST_CLIENTS: usize = 128;
 
+/// The most from one address while another is connected too.
+const HALF: usize = MOST_CLIENTS / 2;
+
 /// The clients that are connected, at most 128, and the addresses from which offences came.
 #[derive(Drop)]
 pub struct Clients<T> {
@@ -47,15 +50,19 @@ impl<T: Read + Write + OpenStream + Drop> Clients<T> {
         }
     }
 
-    /// Takes a new client from an address, in place of the one that has been silent the longest where there are 128. The
-    /// error is the socket's, or that memory was refused, and then it is closed.
+    /// Where connections are made.
+    pub(crate) fn alloc(&self) -> Global {
+        self.alloc
+    }
+
+    /// Takes a new client from an address, in place of the one that has been silent the longest where there are 128. While two
+    /// addresses are connected neither has more than 64, of which the one that has been silent the longest gives way. The error
+    /// is the socket's, or that memory was refused, and then it is closed.
     pub fn admit(&mut self, stream: T, address: IpAddr, now: Instant) -> io::Result<()> {
         stream.set_nonblocking(true)?;
         let _ = stream.set_nodelay(true);
         let writer = stream.try_clone()?;
-        if self.connected.len() >= MOST_CLIENTS {
-            self.drop_longest_silent();
-        }
+        self.make_room(address);
         let connection = Connection::new(self.alloc, self.keys, self.config);
         let client = Client::new(connection, stream, writer, address, now);
         match self.connected.insert(client) {
@@ -64,20 +71,68 @@ impl<T: Read + Write + OpenStream + Drop> Clients<T> {
         }
     }
 
-    /// Closes the connection that has been silent the longest.
-    fn drop_longest_silent(&mut self) {
+    /// Makes room for one more client from an address.
+    fn make_room(&mut self, address: IpAddr) {
+        if let Some(other) = self.other_than(address) {
+            self.keep_at_most(HALF - 1, address);
+            self.keep_at_most(HALF, other);
+        }
+        if self.connected.len() >= MOST_CLIENTS {
+            self.drop_longest_silent(None);
+        }
+    }
+
+    /// Another address that is connected. Where there are several, each has its half at most.
+    fn other_than(&self, address: IpAddr) -> Option<IpAddr> {
+        for key in 0..self.connected.capacity() {
+            match self.connected.get(key) {
+                Some(client) if client.address() != address => return Some(client.address()),
+                _ => {}
+            }
+        }
+        None
+    }
+
+    /// Closes connections of an address, those first that have been silent the longest, until so many are left.
+    fn keep_at_most(&mut self, most: usize, address: IpAddr) {
+        let mut count: usize = 0;
+        for key in 0..self.connected.capacity() {
+            match self.connected.get(key) {
+                Some(client) if client.address() == address => count = count.saturating_add(1),
+                _ => {}
+            }
+        }
+        for _ in most..count {
+            self.drop_longest_silent(Some(address));
+        }
+    }
+
+    /// Closes the connection that has been silent the longest, of one address or of all.
+    fn drop_longest_silent(&mut self, from: Option<IpAddr>) {
         let mut longest: Option<(usize, Instant)> = None;
         for key in 0..self.connected.capacity() {
-            if let Some(client) = self.connected.get(key) {
-                let heard = client.heard();
-                match longest {
-                    Some((_, other)) if other <= heard => {}
-                    _ => longest = Some((key, heard)),
-                }
+            match (self.connected.get(key), longest) {
+                (Some(client), _) if from.is_some() && from != Some(client.address()) => {}
+                (Some(client), Some((_, other))) if other <= client.heard() => {}
+                (Some(client), _) => longest = Some((key, client.heard())),
+                (None, _) => {}
             }
         }
         if let Some((key, _)) = longest {
             self.connected.try_remove(key);
+        }
+    }
+
+    /// Whether an answer to any of them is not sent yet.
+    pub fn has_pending(&self) -> bool {
+        (0..self.connected.capacity()).any(|key| self.is_pending_at(key))
+    }
+
+    /// Whether an answer to the client under a key, if there is one, is not sent yet.
+    fn is_pending_at(&self, key: usize) -> bool {
+        match self.connected.get(key) {
+            Some(client) => client.is_pending(),
+            None => false,
         }
     }
 

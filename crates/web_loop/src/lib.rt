@@ -11,6 +11,7 @@ mod client;
 mod clients;
 mod offender;
 mod offenders;
+mod readiness;
 mod server_loop;
 mod service;
 mod turn;

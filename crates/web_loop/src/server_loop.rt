@@ -3,22 +3,33 @@ ghost use Rattle.std.specs.Prelude.{◌≡◌};
 ghost use Rattle.web_loop.specs.Turns.{LeadsTo};
 
 use crate::clients::{Clients, MOST_CLIENTS};
+use crate::readiness::Readiness;
 use crate::service::LastingService;
+use std::io;
 use std::net::{Net, OpenListener};
+use std::os::fd::AsRawFd;
 use std::time::{Clock, Duration, Instant};
-use std::{io, thread};
 
-/// How long the server sleeps where nobody asked for anything, in milliseconds.
-const PAUSE: u64 = 5;
+/// The most rounds in which what is pending is sent at the end.
+const LAST_ROUNDS: u64 = 100_000;
 
-/// The most rounds in which what is pending is sent at the end, each after a pause: about a second.
-const LAST_ROUNDS: u64 = 200;
+/// How long they take at most, in seconds.
+const LAST_SECONDS: u64 = 1;
 
 /// Takes the connections that wait at the listener.
-fn admit_waiting<N: Net>(listener: &N::Listener, clients: &mut Clients<N::Stream>, now: Instant) {
+fn admit_waiting<N: Net>(
+    listener: &N::Listener,
+    readiness: &Readiness,
+    clients: &mut Clients<N::Stream>,
+    now: Instant,
+)
+where
+    N::Stream: AsRawFd,
+{
     for _ in 0..MOST_CLIENTS {
         match listener.accept() {
             Ok((stream, peer)) => {
+                readiness.watch(&stream);
                 let _ = clients.admit(stream, peer.ip(), now);
             }
             Err(_) => return,
@@ -26,37 +37,47 @@ fn admit_waiting<N: Net>(listener: &N::Listener, clients: &mut Clients<N::Stream
     }
 }
 
-/// One round: takes who waits at the listener, and gives each client its turn. It sleeps for 5 milliseconds where none of them
-/// did anything.
+/// One round: takes who waits at the listener, and gives each client its turn. Where none of them did anything it waits until
+/// a socket moves.
 fn take_round<N: Net + Clock, S: LastingService>(
     rt: &N,
     listener: &N::Listener,
+    readiness: &mut Readiness,
     clients: &mut Clients<N::Stream>,
     service: &mut S,
 ) -> io::Result<()>
+where
+    N::Stream: AsRawFd,
     ensures { LeadsTo S.answers service.old service.new }
 {
     let now = Instant::now(rt)?;
-    admit_waiting::<N>(listener, clients, now);
+    admit_waiting::<N>(listener, readiness, clients, now);
     if !clients.take_turns(service, now) {
-        thread::sleep(rt, Duration::from_millis(PAUSE));
+        readiness.wait(rt);
     }
     Ok(())
 }
 
-/// Gives clients their turns until none does anything, for about a second at most: what is pending is sent.
+/// Gives clients their turns until nothing is pending, for about a second at most.
 fn send_pending<N: Net + Clock, S: LastingService>(
     rt: &N,
+    readiness: &mut Readiness,
     clients: &mut Clients<N::Stream>,
     service: &mut S,
 ) -> io::Result<()>
     ensures { LeadsTo S.answers service.old service.new }
 {
+    let begun = Instant::now(rt)?;
     for _ in 0..LAST_ROUNDS {
-        if !clients.take_turns(service, Instant::now(rt)?) {
+        let now = Instant::now(rt)?;
+        let moved = clients.take_turns(service, now);
+        let is_late = now.duration_since(begun) >= Duration::from_secs(LAST_SECONDS);
+        if is_late || !clients.has_pending() {
             return Ok(());
         }
-        thread::sleep(rt, Duration::from_millis(PAUSE));
+        if !moved {
+            readiness.wait(rt);
+        }
     }
     Ok(())
 }
@@ -65,24 +86,27 @@ fn send_pending<N: Net + Clock, S: LastingService>(
 fn take_rounds_for<N: Net + Clock, S: LastingService>(
     rt: &N,
     listener: &N::Listener,
+    readiness: &mut Readiness,
     clients: &mut Clients<N::Stream>,
     service: &mut S,
     begun: Instant,
     length: Duration,
 ) -> io::Result<()>
+where
+    N::Stream: AsRawFd,
     ensures { LeadsTo S.answers service.old service.new }
 {
     for _ in 0..u64::MAX {
         if !service.lasts() || begun.elapsed(rt)? >= length {
             return Ok(());
         }
-        take_round(rt, listener, clients, service)?;
+        take_round(rt, listener, readiness, clients, service)?;
     }
     Ok(())
 }
 
 /// Serves the connections of a listener that does not block for so many minutes, or as long as the service lasts, and then
-/// sends what is pending. The error is that the clock cannot be read.
+/// sends what is pending. Where nobody asks for anything it sleeps. The error is that the clock cannot be read.
 pub fn serve_minutes<N: Net + Clock, S: LastingService>(
     rt: &N,
     listener: &N::Listener,
@@ -90,10 +114,23 @@ pub fn serve_minutes<N: Net + Clock, S: LastingService>(
     service: &mut S,
     minutes: u16,
 ) -> io::Result<()>
+where
+    N::Listener: AsRawFd,
+    N::Stream: AsRawFd,
     ensures { LeadsTo S.answers service.old service.new }
 {
     let begun = Instant::now(rt)?;
     let length = Duration::from_secs(60 * u64::from(minutes));
-    take_rounds_for(rt, listener, clients, service, begun, length)?;
-    send_pending(rt, clients, service)
+    let mut readiness = Readiness::new(rt, clients.alloc());
+    readiness.watch(listener);
+    take_rounds_for(
+        rt,
+        listener,
+        &mut readiness,
+        clients,
+        service,
+        begun,
+        length,
+    )?;
+    send_pending(rt, &mut readiness, clients, service)
 }
