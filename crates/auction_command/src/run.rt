@@ -36,10 +36,8 @@ pub fn run_auction<R: Read, W: Write>(
         (stream R.remaining reader.old reader.new) (stream W.contents writer.old writer.new)) }
 {
     let mut auction_lines = AuctionLines::new(dealer(board));
-    match answer_lines(&mut auction_lines, reader, writer) {
-        Ok(left) => write_ending(&auction_lines, left == 0, writer),
-        Err(fault) => Err(fault),
-    }
+    let left = answer_lines(&mut auction_lines, reader, writer)?;
+    write_ending(&auction_lines, left == 0, writer)
 }
 
 /// Answers the lines of the reader's bytes, up to the limit, and says how many bytes were left to it.

@@ -4,7 +4,7 @@ use Rattle.sector_disk.specs.Disk.{Disk}
 use Rattle.session_store.specs.Value.{StoreValue}
 use Rattle.session_rules.specs.declared.action.Action.{Action}
 use Rattle.session_rules.specs.State.{SessionValue}
-use Rattle.club_commands.specs.Connections.{ServesEach}
+use Rattle.club_commands.specs.Serving.{ServesEach}
 
 module _ {D : Type 0} (disk : Disk D) {S : Type 0} (remaining contents : S → Option (List ℕ)) where
   -- the store is another by name alone
@@ -12,9 +12,3 @@ module _ {D : Type 0} (disk : Disk D) {S : Type 0} (remaining contents : S → O
       → ServesEach disk remaining contents count start store → ServesEach disk remaining contents count start same
   with_same_store count start store same is served =
       subst (λ (v : StoreValue D SessionValue Action). ServesEach disk remaining contents count start v) (sym is) served
-
-  -- and so is their number
-  pub with_same_count : (count same : ℕ) (start store : StoreValue D SessionValue Action) → count ≡ same
-      → ServesEach disk remaining contents count start store → ServesEach disk remaining contents same start store
-  with_same_count count same start store is served =
-      subst (λ (n : ℕ). ServesEach disk remaining contents n start store) is served

@@ -1,30 +1,46 @@
 -- What a work over a disk in a file did.
-use Rattle.std.proofs.Common.{ℕ, List, Option, Result, Ok, Err, IfErr, inl, inr, refl}
-use Rattle.line_text.specs.Streams.{Stream, stream}
+use Rattle.std.proofs.Common.{◌≡◌, List, ℕ, Option, None, Some, Result, Ok, Err, IfOk, IfErr, inl, inr, refl}
+use Rattle.line_text.specs.Streams.{Stream, stream, TakesPrefix}
+use Rattle.sector_disk.specs.Disk.{Disk}
 use Rattle.sector_disk.specs.File.{file_disk}
-use Rattle.session_rules.specs.State.{SessionValue}
-use Rattle.club_disk.specs.Stored.{OpensSession}
-use Rattle.club_disk.specs.Files.{ClubDisk, ClubStore}
-use Rattle.club_commands.specs.declared.fault.RunFault.{RunFault}
+use Rattle.line_replies.specs.declared.fault.ServeFault.{ServeFault}
+use Rattle.table_server.specs.declared.served.Served.{Served}
+use Rattle.table_server.specs.ServedStreams.{HasServed, StopsServing, EndsServing}
+use Rattle.club_disk.specs.Stored.{StoreOn, ClubDisk, ClubStore, OpensSession}
 use Rattle.club_commands.specs.declared.work.Service.{Service}
-use Rattle.club_commands.specs.Faults.{Ended}
-use Rattle.club_commands.specs.ConfigFile.{AtFile, NoFile, StopsReadingFile, IsNoSessionOfFile}
-use Rattle.club_commands.specs.Works.{ServesWith, ServesDisk}
+use Rattle.club_commands.specs.declared.work.Work.{Work}
+use Rattle.club_commands.specs.Ended.{Ended}
+use Rattle.club_commands.specs.ConfigFile.{OfFound, OfReader, OfFile}
+use Rattle.club_commands.specs.Works.{ServesWith, ServesDisk, WorksFound, HasWorked}
+
+-- what was served of streams, all or up to a fault
+pub ends_serving : {D : Type 0} (disk : Disk D) (start store : StoreOn D) (input output : Stream) (result : Result Served ServeFault)
+    → IfOk result (HasServed disk start store input output) → IfErr result (StopsServing disk start store input output)
+    → EndsServing disk start store input output result
+ends_serving disk start store input output (Ok _) served stops = served
+ends_serving disk start store input output (Err _) served stops = stops
 
 -- lines were answered over a session that was opened on a disk, or there was no memory for a cache
 pub serves_disk : {C X : Type 0} (cache : Result C X) (service : Service) (d left : ClubDisk) (start : ClubStore) (input output : Stream) (ended : Ended)
     → OpensSession file_disk d start → ServesWith input output ended cache service start left → ServesDisk input output ended service d left
-serves_disk (Ok _) service d left start input output ended opened leads = inl (inl (start, opened, leads))
+serves_disk (Ok _) service d left start input output ended opened leads =
+    inl (start, opened, (leads.0, leads.1, inl leads.2))
 serves_disk (Err _) service d left start input output ended opened lacks =
-    inl (inr (start, opened, (start, lacks.1, (lacks.0, refl))))
+    inl (start, opened, (start, lacks.1, inr (lacks.0, refl)))
 
--- why a file gives no session
-pub no_session : {F E : Type 0} (remaining : F → Option (List ℕ)) (found : Result F E) (result : Result SessionValue RunFault)
-    → IfErr result (λ fault. AtFile remaining found (λ reader. StopsReadingFile reader fault) (NoFile fault)) → IfErr result IsNoSessionOfFile
-no_session remaining found (Ok _) stops = tt
-no_session remaining (Ok file) (Err fault) stops = of stops.1
+-- what came of a file is what came of some text
+pub of_file : {F E : Type 0} (remaining : F → Option (List ℕ)) (P : Option (List ℕ) → Type 0) (found : Result F E)
+    → OfFound remaining P found → OfFile P
+of_file remaining P (Ok file) came = of came.1
   where
-    of : StopsReadingFile (stream remaining file stops.0) fault → IsNoSessionOfFile fault
-    of (inl read) = inl read
-    of (inr text) = inr (text.0, text.1.few, text.2)
-no_session remaining (Err _) (Err fault) stops = inl stops
+    of : OfReader P (stream remaining file came.0) → OfFile P
+    of (inl none) = inl none
+    of (inr read) = inr (read.0, read.1.few, read.2)
+of_file remaining P (Err _) none = inl none
+
+-- a work over a disk that was found, or over none, was done
+pub has_worked : {E : Type 0} (work : Work) (found : Result ClubDisk E) (left : Option ClubDisk) (input output : Stream) (ended : Ended)
+    → WorksFound input output ended work found left → HasWorked input output ended work
+has_worked work (Ok d) (Some left) input output ended works = inl (d, left, works)
+has_worked work (Ok d) None input output ended works = absurd works
+has_worked work (Err _) left input output ended lacks = inr lacks.1

@@ -8,8 +8,7 @@ pub use Rattle.club_commands.specs.declared.fault.RunFault.{RunFault}
 pub use Rattle.club_commands.specs.declared.fault.RunFault.TheVariants.{Stream as StreamFault, System, Config, Store}
 pub use Rattle.club_commands.specs.declared.fault.SystemFault.TheVariants.{Listener}
 pub use Rattle.club_commands.specs.declared.work.Told.TheVariants.{Ranking, Games}
-pub use Rattle.club_disk.specs.Files.{ClubStore, ClubDisk, Over}
-pub use Rattle.club_disk.specs.Stored.{RefusesReading, StoreOn, RefusesDisk}
+pub use Rattle.club_disk.specs.Stored.{RefusesReading, StoreOn, RefusesDisk, ClubStore, ClubDisk, Over}
 pub use Rattle.line_text.specs.Streams.{Stream, Takes, TakesPrefix, IsUntouched, Gives, Written}
 pub use Rattle.sector_disk.specs.Disk.{Disk, Image, Rose}
 pub use Rattle.sector_disk.specs.File.{file_disk}

@@ -1,14 +1,46 @@
--- What the command `check` says of a disk.
-use Rattle.std.specs.Prelude.{◌≡◌, ◌⊎◌, ◌++◌, ℕ, List, [], ◌∷◌, codes, if◌then◌else◌, Option}
-use Rattle.club_commands.specs.Basis.{decimal, Stream, Takes, TakesPrefix, IsUntouched, Disk, Image, StoreFault, TooSmall, DiskFault, NotFormatted, Damaged, EpochsSpent, NoMemory, header_in, session_keeping, SessionValue, Write, RunFault, StreamFault, System, Config, Store, RefusesReading}
+-- What the command `check` says of a disk: how far its session is, and how its snapshots stand.
+use Rattle.std.specs.Prelude.{◌≡◌, ◌≢◌, ◌⊎◌, ◌+◌, ◌++◌, ℕ, List, [], ◌∷◌, codes, if◌then◌else◌, is_some, Option, None, Some, sum_by}
+use Rattle.club_commands.specs.Basis.{decimal, Stream, Disk, Image, StoreFault, NotFormatted, Damaged, header_in, session_keeping, SessionValue, Store, RefusesReading}
 use Rattle.sector_disk.specs.Runs.{Quiet}
 use Rattle.session_store.specs.declared.disk_format.DiskFormat.{DiskFormat}
 use Rattle.session_store.specs.declared.reading.Header.{Header}
 use Rattle.session_store.specs.Form.{digit}
 use Rattle.session_store.specs.Looking.{IsSeen, older_header_in}
-use Rattle.session_rules.specs.State.{is_closed}
-use Rattle.club_commands.specs.Counts.{boards_dealt, plays_done}
-use Rattle.club_commands.specs.Faults.{store_line}
+use Rattle.std.specs.List.{range_with_len}
+use Rattle.std.specs.Option.{option_map}
+use Rattle.bridge_movement.specs.declared.row.Row.{Row}
+use Rattle.session_rules.specs.declared.outcome.Outcome.{Outcome}
+use Rattle.session_rules.specs.declared.outcome.Outcome.TheVariants.{Unfinished}
+use Rattle.session_rules.specs.Outcome.{outcome_of}
+use Rattle.session_rules.specs.State.{is_closed, deal_on, record_of}
+use Rattle.club_commands.specs.Ended.{Ended, Writes, WritesAndStops, IsRefusedFor, store_line}
+
+-- 1 where the board is dealt, and else 0
+abbrev pub dealt_boards_at : SessionValue → ℕ → ℕ
+dealt_boards_at s board = if is_some (deal_on s.deals board) then 1 else 0
+
+-- how many boards are dealt
+abbrev pub boards_dealt : SessionValue → ℕ
+boards_dealt s = sum_by (dealt_boards_at s) (range_with_len 1 36)
+
+-- 1 where a play is finished, void or adjusted, and else 0, as where there is no such play
+abbrev pub done_by : Option Outcome → ℕ
+done_by None = 0
+done_by (Some Unfinished) = 0
+done_by _ = 1
+
+-- the play of the board at an index of a row's set
+abbrev pub done_at : SessionValue → Row → ℕ → ℕ
+done_at s row index =
+    done_by (option_map outcome_of (record_of s (record { round = row.round; table = row.table; index = index })))
+
+-- the plays of a row's set, of at most three boards
+abbrev pub row_done : SessionValue → Row → ℕ
+row_done s row = (done_at s row 1 + done_at s row 2) + done_at s row 3
+
+-- how many plays are finished, void or adjusted
+abbrev pub plays_done : SessionValue → ℕ
+plays_done s = sum_by (row_done s) s.configuration.movement.rows
 
 -- a text, and below it a line of some words and what is said by them
 abbrev pub with_said : List ℕ → List ℕ → List ℕ → List ℕ
@@ -33,61 +65,32 @@ with_state text s =
     (codes "date ") s.configuration.date) s)
     (codes "boards dealt ") (decimal (boards_dealt s))) (codes "plays finished or ruled on ") (decimal (plays_done s))
 
--- the heading of what the older snapshot holds
-abbrev pub older_heading : List ℕ
-older_heading = codes "older snapshot\n"
-
--- why it gives nothing: that there is none, or what is wrong
+-- why the older snapshot gives nothing: that there is none, or what is wrong
 abbrev pub no_older_text : StoreFault → List ℕ
-no_older_text TooSmall = codes "older snapshot: " ++ store_line TooSmall
-no_older_text DiskFault = codes "older snapshot: " ++ store_line DiskFault
 no_older_text NotFormatted = codes "no older snapshot\n"
-no_older_text (Damaged sector) = codes "older snapshot: " ++ store_line (Damaged sector)
-no_older_text EpochsSpent = codes "older snapshot: " ++ store_line EpochsSpent
-no_older_text NoMemory = codes "older snapshot: " ++ store_line NoMemory
+no_older_text fault = codes "older snapshot: " ++ store_line fault
 
 -- Looking at a disk under that header of it left it so, and what was seen is this text, below a heading. Nothing was written
 -- to the disk, and no call of it failed.
-pub record SaysSeen {D : Type 0} (disk : Disk D) (header : Image → Option Header) (heading : List ℕ) (d left : D) (text : List ℕ) : Type 0 where
-  pub quiet : Quiet disk d left
-  pub state : SessionValue
-  pub format : DiskFormat
-  pub epoch : ℕ
-  pub sector : ℕ
-  pub records : ℕ
-  pub seen : IsSeen session_keeping disk header d left state format epoch sector records
-  pub says : text ≡ with_state (with_standing heading format epoch sector records) state
+abbrev pub SaysSeen : {D : Type 0} → Disk D → (Image → Option Header) → List ℕ → D → D → List ℕ → Type 0
+SaysSeen disk header heading d left text = Quiet disk d left
+    × ((s : SessionValue) × (format : DiskFormat) × (epoch : ℕ) × (sector : ℕ) × (records : ℕ)
+    × IsSeen session_keeping disk header d left s format epoch sector records
+    × (text ≡ with_state (with_standing heading format epoch sector records) s))
 
 module _ {D : Type 0} (disk : Disk D) where
   -- what the older snapshot holds is this text, or it gives nothing, which the text says; reading it left the disk so
   abbrev pub SaysOlder : D → D → List ℕ → Type 0
-  SaysOlder d left text = SaysSeen disk older_header_in older_heading d left text
+  SaysOlder d left text = SaysSeen disk older_header_in (codes "older snapshot\n") d left text
       ⊎ ((fault : StoreFault) × RefusesReading disk older_header_in d left fault × (text ≡ no_older_text fault))
 
-  -- what a disk holds is written, and reading it left the disk so
-  abbrev pub Checks : D → D → Stream → Type 0
-  Checks d left output = (text : List ℕ) × SaysSeen disk header_in [] d left text × Takes output text
+  -- reading the disk met a damaged sector, which is the fault, and what the older snapshot holds is written, or why it gives none
+  abbrev pub ChecksDamaged : D → D → Stream → Ended → Type 0
+  ChecksDamaged d left output ended = (read : D) × (sector : ℕ) × RefusesReading disk header_in d read (Damaged sector)
+      × ((text : List ℕ) × SaysOlder read left text × WritesAndStops output text (Store (Damaged sector)) ended)
 
-  -- What is written of a disk whose reading gave nothing, and how that leaves it: at a damaged sector what the older snapshot
-  -- holds, or why it gives nothing; else nothing, and the disk is as reading left it.
-  abbrev pub LeavesSaid : D → D → Stream → StoreFault → Type 0
-  LeavesSaid read left output (Damaged sector) = (text : List ℕ) × SaysOlder read left text × Takes output text
-  LeavesSaid read left output TooSmall = (left ≡ read) × IsUntouched output
-  LeavesSaid read left output DiskFault = (left ≡ read) × IsUntouched output
-  LeavesSaid read left output NotFormatted = (left ≡ read) × IsUntouched output
-  LeavesSaid read left output EpochsSpent = (left ≡ read) × IsUntouched output
-  LeavesSaid read left output NoMemory = (left ≡ read) × IsUntouched output
-
-  -- reading the disk met a damaged sector, and this is the text that is due
-  abbrev pub SaysDamaged : D → D → List ℕ → Type 0
-  SaysDamaged d left text =
-      (read : D) × (sector : ℕ) × RefusesReading disk header_in d read (Damaged sector) × SaysOlder read left text
-
-  -- a write failed of the text that is due; or reading the disk gave nothing, from this cause, and what is due then is written
-  abbrev pub StopsChecking : D → D → Stream → RunFault → Type 0
-  StopsChecking d left output (StreamFault fault) = (fault ≡ Write)
-      × ((text : List ℕ) × (SaysSeen disk header_in [] d left text ⊎ SaysDamaged d left text) × TakesPrefix output text)
-  StopsChecking d left output (System fault) = ⊥
-  StopsChecking d left output (Config fault) = ⊥
-  StopsChecking d left output (Store cause) =
-      (read : D) × RefusesReading disk header_in d read cause × LeavesSaid read left output cause
+  -- what a disk holds is written; or it is damaged; or reading it gave nothing, and nothing is written; reading left it so
+  abbrev pub Checks : D → D → Stream → Ended → Type 0
+  Checks d left output ended = ((text : List ℕ) × SaysSeen disk header_in [] d left text × Writes output text ended)
+      ⊎ (ChecksDamaged d left output ended
+      ⊎ IsRefusedFor (λ cause. ((sector : ℕ) → cause ≢ Damaged sector) × RefusesReading disk header_in d left cause) output ended)

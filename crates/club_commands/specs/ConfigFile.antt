@@ -1,9 +1,13 @@
--- A configuration's file, and the session that begins by its text.
-use Rattle.std.specs.Prelude.{◌≡◌, ◌⊎◌, ◌≤◌, ◌<◌, ◌++◌, ℕ, Bool, true, false, List, Option, length, Result, Err, MatchResult}
-use Rattle.club_commands.specs.Basis.{Stream, Gives, ConfigValue, ReadsConfiguration, Spells, SessionValue, NoMemory, Read, RunFault, StreamFault, System, Config, Store}
+-- What is read of a configuration's file: the session that begins by its text, or what the command `plan` says of it.
+use Rattle.std.specs.Prelude.{◌≡◌, ◌⊎◌, ◌≤◌, ◌<◌, ◌++◌, ℕ, Bool, true, false, List, Option, Some, None, length, Result, Ok, Err, MatchResult}
+use Rattle.club_commands.specs.Basis.{Stream, Gives, IsUntouched, ConfigFault, ConfigValue, ReadsConfiguration, Spells, SessionValue, NoMemory, Read, RunFault, StreamFault, Config, Store}
 use Rattle.std.specs.Io.KnownBytes.{IsAtEnd}
 use Rattle.line_text.specs.Streams.{stream}
 use Rattle.session_rules.specs.State.{opening}
+use Rattle.evening_plan.specs.Evening.{evening_of}
+use Rattle.evening_plan.specs.PlanText.{plan_text}
+use Rattle.evening_plan.specs.FaultText.{fault_text}
+use Rattle.club_commands.specs.Ended.{Ended, Writes, WritesAndStops}
 
 -- so many bytes of a configuration's file are read at most: one more than a configuration may have
 abbrev pub most_read : ℕ
@@ -23,44 +27,32 @@ pub record IsTextRead (reader : Stream) (text : List ℕ) : Type 0 where
   pub few : length text ≤ most_read
   pub whole : length text < most_read → IsAtEnd reader.new
 
--- the text spells a configuration, and the session is its opening
-pub record BeginsSession (text : List ℕ) (session : SessionValue) : Type 0 where
-  pub configuration : ConfigValue
-  pub spelled : Spells text configuration
-  pub begun : session ≡ opening configuration
+-- the text spells a configuration, of which the one holds; or the other holds of its first fault
+abbrev pub OfText : (ConfigValue → Type 0) → (ConfigFault → Type 0) → List ℕ → Type 0
+OfText Spelled Refused text = ((configuration : ConfigValue) × Spells text configuration × Spelled configuration)
+    ⊎ ((fault : ConfigFault) × ReadsConfiguration text (Err fault) × Refused fault)
 
--- why there is no session: the text's first fault, or, where it spells a configuration, memory refused
-abbrev pub IsNoSession : List ℕ → RunFault → Type 0
-IsNoSession text (StreamFault fault) = ⊥
-IsNoSession text (System fault) = ⊥
-IsNoSession text (Config fault) = ReadsConfiguration text (Err fault)
-IsNoSession text (Store fault) = (fault ≡ NoMemory) × ((configuration : ConfigValue) × Spells text configuration)
+-- that holds of the text that a reader gave, or of none where a read failed
+abbrev pub OfReader : (Option (List ℕ) → Type 0) → Stream → Type 0
+OfReader P reader = P None ⊎ ((text : List ℕ) × IsTextRead reader text × P (Some text))
 
--- the reader gave the whole text of a configuration, and the session is its opening
-pub record IsSessionRead (reader : Stream) (session : SessionValue) : Type 0 where
-  pub text : List ℕ
-  pub given : Gives reader text
-  pub whole : IsAtEnd reader.new
-  pub begins : BeginsSession text session
+-- the same of a file that was found, which still gives these bytes; one that is not found counts as one that cannot be read
+abbrev pub OfFound : {F E : Type 0} → (F → Option (List ℕ)) → (Option (List ℕ) → Type 0) → Result F E → Type 0
+OfFound {F = F} remaining P found = MatchResult found (λ file. (after : F) × OfReader P (stream remaining file after)) (λ _. P None)
 
--- why no session was read: a read failed, or the text that was read begins none
-abbrev pub StopsReadingFile : Stream → RunFault → Type 0
-StopsReadingFile reader fault =
-    (fault ≡ StreamFault Read) ⊎ ((text : List ℕ) × IsTextRead reader text × IsNoSession text fault)
+-- the same of some text, of at most the bytes that are read: that it is the text of a file no contract can say
+abbrev pub OfFile : (Option (List ℕ) → Type 0) → Type 0
+OfFile P = P None ⊎ ((text : List ℕ) × (length text ≤ most_read) × P (Some text))
 
--- of a file that was found, which still gives these bytes, it was read so; or none was found, and that holds
-abbrev pub AtFile : {F E : Type 0} → (F → Option (List ℕ)) → Result F E → (Stream → Type 0) → Type 0 → Type 0
-AtFile {F = F} remaining found P Q = MatchResult found (λ file. (after : F) × P (stream remaining file after)) (λ _. Q)
+-- a text begins a session by the configuration that it spells, unless memory is refused; or its first fault is that of the run
+abbrev pub Begins : Result SessionValue RunFault → Option (List ℕ) → Type 0
+Begins begun None = begun ≡ Err (StreamFault Read)
+Begins begun (Some text) = OfText (λ configuration. (begun ≡ Ok (opening configuration)) ⊎ (begun ≡ Err (Store NoMemory)))
+    (λ fault. begun ≡ Err (Config fault)) text
 
--- a file that is not found counts as one that cannot be read
-abbrev pub NoFile : RunFault → Type 0
-NoFile fault = fault ≡ StreamFault Read
-
--- Some text spells a configuration, and the session is its opening. That it is the text of a file no contract can say.
-abbrev pub IsSessionOfFile : SessionValue → Type 0
-IsSessionOfFile session = (text : List ℕ) × BeginsSession text session
-
--- the fault is that of a file that cannot be read, of which no contract can say more; or some text, of at most the bytes
--- that are read, begins no session
-abbrev pub IsNoSessionOfFile : RunFault → Type 0
-IsNoSessionOfFile fault = NoFile fault ⊎ ((text : List ℕ) × (length text ≤ most_read) × IsNoSession text fault)
+-- The plan of the configuration that a text spells is written; or what is wrong with the text, and that is the fault. Where no
+-- text could be read, nothing is written.
+abbrev pub Plans : Stream → Ended → Option (List ℕ) → Type 0
+Plans output ended None = (ended ≡ Err (StreamFault Read)) × IsUntouched output
+Plans output ended (Some text) = OfText (λ configuration. Writes output (plan_text (evening_of configuration)) ended)
+    (λ fault. WritesAndStops output (fault_text text fault) (Config fault) ended) text

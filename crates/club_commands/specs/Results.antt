@@ -1,8 +1,8 @@
 -- What the commands `rank`, `pbn` and `results` write, and how `results` leaves a disk.
-use Rattle.std.specs.Prelude.{◌≡◌, ◌⊎◌, ◌++◌, [], ℕ, Bool, true, false, List, map, codes, MatchBool, Err, IfErr}
-use Rattle.club_commands.specs.Basis.{Disk, header_in, Write, Stream, Written, IsUntouched, StreamFault, Store, Ranking, Games, RefusesReading, RefusesDisk, ClubDisk, Over, StoreFault, file_disk, SessionValue}
+use Rattle.std.specs.Prelude.{◌≡◌, ◌⊎◌, ◌++◌, [], ℕ, Bool, if◌then◌else◌, List, map, codes, MatchBool}
+use Rattle.club_commands.specs.Basis.{Disk, header_in, Stream, Ranking, Games, RefusesReading, RefusesDisk, ClubDisk, Over, file_disk, SessionValue}
 use Rattle.club_commands.specs.declared.work.Told.{Told}
-use Rattle.club_commands.specs.Faults.{Ended}
+use Rattle.club_commands.specs.Ended.{Ended, Writes, IsRefusedFor}
 use Rattle.club_disk.specs.Stored.{ReadsSession}
 use Rattle.bridge_score.specs.declared.ranking.Ranked.{Ranked}
 use Rattle.bridge_ranking.specs.declared.field.Field.{Field}
@@ -19,16 +19,11 @@ abbrev pub field_heading : Field → List ℕ
 field_heading First = codes "FIELD 1\n"
 field_heading Second = codes "FIELD 2\n"
 
--- the heading of a field, and a line for each of its pairs as the director's ranking has them
-abbrev pub ListsField : SessionValue → Field → List ℕ → Type 0
-ListsField s field text =
-    (ranking : List Ranked) × IsRankingTo s s.configuration.director field ranking
-    × (text ≡ field_heading field ++ lines_text (map (ranked_line s.configuration.scoring) ranking))
-
--- the text of a field, which is empty where there is no such field
+-- a field's heading, and a line for each pair as the director's ranking has them; nothing where there is no such field
 abbrev pub IsFieldText : SessionValue → Field → List ℕ → Type 0
-IsFieldText s field text =
-    MatchBool (has_field s.configuration.movement.shape field) (ListsField s field text) (text ≡ [])
+IsFieldText s field text = MatchBool (has_field s.configuration.movement.shape field)
+    ((ranking : List Ranked) × IsRankingTo s s.configuration.director field ranking
+    × (text ≡ field_heading field ++ lines_text (map (ranked_line s.configuration.scoring) ranking))) (text ≡ [])
 
 -- the first field, and the second where there is one
 abbrev pub IsRankingText : SessionValue → List ℕ → Type 0
@@ -38,29 +33,23 @@ IsRankingText s text =
 
 -- the format that `--html` asks for, and that without it
 abbrev pub page_format : Bool → Format
-page_format true = Html
-page_format false = Plain
+page_format html = if html then Html else Plain
 
 -- the text of these results
 abbrev pub IsToldText : Told → SessionValue → List ℕ → Type 0
 IsToldText Ranking s text = IsRankingText s text
 IsToldText Games s text = text ≡ session_text s
 
--- a session was refused for this cause, and nothing is written
-abbrev pub IsRefusedBy : (StoreFault → Type 0) → Stream → Ended → Type 0
-IsRefusedBy Refuses output ended = (cause : StoreFault) × (ended ≡ Err (Store cause)) × Refuses cause × IsUntouched output
-
--- the text of a session's results is written, or a prefix of it where a write failed
+-- a text of a session's results is written
 abbrev pub Tells : (SessionValue → List ℕ → Type 0) → SessionValue → Stream → Ended → Type 0
-Tells IsText s output ended =
-    IfErr ended (λ fault. fault ≡ StreamFault Write) × ((text : List ℕ) × IsText s text × Written output text ended)
+Tells IsText s output ended = (text : List ℕ) × IsText s text × Writes output text ended
 
 -- the same of the session that was read of a disk, which it left so; or none was
 abbrev pub ReadsAndTells : {D : Type 0} → (SessionValue → List ℕ → Type 0) → Disk D → Stream → Ended → D → D → Type 0
-ReadsAndTells IsText disk output ended d left = IsRefusedBy (RefusesReading disk header_in d left) output ended
+ReadsAndTells IsText disk output ended d left = IsRefusedFor (RefusesReading disk header_in d left) output ended
     ⊎ ((s : SessionValue) × ReadsSession disk d left s × Tells IsText s output ended)
 
 -- the same of the session that was opened on a disk, which is as opening left it; or none was
 abbrev pub TellsDisk : Told → Stream → Ended → ClubDisk → ClubDisk → Type 0
-TellsDisk told output ended d left = IsRefusedBy (RefusesDisk file_disk d left) output ended
+TellsDisk told output ended d left = IsRefusedFor (RefusesDisk file_disk d left) output ended
     ⊎ Over (λ start last. (last ≡ start) × Tells (IsToldText told) start.state output ended) d left

@@ -1,11 +1,11 @@
 -- What the command `web` does.
-use Rattle.std.specs.Prelude.{◌≡◌, ◌⊎◌, ◌++◌, ℕ, List, [], ◌∷◌, Bool, true, false, codes, Option, Some, None, Result, Ok, Err, MatchResult}
-use Rattle.club_commands.specs.Basis.{Bor, Stream, Takes, TakesPrefix, IsUntouched, Disk, Rose, file_disk, DiskFault, NoMemory, StoreOn, ClubStore, Write, RunFault, StreamFault, System, Store, Listener}
+use Rattle.std.specs.Prelude.{◌≡◌, ◌⊎◌, ◌++◌, ℕ, Bool, true, false, List, [], ◌∷◌, codes, Option, Some, None, Result, Ok, Err, IsErrAnd, IsSomeAnd, MatchOption}
+use Rattle.club_commands.specs.Basis.{Bor, Stream, Takes, TakesPrefix, IsUntouched, Disk, file_disk, NoMemory, DiskFault, StoreOn, ClubStore, Write, RunFault, StreamFault, System, Store, Listener}
 use Rattle.std.specs.Net.Addr.{ipv4_octets}
 use Rattle.std.specs.Net.Grammar.{IsIpv4Text}
 use Rattle.std.specs.declared.net.ipv4_addr.Ipv4Addr.{Ipv4Addr}
 use Rattle.web_loop.specs.Turns.{LeadsTo}
-use Rattle.table_pages.specs.Answered.{AnswersLines, place_told, tables_told}
+use Rattle.table_pages.specs.Answered.{AnswersLines, place_told, tables_told, boards_told}
 use Rattle.page_replies.specs.ToldResults.{results_told}
 use Rattle.table_pages.specs.HostNames.{with_port}
 use Rattle.table_pages.specs.Responses.{Answering}
@@ -13,27 +13,24 @@ use Rattle.table_pages.specs.declared.page_texts.PageTexts.{PageTexts}
 use Rattle.table_pages.specs.Site.{Site}
 use Rattle.command_line.specs.declared.command.WebHost.{WebHost}
 use Rattle.club_commands.specs.declared.fault.SystemFault.TheVariants.{Address, Random, Clock}
-use Rattle.club_commands.specs.Faults.{Ended}
+use Rattle.club_commands.specs.Ended.{Ended, EndsOver}
 
--- the host that browsers are to name: the name that is given, or else the address, or else this computer's own
-abbrev pub host_name : Option (Bor (List ℕ)) → Option (Bor (List ℕ)) → List ℕ
-host_name address (Some name) = name.now
-host_name (Some address) None = address.now
-host_name None None = codes "127.0.0.1"
+-- what is given, or else that
+abbrev pub given_or : Option (Bor (List ℕ)) → List ℕ → List ℕ
+given_or (Some given) own = given.now
+given_or None own = own
 
--- and its other name: the same without a port, or where neither is given this computer's name with it
-abbrev pub other_name : Option (Bor (List ℕ)) → Option (Bor (List ℕ)) → ℕ → List ℕ
-other_name address (Some name) port = name.now
-other_name (Some address) None port = address.now
-other_name None None port = with_port (codes "localhost") port
+-- the name that is given, or else the address, or else that
+abbrev pub name_of : WebHost → List ℕ → List ℕ
+name_of web own = given_or web.name (given_or web.address own)
 
--- the first of its names, at its port
+-- the first of the names that browsers may ask for: that at the port, or at this computer's own address
 abbrev pub host_at : WebHost → List ℕ
-host_at web = with_port (host_name web.address web.name) web.port
+host_at web = with_port (name_of web (codes "127.0.0.1")) web.port
 
--- and the other
+-- and the other: the same without a port, or where neither is given this computer's name with it
 abbrev pub alias_at : WebHost → List ℕ
-alias_at web = other_name web.address web.name web.port
+alias_at web = name_of web (with_port (codes "localhost") web.port)
 
 -- the pages of these texts, at these names
 abbrev pub site_at : PageTexts → WebHost → Site
@@ -41,32 +38,12 @@ site_at texts web = record { texts = texts; host = host_at web; alias = alias_at
 
 -- the address to listen at, which is this computer's own where none is given
 abbrev pub IsAddress : Option (Bor (List ℕ)) → Option Ipv4Addr → Type 0
-IsAddress None (Some a) = ipv4_octets a ≡ 127 ∷ 0 ∷ 0 ∷ 1 ∷ []
-IsAddress None None = ⊥
-IsAddress (Some text) (Some a) = IsIpv4Text text.now a
-IsAddress (Some text) None = (a : Ipv4Addr) → ¬ (IsIpv4Text text.now a)
+IsAddress None found = IsSomeAnd found (λ a. ipv4_octets a ≡ 127 ∷ 0 ∷ 0 ∷ 1 ∷ [])
+IsAddress (Some text) found = MatchOption found ((a : Ipv4Addr) → ¬ (IsIpv4Text text.now a)) (IsIpv4Text text.now)
 
 -- the line on standard output once there is a listener: where the pages are
 abbrev pub listening_line : List ℕ → List ℕ
 listening_line host = (codes "listening at http://" ++ host) ++ codes "\n"
-
-module _ {D : Type 0} (disk : Disk D) (site : Site) where
-  -- Requests were answered over a store, one after another, and no call of its disk failed.
-  pub record ShowsPages (start store : StoreOn D) : Type 0 where
-    pub requests : LeadsTo (Answering (AnswersLines disk) place_told tables_told results_told site) start store
-    pub works : store.failed ≡ false
-    pub no_fault : disk.faults store.disk ≡ disk.faults start.disk
-
-  -- Requests were answered over a store, in the last of which that changed it a call of its disk failed, and with it the store.
-  pub record FailsPages (start store : StoreOn D) : Type 0 where
-    pub requests : LeadsTo (Answering (AnswersLines disk) place_told tables_told results_told site) start store
-    pub failed : store.failed ≡ true
-    pub faults : Rose (disk.faults start.disk) (disk.faults store.disk)
-
-  -- the store failed; or the clock cannot be read, of which no contract can say more
-  abbrev pub StopsPages : StoreOn D → StoreOn D → RunFault → Type 0
-  StopsPages start store fault =
-      (FailsPages start store × (fault ≡ Store DiskFault)) ⊎ (ShowsPages start store × (fault ≡ System Clock))
 
 -- how the showing of pages ends where the store failed, or not, and by what the clock answered
 abbrev pub ended_by : {E : Type 0} → Bool → Result (Unit {0}) E → Ended
@@ -74,35 +51,27 @@ ended_by true _ = Err (Store DiskFault)
 ended_by false (Ok _) = Ok tt
 ended_by false (Err _) = Err (System Clock)
 
--- over a store in a file, which is led from the first to the second, at this site
-module _ (site : Site) (start store : ClubStore) where
-  -- where the pages are is said, and they were shown
-  pub record HasShown (output : Stream) : Type 0 where
-    pub said : Takes output (listening_line site.host)
-    pub shows : ShowsPages file_disk site start store
+-- requests were answered over a store, one after another, until the time was over or the clock could not be read
+pub record ShowsPages {D : Type 0} (disk : Disk D) (site : Site) (start store : StoreOn D) (ended : Ended) : Type 0 where
+  pub requests : LeadsTo (Answering (AnswersLines disk) place_told tables_told boards_told results_told site) start store
+  pub ends : EndsOver disk (λ way. (way ≡ Ok tt) ⊎ (way ≡ Err (System Clock))) start store ended
 
-  -- where they are is said, and the showing stopped
-  pub record StopsShown (output : Stream) (fault : RunFault) : Type 0 where
-    pub said : Takes output (listening_line site.host)
-    pub stops : StopsPages file_disk site start store fault
+-- why no pages are shown: what is given is no address, or memory or what is wanted of the system is not given
+abbrev pub IsUnshown : WebHost → RunFault → Type 0
+IsUnshown web fault = ((fault ≡ System Address) × IsAddress web.address None)
+    ⊎ ((fault ≡ System Listener) ⊎ ((fault ≡ System Random) ⊎ (fault ≡ Store NoMemory)))
 
-  -- there is a listener, but no random number or a write failed, and the store is as it was; or the showing stopped
-  abbrev pub StopsHeard : Stream → RunFault → Type 0
-  StopsHeard output fault = ((store ≡ start) × (fault ≡ System Random) × IsUntouched output)
-      ⊎ (((store ≡ start) × (fault ≡ StreamFault Write) × TakesPrefix output (listening_line site.host)) ⊎ StopsShown output fault)
+-- none are shown for such a cause, nothing is written, and the store is as it was
+abbrev pub IsNoneShown : (RunFault → Type 0) → ClubStore → ClubStore → Stream → Ended → Type 0
+IsNoneShown Why start store output ended = IsErrAnd ended Why × IsUntouched output × (store ≡ start)
 
--- why there is no listener: what is given is no address, or the system gives none there
-abbrev pub IsUnheard : WebHost → RunFault → Type 0
-IsUnheard web fault = ((fault ≡ System Address) × IsAddress web.address None) ⊎ (fault ≡ System Listener)
+-- it is said where the pages are, and they were shown at a site; or a write of that failed, and the store is as it was; or none
+-- are shown, for such a cause
+abbrev pub ShowsAt : (RunFault → Type 0) → Site → ClubStore → ClubStore → Stream → Ended → Type 0
+ShowsAt Why site start store output ended = (Takes output (listening_line site.host) × ShowsPages file_disk site start store ended)
+    ⊎ ((TakesPrefix output (listening_line site.host) × (ended ≡ Err (StreamFault Write)) × (store ≡ start))
+    ⊎ IsNoneShown Why start store output ended)
 
--- there is none, nothing is written, and the store is as it was; or there is one
-abbrev pub StopsShowing : WebHost → Site → ClubStore → ClubStore → Stream → RunFault → Type 0
-StopsShowing web site start store output fault =
-    (IsUnheard web fault × (store ≡ start) × IsUntouched output) ⊎ StopsHeard site start store output fault
-
--- pages were shown where the words say, or up to a fault; or memory was refused, and the store is as it was
+-- the same where the words say
 abbrev pub ShowsOver : PageTexts → WebHost → Stream → Ended → ClubStore → ClubStore → Type 0
-ShowsOver texts web output ended start store = MatchResult ended
-    (λ _. HasShown (site_at texts web) start store output)
-    (λ fault. ((store ≡ start) × (fault ≡ Store NoMemory) × IsUntouched output)
-    ⊎ StopsShowing web (site_at texts web) start store output fault)
+ShowsOver texts web output ended start store = ShowsAt (IsUnshown web) (site_at texts web) start store output ended

@@ -1,42 +1,55 @@
 -- What commands do over a disk in a file.
-use Rattle.std.specs.Prelude.{◌≡◌, ◌⊎◌, Option, Some, None, Result, Ok, Err, IsErrAnd, MatchResult}
-use Rattle.club_commands.specs.Basis.{Bor, Stream, IsUntouched, file_disk, StoreFault, NoMemory, SessionValue, RefusesDisk, ClubDisk, ClubStore, Over, Store}
-use Rattle.sector_disk.specs.declared.disk.DiskFault.{DiskFault}
-use Rattle.session_store.specs.declared.fault.StoreFault.TheVariants.{Disk as FaultOfDisk}
+use Rattle.std.specs.Prelude.{◌≡◌, ◌⊎◌, codes, Option, None, Result, Ok, Err, IsSomeAnd, MatchResult}
+use Rattle.club_commands.specs.Basis.{Bor, Stream, IsUntouched, Disk, Image, Rose, file_disk, session_keeping}
+use Rattle.club_commands.specs.Basis.{StoreFault, DiskFault, NoMemory, SessionValue, RefusesDisk, ClubDisk, ClubStore, Over, RunFault, Store}
+use Rattle.sector_disk.specs.Runs.{Remains}
+use Rattle.session_store.specs.Layout.{sector_count}
+use Rattle.session_store.specs.Base.{HasEpoch}
+use Rattle.session_store.specs.Sound.{IsSoundDisk, StandsOnlyFor}
 use Rattle.bridge_results.specs.ResultsText.{IsPageText}
 use Rattle.club_disk.specs.declared.access.Access.{Access}
 use Rattle.club_disk.specs.declared.access.Access.TheVariants as access
-use Rattle.club_disk.specs.Files.{Leads}
+use Rattle.club_disk.specs.Stored.{Leads}
 use Rattle.club_commands.specs.declared.work.Service.{Service}
 use Rattle.club_commands.specs.declared.work.Service.TheVariants.{Input, Connections, Pages}
 use Rattle.club_commands.specs.declared.work.Work.{Work}
 use Rattle.club_commands.specs.declared.work.Work.TheVariants.{Serve, Tell, Results, Check, Format}
-use Rattle.club_commands.specs.Faults.{Ended}
-use Rattle.club_commands.specs.ConfigFile.{IsSessionOfFile, IsNoSessionOfFile}
-use Rattle.club_commands.specs.Formatted.{Formats, FailsToFormat}
+use Rattle.club_commands.specs.Ended.{Ended, Writes}
+use Rattle.club_commands.specs.ConfigFile.{OfFile, Begins}
 use Rattle.club_commands.specs.Results.{page_format, ReadsAndTells, TellsDisk}
-use Rattle.club_commands.specs.Checked.{Checks, StopsChecking}
-use Rattle.club_commands.specs.Scripted.{ServesAll, StopsScript}
-use Rattle.club_commands.specs.Connections.{unknown, ServesAllConnections, StopsListening}
+use Rattle.club_commands.specs.Checked.{Checks}
+use Rattle.club_commands.specs.Serving.{Scripts, ServesPort}
 use Rattle.club_commands.specs.Web.{ShowsOver}
 
 -- how a disk is taken for a work
 abbrev pub access_of : Work → Access
 access_of (Serve service) = access.Write
 access_of (Tell told) = access.Write
-access_of (Results html) = access.Read
-access_of Check = access.Read
 access_of (Format session) = access.Make
+access_of _ = access.Read
+
+-- Of a disk one was made that holds the session, and no call of it failed: where it is honest, every image that a power
+-- cut may leave stands for the session, is in order, and is of the first epoch.
+pub record IsFormattedAs {D : Type 0} (disk : Disk D) (made formatted : D) (session : SessionValue) : Type 0 where
+  pub remains : Remains disk made formatted
+  pub no_fault : disk.faults formatted ≡ disk.faults made
+  pub stands : disk.honest made → StandsOnlyFor session_keeping disk session formatted
+  pub sound : disk.honest made → IsSoundDisk session_keeping disk formatted
+  pub first_epoch : disk.honest made → (c : Image) → disk.may_leave formatted c → HasEpoch 1 c
+
+-- of a disk of 2,048 sectors in a file one was made that holds the session, and then `formatted` is written; or a call of the
+-- disk failed, and nothing is written
+abbrev pub Formats : ClubDisk → ClubDisk → SessionValue → Stream → Ended → Type 0
+Formats made left session output ended = (file_disk.count made ≡ sector_count)
+    × ((IsFormattedAs file_disk made left session × Writes output (codes "formatted\n") ended)
+    ⊎ (Rose (file_disk.faults made) (file_disk.faults left) × (ended ≡ Err (Store DiskFault)) × IsUntouched output))
 
 -- over what a work did to the streams and how it ended
 module _ (input output : Stream) (ended : Ended) where
   -- lines were answered, from the store that opening gave to the last, up to the end or a fault
   abbrev pub Serves : Service → ClubStore → ClubStore → Type 0
-  Serves Input start last =
-      MatchResult ended (λ _. ServesAll file_disk start last input output) (StopsScript file_disk start last input output)
-  Serves (Connections port count) start last =
-      MatchResult ended (λ _. ServesAllConnections file_disk unknown unknown count start last) (StopsListening count start last)
-      × IsUntouched input × IsUntouched output
+  Serves Input start last = Scripts file_disk start last input output ended
+  Serves (Connections port count) start last = ServesPort count start last ended × IsUntouched input × IsUntouched output
   Serves (Pages texts host minutes) start last = ShowsOver texts host output ended start last × IsUntouched input
 
   -- that is the fault, and nothing was read or written
@@ -50,7 +63,7 @@ module _ (input output : Stream) (ended : Ended) where
 
   -- a session was opened on a disk, and lines answered over it, or memory was refused; or none was opened
   abbrev pub ServesDisk : Service → ClubDisk → ClubDisk → Type 0
-  ServesDisk service d left = (Over (Serves service) d left ⊎ Over (λ start last. IsNothingDone NoMemory × (last ≡ start)) d left)
+  ServesDisk service d left = Over (λ start last. Serves service start last ⊎ (IsNothingDone NoMemory × (last ≡ start))) d left
       ⊎ ((cause : StoreFault) × IsNothingDone cause × RefusesDisk file_disk d left cause)
 
   -- what a work did over a disk, and left of it
@@ -58,23 +71,19 @@ module _ (input output : Stream) (ended : Ended) where
   Works (Serve service) d left = ServesDisk service d left
   Works (Tell told) d left = TellsDisk told output ended d left × IsUntouched input
   Works (Results html) d left = ReadsAndTells (IsPageText (page_format html)) file_disk output ended d left × IsUntouched input
-  Works Check d left = MatchResult ended (λ _. Checks file_disk d left output) (StopsChecking file_disk d left output) × IsUntouched input
-  Works (Format session) d left =
-      MatchResult ended (λ _. Formats d left session.now output) (FailsToFormat d left session.now output) × IsUntouched input
+  Works Check d left = Checks file_disk d left output ended × IsUntouched input
+  Works (Format session) d left = Formats d left session.now output ended × IsUntouched input
 
-  -- the same over a disk that was found; or none was, and the fault is that of a file that cannot be had as a disk, of which no
-  -- contract can say more
+  -- the same over a disk that was found; or none was, of which no contract can say more
   abbrev pub WorksFound : {E : Type 0} → Work → Result ClubDisk E → Option ClubDisk → Type 0
-  WorksFound work (Ok d) (Some left) = Works work d left
-  WorksFound work (Ok d) None = ⊥
-  WorksFound work (Err _) (Some left) = ⊥
-  WorksFound work (Err _) None = IsNothingDone FaultOfDisk
+  WorksFound work found left =
+      MatchResult found (λ d. IsSomeAnd left (Works work d)) (λ _. (left ≡ None) × IsNothingDone DiskFault)
 
-  -- the same, whatever was found, and whichever disk is left
+  -- the same over whatever disk was found, or over none
   abbrev pub HasWorked : Work → Type 0
-  HasWorked work = (left : Option ClubDisk) × ((found : Result ClubDisk DiskFault) × WorksFound work found left)
+  HasWorked work = ((d : ClubDisk) × (left : ClubDisk) × Works work d left) ⊎ IsNothingDone DiskFault
 
   -- a disk in a file was made to hold the session that begins by a configuration's file; or there is no session
   abbrev pub HasFormatted : Type 0
-  HasFormatted = ((session : Bor SessionValue) × IsSessionOfFile session.now × HasWorked (Format session))
-      ⊎ (IsErrAnd ended IsNoSessionOfFile × IsUntouched input × IsUntouched output)
+  HasFormatted = ((session : Bor SessionValue) × OfFile (Begins (Ok session.now)) × HasWorked (Format session))
+      ⊎ ((fault : RunFault) × OfFile (Begins (Err fault)) × (ended ≡ Err fault) × IsUntouched input × IsUntouched output)

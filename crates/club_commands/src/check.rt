@@ -1,12 +1,12 @@
 //! What the command `check` says of a disk.
-ghost use Rattle.std.specs.Prelude.{◌≡◌, ◌≤◌, ◌+◌, ◌*◌, ◌∷◌, [], ℕ, List, length, OnOk, IfErr};
+ghost use Rattle.std.specs.Prelude.{◌≡◌, ◌≤◌, ◌+◌, ◌*◌, ◌∷◌, [], ℕ, List, length};
 ghost use Rattle.std.specs.Fmt.{decimal};
 ghost use Rattle.arrayvec.specs.ArrayString.{array_string_len};
-ghost use Rattle.line_text.specs.Streams.{stream, Written};
+ghost use Rattle.line_text.specs.Streams.{stream};
 ghost use Rattle.sector_disk.specs.File.{file_disk};
 ghost use Rattle.session_store.specs.Form.{digit};
-ghost use Rattle.line_replies.specs.declared.fault.ServeFault.TheVariants.{Write as WriteFault};
-ghost use Rattle.club_commands.specs.Checked.{with_said, with_round, with_standing, with_state, no_older_text, SaysOlder, Checks, StopsChecking};
+ghost use Rattle.club_commands.specs.Checked.{with_said, with_round, with_standing, with_state, no_older_text, SaysOlder, Checks};
+ghost use Rattle.club_commands.specs.Ended.{Writes};
 
 use crate::counts::{boards_dealt, plays_done};
 use crate::fault::RunFault;
@@ -153,9 +153,8 @@ fn tell_older<D: SectorDisk, W: Write>(
     disk: &mut D,
     output: &mut W,
 ) -> Result<(), RunFault>
-    ensures written { (text : List ℕ) × SaysOlder D.disk disk.old disk.new text
-        × Written (stream W.contents output.old output.new) text result }
-    ensures fault { IfErr result (λ fault. fault ≡ RunFault.Stream WriteFault) }
+    ensures { (text : List ℕ) × SaysOlder D.disk disk.old disk.new text
+        × Writes (stream W.contents output.old output.new) text result }
 {
     match read_older_state::<D, Session>(alloc, disk) {
         Ok(found) => write_output(output, seen_text("older snapshot\n", &found).as_str()),
@@ -170,8 +169,7 @@ pub fn check_disk<D: SectorDisk, W: Write>(
     disk: &mut D,
     output: &mut W,
 ) -> Result<(), RunFault>
-    ensures done { OnOk result (Checks D.disk disk.old disk.new (stream W.contents output.old output.new)) }
-    ensures fault { IfErr result (StopsChecking D.disk disk.old disk.new (stream W.contents output.old output.new)) }
+    ensures { Checks D.disk disk.old disk.new (stream W.contents output.old output.new) result }
 {
     match read_state::<D, Session>(alloc, disk) {
         Ok(found) => write_output(output, seen_text("", &found).as_str()),
@@ -189,8 +187,7 @@ pub fn check_over<W: Write>(
     disk: ClubDisk,
     output: &mut W,
 ) -> Left<ClubDisk, RunFault>
-    ensures done { OnOk result.ended (Checks file_disk disk result.disk (stream W.contents output.old output.new)) }
-    ensures fault { IfErr result.ended (StopsChecking file_disk disk result.disk (stream W.contents output.old output.new)) }
+    ensures { Checks file_disk disk result.disk (stream W.contents output.old output.new) result.ended }
 {
     let mut disk = disk;
     let ended = check_disk(alloc, &mut disk, output);

@@ -1,8 +1,8 @@
 //! The session that begins by a configuration's text.
-ghost use Rattle.std.specs.Prelude.{◌≡◌, ◌<◌, ◌≤◌, [], length, IfOk, IfErr, OnOk};
+ghost use Rattle.std.specs.Prelude.{◌≡◌, ◌<◌, ◌≤◌, [], Some, length, IfOk, IfErr, OnOk};
 ghost use Rattle.line_text.specs.Streams.{stream};
 ghost use Rattle.line_replies.specs.declared.fault.ServeFault.TheVariants.{Read as ReadFault};
-ghost use Rattle.club_commands.specs.ConfigFile.{ReadsOn, IsTextRead, BeginsSession, IsNoSession, IsSessionRead, StopsReadingFile};
+ghost use Rattle.club_commands.specs.ConfigFile.{ReadsOn, IsTextRead, OfReader, Begins};
 
 use crate::fault::RunFault;
 use arrayvec::ArrayVec;
@@ -58,26 +58,17 @@ pub fn read_text<R: Read>(reader: &mut R, text: &mut Text) -> Result<(), ServeFa
 
 /// The session that begins by a configuration.
 fn new_session(alloc: Global, text: &[u8]) -> Result<Session, RunFault>
-    ensures session { IfOk result (BeginsSession text.now) }
-    ensures fault { IfErr result (IsNoSession text.now) }
+    ensures { Begins result (Some text.now) }
 {
-    match read_config(text) {
-        Ok(config) => match Session::new(alloc, config) {
-            Ok(session) => Ok(session),
-            Err(_) => Err(RunFault::Store(StoreFault::NoMemory)),
-        },
-        Err(fault) => Err(RunFault::Config(fault)),
-    }
+    let config = read_config(text)?;
+    Session::new(alloc, config).map_err(|_| RunFault::Store(StoreFault::NoMemory))
 }
 
 /// The session that begins by the configuration that the reader gives.
 pub fn read_session<R: Read>(alloc: Global, reader: &mut R) -> Result<Session, RunFault>
-    ensures session { IfOk result (IsSessionRead (stream R.remaining reader.old reader.new)) }
-    ensures fault { IfErr result (StopsReadingFile (stream R.remaining reader.old reader.new)) }
+    ensures { OfReader (Begins result) (stream R.remaining reader.old reader.new) }
 {
     let mut text = Text::new();
-    match read_text(reader, &mut text) {
-        Ok(()) => new_session(alloc, text.as_slice()),
-        Err(fault) => Err(RunFault::Stream(fault)),
-    }
+    read_text(reader, &mut text)?;
+    new_session(alloc, text.as_slice())
 }

@@ -1,7 +1,7 @@
 //! How far a session is.
-ghost use Rattle.std.specs.Prelude.{◌≡◌, ◌≤◌};
+ghost use Rattle.std.specs.Prelude.{◌≡◌, ◌≤◌, Some};
 ghost use Rattle.session_rules.specs.Numbers.{IsBoardIndex, IsRoundNumber, IsTableNumber};
-ghost use Rattle.club_commands.specs.Counts.{dealt_boards_at, boards_dealt, done_by, done_at, row_done, plays_done};
+ghost use Rattle.club_commands.specs.Checked.{dealt_boards_at, boards_dealt, done_by, done_at, row_done, plays_done};
 
 use bridge_cards::BoardNumber;
 use bridge_movement::Row;
@@ -32,7 +32,7 @@ pub fn boards_dealt(session: &Session) -> u16
 
 /// 1 where a play with this outcome is finished, void or adjusted, and else 0.
 fn done_by(outcome: Outcome) -> u16
-    ensures count { result ≡ done_by outcome }
+    ensures count { result ≡ done_by (Some outcome) }
     ensures most { result ≤ 1 }
 {
     match outcome {

@@ -28,3 +28,25 @@ pub enum RunFault {
     /// The disk is refused or has failed, or memory is refused.
     Store(StoreFault),
 }
+
+impl From<ServeFault> for RunFault {
+    ghost use Rattle.std.specs.Prelude.{◌≡◌};
+    ghost use Rattle.club_commands.specs.declared.fault.RunFault.TheVariants.{Stream as StreamFailed};
+
+    ghost from_gives = { λ cause fault. fault ≡ StreamFailed cause };
+
+    fn from(cause: ServeFault) -> RunFault {
+        RunFault::Stream(cause)
+    }
+}
+
+impl From<ConfigFault> for RunFault {
+    ghost use Rattle.std.specs.Prelude.{◌≡◌};
+    ghost use Rattle.club_commands.specs.declared.fault.RunFault.TheVariants.{Config as ConfigRefused};
+
+    ghost from_gives = { λ cause fault. fault ≡ ConfigRefused cause };
+
+    fn from(cause: ConfigFault) -> RunFault {
+        RunFault::Config(cause)
+    }
+}

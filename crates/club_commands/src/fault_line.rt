@@ -1,6 +1,6 @@
 //! The line of standard error and the exit status that a fault has.
 ghost use Rattle.std.specs.Prelude.{◌≡◌, ◌≤◌, length};
-ghost use Rattle.club_commands.specs.Faults.{stream_line, config_line, store_line, fault_line, store_status, fault_status};
+ghost use Rattle.club_commands.specs.Ended.{stream_line, config_line, store_line, fault_line, fault_status};
 
 use crate::fault::RunFault;
 use arrayvec::ArrayString;
@@ -38,7 +38,7 @@ pub fn fault_status(fault: RunFault) -> u8
 
 /// The exit status where the disk is refused or has failed, or memory is refused.
 fn store_status(fault: StoreFault) -> u8
-    ensures { result ≡ store_status fault }
+    ensures { result ≡ fault_status (RunFault.Store fault) }
 {
     match fault {
         StoreFault::TooSmall | StoreFault::NotFormatted | StoreFault::Damaged(_) => NO_SESSION,

@@ -1,13 +1,13 @@
 //! The command `format`: a disk for the session that begins by a configuration.
-ghost use Rattle.std.specs.Prelude.{◌≡◌, OnOk, IfOk, IfErr};
+ghost use Rattle.std.specs.Prelude.{◌≡◌};
 ghost use Rattle.line_text.specs.Streams.{stream};
 ghost use Rattle.sector_disk.specs.File.{file_disk};
-ghost use Rattle.club_commands.specs.ConfigFile.{AtFile, NoFile, IsSessionRead, StopsReadingFile, IsSessionOfFile, IsNoSessionOfFile};
-ghost use Rattle.club_commands.specs.Formatted.{Formats, FailsToFormat};
-ghost use Rattle.club_commands.specs.Works.{HasFormatted};
+ghost use Rattle.club_commands.specs.ConfigFile.{OfFound, OfFile, Begins};
+ghost use Rattle.club_commands.specs.Works.{Formats, HasFormatted};
 
 use crate::config_file::read_session;
 use crate::fault::RunFault;
+use crate::machine::Machine;
 use crate::on_disk::run_over;
 use crate::output::write_output;
 use crate::work::Work;
@@ -17,10 +17,7 @@ use session_store::format;
 use std::alloc::Global;
 use std::fs::File;
 use std::io::{self, Read, Write};
-use std::net::{Net, TcpListener, TcpStream};
-use std::random::RandomSource;
 use std::rt::Files;
-use std::time::Clock;
 use table_server::ServeFault;
 
 /// Makes of the disk, of 2,048 sectors, one that holds the session, writes `formatted`, and hands the disk out.
@@ -30,8 +27,7 @@ pub fn format_disk<W: Write>(
     output: &mut W,
 ) -> Left<ClubDisk, RunFault>
     requires { file_disk.count disk ≡ 2048 }
-    ensures done { OnOk result.ended (Formats disk result.disk session.now (stream W.contents output.old output.new)) }
-    ensures fault { IfErr result.ended (FailsToFormat disk result.disk session.now (stream W.contents output.old output.new)) }
+    ensures { Formats disk result.disk session.now (stream W.contents output.old output.new) result.ended }
 {
     match format(disk, session) {
         Ok(disk) => {
@@ -48,8 +44,7 @@ pub fn format_disk<W: Write>(
 /// The session that begins by the configuration in a file, where one was found; otherwise the fault is that of a read. What was
 /// found is handed in, since only so a clause can say what comes of it.
 fn session_found<R: Read + Drop>(alloc: Global, found: io::Result<R>) -> Result<Session, RunFault>
-    ensures session { IfOk result (λ session. AtFile R.remaining found (λ reader. IsSessionRead reader session) ⊥) }
-    ensures fault { IfErr result (λ fault. AtFile R.remaining found (λ reader. StopsReadingFile reader fault) (NoFile fault)) }
+    ensures { OfFound R.remaining (Begins result) found }
 {
     match found {
         Ok(mut file) => read_session(alloc, &mut file),
@@ -63,8 +58,7 @@ fn session_of_file<S: Files<File = File>>(
     alloc: Global,
     config: &str,
 ) -> Result<Session, RunFault>
-    ensures session { IfOk result IsSessionOfFile }
-    ensures fault { IfErr result IsNoSessionOfFile }
+    ensures { OfFile (Begins result) }
 {
     session_found(alloc, File::open(rt, config))
 }
@@ -74,11 +68,7 @@ fn session_of_file<S: Files<File = File>>(
 /// empty or a disk of whose session nothing is accepted. The configuration is read first, and where that fails DISK is not
 /// opened; where another run has locked DISK, it is left as it is. Tests show these: no clause speaks of a file that is
 /// left alone.
-pub fn run_format<
-    S: Files<File = File> + Net<Listener = TcpListener, Stream = TcpStream> + Clock + RandomSource,
-    R: Read,
-    W: Write,
->(
+pub fn run_format<S: Machine, R: Read, W: Write>(
     rt: &S,
     alloc: Global,
     disk: &str,
@@ -88,8 +78,6 @@ pub fn run_format<
 ) -> Result<(), RunFault>
     ensures { HasFormatted (stream R.remaining input.old input.new) (stream W.contents output.old output.new) result }
 {
-    match session_of_file(rt, alloc, config) {
-        Ok(session) => run_over(rt, alloc, disk, &Work::Format(&session), input, output),
-        Err(fault) => Err(fault),
-    }
+    let session = session_of_file(rt, alloc, config)?;
+    run_over(rt, alloc, disk, &Work::Format(&session), input, output)
 }

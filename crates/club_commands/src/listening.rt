@@ -1,11 +1,13 @@
 //! Where the pages of `web` are shown: the listener, the names that it answers to, and the line that says so.
-ghost use Rattle.std.specs.Prelude.{◌≡◌, IfOk, IfErr, string_bytes};
-ghost use Rattle.club_commands.specs.Web.{IsAddress, IsUnheard, host_at, alias_at, listening_line};
+ghost use Rattle.std.specs.Prelude.{◌≡◌, ◌⊎◌, None, IfOk, IfErr, string_bytes};
+ghost use Rattle.club_commands.specs.declared.fault.SystemFault.TheVariants.{Address, Listener};
+ghost use Rattle.club_commands.specs.Web.{IsAddress, host_at, alias_at, listening_line};
 
 use crate::fault::{RunFault, SystemFault};
+use crate::machine::Host;
 use command_line::WebHost;
 use std::alloc::{AllocError, Global};
-use std::net::{Ipv4Addr, Net, SocketAddr, TcpListener, TcpStream};
+use std::net::{Ipv4Addr, SocketAddr, TcpListener};
 use table_pages::HostNames;
 
 /// The address to listen at, if what is given is one.
@@ -20,22 +22,18 @@ fn address_of(host: &WebHost<'_>) -> Option<Ipv4Addr>
 
 /// Listens at a port of an address, without waiting there for anybody. The fault is that there is no such address, or that
 /// the program cannot listen there.
-pub fn listen_at<N: Net<Listener = TcpListener, Stream = TcpStream>>(
-    rt: &N,
-    host: &WebHost<'_>,
-) -> Result<TcpListener, RunFault>
-    ensures { IfErr result (IsUnheard host.now) }
+pub fn listen_at<N: Host>(rt: &N, host: &WebHost<'_>) -> Result<TcpListener, RunFault>
+    ensures { IfErr result (λ fault. ((fault ≡ RunFault.System Address) × IsAddress host.now.address None)
+        ⊎ (fault ≡ RunFault.System Listener)) }
 {
-    let Some(address) = address_of(host) else {
-        return Err(RunFault::System(SystemFault::Address));
-    };
-    let Ok(listener) = TcpListener::bind(rt, SocketAddr::from((address, host.port))) else {
-        return Err(RunFault::System(SystemFault::Listener));
-    };
-    match listener.set_nonblocking(true) {
-        Ok(()) => Ok(listener),
-        Err(_) => Err(RunFault::System(SystemFault::Listener)),
-    }
+    let address = address_of(host).ok_or(RunFault::System(SystemFault::Address))?;
+    let listener = TcpListener::bind(rt, SocketAddr::from((address, host.port))).map_err(
+        |_| RunFault::System(SystemFault::Listener),
+    )?;
+    listener
+        .set_nonblocking(true)
+        .map_err(|_| RunFault::System(SystemFault::Listener))?;
+    Ok(listener)
 }
 
 /// The names by which browsers may ask for the pages.

@@ -4,13 +4,14 @@ ghost use Rattle.std.specs.Prelude.{◌≡◌, Result, IfOk};
 ghost use Rattle.line_text.specs.Streams.{stream};
 ghost use Rattle.sector_disk.specs.File.{file_disk};
 ghost use Rattle.sector_disk.specs.declared.disk.DiskFault.{DiskFault};
-ghost use Rattle.club_disk.specs.Files.{ClubDisk};
+ghost use Rattle.club_disk.specs.Stored.{ClubDisk};
 ghost use Rattle.club_disk.specs.declared.access.Access.TheVariants.{Make};
 ghost use Rattle.club_commands.specs.Works.{access_of, Works, WorksFound, HasWorked};
 
 use crate::check::check_over;
 use crate::fault::RunFault;
 use crate::formatting::format_disk;
+use crate::machine::{Host, Machine};
 use crate::results::results_over;
 use crate::services::serve_over;
 use crate::telling::tell_over;
@@ -19,12 +20,7 @@ use club_disk::{Access, ClubDisk, Left, let_go, lock_for, locked_disk};
 use sector_disk::DiskFault;
 use session_store::StoreFault;
 use std::alloc::Global;
-use std::fs::File;
 use std::io::{Read, Write};
-use std::net::{Net, TcpListener, TcpStream};
-use std::random::RandomSource;
-use std::rt::Files;
-use std::time::Clock;
 
 /// How the disk is taken for a work.
 fn access_of(work: &Work<'_>) -> Access
@@ -40,11 +36,7 @@ fn access_of(work: &Work<'_>) -> Access
 }
 
 /// Does a work over a disk, and hands it out.
-fn do_work<
-    S: Net<Listener = TcpListener, Stream = TcpStream> + Clock + RandomSource,
-    R: Read,
-    W: Write,
->(
+fn do_work<S: Host, R: Read, W: Write>(
     rt: &S,
     alloc: Global,
     work: &Work<'_>,
@@ -66,11 +58,7 @@ fn do_work<
 }
 
 /// Does a work over the disk that was found. What was found is handed in, since only so a clause can say what comes of it.
-fn over_found<
-    S: Net<Listener = TcpListener, Stream = TcpStream> + Clock + RandomSource,
-    R: Read,
-    W: Write,
->(
+fn over_found<S: Host, R: Read, W: Write>(
     rt: &S,
     alloc: Global,
     work: &Work<'_>,
@@ -98,11 +86,7 @@ fn over_found<
 }
 
 /// Does a work over the disk in a file, and hands the disk out.
-fn on_file<
-    S: Files<File = File> + Net<Listener = TcpListener, Stream = TcpStream> + Clock + RandomSource,
-    R: Read,
-    W: Write,
->(
+fn on_file<S: Machine, R: Read, W: Write>(
     rt: &S,
     alloc: Global,
     disk: &str,
@@ -121,11 +105,7 @@ fn on_file<
 }
 
 /// Does a work over the disk in a file.
-pub fn run_over<
-    S: Files<File = File> + Net<Listener = TcpListener, Stream = TcpStream> + Clock + RandomSource,
-    R: Read,
-    W: Write,
->(
+pub fn run_over<S: Machine, R: Read, W: Write>(
     rt: &S,
     alloc: Global,
     disk: &str,

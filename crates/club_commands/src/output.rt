@@ -1,7 +1,6 @@
 //! Standard output.
-ghost use Rattle.std.specs.Prelude.{◌≡◌, IfErr};
-ghost use Rattle.line_text.specs.Streams.{stream, Written};
-ghost use Rattle.line_replies.specs.declared.fault.ServeFault.TheVariants.{Write as WriteFault};
+ghost use Rattle.line_text.specs.Streams.{stream};
+ghost use Rattle.club_commands.specs.Ended.{Writes};
 
 use crate::fault::RunFault;
 use line_text::write_text;
@@ -10,11 +9,7 @@ use table_server::ServeFault;
 
 /// Writes the whole text. The fault is that a write failed.
 pub fn write_output<W: Write>(output: &mut W, text: &str) -> Result<(), RunFault>
-    ensures written { Written (stream W.contents output.old output.new) text.now result }
-    ensures fault { IfErr result (λ fault. fault ≡ RunFault.Stream WriteFault) }
+    ensures { Writes (stream W.contents output.old output.new) text.now result }
 {
-    match write_text(output, text.as_bytes()) {
-        Ok(()) => Ok(()),
-        Err(_) => Err(RunFault::Stream(ServeFault::Write)),
-    }
+    write_text(output, text.as_bytes()).map_err(|_| RunFault::Stream(ServeFault::Write))
 }

@@ -1,12 +1,11 @@
 //! The command `plan`: the evening that a configuration plans, in words, or what is wrong with it. Nothing is made.
-ghost use Rattle.std.specs.Prelude.{◌≡◌, OnOk, IfErr};
-ghost use Rattle.club_commands.specs.ConfigFile.{AtFile, NoFile};
-ghost use Rattle.line_text.specs.Streams.{stream, Written, IsUntouched};
-ghost use Rattle.line_replies.specs.declared.fault.ServeFault.TheVariants.{Write as WriteFault};
+ghost use Rattle.std.specs.Prelude.{Some};
+ghost use Rattle.line_text.specs.Streams.{stream};
 ghost use Rattle.evening_plan.specs.Evening.{evening_of};
 ghost use Rattle.evening_plan.specs.PlanText.{plan_text};
 ghost use Rattle.evening_plan.specs.FaultText.{fault_text};
-ghost use Rattle.club_commands.specs.Planned.{Plans, StopsPlanning, PlansRead, StopsPlanningRead, HasPlanned, StopsPlanningFile};
+ghost use Rattle.club_commands.specs.Ended.{Writes};
+ghost use Rattle.club_commands.specs.ConfigFile.{OfReader, OfFound, OfFile, Plans};
 
 use crate::config_file::{Text, read_text};
 use crate::fault::RunFault;
@@ -19,53 +18,39 @@ use table_server::ServeFault;
 
 /// Writes the evening that a configuration plans.
 fn write_evening<W: Write>(config: &Config, output: &mut W) -> Result<(), RunFault>
-    ensures written { Written (stream W.contents output.old output.new) (plan_text (evening_of config.now)) result }
-    ensures fault { IfErr result (λ fault. fault ≡ RunFault.Stream WriteFault) }
+    ensures { Writes (stream W.contents output.old output.new) (plan_text (evening_of config.now)) result }
 {
-    match write_plan(config, output) {
-        Ok(()) => Ok(()),
-        Err(_) => Err(RunFault::Stream(ServeFault::Write)),
-    }
+    write_plan(config, output).map_err(|_| RunFault::Stream(ServeFault::Write))
 }
 
 /// Writes what is wrong with a text of that fault.
 fn write_refusal<W: Write>(text: &[u8], fault: ConfigFault, output: &mut W) -> Result<(), RunFault>
-    ensures written { Written (stream W.contents output.old output.new) (fault_text text.now fault) result }
-    ensures fault { IfErr result (λ fault. fault ≡ RunFault.Stream WriteFault) }
+    ensures { Writes (stream W.contents output.old output.new) (fault_text text.now fault) result }
 {
-    match write_fault(text, fault, output) {
-        Ok(()) => Ok(()),
-        Err(_) => Err(RunFault::Stream(ServeFault::Write)),
-    }
+    write_fault(text, fault, output).map_err(|_| RunFault::Stream(ServeFault::Write))
 }
 
 /// Writes the evening that a text plans; or what is wrong with it, which is the fault then.
 fn plan_of_text<W: Write>(text: &[u8], output: &mut W) -> Result<(), RunFault>
-    ensures done { OnOk result (Plans text.now (stream W.contents output.old output.new)) }
-    ensures fault { IfErr result (StopsPlanning text.now (stream W.contents output.old output.new)) }
+    ensures { Plans (stream W.contents output.old output.new) result (Some text.now) }
 {
     match read_config(text) {
         Ok(config) => write_evening(&config, output),
-        Err(fault) => match write_refusal(text, fault, output) {
-            Ok(()) => Err(RunFault::Config(fault)),
-            Err(stopped) => Err(stopped),
-        },
+        Err(fault) => {
+            write_refusal(text, fault, output)?;
+            Err(RunFault::Config(fault))
+        }
     }
 }
 
 /// Writes the evening that the configuration plans which the reader gives; or what is wrong with it, which is the fault
 /// then.
 pub fn plan_evening<R: Read, W: Write>(reader: &mut R, output: &mut W) -> Result<(), RunFault>
-    ensures done { OnOk result (PlansRead (stream R.remaining reader.old reader.new)
-        (stream W.contents output.old output.new)) }
-    ensures fault { IfErr result (StopsPlanningRead (stream R.remaining reader.old reader.new)
-        (stream W.contents output.old output.new)) }
+    ensures { OfReader (Plans (stream W.contents output.old output.new) result) (stream R.remaining reader.old reader.new) }
 {
     let mut text = Text::new();
-    match read_text(reader, &mut text) {
-        Ok(()) => plan_of_text(text.as_slice(), output),
-        Err(fault) => Err(RunFault::Stream(fault)),
-    }
+    read_text(reader, &mut text)?;
+    plan_of_text(text.as_slice(), output)
 }
 
 /// The same of a file, where one was found; otherwise the fault is that of a read. What was found is handed in, since only so a
@@ -74,11 +59,7 @@ fn plan_found<R: Read + Drop, W: Write>(
     found: io::Result<R>,
     output: &mut W,
 ) -> Result<(), RunFault>
-    ensures done { OnOk result (AtFile R.remaining found
-        (λ reader. PlansRead reader (stream W.contents output.old output.new)) ⊥) }
-    ensures fault { IfErr result (λ fault. AtFile R.remaining found
-        (λ reader. StopsPlanningRead reader (stream W.contents output.old output.new) fault)
-        (NoFile fault × IsUntouched (stream W.contents output.old output.new))) }
+    ensures { OfFound R.remaining (Plans (stream W.contents output.old output.new) result) found }
 {
     match found {
         Ok(mut file) => plan_evening(&mut file, output),
@@ -93,8 +74,7 @@ pub fn run_plan<S: Files<File = File>, W: Write>(
     config: &str,
     output: &mut W,
 ) -> Result<(), RunFault>
-    ensures done { OnOk result (HasPlanned (stream W.contents output.old output.new)) }
-    ensures fault { IfErr result (StopsPlanningFile (stream W.contents output.old output.new)) }
+    ensures { OfFile (Plans (stream W.contents output.old output.new) result) }
 {
     plan_found(File::open(rt, config), output)
 }

@@ -1,10 +1,10 @@
 //! The results of a session, as the commands `rank`, `pbn` and `results` write them, and the command `results`.
-ghost use Rattle.std.specs.Prelude.{◌≡◌, ℕ, List, IfErr};
-ghost use Rattle.line_text.specs.Streams.{stream, Written};
+ghost use Rattle.std.specs.Prelude.{◌≡◌};
+ghost use Rattle.line_text.specs.Streams.{stream};
 ghost use Rattle.bridge_pbn.specs.Games.{session_text};
-ghost use Rattle.line_replies.specs.declared.fault.ServeFault.TheVariants.{Write as WriteFault};
 ghost use Rattle.bridge_results.specs.ResultsText.{IsPageText};
-ghost use Rattle.club_commands.specs.Results.{field_heading, IsFieldText, IsRankingText, page_format, ReadsAndTells};
+ghost use Rattle.club_commands.specs.Results.{field_heading, IsFieldText, IsRankingText, page_format, Tells, ReadsAndTells};
+ghost use Rattle.club_commands.specs.Ended.{Writes};
 ghost use Rattle.sector_disk.specs.File.{file_disk};
 
 use crate::fault::RunFault;
@@ -48,27 +48,19 @@ fn field_text(session: &Session, field: Field) -> ReplyText
 
 /// Writes the ranking of each field.
 pub fn write_ranking<W: Write>(session: &Session, output: &mut W) -> Result<(), RunFault>
-    ensures written { (text : List ℕ) × IsRankingText session.now text
-        × Written (stream W.contents output.old output.new) text result }
-    ensures fault { IfErr result (λ fault. fault ≡ RunFault.Stream WriteFault) }
+    ensures { Tells IsRankingText session.now (stream W.contents output.old output.new) result }
 {
     let first = field_text(session, Field::First);
     let second = field_text(session, Field::Second);
-    match write_output(output, first.as_str()) {
-        Ok(()) => write_output(output, second.as_str()),
-        Err(fault) => Err(fault),
-    }
+    write_output(output, first.as_str())?;
+    write_output(output, second.as_str())
 }
 
 /// Writes the results in Portable Bridge Notation.
 pub fn write_games<W: Write>(session: &Session, output: &mut W) -> Result<(), RunFault>
-    ensures written { Written (stream W.contents output.old output.new) (session_text session.now) result }
-    ensures fault { IfErr result (λ fault. fault ≡ RunFault.Stream WriteFault) }
+    ensures { Writes (stream W.contents output.old output.new) (session_text session.now) result }
 {
-    match write_pbn(session, output) {
-        Ok(()) => Ok(()),
-        Err(_) => Err(RunFault::Stream(ServeFault::Write)),
-    }
+    write_pbn(session, output).map_err(|_| RunFault::Stream(ServeFault::Write))
 }
 
 /// The format that `--html` asks for, and that without it.
@@ -80,9 +72,7 @@ fn page_format(html: bool) -> Format
 
 /// Writes the results as a page.
 pub fn write_page<W: Write>(session: &Session, html: bool, output: &mut W) -> Result<(), RunFault>
-    ensures written { (text : List ℕ) × IsPageText (page_format html) session.now text
-        × Written (stream W.contents output.old output.new) text result }
-    ensures fault { IfErr result (λ fault. fault ≡ RunFault.Stream WriteFault) }
+    ensures { Tells (IsPageText (page_format html)) session.now (stream W.contents output.old output.new) result }
 {
     match write_results(session, page_format(html), output) {
         Ok(()) => Ok(()),

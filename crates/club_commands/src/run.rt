@@ -1,15 +1,16 @@
 //! Runs the command that the words ask for.
-ghost use Rattle.std.specs.Prelude.{◌≡◌, ◌≢◌, ◌⊎◌, [], map, IfOk, IfErr, OnOk};
-ghost use Rattle.clap.specs.Words.{fault_of};
-ghost use Rattle.command_line.specs.Words.{club_app, AsksCommand};
+ghost use Rattle.std.specs.Prelude.{◌≡◌, ◌≢◌, ◌⊎◌, codes, IfOk, IfErr};
 ghost use Rattle.line_text.specs.Streams.{stream, TakesPrefix, IsUntouched};
-ghost use Rattle.club_commands.specs.Faults.{fault_line, fault_status};
-ghost use Rattle.club_commands.specs.Run.{HasAuction, StopsAuction, Runs, IsDone, IsCommandStopped, IsWithoutMemory, RefusesWords, memory_line, text_line, files_line};
-ghost use Rattle.command_line.specs.declared.command.Command.{Command};
+ghost use Rattle.line_replies.specs.declared.fault.ServeFault.TheVariants.{Read as ReadFault};
+ghost use Rattle.club_commands.specs.Ended.{stream_line, store_line, fault_line, fault_status};
+ghost use Rattle.club_commands.specs.Run.{HoldsAuction, Runs, EndsWith, RefusesWords, IsUsage, HasRun, HasFailed};
+ghost use Rattle.club_commands.specs.Works.{HasWorked};
+ghost use Rattle.club_commands.specs.declared.work.Work.TheVariants.{Serve, Tell};
 
 use crate::fault::RunFault;
 use crate::fault_line::{fault_line, fault_status};
 use crate::formatting::run_format;
+use crate::machine::Machine;
 use crate::on_disk::run_over;
 use crate::planning::run_plan;
 use crate::printable::Printable;
@@ -21,12 +22,7 @@ use line_text::write_text;
 use session_store::StoreFault;
 use std::alloc::Global;
 use std::fmt::Write as _;
-use std::fs::File;
 use std::io::{ErrorKind, Read, Write};
-use std::net::{Net, TcpListener, TcpStream};
-use std::random::RandomSource;
-use std::rt::Files;
-use std::time::Clock;
 use table_pages::PageTexts;
 use table_server::{ServeFault, run_auction};
 
@@ -46,12 +42,7 @@ const NOT_TEXT: &str = "a word of the command line is not UTF-8\n";
 /// that text. At 3 and 4 `errors` takes the line that names the fault, or a prefix of it where it fails itself. 3: `cannot
 /// read input`, `cannot write output`, `config line N: Name`, `disk fault`, `epochs spent` or `no memory`. 4: the disk holds
 /// no session, being `disk too small`, `not formatted` or `damaged sector N`.
-pub fn run_words_with<
-    S: Files<File = File> + Net<Listener = TcpListener, Stream = TcpStream> + Clock + RandomSource,
-    R: Read,
-    W: Write,
-    E: Write,
->(
+pub fn run_words_with<S: Machine, R: Read, W: Write, E: Write>(
     rt: &S,
     alloc: Global,
     texts: PageTexts,
@@ -60,20 +51,14 @@ pub fn run_words_with<
     output: &mut W,
     errors: &mut E,
 ) -> u8
-    ensures done { result ≡ 0 → (command : Command) × AsksCommand (map (λ word. word.now) words.entry.now) command
-        × IsDone texts command (stream R.remaining input.old input.new)
-        (stream W.contents output.old output.new) (stream E.contents errors.old errors.new) }
-    ensures usage { result ≡ 2 → (fault_of club_app (map (λ word. word.now) words.entry.now) ≢ [])
-        × IsUntouched (stream R.remaining input.old input.new)
-        × IsUntouched (stream W.contents output.old output.new) }
-    ensures fault { result ≡ 3 → IsWithoutMemory (stream R.remaining input.old input.new)
-        (stream W.contents output.old output.new) (stream E.contents errors.old errors.new)
-        ⊎ ((command : Command) × AsksCommand (map (λ word. word.now) words.entry.now) command
-        × IsCommandStopped texts command (stream R.remaining input.old input.new)
-        (stream W.contents output.old output.new) (stream E.contents errors.old errors.new) 3) }
-    ensures no_session { result ≡ 4 → (command : Command) × AsksCommand (map (λ word. word.now) words.entry.now) command
-        × IsCommandStopped texts command (stream R.remaining input.old input.new)
-        (stream W.contents output.old output.new) (stream E.contents errors.old errors.new) 4 }
+    ensures done { result ≡ 0 → HasRun words.entry.now (stream R.remaining input.old input.new)
+        (stream W.contents output.old output.new) (stream E.contents errors.old errors.new) 0 texts }
+    ensures usage { result ≡ 2 → IsUsage words.entry.now (stream R.remaining input.old input.new)
+        (stream W.contents output.old output.new) }
+    ensures fault { result ≡ 3 → HasFailed words.entry.now (stream R.remaining input.old input.new)
+        (stream W.contents output.old output.new) (stream E.contents errors.old errors.new) texts }
+    ensures no_session { result ≡ 4 → HasRun words.entry.now (stream R.remaining input.old input.new)
+        (stream W.contents output.old output.new) (stream E.contents errors.old errors.new) 4 texts }
     ensures status { (result ≡ 0) ⊎ ((result ≡ 2) ⊎ ((result ≡ 3) ⊎ (result ≡ 4))) }
 {
     match read_words(alloc, words) {
@@ -96,12 +81,7 @@ pub fn refuse<E: Write>(fault: WordsFault, errors: &mut E) -> u8
 }
 
 /// Runs a command, and where it stops names the fault on `errors`. The answer is the exit status.
-fn run_command<
-    S: Files<File = File> + Net<Listener = TcpListener, Stream = TcpStream> + Clock + RandomSource,
-    R: Read,
-    W: Write,
-    E: Write,
->(
+fn run_command<S: Machine, R: Read, W: Write, E: Write>(
     rt: &S,
     alloc: Global,
     texts: PageTexts,
@@ -110,10 +90,8 @@ fn run_command<
     output: &mut W,
     errors: &mut E,
 ) -> u8
-    ensures done { result ≡ 0 → IsDone texts command.now (stream R.remaining input.old input.new)
+    ensures ended { EndsWith result texts command.now (stream R.remaining input.old input.new)
         (stream W.contents output.old output.new) (stream E.contents errors.old errors.new) }
-    ensures stopped { result ≢ 0 → IsCommandStopped texts command.now (stream R.remaining input.old input.new)
-        (stream W.contents output.old output.new) (stream E.contents errors.old errors.new) result }
     ensures status { (result ≡ 0) ⊎ ((result ≡ 3) ⊎ (result ≡ 4)) }
 {
     match do_command(rt, alloc, texts, command, input, output) {
@@ -123,11 +101,7 @@ fn run_command<
 }
 
 /// Runs a command.
-fn do_command<
-    S: Files<File = File> + Net<Listener = TcpListener, Stream = TcpStream> + Clock + RandomSource,
-    R: Read,
-    W: Write,
->(
+fn do_command<S: Machine, R: Read, W: Write>(
     rt: &S,
     alloc: Global,
     texts: PageTexts,
@@ -140,42 +114,58 @@ fn do_command<
     match *command {
         Command::Auction(board) => hold_auction(board, input, output),
         Command::Format { disk, config } => run_format(rt, alloc, disk, config, input, output),
-        Command::Script { disk } => {
-            let work = Work::Serve(Service::Input);
-            run_over(rt, alloc, disk, &work, input, output)
-        }
+        Command::Script { disk } => serve(rt, alloc, disk, Service::Input, input, output),
         Command::Serve { disk, port, count } => {
-            let work = Work::Serve(Service::Connections { port, count });
-            run_over(rt, alloc, disk, &work, input, output)
+            let service = Service::Connections { port, count };
+            serve(rt, alloc, disk, service, input, output)
         }
         Command::Web {
             disk,
             host,
             minutes,
         } => {
-            let work = Work::Serve(Service::Pages {
-                texts,
-                host,
-                minutes,
-            });
-            run_over(rt, alloc, disk, &work, input, output)
+            let service = Service::pages(texts, host, minutes);
+            serve(rt, alloc, disk, service, input, output)
         }
-        Command::Rank { disk } => {
-            let work = Work::Tell(Told::Ranking);
-            run_over(rt, alloc, disk, &work, input, output)
-        }
-        Command::Pbn { disk } => {
-            let work = Work::Tell(Told::Games);
-            run_over(rt, alloc, disk, &work, input, output)
-        }
+        Command::Rank { disk } => tell(rt, alloc, disk, Told::Ranking, input, output),
+        Command::Pbn { disk } => tell(rt, alloc, disk, Told::Games, input, output),
         Command::Results { disk, html } => {
-            let work = Work::Results { html };
-            run_over(rt, alloc, disk, &work, input, output)
+            run_over(rt, alloc, disk, &Work::Results { html }, input, output)
         }
         Command::Check { disk } => run_over(rt, alloc, disk, &Work::Check, input, output),
         Command::Plan { config } => run_plan(rt, config, output),
         Command::Version => run_version(output),
     }
+}
+
+/// Opens the session that the disk in a file holds, and answers lines over it.
+fn serve<S: Machine, R: Read, W: Write>(
+    rt: &S,
+    alloc: Global,
+    disk: &str,
+    service: Service<'_>,
+    input: &mut R,
+    output: &mut W,
+) -> Result<(), RunFault>
+    ensures { HasWorked (stream R.remaining input.old input.new) (stream W.contents output.old output.new) result
+        (Serve service.entry) }
+{
+    run_over(rt, alloc, disk, &Work::Serve(service), input, output)
+}
+
+/// Opens the session that the disk in a file holds, and writes these results of it.
+fn tell<S: Machine, R: Read, W: Write>(
+    rt: &S,
+    alloc: Global,
+    disk: &str,
+    told: Told,
+    input: &mut R,
+    output: &mut W,
+) -> Result<(), RunFault>
+    ensures { HasWorked (stream R.remaining input.old input.new) (stream W.contents output.old output.new) result
+        (Tell told) }
+{
+    run_over(rt, alloc, disk, &Work::Tell(told), input, output)
 }
 
 /// Reads a board's auction from the input.
@@ -184,15 +174,10 @@ fn hold_auction<R: Read, W: Write>(
     input: &mut R,
     output: &mut W,
 ) -> Result<(), RunFault>
-    ensures done { OnOk result (HasAuction board (stream R.remaining input.old input.new)
-        (stream W.contents output.old output.new)) }
-    ensures fault { IfErr result (StopsAuction board (stream R.remaining input.old input.new)
-        (stream W.contents output.old output.new)) }
+    ensures { HoldsAuction board (stream R.remaining input.old input.new) (stream W.contents output.old output.new) result }
 {
-    match run_auction(board, input, output) {
-        Ok(()) => Ok(()),
-        Err(fault) => Err(RunFault::Stream(fault)),
-    }
+    run_auction(board, input, output)?;
+    Ok(())
 }
 
 /// The exit status of the program: that of the run, or where it could not begin, which a line of `errors` says: 3 where memory
@@ -201,11 +186,11 @@ pub fn status_of<E: Write>(outcome: Result<u8, ErrorKind>, errors: &mut E) -> u8
     ensures run { IfOk outcome (λ status. (result ≡ status)
         × IsUntouched (stream E.contents errors.old errors.new)) }
     ensures memory { IfErr outcome (λ kind. kind ≡ ErrorKind.OutOfMemory → (result ≡ 3)
-        × TakesPrefix (stream E.contents errors.old errors.new) memory_line) }
+        × TakesPrefix (stream E.contents errors.old errors.new) (store_line StoreFault.NoMemory)) }
     ensures text { IfErr outcome (λ kind. kind ≡ ErrorKind.InvalidData → (result ≡ 2)
-        × TakesPrefix (stream E.contents errors.old errors.new) text_line) }
+        × TakesPrefix (stream E.contents errors.old errors.new) (codes "a word of the command line is not UTF-8\n")) }
     ensures files { IfErr outcome (λ kind. kind ≢ ErrorKind.OutOfMemory → kind ≢ ErrorKind.InvalidData → (result ≡ 3)
-        × TakesPrefix (stream E.contents errors.old errors.new) files_line) }
+        × TakesPrefix (stream E.contents errors.old errors.new) (stream_line ReadFault)) }
 {
     match outcome {
         Ok(status) => status,

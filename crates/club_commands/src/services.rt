@@ -1,12 +1,13 @@
 //! Lines answered over the session that a disk holds, which is opened for it.
-ghost use Rattle.std.specs.Prelude.{◌≡◌, [], false, MatchResult, IsOkAnd, OnOk, IfErr};
+ghost use Rattle.std.specs.Prelude.{◌≡◌, [], false, Err, MatchResult};
 ghost use Rattle.line_text.specs.Streams.{stream};
 ghost use Rattle.sector_disk.specs.File.{file_disk};
 ghost use Rattle.club_commands.specs.declared.fault.SystemFault.TheVariants.{Listener};
-ghost use Rattle.club_commands.specs.Connections.{unknown, ServesAllConnections, StopsConnections, StopsListening};
+ghost use Rattle.club_commands.specs.Serving.{unknown, ServesConnections, ServesPort};
 ghost use Rattle.club_commands.specs.Works.{ServesDisk, ServesWith};
 
 use crate::fault::{RunFault, SystemFault};
+use crate::machine::Host;
 use crate::script::serve_store;
 use crate::serving::serve_connections;
 use crate::web::show_over;
@@ -16,19 +17,13 @@ use club_disk::{ClubDisk, ClubStore, Left, open_session, with_disk};
 use session_store::StoreFault;
 use std::alloc::{AllocError, Global};
 use std::io::{self, Read, Write};
-use std::net::{Ipv4Addr, Net, SocketAddr, TcpListener, TcpStream};
-use std::random::RandomSource;
-use std::time::Clock;
+use std::net::{Ipv4Addr, SocketAddr, TcpListener};
 
 /// How many endings are kept for the answers to `SOLVE`.
 const CACHED_ENDINGS: usize = 4096;
 
 /// Opens the session that a disk holds, answers lines over it, and hands the disk out.
-pub fn serve_over<
-    S: Net<Listener = TcpListener, Stream = TcpStream> + Clock + RandomSource,
-    R: Read,
-    W: Write,
->(
+pub fn serve_over<S: Host, R: Read, W: Write>(
     rt: &S,
     alloc: Global,
     service: &Service<'_>,
@@ -53,11 +48,7 @@ pub fn serve_over<
 
 /// Answers lines over a store, where there was memory for a cache of endings, and hands its disk out. What was given for the
 /// cache is handed in, since only so a clause can say what comes of it.
-fn serve_with<
-    S: Net<Listener = TcpListener, Stream = TcpStream> + Clock + RandomSource,
-    R: Read,
-    W: Write,
->(
+fn serve_with<S: Host, R: Read, W: Write>(
     rt: &S,
     alloc: Global,
     service: &Service<'_>,
@@ -94,7 +85,7 @@ fn serve_with<
 
 /// Serves the lines of so many connections over a store, where there is a listener. What was found is handed in, since only so
 /// a clause can say what comes of it.
-fn serve_heard<N: Net<Listener = TcpListener, Stream = TcpStream>>(
+fn serve_heard<N: Host>(
     rt: &N,
     found: io::Result<TcpListener>,
     count: u16,
@@ -103,10 +94,8 @@ fn serve_heard<N: Net<Listener = TcpListener, Stream = TcpStream>>(
 ) -> Result<(), RunFault>
     requires works { store.old.failed ≡ false }
     requires none_pending { store.old.pending ≡ [] }
-    ensures done { OnOk result (IsOkAnd found (λ _. ServesAllConnections file_disk unknown unknown count store.old store.new)) }
-    ensures fault { IfErr result (λ fault. MatchResult found
-        (λ _. StopsConnections file_disk unknown unknown count store.old store.new fault)
-        (λ _. (fault ≡ RunFault.System Listener) × (store.new ≡ store.old))) }
+    ensures { MatchResult found (λ _. ServesConnections file_disk unknown unknown count store.old store.new result)
+        (λ _. (result ≡ Err (RunFault.System Listener)) × (store.new ≡ store.old)) }
 {
     match found {
         Ok(listener) => serve_connections(rt, &listener, count, store, cache),
@@ -115,7 +104,7 @@ fn serve_heard<N: Net<Listener = TcpListener, Stream = TcpStream>>(
 }
 
 /// Listens at a port of 127.0.0.1, and serves so many connections over a store.
-fn listen<N: Net<Listener = TcpListener, Stream = TcpStream>>(
+fn listen<N: Host>(
     rt: &N,
     port: u16,
     count: u16,
@@ -124,8 +113,7 @@ fn listen<N: Net<Listener = TcpListener, Stream = TcpStream>>(
 ) -> Result<(), RunFault>
     requires works { store.old.failed ≡ false }
     requires none_pending { store.old.pending ≡ [] }
-    ensures done { OnOk result (ServesAllConnections file_disk unknown unknown count store.old store.new) }
-    ensures fault { IfErr result (StopsListening count store.old store.new) }
+    ensures { ServesPort count store.old store.new result }
 {
     let found = TcpListener::bind(rt, SocketAddr::from((Ipv4Addr::LOCALHOST, port)));
     serve_heard(rt, found, count, store, cache)

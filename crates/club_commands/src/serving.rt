@@ -2,7 +2,7 @@
 ghost use Rattle.std.specs.Prelude.{◌≡◌, [], false, OnOk, IfErr, OnErr};
 ghost use Rattle.line_replies.specs.declared.fault.ServeFault.TheVariants.{Accept as AcceptFault};
 ghost use Rattle.table_server.specs.Faulted.{FailsWithDisk};
-ghost use Rattle.club_commands.specs.Connections.{ServesNext, ServesAllConnections, StopsConnections};
+ghost use Rattle.club_commands.specs.Serving.{ServesNext, ServesConnections};
 
 use crate::fault::RunFault;
 use bridge_endings::Cache;
@@ -45,8 +45,7 @@ pub fn serve_connections<N: Net, D: SectorDisk + Drop>(
 ) -> Result<(), RunFault>
     requires works { store.old.failed ≡ false }
     requires none_pending { store.old.pending ≡ [] }
-    ensures done { OnOk result (ServesAllConnections D.disk N.Stream.remaining N.Stream.contents count store.old store.new) }
-    ensures fault { IfErr result (StopsConnections D.disk N.Stream.remaining N.Stream.contents count store.old store.new) }
+    ensures { ServesConnections D.disk N.Stream.remaining N.Stream.contents count store.old store.new result }
 {
     let mut left = count;
     loop {
@@ -56,9 +55,7 @@ pub fn serve_connections<N: Net, D: SectorDisk + Drop>(
         if left == 0 {
             return Ok(());
         }
-        match serve_next(rt, listener, store, cache) {
-            Ok(()) => left -= 1,
-            Err(fault) => return Err(RunFault::Stream(fault)),
-        }
+        serve_next(rt, listener, store, cache)?;
+        left -= 1;
     }
 }

@@ -1,8 +1,6 @@
 //! Results of a session that is opened for them, as the commands `rank` and `pbn` write them.
-ghost use Rattle.std.specs.Prelude.{◌≡◌, ℕ, List, IfErr};
-ghost use Rattle.line_text.specs.Streams.{stream, Written};
-ghost use Rattle.line_replies.specs.declared.fault.ServeFault.TheVariants.{Write as WriteFault};
-ghost use Rattle.club_commands.specs.Results.{IsToldText, TellsDisk};
+ghost use Rattle.line_text.specs.Streams.{stream};
+ghost use Rattle.club_commands.specs.Results.{IsToldText, Tells, TellsDisk};
 
 use crate::fault::RunFault;
 use crate::results::{write_games, write_ranking};
@@ -14,9 +12,7 @@ use std::io::Write;
 
 /// Writes these results of a session.
 fn write_told<W: Write>(told: Told, session: &Session, output: &mut W) -> Result<(), RunFault>
-    ensures written { (text : List ℕ) × IsToldText told session.now text
-        × Written (stream W.contents output.old output.new) text result }
-    ensures fault { IfErr result (λ fault. fault ≡ RunFault.Stream WriteFault) }
+    ensures { Tells (IsToldText told) session.now (stream W.contents output.old output.new) result }
 {
     match told {
         Told::Ranking => write_ranking(session, output),

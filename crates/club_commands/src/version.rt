@@ -1,8 +1,7 @@
 //! The command `version`: which program this is.
-ghost use Rattle.std.specs.Prelude.{◌≡◌, IfErr};
-ghost use Rattle.line_text.specs.Streams.{stream, Written};
-ghost use Rattle.line_replies.specs.declared.fault.ServeFault.TheVariants.{Write as WriteFault};
-ghost use Rattle.club_commands.specs.Version.{version_line};
+ghost use Rattle.line_text.specs.Streams.{stream};
+ghost use Rattle.club_commands.specs.Ended.{Writes};
+ghost use Rattle.club_commands.specs.Run.{version_line};
 
 use crate::fault::RunFault;
 use crate::output::write_output;
@@ -12,8 +11,7 @@ use std::io::Write;
 
 /// Writes the program's name, its version and the kit that proved it.
 pub fn run_version<W: Write>(output: &mut W) -> Result<(), RunFault>
-    ensures written { Written (stream W.contents output.old output.new) version_line result }
-    ensures fault { IfErr result (λ fault. fault ≡ RunFault.Stream WriteFault) }
+    ensures { Writes (stream W.contents output.old output.new) version_line result }
 {
     let mut line = ArrayString::<80>::new();
     line.push_str("bridge_club ");

@@ -1,12 +1,15 @@
 //! Pages for browsers, as the command `web` shows them.
-ghost use Rattle.std.specs.Prelude.{◌≡◌, [], false, string_bytes, MatchResult, IsOkAnd, OnOk, IfErr};
-ghost use Rattle.line_text.specs.Streams.{stream, IsUntouched};
+ghost use Rattle.std.specs.Prelude.{◌≡◌, [], false, string_bytes, OnOk, IfErr};
+ghost use Rattle.line_text.specs.Streams.{stream};
 ghost use Rattle.table_pages.specs.Site.{site_of};
-ghost use Rattle.club_disk.specs.Files.{Leads};
-ghost use Rattle.club_commands.specs.Web.{listening_line, ShowsPages, StopsPages, ended_by, HasShown, StopsHeard, StopsShowing, ShowsOver};
+ghost use Rattle.club_commands.specs.declared.fault.RunFault.TheVariants.{System};
+ghost use Rattle.club_commands.specs.declared.fault.SystemFault.TheVariants.{Random};
+ghost use Rattle.club_disk.specs.Stored.{Leads};
+ghost use Rattle.club_commands.specs.Web.{listening_line, ended_by, ShowsPages, IsNoneShown, ShowsAt, IsUnshown, ShowsOver};
 
 use crate::fault::{RunFault, SystemFault};
 use crate::listening::{listen_at, listening_line, names_of};
+use crate::machine::Host;
 use crate::output::write_output;
 use bridge_endings::Cache;
 use bridge_session::Session;
@@ -18,7 +21,6 @@ use std::alloc::Global;
 use std::hash::RandomState;
 use std::io::{self, Write};
 use std::net::{Net, TcpListener, TcpStream};
-use std::random::RandomSource;
 use std::time::Clock;
 use table_pages::{PageTexts, TablePages, show_minutes};
 
@@ -38,19 +40,16 @@ fn ended(failed: bool, shown: io::Result<()>) -> Result<(), RunFault>
 
 /// Shows pages for so many minutes, or until the store fails. The fault is that the store failed, or that the clock cannot be
 /// read.
-pub fn show_pages<N: Net + Clock, D: SectorDisk + Drop>(
+pub fn show_pages<N: Net<Listener = TcpListener, Stream = TcpStream> + Clock, D: SectorDisk + Drop>(
     rt: &N,
     alloc: Global,
     keys: RandomState,
-    listener: &N::Listener,
+    listener: &TcpListener,
     pages: &mut TablePages<Store<D, Session>>,
     minutes: u16,
 ) -> Result<(), RunFault>
     requires { pages.old.server.failed ≡ false }
-    ensures done { OnOk result (ShowsPages D.disk (site_of pages.old.texts pages.old.names)
-        pages.old.server pages.new.server) }
-    ensures fault { IfErr result (StopsPages D.disk (site_of pages.old.texts pages.old.names)
-        pages.old.server pages.new.server) }
+    ensures { ShowsPages D.disk (site_of pages.old.texts pages.old.names) pages.old.server pages.new.server result }
 {
     let shown = show_minutes(rt, alloc, keys, listener, pages, minutes);
     ended(pages.server().has_failed(), shown)
@@ -58,7 +57,7 @@ pub fn show_pages<N: Net + Clock, D: SectorDisk + Drop>(
 
 /// Says where the pages are and shows them for so many minutes over a store, where there is a listener. What was found is handed
 /// in, since only so a clause can say what comes of it.
-fn show_heard<N: Net<Listener = TcpListener, Stream = TcpStream> + Clock + RandomSource, W: Write>(
+fn show_heard<N: Host, W: Write>(
     rt: &N,
     alloc: Global,
     found: Result<TcpListener, RunFault>,
@@ -69,27 +68,19 @@ fn show_heard<N: Net<Listener = TcpListener, Stream = TcpStream> + Clock + Rando
 ) -> Result<(), RunFault>
     requires works { pages.old.server.failed ≡ false }
     requires line { line.now ≡ listening_line (string_bytes pages.old.names.host) }
-    ensures done { OnOk result (IsOkAnd found (λ _. HasShown (site_of pages.old.texts pages.old.names)
-        pages.old.server pages.new.server (stream W.contents output.old output.new))) }
-    ensures fault { IfErr result (λ fault. MatchResult found
-        (λ _. StopsHeard (site_of pages.old.texts pages.old.names) pages.old.server pages.new.server
-        (stream W.contents output.old output.new) fault)
-        (λ refused. (fault ≡ refused) × (pages.new.server ≡ pages.old.server)
-        × IsUntouched (stream W.contents output.old output.new))) }
+    ensures heard { OnOk found (ShowsAt (λ fault. fault ≡ System Random) (site_of pages.old.texts pages.old.names)
+        pages.old.server pages.new.server (stream W.contents output.old output.new) result) }
+    ensures unheard { IfErr found (λ refused. IsNoneShown (λ fault. fault ≡ refused)
+        pages.old.server pages.new.server (stream W.contents output.old output.new) result) }
 {
     let listener = found?;
-    let Ok(keys) = RandomState::new(rt) else {
-        return Err(RunFault::System(SystemFault::Random));
-    };
+    let keys = RandomState::new(rt).map_err(|_| RunFault::System(SystemFault::Random))?;
     write_output(output, line)?;
     show_pages(rt, alloc, keys, &listener, pages, minutes)
 }
 
 /// Listens, says where, and shows pages for so many minutes over a store.
-fn listen_and_show<
-    N: Net<Listener = TcpListener, Stream = TcpStream> + Clock + RandomSource,
-    W: Write,
->(
+fn listen_and_show<N: Host, W: Write>(
     rt: &N,
     alloc: Global,
     host: &WebHost<'_>,
@@ -100,19 +91,14 @@ fn listen_and_show<
 ) -> Result<(), RunFault>
     requires works { pages.old.server.failed ≡ false }
     requires line { line.now ≡ listening_line (string_bytes pages.old.names.host) }
-    ensures done { OnOk result (HasShown (site_of pages.old.texts pages.old.names)
-        pages.old.server pages.new.server (stream W.contents output.old output.new)) }
-    ensures fault { IfErr result (StopsShowing host.now (site_of pages.old.texts pages.old.names)
-        pages.old.server pages.new.server (stream W.contents output.old output.new)) }
+    ensures { ShowsAt (IsUnshown host.now) (site_of pages.old.texts pages.old.names)
+        pages.old.server pages.new.server (stream W.contents output.old output.new) result }
 {
     show_heard(rt, alloc, listen_at(rt, host), minutes, line, pages, output)
 }
 
 /// Shows pages for so many minutes over a store, and hands its disk out.
-pub fn show_over<
-    N: Net<Listener = TcpListener, Stream = TcpStream> + Clock + RandomSource,
-    W: Write,
->(
+pub fn show_over<N: Host, W: Write>(
     rt: &N,
     alloc: Global,
     texts: PageTexts,

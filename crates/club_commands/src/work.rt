@@ -1,4 +1,7 @@
 //! What commands do over a disk in a file.
+ghost use Rattle.std.specs.Prelude.{◌≡◌};
+ghost use Rattle.club_commands.specs.declared.work.Service.TheVariants.{Pages};
+
 use bridge_session::Session;
 use command_line::WebHost;
 use table_pages::PageTexts;
@@ -24,6 +27,19 @@ pub enum Service<'a> {
         /// For how many minutes, from 1 to 1440.
         minutes: u16,
     },
+}
+
+impl<'a> Service<'a> {
+    /// To browsers, by pages of these texts, shown there for so many minutes.
+    pub fn pages(texts: PageTexts, host: WebHost<'a>, minutes: u16) -> Service<'a>
+        ensures { result ≡ Pages texts host.entry minutes }
+    {
+        Service::Pages {
+            texts,
+            host,
+            minutes,
+        }
+    }
 }
 
 /// Which results of a session are written.

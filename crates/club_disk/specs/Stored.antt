@@ -1,5 +1,9 @@
--- The session that a disk holds, opened of it or read of it.
+-- The disk of a club, and the session that a disk holds, opened of it or read of it.
 use Rattle.std.specs.Prelude.{◌≡◌, ◌⊎◌, ◌<◌, ◌≤◌, ◌+◌, ℕ, false, Option, Ok}
+use Rattle.std.specs.declared.fs.File.{File}
+use Rattle.sector_disk.specs.declared.file.FileDisk.{FileDisk}
+use Rattle.sector_disk.specs.declared.system_file.SystemFile.{SystemFile}
+use Rattle.sector_disk.specs.File.{file_disk}
 use Rattle.sector_disk.specs.Disk.{Disk, Image}
 use Rattle.sector_disk.specs.Runs.{Quiet}
 use Rattle.session_store.specs.declared.fault.StoreFault.{StoreFault}
@@ -53,3 +57,19 @@ module _ {D : Type 0} (disk : Disk D) where
   abbrev pub RefusesReading : (Image → Option Header) → D → D → StoreFault → Type 0
   RefusesReading header d left fault = ((disk.count d < sector_count) × (left ≡ d) × (fault ≡ TooSmall))
       ⊎ ((sector_count ≤ disk.count d) × Quiet disk d left × IsUnseen session_keeping disk header d left fault)
+
+-- the disk of a club, which is in a file of the system
+abbrev pub ClubDisk : Type 0
+ClubDisk = FileDisk (SystemFile File)
+
+-- the store of the session on it
+abbrev pub ClubStore : Type 0
+ClubStore = StoreOn ClubDisk
+
+-- a store was led to another, between which that holds, and whose disk is left
+abbrev pub Leads : (ClubStore → ClubStore → Type 0) → ClubStore → ClubDisk → Type 0
+Leads P start left = (last : ClubStore) × (left ≡ last.disk) × P start last
+
+-- a session was opened on a disk, and its store led so
+abbrev pub Over : (ClubStore → ClubStore → Type 0) → ClubDisk → ClubDisk → Type 0
+Over P d left = (start : ClubStore) × OpensSession file_disk d start × Leads P start left

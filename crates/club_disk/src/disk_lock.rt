@@ -18,13 +18,9 @@ fn locked<S: Files<File = File>>(
 ) -> Result<File, StoreFault>
     ensures fault { IfErr result (λ fault. fault ≡ StoreFault.Disk) }
 {
-    let Ok(file) = options.open(rt, disk) else {
-        return Err(StoreFault::Disk);
-    };
-    match file.try_lock() {
-        Ok(()) => Ok(file),
-        Err(_) => Err(StoreFault::Disk),
-    }
+    let file = options.open(rt, disk).map_err(|_| StoreFault::Disk)?;
+    file.try_lock().map_err(|_| StoreFault::Disk)?;
+    Ok(file)
 }
 
 /// Locks the file of a disk. The fault is `Disk`, as where there is no file or another run has its lock.
@@ -51,16 +47,12 @@ pub fn lock_to_read<S: Files<File = File>>(rt: &S, disk: &str) -> Result<File, S
 {
     let mut options = OpenOptions::new();
     options.read(true);
-    let Ok(file) = options.open(rt, disk) else {
-        return Err(StoreFault::Disk);
-    };
+    let file = options.open(rt, disk).map_err(|_| StoreFault::Disk)?;
     if is_folder(&file) {
         return Err(StoreFault::Disk);
     }
-    match file.try_lock_shared() {
-        Ok(()) => Ok(file),
-        Err(_) => Err(StoreFault::Disk),
-    }
+    file.try_lock_shared().map_err(|_| StoreFault::Disk)?;
+    Ok(file)
 }
 
 /// Locks a file in which a disk is to be made. One that is not there is made, empty, for its owner alone.

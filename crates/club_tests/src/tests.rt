@@ -25,9 +25,13 @@ use test_texts::TWO_TABLES;
 const TEXTS: PageTexts = PageTexts {
     page: "page",
     style: "style",
+    texts_script: "texts",
     shared_script: "shared",
     table_script: "table",
+    boards_script: "boards",
     director_script: "director",
+    unknown_page: "unknown",
+    wrong_host: "wrong",
 };
 
 /// Fails with the row where a value is not the one that is due.
@@ -38,6 +42,16 @@ fn expect_eq<T: PartialEq + Debug + Drop>(
     row: impl Debug + Drop,
 ) {
     assert_eq!(rt; found, due, "{row:?}");
+}
+
+/// The status of a run with these words over these streams.
+fn status_of_run<
+    S: Files<File = File> + Net<Listener = TcpListener, Stream = TcpStream> + Clock + RandomSource,
+    R: Read,
+    W: Write,
+    E: Write,
+>(rt: &S, alloc: Global, words: &[&str], input: &mut R, output: &mut W, errors: &mut E) -> u8 {
+    run_words_with(rt, alloc, TEXTS, words, input, output, errors)
 }
 
 /// Runs the words over an input, and fails where the status, the output or the errors are not those that are due.
@@ -180,15 +194,7 @@ fn other_words_are_usage(rt: HostRuntime) -> Result<(), Fail> {
         let mut errors = Vec::new(rt.alloc());
         let (mut input, mut output) = (Broken, Broken);
         let words = words.as_slice();
-        let status = run_words_with(
-            &rt,
-            rt.alloc(),
-            TEXTS,
-            words,
-            &mut input,
-            &mut output,
-            &mut errors,
-        );
+        let status = status_of_run(&rt, rt.alloc(), words, &mut input, &mut output, &mut errors);
         expect_eq(&rt, status, 2, row);
         expect_eq(&rt, errors.starts_with(begins.as_bytes()), true, row);
         // It is written to its end, and once.

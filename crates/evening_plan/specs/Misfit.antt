@@ -1,5 +1,6 @@
 -- The first word of a line that is not as it must be.
 use Rattle.std.specs.Prelude.{ℕ, ◌+◌, ◌==◌, if◌then◌else◌, List, [], ◌∷◌, length, Option, None, Some}
+use Rattle.std.specs.Borrow.{Bor}
 use Rattle.line_text.specs.Words.{spaced_words}
 use Rattle.evening_plan.specs.declared.part.Part.{Part}
 use Rattle.evening_plan.specs.declared.part.Check.{Check}
@@ -8,9 +9,9 @@ use Rattle.evening_plan.specs.declared.misfit.Misfit.TheVariants.{Lacking, Extra
 use Rattle.evening_plan.specs.Part.{is_fit}
 
 -- the words of what is left of a line, if there is something left
-abbrev pub words_left : Option (List ℕ) → List (List ℕ)
+abbrev pub words_left : Option (Bor (List ℕ)) → List (List ℕ)
 words_left None = []
-words_left (Some text) = spaced_words text
+words_left (Some text) = spaced_words text.now
 
 -- what is wrong with a word: that it is empty, or is not what its part must be
 abbrev pub wrong_at : ℕ → Part → List ℕ → Misfit

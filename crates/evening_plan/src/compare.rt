@@ -1,6 +1,5 @@
 //! A line compared with what it must be.
 ghost use Rattle.std.specs.Prelude.{◌≡◌, ◌≤◌, ◌∷◌, [], length, MatchOption};
-ghost use Rattle.std.specs.Option.{option_map};
 ghost use Rattle.line_text.specs.Words.{spaced_words};
 ghost use Rattle.evening_plan.specs.Misfit.{words_left, wrong_at, extra_at, first_misfit};
 
@@ -11,14 +10,9 @@ use line_text::first_word;
 
 /// The next word and what is left behind it; `None` where nothing is left.
 fn next_word(rest: Option<&[u8]>) -> Option<(&[u8], Option<&[u8]>)>
-    ensures { MatchOption result
-        (words_left (option_map (λ text. text.now) rest.entry) ≡ [])
-        (λ next. words_left (option_map (λ text. text.now) rest.entry)
-        ≡ next.0.now ∷ words_left (option_map (λ text. text.now) next.1)) }
+    ensures { MatchOption result (words_left rest.entry ≡ []) (λ next. words_left rest.entry ≡ next.0.now ∷ words_left next.1) }
 {
-    let Some(text) = rest else {
-        return None;
-    };
+    let text = rest?;
     match first_word(text) {
         Some((word, after)) => Some((word, Some(after))),
         None => Some((text, None)),
@@ -66,8 +60,6 @@ pub fn first_misfit(check: Check, parts: &[Part], line: &[u8]) -> Option<Misfit>
         previous = word;
         at += 1;
     }
-    match next_word(rest) {
-        Some((word, _)) => Some(extra_at(at, word)),
-        None => None,
-    }
+    let (word, _) = next_word(rest)?;
+    Some(extra_at(at, word))
 }

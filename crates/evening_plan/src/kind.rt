@@ -99,15 +99,11 @@ pub fn line_at(text: &[u8], number: u32) -> Option<&[u8]>
 {
     let mut rest = text;
     for _index in 1..number {
-        match first_line(rest) {
-            Some((_, after)) => rest = after,
-            None => return None,
-        }
+        let (_, after) = first_line(rest)?;
+        rest = after;
     }
-    match first_line(rest) {
-        Some((line, _)) => Some(line),
-        None => None,
-    }
+    let (line, _) = first_line(rest)?;
+    Some(line)
 }
 
 /// What the line of that number, from 1, must state.

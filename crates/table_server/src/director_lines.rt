@@ -5,9 +5,9 @@ ghost use Rattle.table_server.specs.LineCommand.{shuffle_line, next_line, tricks
 
 use crate::command::Command;
 use crate::line_words::{
-    first_average, first_board, first_key, read_average, read_round, read_seed, read_tricks,
+    next_average, next_board, next_key, read_average, read_round, read_seed, read_tricks,
 };
-use crate::named_play::{first_play, read_play};
+use crate::named_play::{next_play, read_play};
 use bridge_session::Average;
 use line_text::only_word;
 
@@ -16,10 +16,9 @@ use line_text::only_word;
 pub fn read_shuffle_line(text: &[u8]) -> Option<Command>
     ensures { result ≡ shuffle_line (spaced_words text.now) }
 {
-    let (key, rest) = first_key(text)?;
-    let Some((board, rest)) = first_board(rest) else {
-        return None;
-    };
+    let mut rest = text;
+    let key = next_key(&mut rest)?;
+    let board = next_board(&mut rest)?;
     let seed = read_seed(only_word(rest)?)?;
     Some(Command::Shuffle { key, board, seed })
 }
@@ -29,7 +28,8 @@ pub fn read_shuffle_line(text: &[u8]) -> Option<Command>
 pub fn read_next_line(text: &[u8]) -> Option<Command>
     ensures { result ≡ next_line (spaced_words text.now) }
 {
-    let (key, rest) = first_key(text)?;
+    let mut rest = text;
+    let key = next_key(&mut rest)?;
     let round = read_round(only_word(rest)?)?;
     Some(Command::Next { key, round })
 }
@@ -39,10 +39,9 @@ pub fn read_next_line(text: &[u8]) -> Option<Command>
 pub fn read_tricks_line(text: &[u8]) -> Option<Command>
     ensures { result ≡ tricks_line (spaced_words text.now) }
 {
-    let (key, rest) = first_key(text)?;
-    let Some((play, rest)) = first_play(rest) else {
-        return None;
-    };
+    let mut rest = text;
+    let key = next_key(&mut rest)?;
+    let play = next_play(&mut rest)?;
     let tricks = read_tricks(only_word(rest)?)?;
     Some(Command::Tricks { key, play, tricks })
 }
@@ -52,7 +51,8 @@ pub fn read_tricks_line(text: &[u8]) -> Option<Command>
 pub fn read_void_line(text: &[u8]) -> Option<Command>
     ensures { result ≡ void_line (spaced_words text.now) }
 {
-    let (key, rest) = first_key(text)?;
+    let mut rest = text;
+    let key = next_key(&mut rest)?;
     let play = read_play(rest)?;
     Some(Command::Void { key, play })
 }
@@ -62,7 +62,8 @@ pub fn read_void_line(text: &[u8]) -> Option<Command>
 pub fn read_restore_line(text: &[u8]) -> Option<Command>
     ensures { result ≡ restore_line (spaced_words text.now) }
 {
-    let (key, rest) = first_key(text)?;
+    let mut rest = text;
+    let key = next_key(&mut rest)?;
     let play = read_play(rest)?;
     Some(Command::Restore { key, play })
 }
@@ -72,9 +73,8 @@ pub fn read_restore_line(text: &[u8]) -> Option<Command>
 fn read_averages(text: &[u8]) -> Option<(Average, Average)>
     ensures { result ≡ average_words (spaced_words text.now) }
 {
-    let Some((ns, rest)) = first_average(text) else {
-        return None;
-    };
+    let mut rest = text;
+    let ns = next_average(&mut rest)?;
     let ew = read_average(only_word(rest)?)?;
     Some((ns, ew))
 }
@@ -84,10 +84,9 @@ fn read_averages(text: &[u8]) -> Option<(Average, Average)>
 pub fn read_adjust_line(text: &[u8]) -> Option<Command>
     ensures { result ≡ adjust_line (spaced_words text.now) }
 {
-    let (key, rest) = first_key(text)?;
-    let Some((play, rest)) = first_play(rest) else {
-        return None;
-    };
+    let mut rest = text;
+    let key = next_key(&mut rest)?;
+    let play = next_play(&mut rest)?;
     let (ns, ew) = read_averages(rest)?;
     Some(Command::Adjust { key, play, ns, ew })
 }

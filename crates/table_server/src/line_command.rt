@@ -9,7 +9,7 @@ use crate::director_lines::{
     read_adjust_line, read_next_line, read_restore_line, read_shuffle_line, read_tricks_line,
     read_void_line,
 };
-use crate::line_words::{first_board, first_key};
+use crate::line_words::{next_board, next_key};
 use crate::player_lines::{
     read_agree_line, read_call_line, read_card_line, read_claim_line, read_refuse_line,
 };
@@ -61,22 +61,18 @@ fn read_line(line: &[u8]) -> Option<Command>
 fn read_deal_line(text: &[u8]) -> Option<Command>
     ensures { ReadsDeal (deal_words (spaced_words text.now)) result }
 {
-    let (key, rest) = first_key(text)?;
-    match first_board(rest) {
-        Some(board_and_hands) => read_dealt(key, &board_and_hands),
-        None => None,
-    }
+    let mut rest = text;
+    let key = next_key(&mut rest)?;
+    let board = next_board(&mut rest)?;
+    read_dealt(key, board, rest)
 }
 
 /// The command that deals a board the hands of a text.
-fn read_dealt(key: Key, board_and_hands: &(BoardNumber, &[u8])) -> Option<Command>
-    ensures { ReadsDeal (Some (record { key = key; board = board_and_hands.now.0; text = board_and_hands.now.1.now })) result }
+fn read_dealt(key: Key, board: BoardNumber, text: &[u8]) -> Option<Command>
+    ensures { ReadsDeal (Some (record { key = key; board = board; text = text.now })) result }
 {
-    let (board, text) = *board_and_hands;
-    match read_hands(text) {
-        Some(hands) => Some(Command::Deal { key, board, hands }),
-        None => None,
-    }
+    let hands = read_hands(text)?;
+    Some(Command::Deal { key, board, hands })
 }
 
 /// Reads a line of a player's action, or another, by its first word.

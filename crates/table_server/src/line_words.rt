@@ -154,65 +154,72 @@ pub fn read_seed(word: &[u8]) -> Option<[u8; 32]>
     }
 }
 
-/// The key that several words begin with, and the words after it.
-pub fn first_key(text: &[u8]) -> Option<(Key, &[u8])>
-    ensures { FoundAs (λ read. (read.0, spaced_words read.1.now)) result (first_of key_of_word (spaced_words text.now)) }
+/// Takes the key that several words begin with from them.
+pub fn next_key(text: &mut &[u8]) -> Option<Key>
+    ensures { FoundAs (λ key. (key, spaced_words text.new.now)) result (first_of key_of_word (spaced_words text.old.now)) }
 {
     let (word, rest) = first_word(text)?;
     let key = read_key(word)?;
-    Some((key, rest))
+    *text = rest;
+    Some(key)
 }
 
-/// The board that several words begin with, and the words after it.
-pub fn first_board(text: &[u8]) -> Option<(BoardNumber, &[u8])>
-    ensures { FoundAs (λ read. (read.0, spaced_words read.1.now)) result (first_of board_of_word (spaced_words text.now)) }
+/// Takes the board that several words begin with from them.
+pub fn next_board(text: &mut &[u8]) -> Option<BoardNumber>
+    ensures { FoundAs (λ board. (board, spaced_words text.new.now)) result (first_of board_of_word (spaced_words text.old.now)) }
 {
     let (word, rest) = first_word(text)?;
     let board = read_board(word)?;
-    Some((board, rest))
+    *text = rest;
+    Some(board)
 }
 
-/// How many calls, cards or claims were made, where several words begin with it, and the words after it.
-pub fn first_made(text: &[u8]) -> Option<(MadeCount, &[u8])>
-    ensures { FoundAs (λ read. (read.0, spaced_words read.1.now)) result (first_of made_of_word (spaced_words text.now)) }
+/// Takes from several words how many calls, cards or claims were made, where they begin with it.
+pub fn next_made(text: &mut &[u8]) -> Option<MadeCount>
+    ensures { FoundAs (λ made. (made, spaced_words text.new.now)) result (first_of made_of_word (spaced_words text.old.now)) }
 {
     let (word, rest) = first_word(text)?;
     let made = read_made(word)?;
-    Some((made, rest))
+    *text = rest;
+    Some(made)
 }
 
-/// The round that several words begin with, and the words after it.
-pub fn first_round(text: &[u8]) -> Option<(RoundNumber, &[u8])>
-    ensures { FoundAs (λ read. (read.0, spaced_words read.1.now)) result (first_of round_of_word (spaced_words text.now)) }
+/// Takes the round that several words begin with from them.
+pub fn next_round(text: &mut &[u8]) -> Option<RoundNumber>
+    ensures { FoundAs (λ round. (round, spaced_words text.new.now)) result (first_of round_of_word (spaced_words text.old.now)) }
 {
     let (word, rest) = first_word(text)?;
     let round = read_round(word)?;
-    Some((round, rest))
+    *text = rest;
+    Some(round)
 }
 
-/// The table that several words begin with, and the words after it.
-pub fn first_table(text: &[u8]) -> Option<(TableNumber, &[u8])>
-    ensures { FoundAs (λ read. (read.0, spaced_words read.1.now)) result (first_of table_of_word (spaced_words text.now)) }
+/// Takes the table that several words begin with from them.
+pub fn next_table(text: &mut &[u8]) -> Option<TableNumber>
+    ensures { FoundAs (λ table. (table, spaced_words text.new.now)) result (first_of table_of_word (spaced_words text.old.now)) }
 {
     let (word, rest) = first_word(text)?;
     let table = read_table(word)?;
-    Some((table, rest))
+    *text = rest;
+    Some(table)
 }
 
-/// The index of a board that several words begin with, and the words after it.
-pub fn first_index(text: &[u8]) -> Option<(BoardIndex, &[u8])>
-    ensures { FoundAs (λ read. (read.0, spaced_words read.1.now)) result (first_of index_of_word (spaced_words text.now)) }
+/// Takes the index of a board that several words begin with from them.
+pub fn next_index(text: &mut &[u8]) -> Option<BoardIndex>
+    ensures { FoundAs (λ index. (index, spaced_words text.new.now)) result (first_of index_of_word (spaced_words text.old.now)) }
 {
     let (word, rest) = first_word(text)?;
     let index = read_index(word)?;
-    Some((index, rest))
+    *text = rest;
+    Some(index)
 }
 
-/// The average that several words begin with, and the words after it.
-pub fn first_average(text: &[u8]) -> Option<(Average, &[u8])>
-    ensures { FoundAs (λ read. (read.0, spaced_words read.1.now)) result (first_of average_of_word (spaced_words text.now)) }
+/// Takes the average that several words begin with from them.
+pub fn next_average(text: &mut &[u8]) -> Option<Average>
+    ensures { FoundAs (λ average. (average, spaced_words text.new.now)) result (first_of average_of_word (spaced_words text.old.now)) }
 {
     let (word, rest) = first_word(text)?;
     let average = read_average(word)?;
-    Some((average, rest))
+    *text = rest;
+    Some(average)
 }

@@ -4,7 +4,7 @@ ghost use Rattle.line_text.specs.Words.{spaced_words};
 ghost use Rattle.table_server.specs.LineWords.{FoundAs};
 ghost use Rattle.table_server.specs.LineCommand.{play_words, play_and_words};
 
-use crate::line_words::{first_index, first_round, first_table, read_index};
+use crate::line_words::{next_index, next_round, next_table, read_index};
 use bridge_session::PlayId;
 use line_text::only_word;
 
@@ -13,12 +13,9 @@ use line_text::only_word;
 pub fn read_play(text: &[u8]) -> Option<PlayId>
     ensures { result ≡ play_words (spaced_words text.now) }
 {
-    let Some((round, rest)) = first_round(text) else {
-        return None;
-    };
-    let Some((table, rest)) = first_table(rest) else {
-        return None;
-    };
+    let mut rest = text;
+    let round = next_round(&mut rest)?;
+    let table = next_table(&mut rest)?;
     let index = read_index(only_word(rest)?)?;
     Some(PlayId {
         round,
@@ -27,24 +24,17 @@ pub fn read_play(text: &[u8]) -> Option<PlayId>
     })
 }
 
-/// The play that the first three words of a text name, and the words after them.
+/// Takes the play that the first three words of a text name from them.
 #[tactic(auto, unfolding(crate::specs::LineCommand::play_and_words))]
-pub fn first_play(text: &[u8]) -> Option<(PlayId, &[u8])>
-    ensures { FoundAs (λ read. (read.0, spaced_words read.1.now)) result (play_and_words (spaced_words text.now)) }
+pub fn next_play(text: &mut &[u8]) -> Option<PlayId>
+    ensures { FoundAs (λ play. (play, spaced_words text.new.now)) result (play_and_words (spaced_words text.old.now)) }
 {
-    let Some((round, rest)) = first_round(text) else {
-        return None;
-    };
-    let Some((table, rest)) = first_table(rest) else {
-        return None;
-    };
-    let Some((index, rest)) = first_index(rest) else {
-        return None;
-    };
-    let play = PlayId {
+    let round = next_round(text)?;
+    let table = next_table(text)?;
+    let index = next_index(text)?;
+    Some(PlayId {
         round,
         table,
         index,
-    };
-    Some((play, rest))
+    })
 }

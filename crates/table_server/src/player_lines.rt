@@ -5,9 +5,7 @@ ghost use Rattle.table_server.specs.LineWords.{FoundAs};
 ghost use Rattle.table_server.specs.LineCommand.{turn_words, turn_and_words, call_line, card_line, claim_line, agree_line, refuse_line};
 
 use crate::command::Command;
-use crate::line_words::{
-    first_board, first_key, first_made, read_card_word, read_made, read_tricks,
-};
+use crate::line_words::{next_board, next_key, next_made, read_card_word, read_made, read_tricks};
 use bridge_auction::read_call;
 use bridge_cards::BoardNumber;
 use bridge_config::Key;
@@ -25,19 +23,15 @@ pub struct Turn {
     pub at: MadeCount,
 }
 
-/// The turn that the first three words of a text name, and the words after them.
+/// Takes the turn that the first three words of a text name from them.
 #[tactic(auto, unfolding(crate::specs::LineCommand::turn_and_words))]
-fn first_turn(text: &[u8]) -> Option<(Turn, &[u8])>
-    ensures { FoundAs (λ read. (read.0, spaced_words read.1.now)) result (turn_and_words (spaced_words text.now)) }
+fn next_turn(text: &mut &[u8]) -> Option<Turn>
+    ensures { FoundAs (λ turn. (turn, spaced_words text.new.now)) result (turn_and_words (spaced_words text.old.now)) }
 {
-    let (key, rest) = first_key(text)?;
-    let Some((board, rest)) = first_board(rest) else {
-        return None;
-    };
-    let Some((at, rest)) = first_made(rest) else {
-        return None;
-    };
-    Some((Turn { key, board, at }, rest))
+    let key = next_key(text)?;
+    let board = next_board(text)?;
+    let at = next_made(text)?;
+    Some(Turn { key, board, at })
 }
 
 /// The turn that a text of three words names.
@@ -45,10 +39,9 @@ fn first_turn(text: &[u8]) -> Option<(Turn, &[u8])>
 fn read_turn(text: &[u8]) -> Option<Turn>
     ensures { result ≡ turn_words (spaced_words text.now) }
 {
-    let (key, rest) = first_key(text)?;
-    let Some((board, rest)) = first_board(rest) else {
-        return None;
-    };
+    let mut rest = text;
+    let key = next_key(&mut rest)?;
+    let board = next_board(&mut rest)?;
     let at = read_made(only_word(rest)?)?;
     Some(Turn { key, board, at })
 }
@@ -58,9 +51,8 @@ fn read_turn(text: &[u8]) -> Option<Turn>
 pub fn read_call_line(text: &[u8]) -> Option<Command>
     ensures { result ≡ call_line (spaced_words text.now) }
 {
-    let Some((turn, rest)) = first_turn(text) else {
-        return None;
-    };
+    let mut rest = text;
+    let turn = next_turn(&mut rest)?;
     let call = read_call(only_word(rest)?)?;
     let Turn { key, board, at } = turn;
     Some(Command::Call {
@@ -76,9 +68,8 @@ pub fn read_call_line(text: &[u8]) -> Option<Command>
 pub fn read_card_line(text: &[u8]) -> Option<Command>
     ensures { result ≡ card_line (spaced_words text.now) }
 {
-    let Some((turn, rest)) = first_turn(text) else {
-        return None;
-    };
+    let mut rest = text;
+    let turn = next_turn(&mut rest)?;
     let card = read_card_word(only_word(rest)?)?;
     let Turn { key, board, at } = turn;
     Some(Command::Card {
@@ -94,9 +85,8 @@ pub fn read_card_line(text: &[u8]) -> Option<Command>
 pub fn read_claim_line(text: &[u8]) -> Option<Command>
     ensures { result ≡ claim_line (spaced_words text.now) }
 {
-    let Some((turn, rest)) = first_turn(text) else {
-        return None;
-    };
+    let mut rest = text;
+    let turn = next_turn(&mut rest)?;
     let tricks = read_tricks(only_word(rest)?)?;
     let Turn { key, board, at } = turn;
     Some(Command::Claim {

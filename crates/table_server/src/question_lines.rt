@@ -4,8 +4,8 @@ ghost use Rattle.line_text.specs.Words.{spaced_words};
 ghost use Rattle.table_server.specs.LineCommand.{solve_line, see_line, rank_line, pbn_line};
 
 use crate::command::Command;
-use crate::line_words::{first_key, read_cards, read_field};
-use crate::named_play::first_play;
+use crate::line_words::{next_key, read_cards, read_field};
+use crate::named_play::next_play;
 use line_replies::read_key;
 use line_text::only_word;
 
@@ -23,7 +23,8 @@ pub fn read_see_line(text: &[u8]) -> Option<Command>
 pub fn read_rank_line(text: &[u8]) -> Option<Command>
     ensures { result ≡ rank_line (spaced_words text.now) }
 {
-    let (key, rest) = first_key(text)?;
+    let mut rest = text;
+    let key = next_key(&mut rest)?;
     let field = read_field(only_word(rest)?)?;
     Some(Command::Rank { key, field })
 }
@@ -33,10 +34,9 @@ pub fn read_rank_line(text: &[u8]) -> Option<Command>
 pub fn read_solve_line(text: &[u8]) -> Option<Command>
     ensures { result ≡ solve_line (spaced_words text.now) }
 {
-    let (key, rest) = first_key(text)?;
-    let Some((play, rest)) = first_play(rest) else {
-        return None;
-    };
+    let mut rest = text;
+    let key = next_key(&mut rest)?;
+    let play = next_play(&mut rest)?;
     let cards = read_cards(only_word(rest)?)?;
     Some(Command::Solve { key, play, cards })
 }

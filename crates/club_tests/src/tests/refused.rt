@@ -1,5 +1,5 @@
 //! Disks and configurations that are refused, and streams that fail.
-use super::{Broken, TEXTS, expect_eq, expect_formatted, expect_run};
+use super::{Broken, TEXTS, expect_eq, expect_formatted, expect_run, status_of_run};
 use club_commands::run_words_with;
 use club_disk::{lock, lock_to_read};
 use std::alloc::Global;
@@ -224,15 +224,7 @@ fn streams_that_fail_are_named(rt: HostRuntime) -> Result<(), Fail> {
     for words in rows {
         let mut input: &[u8] = b"1C\n";
         let mut errors = Vec::new(rt.alloc());
-        let status = run_words_with(
-            &rt,
-            rt.alloc(),
-            TEXTS,
-            words,
-            &mut input,
-            &mut Broken,
-            &mut errors,
-        );
+        let status = status_of_run(&rt, rt.alloc(), words, &mut input, &mut Broken, &mut errors);
         expect_eq(&rt, status, 3, words);
         expect_eq(
             &rt,

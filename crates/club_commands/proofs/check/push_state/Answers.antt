@@ -1,8 +1,7 @@
 use Rattle.std.proofs.Common.{ℕ, List, ap, ◌∙◌, codes}
 use Rattle.std.specs.Fmt.{decimal}
 use Rattle.bridge_config.specs.ConfigValue.{ConfigValue}
-use Rattle.club_commands.specs.Counts.{boards_dealt, plays_done}
-use Rattle.club_commands.specs.Checked.{with_said, with_round}
+use Rattle.club_commands.specs.Checked.{boards_dealt, plays_done, with_said, with_round}
 use Rattle.club_commands.proofs.check.push_state.Goals as goal
 
 pub returns-clause-state : goal.returns-clause-state

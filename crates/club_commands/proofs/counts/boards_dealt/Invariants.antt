@@ -1,7 +1,7 @@
 use Rattle.std.proofs.Common.{◌≡◌, ◌-◌, ◌≤◌, take}
 use Rattle.std.specs.Prelude.{sum_by}
 use Rattle.std.specs.List.{range_with_len}
-use Rattle.club_commands.specs.Counts.{dealt_boards_at}
+use Rattle.club_commands.specs.Checked.{dealt_boards_at}
 use Rattle.club_commands.proofs.counts.boards_dealt.Given as goal
 
 abbrev pub invariant-loop-number : goal.invariant-loop-number

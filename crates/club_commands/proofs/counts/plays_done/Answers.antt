@@ -5,7 +5,7 @@ use Rattle.std.proofs.lemmas.List.Sums.{sum_by_more}
 use Rattle.bridge_movement.specs.declared.row.Row.{Row}
 use Rattle.bridge_config.specs.ConfigValue.{ConfigValue}
 use Rattle.bridge_pbn.proofs.Rows.{row_numbers}
-use Rattle.club_commands.specs.Counts.{row_done}
+use Rattle.club_commands.specs.Checked.{row_done}
 use Rattle.club_commands.proofs.counts.plays_done.Goals as goal
 
 pub row_done-count-requires-clause-round : goal.row_done-count-requires-clause-round

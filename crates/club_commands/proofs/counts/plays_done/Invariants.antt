@@ -1,6 +1,6 @@
 use Rattle.std.proofs.Common.{◌≡◌, ◌*◌, ◌≤◌, take}
 use Rattle.std.specs.Prelude.{sum_by}
-use Rattle.club_commands.specs.Counts.{row_done}
+use Rattle.club_commands.specs.Checked.{row_done}
 use Rattle.club_commands.proofs.counts.plays_done.Given as goal
 
 abbrev pub invariant-loop-row : goal.invariant-loop-row

@@ -1,5 +1,6 @@
-use Rattle.club_commands.proofs.Served.{no_session}
+use Rattle.club_commands.specs.ConfigFile.{Begins}
+use Rattle.club_commands.proofs.Served.{of_file}
 use Rattle.club_commands.proofs.formatting.session_of_file.Goals as goal
 
-pub returns-clause-fault : goal.returns-clause-fault
-returns-clause-fault g c = no_session _ c.open.result c.session_found.result c.session_found.ensures.fault
+pub returns : goal.returns
+returns g c = of_file _ (Begins c.session_found.result) c.open.result c.session_found.ensures

@@ -3,10 +3,10 @@ use Rattle.bridge_results.specs.ResultsText.{page_text}
 use Rattle.club_commands.specs.Results.{page_format}
 use Rattle.club_commands.proofs.results.write_page.Goals as goal
 
-pub returns-in-Err-clause-written : goal.returns-in-Err-clause-written
-returns-in-Err-clause-written g c =
+pub returns-in-Err : goal.returns-in-Err
+returns-in-Err g c =
     let told = c.in-Err.ensures in (
       page_text (page_format c.args.html) c.args.session.now told.0 told.1,
       (told.0, told.1, told.2, told.3, refl),
-      rw c.page_format.ensures at told.4,
+      (rw c.page_format.ensures at told.4, refl),
     )

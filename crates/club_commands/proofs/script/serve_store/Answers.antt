@@ -1,32 +1,17 @@
 use Rattle.std.proofs.Common.{◌∙◌, inl, inr, refl, sym}
+use Rattle.line_text.specs.Streams.{stream}
 use Rattle.table_server.proofs.FaultLemmas.{met_none, met_one}
+use Rattle.club_commands.proofs.Served.{ends_serving}
 use Rattle.club_commands.proofs.script.serve_store.Goals as goal
 
-pub returns-then-served-clause-fault : goal.returns-then-served-clause-fault
-returns-then-served-clause-fault g c = inl (
-  record {
-    result = c.in-Ok.served;
-    served = c.in-Ok.ensures.ok;
-    failed = c.if-served.true;
-    faults = met_one g.D.SectorDisk.disk c.args.store.now c.serve.new.store c.serve.ensures.faults c.requires.works
-        (sym c.in-Ok.ensures.ok.failed ∙ c.if-served.true);
-  },
-  refl,
-)
-
-pub returns-else-served-clause-done : goal.returns-else-served-clause-done
-returns-else-served-clause-done g c = record {
-  result = c.in-Ok.served;
-  served = c.in-Ok.ensures.ok;
-  works = c.if-served.false;
-  no_fault = met_none g.D.SectorDisk.disk c.args.store.now c.serve.new.store c.serve.ensures.faults
-      (sym c.in-Ok.ensures.ok.failed ∙ c.if-served.false);
-}
-
-pub returns-in-Err-clause-fault : goal.returns-in-Err-clause-fault
-returns-in-Err-clause-fault g c = inr (record {
-  cause = c.in-Err.fault;
-  stops = c.in-Err.ensures.fault;
-  named = c.fault_over.ensures;
-  faults = c.serve.ensures.faults;
-})
+pub returns-then-has_failed : goal.returns-then-has_failed
+returns-then-has_failed g c =
+    let disk = g.D.SectorDisk.disk in
+    let start = c.args.store.now in
+    let last = c.serve-served.new.store in
+    let failed = sym c.has_failed.ensures ∙ c.if-has_failed.true in (
+      c.serve-served.result,
+      ends_serving disk start last (stream g.R.Read.remaining c.args.input.now c.serve-served.new.reader)
+          (stream g.W.Write.contents c.args.output.now c.serve-served.new.writer) c.serve-served.result c.serve-served.ensures.ok c.serve-served.ensures.fault,
+      inr (failed, met_one disk start last c.serve-served.ensures.faults c.requires.works failed, refl),
+    )

@@ -1,6 +1,6 @@
 use Rattle.std.proofs.Common.{◌≡◌, ◌+◌, ℕ, [], false}
 use Rattle.table_server.specs.Faulted.{FailsWithDisk}
-use Rattle.club_commands.specs.Connections.{ServesEach}
+use Rattle.club_commands.specs.Serving.{ServesEach}
 use Rattle.club_commands.proofs.serving.serve_connections.Given as goal
 
 abbrev pub invariant-loop-count : goal.invariant-loop-count

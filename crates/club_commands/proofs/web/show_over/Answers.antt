@@ -1,7 +1,7 @@
 use Rattle.std.proofs.Common.{◌∙◌, ap}
 use Rattle.line_text.specs.Streams.{stream}
 use Rattle.table_pages.specs.Site.{site_of}
-use Rattle.club_disk.specs.Files.{ClubStore}
+use Rattle.club_disk.specs.Stored.{ClubStore}
 use Rattle.club_commands.proofs.Shown.{made_site, shows_over}
 use Rattle.club_commands.proofs.web.show_over.Goals as goal
 
@@ -14,4 +14,4 @@ returns g c =
     (made_site c.args.host.now pages.texts c.args.texts pages.names c.in-Ok.names c.new-pages.ensures.names c.new-pages.ensures.texts c.in-Ok.ensures.host c.in-Ok.ensures.alias)
     c.new-pages.ensures.server c.with_disk-2.ensures.ended
     (c.with_disk-2.ensures.disk ∙ ap (λ (s : ClubStore). s.disk) c.into_server.ensures)
-    c.listen_and_show-ended.ensures.done c.listen_and_show-ended.ensures.fault
+    c.listen_and_show-ended.ensures

@@ -1,5 +1,4 @@
 use Rattle.std.proofs.Common.{◌≡◌, ◌+◌, [], drop}
-use Rattle.std.specs.Option.{option_map}
 use Rattle.line_text.specs.Words.{spaced_words}
 use Rattle.evening_plan.specs.Misfit.{words_left, first_misfit}
 use Rattle.evening_plan.proofs.compare.first_misfit.Given as goal
@@ -7,7 +6,7 @@ use Rattle.evening_plan.proofs.compare.first_misfit.Given as goal
 -- the words so far are as they must be
 abbrev pub invariant-loop-part : goal.invariant-loop-part
 invariant-loop-part l = record {
-  judged : first_misfit l.check l.at l.previous (drop l.part-index l.parts) (words_left (option_map (λ text. text.now) l.rest))
+  judged : first_misfit l.check l.at l.previous (drop l.part-index l.parts) (words_left l.rest)
       ≡ first_misfit l.check 1 [] l.parts (spaced_words l.line);
   number : l.at ≡ l.part-index + 1;
 }

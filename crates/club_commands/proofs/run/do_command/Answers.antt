@@ -1,0 +1,35 @@
+use Rattle.std.proofs.KnownBytes.{Keeps-refl}
+use Rattle.club_commands.proofs.run.do_command.Goals as goal
+
+pub returns-in-Auction : goal.returns-in-Auction
+returns-in-Auction g c = rw c.in-Auction.is c.hold_auction.ensures
+
+pub returns-in-Format : goal.returns-in-Format
+returns-in-Format g c = rw c.in-Format.is c.run_format.ensures
+
+pub returns-in-Script : goal.returns-in-Script
+returns-in-Script g c = rw c.in-Script.is c.serve.ensures
+
+pub returns-in-Serve : goal.returns-in-Serve
+returns-in-Serve g c = rw c.in-Serve.is c.serve-in-Serve.ensures
+
+pub returns-in-Web : goal.returns-in-Web
+returns-in-Web g c = rw c.in-Web.is (rw c.pages-service.ensures at c.serve-in-Web.ensures)
+
+pub returns-in-Rank : goal.returns-in-Rank
+returns-in-Rank g c = rw c.in-Rank.is c.tell.ensures
+
+pub returns-in-Pbn : goal.returns-in-Pbn
+returns-in-Pbn g c = rw c.in-Pbn.is c.tell-in-Pbn.ensures
+
+pub returns-in-Results : goal.returns-in-Results
+returns-in-Results g c = rw c.in-Results.is c.run_over.ensures
+
+pub returns-in-Check : goal.returns-in-Check
+returns-in-Check g c = rw c.in-Check.is c.run_over-in-Check.ensures
+
+pub returns-in-Plan : goal.returns-in-Plan
+returns-in-Plan g c = rw c.in-Plan.is (c.run_plan.ensures, Keeps-refl _)
+
+pub returns-in-Version : goal.returns-in-Version
+returns-in-Version g c = rw c.in-Version.is (c.run_version.ensures, Keeps-refl _)

@@ -1,0 +1,61 @@
+-- How a command ends: what stands on its output then, and the line on standard error and the exit status that a fault has.
+use Rattle.std.specs.Prelude.{◌≡◌, ◌⊎◌, ◌++◌, ℕ, true, false, List, codes, Result, Err, IfErr, IsErrAnd}
+use Rattle.club_commands.specs.Basis.{Stream, Takes, TakesPrefix, Written, IsUntouched, Disk, Rose, StoreOn, decimal}
+use Rattle.club_commands.specs.Basis.{ConfigFault, StoreFault, TooSmall, DiskFault, NotFormatted, Damaged, EpochsSpent, NoMemory, ServeFault, Read, Write, RunFault, StreamFault, System, Config, Store}
+use Rattle.bridge_config.specs.Refused.{refusal_name}
+
+-- how a command ended
+abbrev pub Ended : Type 0
+Ended = Result (Unit {0}) RunFault
+
+-- a text is written, or a prefix of it where a write failed, which is the fault
+abbrev pub Writes : Stream → List ℕ → Ended → Type 0
+Writes output text ended = Written output text ended × IfErr ended (λ fault. fault ≡ StreamFault Write)
+
+-- a text is written, and that is the fault; or a prefix of it, as a write failed, which is the fault then
+abbrev pub WritesAndStops : Stream → List ℕ → RunFault → Ended → Type 0
+WritesAndStops output text cause ended =
+    IsErrAnd ended (λ fault. (Takes output text × (fault ≡ cause)) ⊎ (TakesPrefix output text × (fault ≡ StreamFault Write)))
+
+-- a disk gave nothing, for such a cause, and nothing is written
+abbrev pub IsRefusedFor : (StoreFault → Type 0) → Stream → Ended → Type 0
+IsRefusedFor Why output ended = (cause : StoreFault) × Why cause × (ended ≡ Err (Store cause)) × IsUntouched output
+
+-- How a run over a store ended: in such a way, and then the store works, as no call of its disk failed; or the store failed,
+-- as a call of its disk did, which is the fault.
+abbrev pub EndsOver : {D : Type 0} → Disk D → (Ended → Type 0) → StoreOn D → StoreOn D → Ended → Type 0
+EndsOver disk Way start store ended =
+    ((store.failed ≡ false) × (disk.faults store.disk ≡ disk.faults start.disk) × Way ended)
+    ⊎ ((store.failed ≡ true) × Rose (disk.faults start.disk) (disk.faults store.disk) × (ended ≡ Err (Store DiskFault)))
+
+-- the line of a stream that failed; a connection that could not be accepted counts as one that could not be read
+abbrev pub stream_line : ServeFault → List ℕ
+stream_line Write = codes "cannot write output\n"
+stream_line _ = codes "cannot read input\n"
+
+-- the number of the configuration's line, and what is wrong with it
+abbrev pub config_line : ConfigFault → List ℕ
+config_line fault = (((codes "config line " ++ decimal fault.line) ++ codes ": ") ++ refusal_name fault.cause) ++ codes "\n"
+
+-- the line of a disk or a store
+abbrev pub store_line : StoreFault → List ℕ
+store_line TooSmall = codes "disk too small\n"
+store_line DiskFault = codes "disk fault\n"
+store_line NotFormatted = codes "not formatted\n"
+store_line (Damaged sector) = (codes "damaged sector " ++ decimal sector) ++ codes "\n"
+store_line EpochsSpent = codes "epochs spent\n"
+store_line NoMemory = codes "no memory\n"
+
+-- the line on standard error that names a fault; what the system does not give counts as what cannot be read
+abbrev pub fault_line : RunFault → List ℕ
+fault_line (StreamFault fault) = stream_line fault
+fault_line (System fault) = stream_line Read
+fault_line (Config fault) = config_line fault
+fault_line (Store fault) = store_line fault
+
+-- the exit status at a fault: 4 where the disk holds no session, and 3 otherwise
+abbrev pub fault_status : RunFault → ℕ
+fault_status (Store TooSmall) = 4
+fault_status (Store NotFormatted) = 4
+fault_status (Store (Damaged sector)) = 4
+fault_status _ = 3

@@ -1,6 +1,0 @@
-use Rattle.table_server.specs.LineWords.{made_of_word}
-use Rattle.table_server.proofs.FirstWords.{first_read}
-use Rattle.table_server.proofs.line_words.first_made.Goals as goal
-
-pub returns : goal.returns
-returns c = first_read made_of_word c.args.text.now c.in_ok-word.word.now c.in_ok-word.rest.now c.in_ok-made.made c.in_ok-word.ensures c.in_ok-made.ensures
