@@ -2,42 +2,26 @@
 // The director's page: tables, rounds, deals, rulings, endings, rankings and results. It asks by lines of the protocol, and
 // judges nothing.
 
-const DIRECTOR_SENTENCES = {
-  AlreadyDealt: "already dealt",
-  BadDeal: "these are not four hands of thirteen cards",
-  BadLine: "that cannot be read",
-  LongLine: "that cannot be read",
-  NoSuchPlay: "there is no such play",
-  NotYet: "that round has not begun",
-  RoundOpen: "a table is still at play",
-  NoContract: "there is no contract",
-  NotFinished: "the play is not over",
-  NotAnEnding: "at most six whole tricks may be left, and so many must have been played",
-  NotMatchPoints: "averages are for matchpoints alone",
-  WrongPhase: "that is not possible now",
-  Stale: "that is not the round at play",
-  Closed: "the session is closed",
-  Disk: "the server's disk has failed",
-  EpochsSpent: "the server's disk is used up",
-};
-
 const MOST_BOARDS = 36;
 const MOST_TABLES = 12;
 const MINUTE = 60000;
-const WAITED = "An answer is still waited for; nothing was sent.";
 
 // When each table's line was first seen as it is.
 const since = new Map();
 // The first board of each table's set, by round and table, where it was seen.
 const firstBoards = new Map();
 let boardsOfSet = 1;
+let boardsOfAll = MOST_BOARDS;
 // Whether lines are out.
 let ordered = false;
+// The names of pairs; the play that is looked at, as round, table and place in its set, and what was told of it.
+let pairNames = new Map();
+let opened = null;
 
 // A reply of one line in words.
 function outcome(reply) {
   const refused = refusal(reply);
-  return refused ? DIRECTOR_SENTENCES[refused] || refused : "done";
+  return refused ? TEXTS.directorRefusals[refused] || refused : TEXTS.doneWord;
 }
 
 function tell(text) {
@@ -45,34 +29,36 @@ function tell(text) {
 }
 
 // Asks before it acts; the question stands where it was raised, and no other beside it.
-function confirmFirst(box, question, act) {
+function confirmFirst(box, question, act, ...more) {
   const close = () => box.replaceChildren();
   tell("");
-  for (const id of ["end-question", "rule-question"]) at(id).replaceChildren();
-  box.replaceChildren(make("p", null, question),
+  for (const id of ["end-question", "rule-question", "deal-question"]) at(id).replaceChildren();
+  box.replaceChildren(make("p", null, question), ...more.map((words) => make("p", null, ...[].concat(words))),
     make("div", { className: "row" },
-      button("Yes", "Yes: " + question, "yes", true, () => { close(); act(); }), button("No", "", "no", true, close)));
-  at("yes").focus();
+      button(TEXTS.no, "", "no", true, close), button(TEXTS.yes, TEXTS.yesTo(question), "yes", true, () => { close(); act(); })));
+  at("yes").className = "send";
+  at("no").focus();
 }
 
 // Sends lines without the key, each of a keyword and words; gives the replies, or null, also while other lines are out.
 async function order(lines) {
   if (ordered) {
-    tell(WAITED);
+    tell(TEXTS.answerAwaited);
     return null;
   }
   ordered = true;
   tell("");
-  const body = lines.map((line) => line.replace(/^(\S+)\s*/, (_all, word) => (word === "SYNC" ? word : word + " " + key + " ")).trim() + "\n").join("");
+  const body = lines.map((line) => line.replace(/^(\S+)\s*/,
+    (_all, word) => (word === "SYNC" ? word : word + " " + key + " ")).trim() + "\n").join("");
   const reply = await ask("/lines", body);
   ordered = false;
-  if (reply === null) tell("No answer came. It may or may not have been done; what you see next tells.");
+  if (reply === null) tell(TEXTS.unknownDone);
   return reply;
 }
 
 async function doOne(line, what) {
   const reply = await order([line]);
-  if (reply !== null) tell(what + ": " + outcome(reply) + ".");
+  if (reply !== null) tell(TEXTS.becameOf(what, outcome(reply)));
   look();
 }
 
@@ -95,12 +81,10 @@ function readTables(reply) {
   };
 }
 
-const IDLE = { NotDealt: "waits for its deal", NotCurrent: "has done its boards", SitsOut: "nobody plays here" };
-
 function progressText(table) {
-  if (table.idle) return IDLE[table.idle] || table.idle;
-  const made = table.phase === "PLAY" ? table.cards + " cards" : table.calls + " calls";
-  return (table.phase === "PLAY" ? "play, " : "auction, ") + made + ", " + SEAT_NAMES[table.turn] + " in turn";
+  if (table.idle) return TEXTS.idle[table.idle] || table.idle;
+  const playing = table.phase === "PLAY";
+  return TEXTS.progress(playing, playing ? table.cards : table.calls, SEAT_NAMES[table.turn]);
 }
 
 function minutesText(table, now) {
@@ -110,11 +94,11 @@ function minutesText(table, now) {
 }
 
 // How a table stands, for its colour: done, at play, slow, or not dealt.
-const SLOW = 5;
+const SLOW_TABLE = 5;
 function standsAs(table, minutes) {
   if (table.idle === "NotCurrent" || table.idle === "SitsOut") return "done";
   if (table.idle) return "waits";
-  return minutes >= SLOW ? "slow" : "plays";
+  return minutes >= SLOW_TABLE ? "slow" : "plays";
 }
 
 function noteSets(state) {
@@ -124,16 +108,25 @@ function noteSets(state) {
   }
 }
 
+const pairText = (pair) => (pair === "0" ? "\u2013" : pairNames.has(Number(pair)) ? pair + " " + pairNames.get(Number(pair)) : pair);
+
 function tablesTable(state) {
-  const titles = ["Table", "N-S", "E-W", "Board", "What goes on", "Min."];
   const now = Date.now();
   const rows = state.tables.map((table) => {
     const minutes = minutesText(table, now);
-    return make("tr", { className: standsAs(table, Number(minutes)) },
-      ...[table.number, table.ns, table.ew, table.idle ? "" : table.board, progressText(table), minutes].map((word) => make("td", null, word)));
+    const stands = standsAs(table, Number(minutes));
+    const open = make("button",
+      { type: "button", id: "open-" + table.number, aria_label: TEXTS.openTable(table.number), onclick: () => openPlay([
+        state.round, table.number, table.idle ? 1 : placeInSet(Number(table.board))]) },
+      TEXTS.open);
+    return make("tr", { className: stands },
+      ...[table.number, pairText(table.ns), pairText(table.ew),
+        table.idle ? "" : table.board, progressText(table), table.idle ? "" : TEXTS.stillFor(Number(minutes)),
+        TEXTS.stands[stands]].map((word) => make("td", null, word)),
+      make("td", null, ...(table.idle === "SitsOut" ? [] : [open])));
   });
-  return make("table", { id: "tables", className: "tables", hidden: rows.length === 0, aria_label: "Tables" },
-    make("thead", null, make("tr", null, ...titles.map((title) => make("th", { scope: "col" }, title)))), make("tbody", null, ...rows));
+  return make("table", { id: "tables", className: "tables", hidden: rows.length === 0, aria_label: TEXTS.tables },
+    make("thead", null, make("tr", null, ...TEXTS.tableHeads.map((title) => make("th", { scope: "col" }, title)))), make("tbody", null, ...rows));
 }
 
 // The tables that are still at play, by their numbers.
@@ -142,25 +135,75 @@ function stillPlaying(state) {
 }
 
 function roundText(state) {
-  if (state.round > state.rounds) return "The session is closed.";
+  if (state.round > state.rounds) return TEXTS.closed;
   const open = stillPlaying(state);
-  const still = open.length === 0 ? "All tables have done their boards." : (open.length === 1 ? "Still at play: table " : "Still at play: tables ") + open.join(", ") + ".";
-  return "Round " + state.round + " of " + state.rounds + ". " + still;
+  return TEXTS.roundIs(state.round, state.rounds, open.length === 0 ? TEXTS.allDone : TEXTS.stillPlaying(open));
 }
 
 function showTables(state) {
   boardsOfSet = state.boards;
+  boardsOfAll = state.all;
   noteSets(state);
   say("status", roundText(state));
   const old = at("tables");
   const tables = tablesTable(state);
+  // What stands in the focus stays there.
+  const focus = document.activeElement && old.contains(document.activeElement) ? document.activeElement.id : "";
   if (old && !old.isEqualNode(tables)) old.replaceWith(tables);
+  if (focus && at(focus)) at(focus).focus();
   const end = at("end-round");
   if (!end) return;
-  end.disabled = state.round > state.rounds || stillPlaying(state).length > 0;
-  const label = state.round > state.rounds ? "All rounds are ended" : "End round " + state.round + (state.round === state.rounds ? ", and close the session" : "");
+  const closed = state.round > state.rounds;
+  end.disabled = closed || stillPlaying(state).length > 0;
+  const label = closed ? TEXTS.allEnded : TEXTS.endRound(state.round, state.round === state.rounds);
   if (end.textContent !== label) end.textContent = label;
-  end.onclick = () => confirmFirst(at("end-question"), label + "?", () => doOne("NEXT " + state.round, "End of round " + state.round));
+  end.onclick = () => confirmFirst(at("end-question"), TEXTS.asks(label), () => doOne("NEXT " + state.round, TEXTS.endOf(state.round)));
+}
+
+// ---- a play that is looked at
+
+const CLOSED = () => { opened = null; at("opened").replaceChildren(); };
+
+// What is told of a play: its text, or null where no answer came.
+const askPlay = (words) => ask("/boards", key + " " + words.join(" "));
+
+// Shows a play as it is now; it stays, and is shown anew as it goes on, until it is closed.
+async function openPlay(words) {
+  tell("");
+  opened = { words, text: "" };
+  at("ruling").open = true;
+  await showOpened();
+  if (at("opened").scrollIntoView) at("opened").scrollIntoView({ block: "nearest" });
+}
+
+async function showOpened() {
+  const wanted = opened;
+  if (!wanted) return;
+  const text = await askPlay(wanted.words);
+  if (opened !== wanted || text === null || text === wanted.text || !at("opened")) return;
+  wanted.text = text;
+  if (refusal(text)) {
+    tell(TEXTS.becameOf(TEXTS.playOf(...wanted.words.slice(0, 2), TEXTS.boardInPlace(wanted.words[2])), outcome(text)));
+    return CLOSED();
+  }
+  const board = readBoards(text).boards[0];
+  at("opened").replaceChildren(...openedNodes(board, wanted.words));
+  for (const [field, value] of [["round", wanted.words[0]], ["table", wanted.words[1]],
+    ["board", board.number]]) at("rule-" + field).value = String(value);
+}
+
+function openedNodes(board, words) {
+  const first = board.number - words[2] + 1;
+  const others = Array.from({ length: boardsOfSet }, (_none, i) => {
+    const node = make("button",
+      { type: "button", id: "opened-" + (first + i), onclick: () => openPlay([words[0], words[1], i + 1]) }, TEXTS.board(first + i));
+    node.setAttribute("aria-pressed", String(first + i === board.number));
+    return node;
+  });
+  return [make("div", { className: "row" },
+    make("h2", null, TEXTS.openedAt(words[1], words[0])), ...others,
+    make("button", { type: "button", id: "opened-close", onclick: CLOSED }, TEXTS.close)),
+    bandNode(board), make("div", { className: "parts" }, steppedNode(board, "S", board.cards.length, () => {}), playedNode(board, "S", board.cards.length))];
 }
 
 // ---- deals
@@ -187,8 +230,8 @@ function dealsIn(text) {
 function dealtText(boards, replies) {
   const found = new Map([["OK", []]]);
   boards.forEach((board, i) => found.set(replies[i], [...(found.get(replies[i]) || []), board]));
-  const name = (reply, some) => (reply === "OK" ? "Dealt: " : (some.length === 1 ? "Board " : "Boards ")) + some.join(", ") + (reply === "OK" ? "." : ": " + outcome(reply) + ".");
-  return [...found].map(([reply, some]) => (some.length ? name(reply, some) : "No board was dealt.")).join(" ");
+  const name = (reply, some) => (reply === "OK" ? TEXTS.dealt(some) : TEXTS.notDealt(some, outcome(reply)));
+  return [...found].map(([reply, some]) => (some.length ? name(reply, some) : TEXTS.nothingDealt)).join(" ");
 }
 
 async function dealAll(lines, boards) {
@@ -205,15 +248,21 @@ function shuffleBoards() {
   const boards = [];
   for (let board = first; board <= last && boards.length < MOST_BOARDS; board += 1) boards.push(board);
   const seed = drawSeed();
-  if (boards.length === 0) tell("There are no such boards.");
+  if (boards.length === 0) tell(TEXTS.noBoardsThere);
   else dealAll(boards.map((board) => "SHUFFLE " + board + " " + seed), boards);
 }
 
+// Says which boards a text has, and which of them the session has not, before it deals those that it has.
 function dealText(text) {
   const deals = dealsIn(text);
-  if (deals.length === 0) return tell("No deal was found in this text.");
-  if (deals.length > MOST_BOARDS) return tell("There are " + deals.length + " deals in this text, and at most " + MOST_BOARDS + " boards in a session.");
-  return dealAll(deals.map((deal) => "DEAL " + deal[0] + " " + deal[1]), deals.map((deal) => deal[0]));
+  if (deals.length === 0) return tell(TEXTS.noDeals);
+  const isOfSession = ([board]) => Number(board) >= 1 && Number(board) <= boardsOfAll;
+  const some = deals.filter(isOfSession);
+  const others = deals.filter((deal) => !isOfSession(deal)).map((deal) => deal[0]);
+  if (some.length === 0) return tell(TEXTS.notOfSession(others));
+  const boards = some.map((deal) => deal[0]);
+  return confirmFirst(at("deal-question"), TEXTS.asks(TEXTS.dealThese(boards)),
+    () => dealAll(some.map((deal) => "DEAL " + deal[0] + " " + deal[1]), boards), ...(others.length ? [TEXTS.notOfSession(others)] : []));
 }
 
 // ---- a form of a few fields
@@ -232,20 +281,19 @@ const numberAt = (id) => Math.trunc(Number(at(id).value));
 // Whether each number of a section is there and in its range.
 function isFilledIn(id) {
   const filled = [...at(id).querySelectorAll("input[type=number]")].every((field) => field.value !== "" && field.checkValidity());
-  if (!filled) tell("Each number has to be there, and in its range.");
+  if (!filled) tell(TEXTS.fillIn);
   return filled;
 }
 
-// The words of a play: round, table, and the board's place in its set; null where other boards were seen at that table.
+// A play: round, table, and the board's place in its set; null where other boards were seen at that table.
 function playWords(prefix) {
   const [round, table, board] = ["-round", "-table", "-board"].map((field) => numberAt(prefix + field));
   const first = firstBoards.get(round + " " + table);
   if (first !== undefined && (board < first || board >= first + boardsOfSet)) {
-    const last = first + boardsOfSet - 1;
-    tell("In round " + round + " table " + table + " has " + (first === last ? "board " + first : "boards " + first + " to " + last) + ".");
+    tell(TEXTS.tableHas(round, table, first, first + boardsOfSet - 1));
     return null;
   }
-  return round + " " + table + " " + placeInSet(board);
+  return [round, table, placeInSet(board)];
 }
 
 const placeInSet = (board) => ((board - 1) % boardsOfSet) + 1;
@@ -253,42 +301,97 @@ const placeInSet = (board) => ((board - 1) % boardsOfSet) + 1;
 // The play by its round, its table, and its board; where it was not seen which boards were played there, by that board's place.
 function playName(prefix) {
   const [round, table, board] = ["-round", "-table", "-board"].map((field) => numberAt(prefix + field));
-  const name = firstBoards.has(round + " " + table) ? "board " + board : "board in place " + placeInSet(board) + " of its set";
-  return "round " + round + ", table " + table + ", " + name;
+  return TEXTS.playOf(round, table, firstBoards.has(round + " " + table) ? TEXTS.boardNumber(board) : TEXTS.boardInPlace(placeInSet(board)));
 }
 
 function playFields(prefix) {
-  return make("div", { className: "row" }, numberField(prefix + "-round", "Round", 1, MOST_TABLES, 1), numberField(prefix + "-table", "Table", 1, MOST_TABLES, 1), numberField(prefix + "-board", "Board", 1, MOST_BOARDS, 1));
+  return make("div", { className: "row" },
+    numberField(prefix + "-round", TEXTS.round, 1, MOST_TABLES, 1), numberField(prefix + "-table", TEXTS.tableField, 1, MOST_TABLES, 1),
+    numberField(prefix + "-board", TEXTS.boardField, 1, MOST_BOARDS, 1));
 }
 
-// Rules on the play of the fields, once the question is answered: a keyword, and what follows the play.
-function rule(what, word, rest) {
+// ---- rulings
+
+// What a play is now, and what a ruling makes of it, as words of a question; nothing where nothing is told of it.
+function beforeAndAfter(board, after) {
+  return [
+    [TEXTS.nowIs, ...resultNodes(board.result),
+      ...(board.result.bid ? [", " + TEXTS.made(board.result.tricks - 6 - Number(board.result.bid[0]))] : []), TEXTS.thenIs, after(board),
+      "."],
+    [TEXTS.playedBy(board.names)]];
+}
+
+// Rules on the play of the fields, once the question is answered, if the play is still what it was when it was asked: a keyword,
+// what follows the play, and what the result becomes.
+async function rule(what, word, rest, after) {
   if (!isFilledIn("ruling")) return;
-  const play = playWords("rule");
+  const words = playWords("rule");
+  if (words === null) return;
   const name = what + ", " + playName("rule");
-  if (play !== null) confirmFirst(at("rule-question"), name + "?", () => doOne((word + " " + play + " " + rest).trim(), name));
+  const seen = await askPlay(words);
+  if (seen === null) return tell(TEXTS.noAnswer);
+  const board = refusal(seen) ? null : readBoards(seen).boards[0];
+  confirmFirst(at("rule-question"), TEXTS.asks(name), async () => {
+    const now = await askPlay(words);
+    if (now !== seen) return tell(now === null ? TEXTS.noAnswer : TEXTS.changedSince);
+    return doOne([word, ...words, rest].join(" ").trim(), name);
+  }, ...(board && board.names ? beforeAndAfter(board, after) : []));
+}
+
+// What a number of tricks makes of the contract of a play.
+function withTricks(board, tricks) {
+  const bid = board.result.bid || [...board.calls].reverse().find(isBid);
+  return bid ? callName(bid) + ", " + TEXTS.made(tricks - 6 - Number(bid[0])) : TEXTS.tricks(tricks);
 }
 
 function rulingNodes() {
-  const per = [["60", "60: in no way at fault"], ["50", "50: partly at fault"], ["40", "40: directly at fault"]];
-  const setTricks = () => rule("Set declarer's tricks to " + numberAt("rule-tricks"), "TRICKS", String(numberAt("rule-tricks")));
-  const average = () => rule("Award " + at("rule-ns").value + " and " + at("rule-ew").value + " per cent", "ADJUST", at("rule-ns").value + " " + at("rule-ew").value);
-  return [playFields("rule"),
-    make("div", { className: "row" }, numberField("rule-tricks", "Declarer's tricks", 0, 13, 7), button("Set the tricks", "", "rule-set", true, setTricks)),
-    make("div", { className: "row" }, choice("rule-ns", "North and South, per cent", per), choice("rule-ew", "East and West, per cent", per),
-      button("Award averages", "", "rule-average", true, average)),
-    make("div", { className: "row" }, button("Take the play out", "", "rule-void", true, () => rule("Take the play out", "VOID", "")),
-      button("Take a ruling back", "", "rule-restore", true, () => rule("Take the ruling back", "RESTORE", ""))),
-    make("div", { id: "rule-question" })];
+  const setTricks = () => { const tricks = numberAt("rule-tricks"); rule(
+    TEXTS.setTricksTo(tricks), "TRICKS", String(tricks), (board) => withTricks(board, tricks)); };
+  const average = () => { const [ns, ew] = [at("rule-ns").value, at("rule-ew").value]; rule(
+    TEXTS.award(ns, ew), "ADJUST", ns + " " + ew, () => TEXTS.average(ns, ew)); };
+  const show = () => { if (isFilledIn("ruling")) { const words = playWords("rule"); if (words) openPlay(words); } };
+  return [playFields("rule"), make("div", { className: "row" }, button(TEXTS.openPlay, "", "rule-open", true, show)),
+    make("div", { className: "row" },
+      numberField("rule-tricks", TEXTS.declarersTricks, 0, 13, 7), button(TEXTS.setTricks, "", "rule-set", true, setTricks)),
+    make("div", { className: "row" }, choice("rule-ns", TEXTS.northSouthPer, TEXTS.per), choice("rule-ew", TEXTS.eastWestPer, TEXTS.per),
+      button(TEXTS.awardAverages, "", "rule-average", true, average)),
+    make("div", { className: "row" }, button(TEXTS.takeOut, "", "rule-void", true, () => rule(TEXTS.takeOut, "VOID", "", () => TEXTS.takenOut)),
+      button(TEXTS.takeBackButton, "", "rule-restore", true, () => rule(TEXTS.takeBack, "RESTORE", "", () => TEXTS.asPlayed))),
+    make("div", { id: "rule-question" }), make("h3", null, TEXTS.rulingsStand), make("ul", { id: "ruled" })];
 }
+
+// The rulings that stand, and whether players see what other tables did.
+async function showRulings() {
+  const reply = await ask("/boards", key);
+  if (reply === null || refusal(reply) || !at("ruled") || reply === showRulings.shown) return;
+  showRulings.shown = reply;
+  const lines = reply.split("\n").map((line) => line.split(" "));
+  const ruled = lines.filter((words) => words[0] === "RULED").map(([, round, table, index, board, kind, ...words]) => {
+    const open = () => openPlay([Number(round), Number(table), Number(index)]);
+    return make("li", null, TEXTS.ruled(round, table, board, TEXTS.ruledAs[kind](words)) + " ",
+      make("button", { type: "button", aria_label: TEXTS.open + ": " + TEXTS.ruled(round, table, board, ""), onclick: open }, TEXTS.open));
+  });
+  at("ruled").replaceChildren(...(ruled.length ? ruled : [make("li", null, TEXTS.noRulings)]));
+  const open = lines.some((words) => words[0] === "OTHERS" && words[1] === "OPEN");
+  at("others").replaceChildren(make("p", null, TEXTS.othersTitle + " ", make("b", null, TEXTS.othersAre[open])),
+    make("button", { type: "button", id: "others-turn", onclick: () => turnOthers(open ? "SHUT" : "OPEN") }, open ? TEXTS.othersShut : TEXTS.othersOpen));
+}
+
+async function turnOthers(word) {
+  const reply = await ask("/boards", key + " " + word);
+  tell(reply === null ? TEXTS.unknownDone : refusal(reply) ? outcome(reply) : "");
+  await showRulings();
+}
+
+// ---- endings, rankings, results, lines
 
 async function solve() {
   if (!isFilledIn("solving")) return;
   const play = playWords("solve");
-  const reply = play === null ? null : await order(["SOLVE " + play + " " + 4 * numberAt("solve-tricks")]);
+  const reply = play === null ? null : await order(["SOLVE " + play.join(" ") + " " + 4 * numberAt("solve-tricks")]);
   if (reply === null) return;
   const words = reply.split("\n")[0].split(" ");
-  say("solved", words[0] === "OK" ? "Of the tricks left North and South can win " + words[1] + ", and East and West " + words[2] + "." : "No answer: " + outcome(reply) + ".");
+  say("solved", words[0] === "OK" ? TEXTS.solved(words[1], words[2]) : TEXTS.notSolved(outcome(reply)));
 }
 
 async function showRankings() {
@@ -297,15 +400,17 @@ async function showRankings() {
   const replies = [await ask("/lines", "RANK " + asked + " 1\n"), await ask("/lines", "RANK " + asked + " 2\n")];
   const text = await ask("/results", asked);
   if (key !== asked) return;
-  if (text === null || replies.includes(null)) return tell("No answer came.");
-  const time = make("p", { className: "small" }, "As of " + new Date().toLocaleTimeString() + ".");
-  if (at("rankings")) at("rankings").replaceChildren(time, ...replies.flatMap((reply, i) => (refusal(reply) ? [] : rankingNode(i + 1, reply, 0, namesIn(text)))));
+  if (text === null || replies.includes(null)) return tell(TEXTS.noAnswer);
+  pairNames = namesIn(text);
+  const time = make("p", { className: "small" }, TEXTS.asOf(new Date().toLocaleTimeString()));
+  if (at("rankings")) at("rankings").replaceChildren(time,
+    ...replies.flatMap((reply, i) => (refusal(reply) ? [] : rankingNode(i + 1, reply, 0, pairNames))));
 }
 
 async function showResults() {
   const asked = key;
   const text = await ask("/results", asked);
-  if (key === asked) say("results", text === null ? "No answer came." : text);
+  if (key === asked) say("results", text === null ? TEXTS.noAnswer : text);
 }
 
 function section(id, title, ...nodes) {
@@ -314,38 +419,45 @@ function section(id, title, ...nodes) {
 
 function linesNodes() {
   const box = make("textarea", { id: "box", spellcheck: false });
-  const replies = make("pre", { id: "replies", role: "log", aria_label: "Replies" });
+  const replies = make("pre", { id: "replies", role: "log", aria_label: TEXTS.replies });
   const send = async () => {
-    if (ordered) return tell(WAITED);
+    if (ordered) return tell(TEXTS.answerAwaited);
     const reply = await order(box.value.split("\n").map((line) => line.trim()).filter((line) => line !== ""));
-    replies.textContent = reply === null ? "No answer came. The lines may or may not have been taken." : reply;
+    replies.textContent = reply === null ? TEXTS.unknownLines : reply;
   };
-  return [make("label", { for: "box" }, "Lines of the protocol, without the key"), box, button("Send", "", "send", true, send), replies];
+  return [make("label", { for: "box" }, TEXTS.linesLabel), box, button(TEXTS.send, "", "send", true, send), replies];
 }
 
 function dealNodes() {
   const file = make("input", { id: "deal-file", type: "file", onchange: async () => { at("deal-text").value = await file.files[0].text(); } });
   return [
-    make("div", { className: "row" }, numberField("shuffle-first", "Shuffle boards", 1, MOST_BOARDS, 1), numberField("shuffle-last", "to", 1, MOST_BOARDS, ""), button("Shuffle", "", "shuffle", true, shuffleBoards)),
-    make("div", { className: "row" }, make("label", { for: "deal-file" }, "Or a file of deals (PBN)"), file),
-    make("label", { for: "deal-text" }, "Or their text: PBN, or lines such as 1 N:AKQJ.T98.765.432 ..."),
+    make("div", { className: "row" },
+      numberField("shuffle-first", TEXTS.shuffleFrom, 1, MOST_BOARDS, 1), numberField("shuffle-last", TEXTS.to, 1, MOST_BOARDS, ""),
+      button(TEXTS.shuffle, "", "shuffle", true, shuffleBoards)),
+    make("div", { className: "row" }, make("label", { for: "deal-file" }, TEXTS.dealFile), file),
+    make("label", { for: "deal-text" }, TEXTS.dealText),
     make("textarea", { id: "deal-text", spellcheck: false }),
-    button("Deal these", "", "deal", true, () => dealText(at("deal-text").value))];
+    button(TEXTS.deal, "", "deal", true, () => dealText(at("deal-text").value)), make("div", { id: "deal-question" })];
 }
 
 function directorNodes() {
   return [
     make("p", { id: "told", role: "status" }),
+    make("section", { id: "opened", aria_label: TEXTS.theBoard }),
     make("table", { id: "tables" }),
-    make("div", { className: "row" }, button("End the round", "", "end-round", false, () => {})),
+    make("div", { className: "row" }, button(TEXTS.endTheRound, "", "end-round", false, () => {})),
     make("div", { id: "end-question" }),
-    section("dealing", "Deal boards", ...dealNodes()),
-    section("ruling", "Rulings", ...rulingNodes()),
-    section("solving", "What can still be won", playFields("solve"),
-      make("div", { className: "row" }, numberField("solve-tricks", "After so many tricks", 7, 13, 7), button("Solve", "", "solve", true, solve)), make("p", { id: "solved", role: "status" })),
-    section("ranking", "Ranking", button("Show the ranking", "", "rank", true, showRankings), make("div", { id: "rankings" })),
-    section("publishing", "Results", make("div", { className: "row" }, button("Show the results", "", "show-results", true, showResults), button("Print", "", "print", true, () => window.print())), make("pre", { id: "results" })),
-    section("lines", "Lines", ...linesNodes())];
+    section("dealing", TEXTS.dealBoards, ...dealNodes()),
+    section("ruling", TEXTS.rulings, ...rulingNodes()),
+    section("solving", TEXTS.solving, playFields("solve"),
+      make("div", { className: "row" }, numberField("solve-tricks", TEXTS.afterTricks, 7, 13, 7), button(TEXTS.solve, "", "solve", true, solve)),
+      make("p", { id: "solved", role: "status" })),
+    section("ranking", TEXTS.standings, button(TEXTS.showRanking, "", "rank", true, showRankings), make("div", { id: "rankings" })),
+    section("publishing", TEXTS.results, make("div", { id: "others" }),
+      make("div", { className: "row" },
+        button(TEXTS.showResults, "", "show-results", true, showResults), button(TEXTS.print, "", "print", true, () => window.print())),
+      make("pre", { id: "results" })),
+    section("lines", TEXTS.lines, ...linesNodes())];
 }
 
 // Shows the director's page, built once, with its tables as they are now.
@@ -354,17 +466,21 @@ async function showDirector(asked, mine) {
   if (mine !== turn) return;
   if (reply === null) return unreachable();
   if (refusal(reply)) return leave();
-  at("title").textContent = "Director";
+  at("title").textContent = TEXTS.director;
   at("below").textContent = "";
   at("chip").hidden = true;
-  at("settings").hidden = true;
-  at("choices").hidden = true;
   document.body.className = "director";
   const state = readTables(reply);
   if (!at("tables")) {
     shown = "director";
+    opened = null;
+    showRulings.shown = "";
     at("main").replaceChildren(...directorNodes());
     at("shuffle-last").value = state.all;
+    pairNames = namesIn((await ask("/results", asked)) || "");
   }
+  if (mine !== turn) return;
   showTables(state);
+  await showOpened();
+  if (at("ruling").open || at("publishing").open) await showRulings();
 }

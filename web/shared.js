@@ -3,37 +3,19 @@
 // has logged in, and when they look.
 
 const SEATS = ["N", "E", "S", "W"];
-const SEAT_NAMES = { N: "North", E: "East", S: "South", W: "West" };
+const SEAT_NAMES = TEXTS.seats;
 const LOGIN = "login";
-// Milliseconds: an answer that comes later is none; how often the page looks, also where it is hidden.
+// Milliseconds: an answer that comes later is none; how often the page looks, where another player is in turn, and where it is
+// hidden.
 const LATE = 8000;
 const LOOK = 1000;
+const SOON = 300;
 const HIDDEN_LOOK = 5000;
-const SENTENCES = {
-  NoKey: "Nobody has this key.",
-  NotAllowed: "That is not yours to do.",
-  Closed: "The session is closed.",
-  SitsOut: "You sit out in this round.",
-  NotCurrent: "That board is not being played at your table now.",
-  NotDealt: "The board is not dealt yet.",
-  WrongPhase: "That is not possible now.",
-  Stale: "Something else came first. Look again.",
-  NoClaim: "No claim stands.",
-  ClaimStands: "A claim stands and has to be answered first.",
-  NotAsked: "This claim does not ask you, or you have answered.",
-  NotYourTurn: "It is not your turn.",
-  MidTrick: "Claims are made between tricks.",
-  TooManyTricks: "There are not so many tricks left.",
-  InsufficientBid: "That bid is not sufficient.",
-  InadmissibleDouble: "There is nothing that you may double.",
-  InadmissibleRedouble: "There is nothing that you may redouble.",
-  NotHeld: "That card is not in the hand.",
-  MustFollow: "The hand has to follow suit.",
-  ClaimsSpent: "No more claims can be made on this board.",
-  Disk: "The server's disk has failed. Call the director.",
-  EpochsSpent: "The server's disk is used up. Call the director.",
-  BadLine: "That cannot be read.",
-};
+// Milliseconds after which the page says that no answer has come.
+const SLOW = 3000;
+let pace = LOOK;
+// The key of the player who was shown a table last.
+let seen = null;
 
 const at = (id) => document.getElementById(id);
 let key = sessionStorage.getItem("key");
@@ -104,7 +86,12 @@ function show(made, status, shape, nodes) {
   main.replaceChildren(...nodes());
   for (const id of open) if (at(id)) at(id).open = true;
   movedAt = Date.now();
-  if (focus && at(focus) && !at(focus).disabled) at(focus).focus();
+  if (!focus) return;
+  // What was in the focus stays there; where it is gone, the first card or call that may be chosen.
+  const isChosen = (id) => /^c(ard|all)-/.test(id);
+  const kept = at(focus) && !at(focus).disabled ? at(focus)
+    : [...main.querySelectorAll("button")].find((node) => isChosen(node.id) && isChosen(focus) && !node.disabled);
+  if (kept) kept.focus();
 }
 
 const rankingLines = (reply) => reply.split("\n").filter((line) => /^\d/.test(line)).map((line) => line.split(" "));
@@ -116,24 +103,25 @@ const namesIn = (text) => new Map([...text.matchAll(/^Pair (\d+): (.*)$/gm)].map
 function rankingNode(field, reply, own, names = new Map()) {
   const lines = rankingLines(reply);
   const named = names.size > 0;
-  const titles = ["Place", "Pair", "Score", "Per cent"].slice(0, lines.length ? lines[0].length : 0);
-  if (named) titles.splice(2, 0, "Names");
+  const titles = TEXTS.rankingHeads.slice(0, lines.length ? lines[0].length : 0);
+  if (named) titles.splice(2, 0, TEXTS.names);
   const head = make("tr", null, ...titles.map((title) => make("th", { scope: "col" }, title)));
   const cells = (words) => (named ? [...words.slice(0, 2), names.get(Number(words[1])) || "", ...words.slice(2)] : words);
   const rows = lines.map((words) => make("tr", { className: Number(words[1]) === own ? "own" : "" },
     ...cells(words).map((word, i) => make("td", { className: named && i === 2 ? "who" : "" }, word))));
-  return [make("h2", null, "Ranking, field " + field), make("table", { aria_label: "Ranking of field " + field }, make("thead", null, head), make("tbody", null, ...rows))];
+  return [make("h2", null, TEXTS.ranking(field)),
+    make("table", { aria_label: TEXTS.rankingOf(field) }, make("thead", null, head), make("tbody", null, ...rows))];
 }
 
 // ---- who has logged in, and when the page looks
 
 function showLogin() {
-  at("title").textContent = "Bridge table";
-  at("leave").hidden = true;
+  at("title").textContent = TEXTS.title;
   at("below").textContent = "";
   at("chip").hidden = true;
-  at("settings").hidden = true;
+  at("menu").hidden = true;
   at("choices").hidden = true;
+  document.title = TEXTS.title;
   show(LOGIN, "", "login", () => {
     const field = make("input", { id: "key", type: "text", inputMode: "numeric", autocomplete: "off", pattern: "[0-9 ]+", required: true });
     const enter = (event) => {
@@ -142,14 +130,20 @@ function showLogin() {
       say("notice", "");
       look();
     };
-    const form = make("form", { onsubmit: enter, className: "panel" }, make("label", { for: "key" }, "Your key"), field,
-      make("p", { className: "second" }, "The number on your slip. Spaces do not matter."), make("button", { type: "submit", className: "send" }, "Sit down"));
+    const form = make("form", { onsubmit: enter, className: "panel" }, make("label", { for: "key" }, TEXTS.yourKey), field,
+      make("p", { className: "second" }, TEXTS.keyHelp), make("button", { type: "submit", className: "send" }, TEXTS.sitDown),
+      make("p", { className: "second" }, TEXTS.slipLost));
+    field.oninput = () => {
+      if (field.selectionStart === field.value.length) field.value = field.value.replace(/\s/g, "").replace(/(\d{3})(?=\d)/g, "$1 ");
+    };
     return [form];
   });
+  if (document.activeElement === document.body) at("key").focus();
 }
 
 function leave() {
   key = null;
+  seen = null;
   turn += 1;
   sessionStorage.removeItem("key");
   say("notice", "");
@@ -157,30 +151,34 @@ function leave() {
 }
 
 function unreachable() {
-  say("status", "The server does not answer. Trying again.");
+  say("status", TEXTS.unreachable);
   at("status").className = "lost";
 }
 
-// Looks once, and again after a second.
+// Looks once, and again after a while.
 async function look() {
   clearTimeout(timer);
   const asked = key;
   if (asked === null) return showLogin();
+  pace = LOOK;
   if (!busy) {
     const mine = turn + 1;
+    const slow = setTimeout(unreachable, SLOW);
     // What is no answer of this server, as that of a network's own login page, cannot be read.
     await lookOnce(asked).catch(unreachable);
+    clearTimeout(slow);
     // After a later look, an act or Leave those go on.
     if (turn !== mine) return;
   }
   clearTimeout(timer);
-  if (key !== null) timer = setTimeout(look, document.hidden ? HIDDEN_LOOK : LOOK);
+  if (key !== null) timer = setTimeout(look, document.hidden ? HIDDEN_LOOK : pace);
 }
 
 async function lookOnce(asked) {
   turn += 1;
   const mine = turn;
-  const place = await ask("/place", asked);
+  // Where a player was shown a table last, his place and what he sees are asked for at once.
+  const [place, view] = await Promise.all([ask("/place", asked), seen === asked ? ask("/lines", "SEE " + asked + "\n") : undefined]);
   if (mine !== turn) return;
   if (place === null) return unreachable();
   const refused = refusal(place);
@@ -190,16 +188,16 @@ async function lookOnce(asked) {
   }
   if (refused) {
     leave();
-    return say("notice", SENTENCES[refused] || "That is no key.");
+    return say("notice", TEXTS.refusals[refused] || TEXTS.noKey);
   }
   enter(asked);
-  return showPlayer(place, asked, mine);
+  return showPlayer(place, asked, mine, view);
 }
 
 function enter(asked) {
   sessionStorage.setItem("key", asked);
   sayLeave();
-  at("leave").hidden = false;
+  at("menu").hidden = false;
 }
 
 // Leave is asked: it wants a second press within some seconds.
@@ -208,7 +206,7 @@ let askedAt = -ASKED;
 const isAsked = () => Date.now() - askedAt < ASKED;
 
 function sayLeave() {
-  const label = isAsked() ? "Really leave?" : "Leave";
+  const label = isAsked() ? TEXTS.reallyLeave : TEXTS.leave;
   if (at("leave").textContent !== label) at("leave").textContent = label;
 }
 
@@ -218,6 +216,7 @@ at("leave").onclick = () => {
   sayLeave();
   if (again) leave();
 };
+window.addEventListener("online", () => look());
 document.addEventListener("visibilitychange", () => { if (!document.hidden) look(); });
 // Once the scripts of both pages are there.
 document.addEventListener("DOMContentLoaded", () => look());

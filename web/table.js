@@ -4,9 +4,6 @@
 const SUITS = ["S", "H", "C", "D"];
 const HAND_SUITS = ["S", "H", "D", "C"];
 const SIGNS = { S: "\u2660\ufe0e", H: "\u2665\ufe0e", D: "\u2666\ufe0e", C: "\u2663\ufe0e" };
-const SUIT_WORDS = { S: "spade", H: "heart", D: "diamond", C: "club", N: "no trump" };
-const SUIT_NAMES = { S: "spades", H: "hearts", D: "diamonds", C: "clubs" };
-const RANK_NAMES = { A: "ace", K: "king", Q: "queen", J: "jack", T: "10" };
 const STRAINS = ["C", "D", "H", "S", "NT"];
 // Milliseconds: how long results last.
 const RESULTS_LAST = 60000;
@@ -34,7 +31,7 @@ function readPlace(reply) {
     names: some(f.NAMES, (w) => ({ N: w[0], E: w[1], S: w[2], W: w[3] })),
     contract: some(f.CONTRACT, (w) => ({ bid: w[0], declarer: w[1] })),
     answer: f.ANSWER[0] === "DUE",
-    next: some(f.NEXT, (w) => ({ number: w[0], seat: w[1] })),
+    next: some(f.NEXT, (w) => ({ number: w[0], seat: w[1], first: w[2], last: w[3] })),
   };
 }
 
@@ -71,9 +68,8 @@ function readView(reply) {
 }
 
 const partner = (seat) => SEATS[(SEATS.indexOf(seat) + 2) % 4];
-const rankName = (rank) => RANK_NAMES[rank] || rank;
-const cardName = (card) => rankName(card[1]) + " of " + SUIT_NAMES[card[0]];
-const rankText = (rank) => (rank === "T" ? "10" : rank);
+const cardName = (card) => TEXTS.cardName(TEXTS.ranks[card[1]] || card[1], TEXTS.suits[card[0]]);
+const { rankText } = TEXTS;
 
 // The classes that give a suit its colour: of two, or of four where these are chosen.
 const SUIT_CLASSES = { S: "", H: " red", D: " red diamond", C: " club" };
@@ -85,12 +81,13 @@ function suitSign(suit) {
 const strainOf = (call) => call.slice(1).replace(/X+$/, "");
 
 function cardNodes(card) {
-  return [make("span", { className: card[1] === "T" ? "ten" : "" }, rankText(card[1])), make("span", { className: "suit", aria_hidden: "true" }, SIGNS[card[0]])];
+  return [make("span", { className: card[1] === "T" ? "ten" : "" }, rankText(card[1])),
+    make("span", { className: "suit", aria_hidden: "true" }, SIGNS[card[0]])];
 }
 
 // A call as text nodes; doubles stand behind the bid in a contract.
 function callNodes(call) {
-  if (call === "PASS") return [make("span", { className: "pass" }, "Pass")];
+  if (call === "PASS") return [make("span", { className: "pass" }, TEXTS.pass)];
   if (call === "X") return [make("span", { className: "double" }, "X")];
   if (call === "XX") return [make("span", { className: "redouble" }, "XX")];
   const strain = strainOf(call);
@@ -99,16 +96,15 @@ function callNodes(call) {
 
 // A call in words.
 function callName(call) {
-  if (call === "PASS") return "pass";
-  if (call === "X") return "double";
-  if (call === "XX") return "redouble";
+  const named = { PASS: TEXTS.passName, X: TEXTS.doubleName, XX: TEXTS.redoubleName }[call];
+  if (named) return named;
   const strain = strainOf(call);
-  const doubled = { X: " doubled", XX: " redoubled" }[call.slice(1 + strain.length)] || "";
-  return call[0] + " " + SUIT_WORDS[strain[0]] + (strain !== "NT" && call[0] !== "1" ? "s" : "") + doubled;
+  const many = strain !== "NT" && call[0] !== "1";
+  return TEXTS.bidName(call[0], (many ? TEXTS.suits : TEXTS.pieces)[strain[0]], TEXTS.doubled[call.slice(1 + strain.length)] || "");
 }
 
 function vulnerableText(words) {
-  return { None: "nobody vulnerable", NS: "North and South vulnerable", EW: "East and West vulnerable", All: "all vulnerable" }[words] || words;
+  return TEXTS.vulnerable[words] || words;
 }
 
 // Whose call was the last that was no pass: [call, seat], or null.
@@ -178,7 +174,8 @@ function send(line) {
 
 function confirmButton(prompt, sending) {
   const ready = marked !== null && !busy;
-  const label = busy ? "Sending \u2026" : marked ? [sending, ...(marked.what.startsWith("card-") ? cardNodes(marked.what.slice(5)) : callNodes(marked.what.slice(5)))] : prompt;
+  const label = busy ? TEXTS.sending : marked ? [sending,
+    ...(marked.what.startsWith("card-") ? cardNodes(marked.what.slice(5)).reverse() : callNodes(marked.what.slice(5)))] : prompt;
   const node = button(make("span", null, ...[].concat(label)), "", "confirm", ready, () => { if (marked) send(marked.line); });
   if (ready) node.className = "send";
   return node;
@@ -216,17 +213,48 @@ function biddingBox(view) {
     node.setAttribute("aria-pressed", String(marked !== null && marked.what === id));
     return node;
   };
-  const cells = [call("PASS", "Pass", "", "box-call"), call("X", "X", "Double", "box-call"), call("XX", "XX", "Redouble", "box-call"),
-    confirmButton(mine ? (isSafe() ? "Tap a call" : "Your call") : SEAT_NAMES[view.turn] + " to call", "Call ")];
+  const cells = [call("PASS", TEXTS.pass, "", "box-call"), call("X", "X", TEXTS.double, "box-call"), call("XX", "XX", TEXTS.redouble, "box-call"),
+    confirmButton(mine ? (isSafe() ? TEXTS.tapCall : TEXTS.yourCall) : TEXTS.toCall(SEAT_NAMES[view.turn]), TEXTS.callIt)];
   for (let level = 1; level <= 7; level += 1) {
     for (const strain of STRAINS) {
       const word = level + strain;
       cells.push(call(word, make("span", null, String(level), SIGNS[strain] ? suitSign(strain) : strain), callName(word), "bid"));
     }
   }
-  const box = make("section", { id: "dock", className: "box", aria_label: "Bidding box" }, ...cells);
-  box.onkeydown = (event) => boxKey(event);
+  const box = make("section", { id: "dock", className: "box", aria_label: TEXTS.biddingBox }, ...cells);
+  box.onkeydown = (event) => { arrowKey(event, 5); boxKey(event); };
   return box;
+}
+
+// Arrows go through what may be chosen in a hand or a box of so many columns.
+function arrowKey(event, columns) {
+  const nodes = [...event.currentTarget.querySelectorAll("button")];
+  const step = { ArrowRight: 1, ArrowLeft: -1, ArrowDown: columns, ArrowUp: -columns }[event.key];
+  const from = nodes.indexOf(document.activeElement);
+  if (!step || from < 0) return;
+  event.preventDefault();
+  let to = from + step;
+  while (nodes[to] && nodes[to].disabled) to += step;
+  if (nodes[to]) nodes[to].focus();
+}
+
+// What keys have chosen is in the focus, and as if it were clicked.
+function choseKey(node) {
+  if (!node || node.disabled) return;
+  node.focus();
+  node.click();
+}
+
+// In a hand keys choose: s, h, d or c, and then a rank, of which 1 is the ten's.
+let suitKey = "";
+function handKey(event) {
+  const word = event.key.toUpperCase();
+  if (SUITS.includes(word)) {
+    suitKey = word;
+    return;
+  }
+  choseKey(suitKey ? at("card-" + suitKey + (word === "1" ? "T" : word)) : null);
+  suitKey = "";
 }
 
 // In the box keys choose: p, x, r, or a level and then c, d, h, s or n.
@@ -240,29 +268,27 @@ function boxKey(event) {
   const strain = { c: "C", d: "D", h: "H", s: "S", n: "NT" }[word];
   const chosen = { p: "PASS", x: "X", r: "XX" }[word] || (level && strain ? level + strain : "");
   level = "";
-  const node = chosen ? at("call-" + chosen) : null;
-  if (node && !node.disabled) {
-    node.focus();
-    node.click();
-  }
+  choseKey(chosen ? at("call-" + chosen) : null);
 }
 
 function auctionTable(place, view) {
   const columns = ["W", "N", "E", "S"];
   const due = view.playing ? null : view.turn;
   const head = make("tr", null, ...columns.map((seat) => make("th", { scope: "col", className: seat === due ? "turn" : "" },
-    make("span", { className: "seat" + (isVulnerable(view, seat) ? " vul" : ""), aria_hidden: "true" }, seat), seat === view.dealer ? " deals" : "", make("br"),
-    make("span", { aria_label: SEAT_NAMES[seat] }, seat === view.seat ? "You" : place.names ? place.names[seat] : ""))));
+    make("span",
+      { className: "seat" + (isVulnerable(view, seat) ? " vul" : ""), aria_hidden: "true" }, seat), seat === view.dealer ? " " + TEXTS.deals : "", make("br"),
+    make("span", { aria_label: SEAT_NAMES[seat] }, seat === view.seat && view.isOwn !== false ? TEXTS.you : place.names ? place.names[seat] : ""))));
   const cells = Array(columns.indexOf(view.dealer)).fill("").concat(view.calls);
   const rows = [];
   for (let i = 0; i < cells.length + (due ? 1 : 0); i += 4) {
     rows.push(make("tr", null, ...[0, 1, 2, 3].map((j) => {
       const dueHere = due !== null && i + j === cells.length;
-      if (dueHere) return make("td", { className: "turn", aria_label: "to call" }, "?");
+      if (dueHere && marked && marked.what.startsWith("call-")) return make("td", { className: "turn marked" }, ...callNodes(marked.what.slice(5)));
+      if (dueHere) return make("td", { className: "turn", aria_label: TEXTS.dueCall }, "?");
       return make("td", null, ...(cells[i + j] ? callNodes(cells[i + j]) : [""]));
     })));
   }
-  return make("table", { aria_label: "Auction" }, make("thead", null, head), make("tbody", null, ...rows));
+  return make("table", { aria_label: TEXTS.auction }, make("thead", null, head), make("tbody", null, ...rows));
 }
 
 // Which suits stand in which of two rows, for as long as the board is played: so that neither row has more than seven cards.
@@ -272,16 +298,22 @@ function rowsOf(hand, board, whose) {
   if (!rowsKept.has(name)) {
     const pairings = [[["S", "H"], ["C", "D"]], [["S", "D"], ["C", "H"]], [["S", "C"], ["H", "D"]]];
     const fits = pairings.find((rows) => rows.every((row) => row.reduce((sum, suit) => sum + hand[suit].length, 0) <= 7));
-    rowsKept.set(name, fits || pairings[0]);
+    rowsKept.set(name, fits || null);
   }
-  return rowsKept.get(name);
+  const rows = rowsKept.get(name);
+  if (rows) return rows.map((row) => row.map((suit) => [suit, hand[suit]]));
+  // No pairing fits: in order, cut at seven.
+  const all = SUITS.flatMap((suit) => [...hand[suit]].map((rank) => suit + rank));
+  const ranksIn = (row, suit) => row.filter((card) => card[0] === suit).map((card) => card[1]).join("");
+  return [all.slice(0, 7), all.slice(7)].map((row) => SUITS.map((suit) => [suit, ranksIn(row, suit)]));
 }
 
 // A hand; its cards can be tapped where they may be played.
-function handNode(view, hand, label, id, mine) {
+function handNode(view, hand, label, id, mine, where) {
   const led = ledSuit(view);
   const follows = led !== null && hand[led] !== "";
   const node = make("section", { className: "hand" + (mine ? " on" : ""), id, aria_label: label }, make("h2", null, label));
+  node.onkeydown = (event) => { arrowKey(event, 1); handKey(event); };
   const card = (suit, rank) => {
     const name = "card-" + suit + rank;
     const line = "CARD " + key + " " + view.board + " " + view.made.cards + " " + suit + rank;
@@ -291,18 +323,23 @@ function handNode(view, hand, label, id, mine) {
     if (mine) made.setAttribute("aria-pressed", String(marked !== null && marked.what === name));
     return made;
   };
-  const group = (suit) => make("div", { className: "group in-" + suit }, ...[...hand[suit]].map((rank) => card(suit, rank)));
-  const rows = rowsOf(hand, view.board, id).map((row) => row.filter((suit) => hand[suit] !== "")).filter((row) => row.length > 0);
+  const voidNode = (suit) => make("div", { className: "group void-of in-" + suit }, make("span", { className: "void" }, suitSign(suit), " \u2013"));
+  const group = ([suit, ranks]) => (ranks === "" ? voidNode(suit)
+    : make("div", { className: "group in-" + suit + (ranks[0] === hand[suit][0] ? "" : " more") }, ...[...ranks].map((rank) => card(suit, rank))));
+  const isShown = ([suit, ranks]) => ranks !== "" || (id === "dummy" && hand[suit] === "");
+  const suits = where === "left" || where === "right" ? SUITS.map((suit) => [[suit, hand[suit]]]) : rowsOf(hand, view.board, id);
+  const rows = suits.map((row) => row.filter(isShown)).filter((row) => row.length > 0);
   node.append(make("div", { className: "cards" }, ...rows.map((row) => make("div", { className: "line" }, ...row.map(group)))));
   return node;
 }
 
 function plate(place, view, seat) {
   const declarer = place.contract ? place.contract.declarer : null;
-  const node = make("div", { className: "plate" + (onTurn(view) === seat ? " turn" : "") },
+  const acts = onTurn(view) === dummyOf(place) && view.seat === dummyOf(place) ? declarer : onTurn(view);
+  const node = make("div", { className: "plate" + (acts === seat ? " turn" : "") },
     make("b", { className: isVulnerable(view, seat) ? "vul" : "", aria_label: SEAT_NAMES[seat] }, seat), make("span", null, ...nameNodes(place.names ? place.names[seat] : SEAT_NAMES[seat])));
-  if (seat === declarer) node.append(make("em", { aria_label: "declarer" }, "decl."));
-  if (view.playing && seat === dummyOf(place)) node.append(make("em", null, "dummy"));
+  if (seat === declarer) node.append(make("em", { aria_label: TEXTS.declarer }, TEXTS.declarerShort));
+  if (view.playing && seat === dummyOf(place)) node.append(make("em", null, TEXTS.dummy));
   return node;
 }
 
@@ -310,7 +347,7 @@ function plate(place, view, seat) {
 function trickNode(view) {
   const whole = view.trick.length === 0;
   const trick = whole ? view.last : view.trick;
-  const node = make("div", { className: "trick", role: "group", aria_label: whole && trick.length ? "Last trick" : "Trick" });
+  const node = make("div", { className: "trick", role: "group", aria_label: whole && trick.length ? TEXTS.lastTrick : TEXTS.trickNow });
   for (const { seat, card } of trick) {
     const won = whole && seat === view.turn;
     node.append(make("span", { className: "played " + placeOf(view, seat) + SUIT_CLASSES[card[0]] + (won ? " won" : ""), role: "img",
@@ -321,13 +358,14 @@ function trickNode(view) {
 }
 
 function stageNode(place, view, middle) {
-  const node = make("section", { id: "stage", aria_label: "Table" });
+  const node = make("section", { id: "stage", aria_label: TEXTS.table });
   const dummy = dummyOf(place);
   for (const seat of SEATS) {
     const where = placeOf(view, seat);
     if (where === "bottom") continue;
     const box = make("div", { className: "at-" + where }, plate(place, view, seat));
-    if (view.playing && seat === dummy && view.dummy) box.append(handNode(view, view.dummy, "Dummy, " + SEAT_NAMES[seat], "dummy", handPlayed(place, view) === "dummy"));
+    if (view.playing && seat === dummy && view.dummy) box.append(handNode(view,
+      view.dummy, TEXTS.dummyHand(SEAT_NAMES[seat]), "dummy", handPlayed(place, view) === "dummy", where));
     node.append(box);
   }
   node.append(middle);
@@ -338,40 +376,43 @@ function stageNode(place, view, middle) {
 function tallyNode(place, view) {
   const [we, they] = view.seat === "N" || view.seat === "S" ? [view.tricks.NS, view.tricks.EW] : [view.tricks.EW, view.tricks.NS];
   const marks = Array(Number(we)).fill("ours").concat(Array(Number(they)).fill("theirs"), Array(13 - Number(we) - Number(they)).fill(""));
-  return [make("span", { className: "tally", role: "img", aria_label: "Tricks: we " + we + ", they " + they }, ...marks.map((mark) => make("i", { className: mark }))),
+  return [make("span",
+    { className: "tally", role: "img", aria_label: TEXTS.tally(we, they) }, ...marks.map((mark) => make("i", { className: mark }))),
     make("span", { className: "score", aria_hidden: "true" }, we + "\u2013" + they)];
 }
 
-function contractNodes(place, view) {
+function contractNodes(place, view, short) {
   const { bid, declarer } = place.contract;
   const ours = declarer === view.seat || declarer === partner(view.seat);
   const needs = 6 + Number(bid[0]);
-  const words = (declarer === view.seat ? "by you" : "by " + SEAT_NAMES[declarer]) + (ours ? ", needs " + needs : ", we need " + (14 - needs));
+  const words = (short && declarer !== view.seat ? declarer : TEXTS.by(declarer, declarer === view.seat)) + (ours ? TEXTS.needs(needs) : TEXTS.weNeed(14 - needs));
   return [make("span", { className: "contract", aria_label: callName(bid) }, ...callNodes(bid)), make("span", null, words)];
 }
 
 function stripNode(place, view) {
-  const calls = make("details", { id: "calls" }, make("summary", null, ...contractNodes(place, view)), make("div", null, auctionTable(place, view)));
-  return make("section", { id: "strip", aria_label: "Contract" }, calls, ...tallyNode(place, view));
+  const calls = make("details", { id: "calls" }, make("summary", null, ...contractNodes(place, view, true)), make("div", null, auctionTable(place, view)));
+  return make("section", { id: "strip", aria_label: TEXTS.contract }, calls, ...tallyNode(place, view));
 }
 
 function lastTrickNodes(view) {
-  return view.last.map(({ seat, card }) => make("span", { className: "field" }, seat + " ", make("span", { className: SUIT_CLASSES[card[0]].trim(), role: "img", aria_label: SEAT_NAMES[seat] + ": " + cardName(card) }, ...cardNodes(card).reverse())));
+  return view.last.map(({ seat, card }) => make("span", { className: "field" },
+    seat + " ",
+    make("span", { className: SUIT_CLASSES[card[0]].trim(), role: "img", aria_label: SEAT_NAMES[seat] + ": " + cardName(card) }, ...cardNodes(card).reverse())));
 }
 
 function sideNode(place, view) {
-  const node = make("aside", { id: "side", aria_label: "The board" }, make("p", null, ...contractNodes(place, view)), make("h2", null, "Tricks"), make("p", { className: "row" }, ...tallyNode(place, view)));
-  if (view.last.length) node.append(make("h2", null, "Last trick"), make("p", { className: "row" }, ...lastTrickNodes(view)));
-  node.append(make("h2", null, "Auction"), auctionTable(place, view));
+  const node = make("aside", { id: "side", aria_label: TEXTS.theBoard },
+    make("p", null, ...contractNodes(place, view)), make("h2", null, TEXTS.tricksHead),
+    make("p", { className: "row" }, ...tallyNode(place, view)));
+  if (view.last.length) node.append(make("h2", null, TEXTS.lastTrick), make("p", { className: "row" }, ...lastTrickNodes(view)));
+  node.append(make("h2", null, TEXTS.auction), auctionTable(place, view), make("h2", null, TEXTS.roundSoFar), roundNode(place, view));
   return node;
 }
 
 // What a contract comes to with so many tricks, in words.
 function resultWords(bid, tricks) {
   const over = tricks - 6 - Number(bid[0]);
-  const made = ["made", "one over", "two over", "three over"][over] || over + " over";
-  const down = ["", "one down", "two down", "three down"][-over] || -over + " down";
-  return callName(bid) + (over === 0 ? " " : ", ") + (over >= 0 ? made : down);
+  return callName(bid) + (over === 0 ? " " : ", ") + TEXTS.made(over);
 }
 
 // What the claim of a side comes to, by the tricks that it has and those that it claims.
@@ -380,7 +421,24 @@ function claimWords(place, view, seat, tricks) {
   const north = seat === "N" || seat === "S";
   const has = Number(north ? view.tricks.NS : view.tricks.EW) + tricks;
   const declares = (place.contract.declarer === "N" || place.contract.declarer === "S") === north;
-  return resultWords(bid, declares ? has : 13 - has);
+  const made = declares ? has : 13 - has;
+  const score = scoreOf(bid, made, isVulnerable(view, place.contract.declarer));
+  const own = (place.contract.declarer === view.seat || place.contract.declarer === partner(view.seat)) ? score : -score;
+  return resultWords(bid, made) + ": " + TEXTS.forYou(signed(own));
+}
+
+// The score of a contract with so many tricks, for its declarer (Law 77).
+function scoreOf(bid, tricks, isVul) {
+  const level = Number(bid[0]);
+  const strain = strainOf(bid);
+  const by = [1, 2, 4][/X*$/.exec(bid)[0].length];
+  const over = tricks - 6 - level;
+  if (over < 0 && by === 1) return (isVul ? 100 : 50) * over;
+  if (over < 0) return -(by / 2) * (isVul ? 300 * -over - 100 : -over <= 3 ? 200 * -over - 100 : 300 * -over - 400);
+  const each = strain === "C" || strain === "D" ? 20 : 30;
+  const base = (each * level + (strain === "NT" ? 10 : 0)) * by;
+  const slam = level === 7 ? (isVul ? 1500 : 1000) : level === 6 ? (isVul ? 750 : 500) : 0;
+  return base + (base >= 100 ? (isVul ? 500 : 300) : 50) + slam + (by === 1 ? each * over : (by / 2) * (50 + (isVul ? 200 : 100) * over));
 }
 
 const leftOf = (view) => 13 - Number(view.tricks.NS) - Number(view.tricks.EW);
@@ -392,59 +450,66 @@ function claimSheet(place, view) {
     node.setAttribute("aria-pressed", String(claiming.tricks === tricks));
     return node;
   };
-  const numbers = Array.from({ length: left + 1 }, (_none, tricks) => choice(tricks, tricks === 0 ? "None" : tricks === left ? "All " + left : String(tricks)));
+  const numbers = Array.from({ length: left + 1 },
+    (_none, tricks) => choice(tricks, tricks === 0 ? TEXTS.claimNone : tricks === left ? TEXTS.claimAll(left) : String(tricks)));
   const line = "CLAIM " + key + " " + view.board + " " + view.made.claims + " " + claiming.tricks;
-  const claim = button("Claim " + claiming.tricks + (claiming.tricks === 1 ? " trick" : " tricks"), "", "claim-button", true, (event) => { if (!isDeaf(event)) send(line); });
+  const claim = button(TEXTS.claimTricks(claiming.tricks), "", "claim-button", true, (event) => { if (!isDeaf(event)) send(line); });
   claim.className = "send";
-  return make("section", { id: "claiming", className: "sheet", aria_label: "Claim or concede" },
-    make("h2", null, "Of the " + left + " tricks left my side wins"), make("div", { className: "numbers" }, ...numbers),
-    make("p", null, claimWords(place, view, view.seat, claiming.tricks) + "."), make("p", { className: "second" }, "Say your line aloud. Who is asked agrees or refuses."),
-    make("div", { className: "row" }, button("Back", "", "claim-back", true, () => { claiming = null; drawn(); }), claim));
+  return make("section", { id: "claiming", className: "sheet", aria_label: TEXTS.claimTitle },
+    make("h2", null, TEXTS.claimOf(left)), make("div", { className: "numbers" }, ...numbers),
+    make("p", null, claimWords(place, view, view.seat, claiming.tricks) + "."), make("p", { className: "second" }, TEXTS.claimHelp),
+    make("div", { className: "row" }, button(TEXTS.back, "", "claim-back", true, () => { claiming = null; drawn(); }), claim));
 }
 
 function lastSheet(view) {
-  return make("section", { id: "last-trick", className: "sheet", aria_label: "Last trick" }, make("h2", null, "Last trick"),
-    make("div", { className: "row" }, ...lastTrickNodes(view)), button("Close", "", "last-close", true, () => { looking = false; drawn(); }));
+  return make("section", { id: "last-trick", className: "sheet", aria_label: TEXTS.lastTrick }, make("h2", null, TEXTS.lastTrick),
+    make("div", { className: "row" }, ...lastTrickNodes(view)), button(TEXTS.close, "", "last-close", true, () => { looking = false; drawn(); }));
 }
 
 // Answers to a claim that this player is asked for.
 function answerDock(place, view) {
   const line = (word) => word + " " + key + " " + view.board + " " + view.made.claims;
-  return make("section", { id: "dock", className: "claimed", aria_label: "The claim" },
-    make("p", null, claimWords(place, view, view.claim.seat, Number(view.claim.tricks)) + ", if all agree."),
-    button("Refuse", "", "refuse", true, (event) => { if (!isDeaf(event)) send(line("REFUSE")); }),
-    button("Agree", "", "agree", true, (event) => { if (!isDeaf(event)) send(line("AGREE")); }));
+  return make("section", { id: "dock", className: "claimed", aria_label: TEXTS.theClaim },
+    make("p", null, make("b", null, TEXTS.claims(SEAT_NAMES[view.claim.seat], view.claim.tricks, leftOf(view))), make("br"),
+      claimWords(place, view, view.claim.seat, Number(view.claim.tricks)) + TEXTS.ifAgreed),
+    button(TEXTS.refuse, "", "refuse", true, (event) => { if (!isDeaf(event)) send(line("REFUSE")); }),
+    button(TEXTS.agree, "", "agree", true, (event) => { if (!isDeaf(event)) send(line("AGREE")); }));
 }
 
 function playDock(place, view) {
   const played = handPlayed(place, view);
   const isDummy = dummyOf(place) === view.seat;
-  const cells = [button("Last trick", "", "last", view.last.length > 0, () => { looking = !looking; drawn(); })];
-  const claim = button("Claim", "", "claim-open", !isDummy && !view.claim && view.trick.length === 0, () => { claiming = { board: view.board, tricks: leftOf(view) }; drawn(); });
+  const cells = [button(TEXTS.lastTrick, "", "last", view.last.length > 0, () => { looking = !looking; drawn(); })];
+  const claim = button(TEXTS.claim, "", "claim-open",
+    !isDummy && !view.claim && view.trick.length === 0, () => { claiming = { board: view.board, tricks: leftOf(view) }; drawn(); });
   claim.hidden = isDummy;
-  cells.push(claim, confirmButton(played ? (isSafe() ? "Tap a card" : "Your card") : "Please wait", "Play "));
-  return make("section", { id: "dock", className: "play", aria_label: "What you can do" }, ...cells);
+  if (isDummy) cells.push(claim, button(TEXTS.myBoards, "", "confirm", true, () => turnLeaf({ card: true })));
+  else cells.push(claim, confirmButton(played ? (isSafe() ? TEXTS.tapCard : TEXTS.yourCard) : TEXTS.pleaseWait, TEXTS.playIt));
+  return make("section", { id: "dock", className: "play", aria_label: TEXTS.dock }, ...cells);
 }
+
+const toPlay = (view, lead) => (view.turn === view.seat ? TEXTS.youAreToPlay : TEXTS.isToPlay(SEAT_NAMES[view.turn], lead));
 
 // What is waited for, in a sentence.
 function waiting(place, view) {
-  const who = (seat) => (seat === view.seat ? "You are" : SEAT_NAMES[seat] + " is");
   if (view.claim) {
-    const claims = (view.claim.seat === view.seat ? "You claim " : SEAT_NAMES[view.claim.seat] + " claims ") + view.claim.tricks + " of the " + leftOf(view) + " left. ";
-    return claims + (place.answer ? "Agree?" : "Please wait.");
+    const { seat, tricks } = view.claim;
+    if (place.answer) return TEXTS.answerWaited;
+    return (seat === view.seat ? TEXTS.youClaim(tricks, leftOf(view)) : TEXTS.claims(SEAT_NAMES[seat], tricks, leftOf(view))) + TEXTS.waitPlease;
   }
-  if (!view.playing) return view.turn === view.seat ? "Your turn to call" : who(view.turn) + " to call.";
+  if (!view.playing) return view.turn === view.seat ? TEXTS.yourTurnToCall : TEXTS.isToCall(SEAT_NAMES[view.turn]);
   const played = handPlayed(place, view);
   if (played) {
     const hand = played === "own" ? view.hand : view.dummy;
     const led = ledSuit(view);
-    if (led && hand && hand[led] !== "") return (played === "own" ? "Your turn: follow with a " : "Your turn: from dummy, a ") + SUIT_WORDS[led];
-    if (view.made.cards === "0") return "Your turn: the opening lead";
-    return played === "own" ? "Your turn" : "Your turn: play from dummy";
+    if (led && hand && hand[led] !== "") return (played === "own" ? TEXTS.follow : TEXTS.followDummy)(TEXTS.pieces[led]);
+    if (view.made.cards === "0") return TEXTS.openingLead;
+    return played === "own" ? TEXTS.turnIsYours : TEXTS.turnFromDummy;
   }
-  if (!place.contract) return who(view.turn) + " to play.";
-  if (view.turn === dummyOf(place)) return SEAT_NAMES[place.contract.declarer] + " is to play from dummy.";
-  return who(view.turn) + " to play" + (view.made.cards === "0" ? " the opening lead." : ".");
+  if (!place.contract) return toPlay(view, false);
+  if (view.seat === dummyOf(place)) return TEXTS.youAreDummy(place.names[place.contract.declarer]);
+  if (view.turn === dummyOf(place)) return TEXTS.fromDummy(SEAT_NAMES[place.contract.declarer]);
+  return toPlay(view, view.made.cards === "0");
 }
 
 function isMine(place, view) {
@@ -454,9 +519,13 @@ function isMine(place, view) {
 
 function playNodes(place, view) {
   const dummy = dummyOf(place);
-  const own = handNode(view, view.hand, view.seat === dummy && view.playing ? "Your hand, which is dummy" : "Your hand, " + SEAT_NAMES[view.seat], "hand", handPlayed(place, view) === "own");
+  const own = handNode(view, view.hand,
+    view.seat === dummy && view.playing ? TEXTS.ownDummy : TEXTS.ownHand(SEAT_NAMES[view.seat]), "hand", handPlayed(place, view) === "own");
   if (!view.playing || !place.contract) {
-    return [stageNode(place, view, make("div", { id: "auction", className: "auction" }, auctionTable(place, view))), own, biddingBox(view)];
+    const stage = stageNode(place, view, make("div", { id: "auction", className: "auction" }, auctionTable(place, view)));
+    // The board lies there while there is room.
+    if (view.calls.length < 8) stage.append(boardPicture({ number: Number(view.board), side: "NS", calls: [] }, view.seat));
+    return [stage, own, biddingBox(view)];
   }
   const nodes = [stripNode(place, view), stageNode(place, view, trickNode(view)), own];
   if (claiming && (claiming.board !== view.board || view.claim || view.trick.length > 0)) claiming = null;
@@ -474,13 +543,14 @@ let before = null;
 function news(view) {
   const old = before;
   before = view;
-  if (!old || old.board !== view.board) return "Board " + view.board;
+  if (!old || old.board !== view.board) return TEXTS.board(view.board);
   const said = [];
   view.calls.slice(old.calls.length).forEach((call, i) => said.push(SEAT_NAMES[SEATS[(SEATS.indexOf(view.dealer) + old.calls.length + i) % 4]] + ": " + callName(call)));
   const cards = view.trick.length ? view.trick : view.made.cards === old.made.cards ? [] : view.last;
   const fresh = Number(view.made.cards) - Number(old.made.cards);
   cards.slice(Math.max(0, cards.length - fresh)).forEach(({ seat, card }) => said.push(SEAT_NAMES[seat] + ": " + cardName(card)));
-  if (view.last.length && view.trick.length === 0 && fresh > 0) said.push("Trick to " + SEAT_NAMES[view.turn]);
+  if (old.claim && !view.claim) say("notice", TEXTS.claimRefused);
+  if (view.last.length && view.trick.length === 0 && fresh > 0) said.push(TEXTS.trickTo(SEAT_NAMES[view.turn]));
   return said.join(". ");
 }
 
@@ -502,40 +572,52 @@ function playLast(place, view) {
 
 function placeText(place) {
   const table = place.table;
-  if (!table) return "You sit out in this round.";
-  return table.first === table.last ? "Board " + table.first : "Boards " + table.first + " to " + table.last;
+  return table ? TEXTS.boardsOf(table.first, table.last) : TEXTS.sitsOut;
 }
 
 function nextText(place) {
   if (place.round >= place.rounds) return "";
-  if (!place.next) return "You sit out in the next round.";
-  return "Next round: table " + place.next.number + ", " + SEAT_NAMES[place.next.seat] + ".";
+  return place.next ? TEXTS.nextRound(place.next.number, SEAT_NAMES[place.next.seat]) : TEXTS.sitsOutNext;
 }
 
 function headText(place) {
-  return place.name + ", pair " + place.pair;
+  return TEXTS.ofPair(place.name, place.pair);
 }
 
 // Who sits at a table, this player and his partner first.
 function namesNode(place) {
   const seat = place.table.seat;
   const around = [seat, partner(seat), ...SEATS.filter((one) => one !== seat && one !== partner(seat))];
-  return make("ul", { className: "names" }, ...around.map((one) => make("li", null, make("span", { className: "mark", aria_label: SEAT_NAMES[one] }, one), one === seat ? "You, " + place.names[one] : place.names[one])));
+  return make("ul", { className: "names" },
+    ...around.map((one) => make("li", null, make("span", { className: "mark", aria_label: SEAT_NAMES[one] }, one), one === seat ? TEXTS.isYou(place.names[one]) : place.names[one])));
+}
+
+// What the evening has come to so far, and the way to the score card.
+function soFarNodes() {
+  const all = worthOfAll(told.boards);
+  const words = all ? [make("p", null, TEXTS.eveningSoFar, make("b", null, all.percent ? TEXTS.percent(all.percent) : TEXTS.imps(all.points)))] : [];
+  return [...words, make("div", { className: "row" }, button(TEXTS.myBoards, "", "between-boards", true, () => turnLeaf({ card: true })))];
 }
 
 function betweenNodes(place, done) {
   const nodes = [];
   const next = done && place.next;
   if (next) {
-    nodes.push(make("section", { className: "panel" }, make("p", { className: "second" }, "Next, round " + (place.round + 1) + " of " + place.rounds),
-      make("p", { className: "large" }, "Table " + next.number + ", " + SEAT_NAMES[next.seat]),
-      make("p", null, "Boards " + next.first + (next.first === next.last ? "" : " to " + next.last) + ". ", make("b", null, place.table && next.number === place.table.number ? "Stay at your table." : "Go to table " + next.number + ".")),
-      make("p", { className: "second" }, "The next round begins when the director ends this one.")));
+    nodes.push(make("section", { className: "panel" }, make("p", { className: "second" }, TEXTS.nextOf(place.round + 1, place.rounds)),
+      make("p", { className: "large" }, TEXTS.tableSeat(next.number, SEAT_NAMES[next.seat])),
+      make("p", null, TEXTS.boardsOf(next.first, next.last) + ". ",
+        make("b", null, place.table && next.number === place.table.number ? TEXTS.stay : TEXTS.goTo(next.number))),
+      make("p", { className: "second" }, TEXTS.roundBegins)));
   }
-  const here = make("section", { className: "panel" }, make("p", { className: "second" }, "Round " + place.round + " of " + place.rounds));
-  if (place.table) here.append(make("p", { className: "large" }, "Table " + place.table.number + ", " + SEAT_NAMES[place.table.seat]), make("p", null, placeText(place) + "."), namesNode(place));
-  else here.append(make("p", { className: "large" }, "You sit out"));
-  nodes.push(here);
+  const here = make("section", { className: "panel" }, make("p", { className: "second" }, TEXTS.roundOf(place.round, place.rounds)));
+  if (place.table) here.append(
+    make("p", { className: "large" }, TEXTS.tableSeat(place.table.number, SEAT_NAMES[place.table.seat])),
+    make("p", null, placeText(place) + "."), namesNode(place));
+  else here.append(make("p", { className: "large" }, TEXTS.sitOut));
+  if (!next) nodes.push(here);
+  const played = told.boards.filter((board) => board.round === String(place.round));
+  if (played.length) nodes.push(make("section", { className: "panel wide-panel" }, make("h2", null, TEXTS.roundSoFar), cardTable(place, played),
+    ...soFarNodes()));
   return nodes;
 }
 
@@ -544,10 +626,9 @@ function betweenNodes(place, done) {
 function barFor(place, view) {
   const chip = at("chip");
   chip.hidden = !view;
-  at("settings").hidden = false;
   if (!view) {
     at("title").textContent = headText(place);
-    at("below").textContent = place.table ? "Table " + place.table.number + ", round " + place.round + " of " + place.rounds : "Round " + Math.min(place.round, place.rounds) + " of " + place.rounds;
+    at("below").textContent = place.table ? TEXTS.tableRound(place.table.number, place.round, place.rounds) : TEXTS.roundOf(Math.min(place.round, place.rounds), place.rounds);
     return;
   }
   const ours = view.seat === "N" || view.seat === "S" ? "NS" : "EW";
@@ -555,10 +636,10 @@ function barFor(place, view) {
   const is = (side) => view.vulnerable === "All" || view.vulnerable === side;
   chip.className = (is(ours) ? "vul-we " : "") + (is(theirs) ? "vul-they " : "") + "deals-" + placeOf(view, view.dealer);
   chip.textContent = view.board;
-  chip.setAttribute("aria-label", "Board " + view.board + ", dealer " + SEAT_NAMES[view.dealer] + ", " + vulnerableText(view.vulnerable));
-  at("title").textContent = "Board " + view.board;
-  at("below").replaceChildren(view.dealer + " deals \u00b7 " + { None: "nobody vul", NS: "N\u2013S vul", EW: "E\u2013W vul", All: "all vul" }[view.vulnerable],
-    make("span", { className: "wide" }, " \u00b7 table " + place.table.number + " \u00b7 round " + place.round + " of " + place.rounds));
+  chip.setAttribute("aria-label", TEXTS.boardWords(view.board, SEAT_NAMES[view.dealer], vulnerableText(view.vulnerable)));
+  at("title").textContent = TEXTS.board(view.board);
+  at("below").replaceChildren(TEXTS.dealsShort(view.dealer) + " \u00b7 " + TEXTS.vulnerableShort[view.vulnerable],
+    make("span", { className: "wide" }, place.table ? TEXTS.atTable(place.table.number, place.round, place.rounds) : ""));
 }
 
 // The classes by which the style lays the page out.
@@ -570,7 +651,7 @@ function shapeOf(place, view) {
 }
 
 function turnTitle(mine) {
-  document.title = mine ? "\u25cf Your turn \u2013 Bridge table" : "Bridge table";
+  document.title = mine ? TEXTS.yourTurn : TEXTS.title;
 }
 
 function showView(placeReply, reply) {
@@ -582,23 +663,28 @@ function showView(placeReply, reply) {
     unmark();
     turnTitle(false);
     const done = refused === "NotCurrent";
-    const status = refused === "NotDealt" ? "The next board is not dealt yet." : done ? "Your boards of this round are done. " + nextText(place)
-      : refused === "SitsOut" ? "You sit out in this round. " + nextText(place) : SENTENCES[refused] || reply;
+    const status = refused === "NotDealt" ? TEXTS.notDealtYet : done ? TEXTS.boardsDone + nextText(place)
+      : refused === "SitsOut" ? TEXTS.sitsOut + " " + nextText(place) : TEXTS.refusals[refused] || reply;
+    if (showLeaf(place, TEXTS.toNext)) return;
     barFor(place, null);
-    show(made, status, "between", () => betweenNodes(place, done || refused === "SitsOut"));
+    show(made + told.text, status, "between", () => betweenNodes(place, done || refused === "SitsOut"));
     return;
   }
   const view = readView(reply);
+  if (unsure) sayFate(place, view);
   if (marked && !marked.line.startsWith(marked.what.startsWith("card-") ? "CARD " + key + " " + view.board + " " + view.made.cards + " " : "CALL " + key + " " + view.board + " " + view.made.calls + " ")) marked = null;
   const mine = isMine(place, view);
-  barFor(place, view);
   turnTitle(mine);
-  drawn = () => show(made + JSON.stringify([marked, claiming, looking, isSafe()]), waiting(place, view), shapeOf(place, view) + (mine ? " mine" : ""), () => playNodes(place, view));
+  if (!mine) pace = SOON;
+  const said = news(view);
+  if (said) say("heard", said);
+  if (showLeaf(place, (mine ? TEXTS.nextYours : TEXTS.nextBoard)(view.board))) return;
+  barFor(place, view);
+  drawn = () => show(made + JSON.stringify([marked, claiming, looking, isSafe()]),
+    waiting(place, view), shapeOf(place, view) + (mine ? " mine" : ""), () => playNodes(place, view));
   drawn();
   // The newest row of a long auction is in view.
   if (at("auction")) at("auction").scrollTop = at("auction").scrollHeight;
-  const said = news(view);
-  if (said) say("heard", said);
   playLast(place, view);
 }
 
@@ -616,27 +702,20 @@ async function showClosed(placeReply, asked, mine) {
     if (text === null) return unreachable();
     results = { made, text, at: Date.now() };
   }
-  barFor(place, null);
+  await lookAtBoards(asked, place, null);
+  if (mine !== turn) return;
   turnTitle(false);
+  if (showLeaf(place, TEXTS.toNext)) return;
+  barFor(place, null);
   const both = [[1, first], [2, second]].filter((one) => !refusal(one[1]));
-  show(made + results.text, "The session is closed.", "final", () => finalNodes(place, both));
+  show(made + results.text + told.text, TEXTS.closed, "final", () => finalNodes(place, both));
 }
-
-// The score card of a pair, as the results have it.
-function cardIn(text, pair) {
-  const from = text.search(new RegExp("^Pair " + pair + ": ", "m"));
-  const card = from < 0 ? "" : text.slice(from);
-  const next = card.slice(1).search(/^Pair /m);
-  return next < 0 ? card : card.slice(0, next + 1);
-}
-
-const ORDINALS = ["first", "second", "third", "fourth", "fifth", "sixth", "seventh", "eighth", "ninth", "tenth", "eleventh", "twelfth"];
 
 // What has come of the evening for this player's pair: [place, pair, score, per cent] among so many.
 function bannerNode(place, own, among, names) {
   const large = (words) => make("p", { className: "large" }, words);
-  return make("section", { id: "own", className: "banner" }, large("You are " + (ORDINALS[own[0] - 1] || "at place " + own[0]) + " of " + among),
-    large(own[3] ? own[3] + " %" : own[2]), make("p", null, names.get(place.pair) || headText(place)), make("p", null, own[3] ? own[2].replace("/", " of ") : ""));
+  return make("section", { id: "own", className: "banner" }, large(TEXTS.youAreOf(TEXTS.ordinals[own[0] - 1] || TEXTS.atPlace(own[0]), among)),
+    large(own[3] ? TEXTS.percent(own[3]) : own[2]), make("p", null, names.get(place.pair) || headText(place)), make("p", null, own[3] ? TEXTS.pointsOf(own[2]) : ""));
 }
 
 function finalNodes(place, both) {
@@ -646,22 +725,39 @@ function finalNodes(place, both) {
     const own = lines.find((words) => Number(words[1]) === place.pair);
     if (own) nodes.push(bannerNode(place, own, lines.length, names));
   }
-  nodes.push(make("div", { className: "sides" }, ...both.map((one) => make("section", { className: "panel" }, ...rankingNode(one[0], one[1], place.pair, names)))));
-  const card = cardIn(results.text, place.pair);
-  if (card) nodes.push(make("details", { id: "own-card", open: true }, make("summary", null, "My score card"), make("pre", null, card)));
-  nodes.push(make("details", { id: "all-results" }, make("summary", null, "All boards"), make("pre", { id: "results" }, results.text)),
-    button("Print", "", "print", true, () => window.print()));
+  nodes.push(make("div", { className: "sides" },
+    ...both.map((one) => make("section", { className: "panel" }, ...rankingNode(one[0], one[1], place.pair, names)))));
+  if (told.boards.length) nodes.push(make("section",
+    { id: "own-card", className: "panel wide-panel" }, make("h2", null, TEXTS.scoreCard), cardTable(place, told.boards)));
+  nodes.push(make("details", { id: "all-results" }, make("summary", null, TEXTS.allBoards), make("pre", { id: "results" }, results.text)),
+    button(TEXTS.print, "", "print", true, () => window.print()));
   return nodes;
 }
 
 // Shows where a player sits, and the play there, or what came of the session.
-async function showPlayer(place, asked, mine) {
+async function showPlayer(place, asked, mine, early) {
   const where = readPlace(place);
-  if (where.round > where.rounds) return showClosed(place, asked, mine);
-  const view = await ask("/lines", "SEE " + asked + "\n");
+  seen = where.round > where.rounds ? null : asked;
+  if (seen === null) return showClosed(place, asked, mine);
+  const view = early === undefined ? await ask("/lines", "SEE " + asked + "\n") : early;
   if (mine !== turn) return;
   if (view === null) return unreachable();
-  showView(place, view);
+  await lookAtBoards(asked, where, refusal(view) ? null : readView(view).board);
+  if (mine === turn) showView(place, view);
+}
+
+// The line that had no answer; what has become of it the next view tells, where it is of the same board.
+let unsure = "";
+let unsureAt = 0;
+// Milliseconds in which it may still come to the server.
+const UNSURE = 3000;
+function sayFate(place, view) {
+  const [kind, , board, made] = unsure.split(" ");
+  const now = { CALL: view.made.calls, CARD: view.made.cards, CLAIM: view.made.claims }[kind];
+  const taken = now === undefined ? !place.answer : Number(now) > Number(made);
+  if (view.board === board && !taken && Date.now() - unsureAt < UNSURE) return;
+  unsure = "";
+  say("notice", view.board !== board ? "" : taken ? TEXTS.wasTaken : TEXTS.wasNotTaken);
 }
 
 // Sends one line, and shows what has become of it.
@@ -672,12 +768,17 @@ async function act(line) {
   turn += 1;
   say("notice", "");
   for (const node of at("main").querySelectorAll("button")) node.disabled = true;
+  const slow = setTimeout(() => say("notice", TEXTS.slow), SLOW);
   const reply = await ask("/lines", line + "\n");
+  clearTimeout(slow);
   busy = false;
+  if (at("notice").textContent === TEXTS.slow) say("notice", "");
   if (key !== asked) return key === null ? undefined : look();
   shown = "";
-  if (reply === null) say("notice", "No answer came. It may or may not have been taken; what you see next tells.");
-  else if (refusal(reply)) say("notice", SENTENCES[refusal(reply)] || reply);
+  unsure = reply === null ? line : "";
+  unsureAt = Date.now();
+  if (reply === null) say("notice", TEXTS.unknownFate);
+  else if (refusal(reply)) say("notice", TEXTS.refusals[refusal(reply)] || reply);
   return look();
 }
 
@@ -691,23 +792,35 @@ function choiceOf(title, name, now, options) {
   return make("fieldset", null, make("legend", null, title), ...options.map(radio));
 }
 
+const lightNow = () => sessionStorage.getItem("light") || "device";
+
 function chosen() {
   unmark();
-  document.documentElement.className = sessionStorage.getItem("suits") === "four" ? "four" : "";
+  document.documentElement.className = [sessionStorage.getItem("suits") === "four" ? "four" : "", lightNow()].join(" ").trim();
   drawn();
 }
 
-function showChoices() {
-  const sheet = at("choices");
-  sheet.replaceChildren(make("h2", null, "Settings"),
-    choiceOf("A call or card is sent", "sent", isSafe() ? "twice" : "once", [["twice", "by a second tap, or the button below"], ["once", "at once"]]),
-    choiceOf("Suits", "suits", sessionStorage.getItem("suits") || "two", [["two", "in two colours"], ["four", "in four colours"]]),
-    button("Done", "", "chosen", true, () => { sheet.hidden = true; }));
-  sheet.hidden = false;
-  at("chosen").focus();
+// The menu: of a player his boards, how he sends and how cards look; of all light and dark, and to leave.
+function showMenu() {
+  const options = [choiceOf(TEXTS.lightTitle, "light", lightNow(), Object.entries(TEXTS.lights))];
+  if (document.body.className !== "director") {
+    options.unshift(button(TEXTS.myBoards, "", "menu-boards", true, () => { closeMenu(); turnLeaf({ card: true }); }),
+      choiceOf(TEXTS.sentTitle, "sent", isSafe() ? "twice" : "once", [["twice", TEXTS.sentTwice], ["once", TEXTS.sentOnce]]),
+      choiceOf(TEXTS.suitsTitle, "suits", sessionStorage.getItem("suits") || "two", [["two", TEXTS.suitsTwo], ["four", TEXTS.suitsFour]]));
+  }
+  at("options").replaceChildren(make("h2", null, TEXTS.textAndPlay), ...options);
+  at("choices").hidden = false;
+  [...at("options").querySelectorAll("button"), ...at("options").querySelectorAll("input")][0].focus();
 }
 
-at("settings").onclick = () => { if (at("choices").hidden) showChoices(); else at("choices").hidden = true; };
+function closeMenu() {
+  at("choices").hidden = true;
+}
+
+at("menu").onclick = () => { if (at("choices").hidden) showMenu(); else closeMenu(); };
+at("chosen").onclick = () => { closeMenu(); at("menu").focus(); };
+at("menu").textContent = TEXTS.menu;
+at("chosen").textContent = TEXTS.done;
 document.addEventListener("keydown", (event) => {
   if (event.key !== "Escape") return;
   at("choices").hidden = true;

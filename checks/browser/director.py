@@ -32,7 +32,7 @@ BOARDS = 3
 # The lines that change a session.
 CHANGES = ["DEAL", "SHUFFLE", "CALL", "CARD", "CLAIM", "AGREE", "REFUSE", "NEXT", "TRICKS", "VOID", "RESTORE", "ADJUST"]
 # The elements that the director's page alone has.
-OWN = ["tables", "told", "end-round", "dealing", "ruling", "solving", "ranking", "publishing", "lines", "box"]
+OWN = ["tables", "told", "opened", "ruled", "others", "end-round", "dealing", "ruling", "solving", "ranking", "publishing", "lines", "box"]
 
 
 def text_of(element):
@@ -82,7 +82,7 @@ class Evening:
         window.wait("document.getElementById('key')")
         window.type("#key", key)
         window.key("Enter", 13, "\r")
-        window.wait("!document.getElementById('leave').hidden")
+        window.wait("!document.getElementById('menu').hidden")
         self.windows[key] = window
         return window
 
@@ -233,8 +233,11 @@ def is_refused(evening, closed):
 def deal(page, work):
     """A board by its text, one by a file, the others by a shuffle; then all of them again, which is refused."""
     page.open("dealing")
-    page.window.type("#deal-text", f"1 {DEAL}")
+    page.window.type("#deal-text", f"1 {DEAL}\n22 {DEAL}")
     page.window.click("#deal")
+    page.window.wait("document.getElementById('deal-question').innerText.startsWith('Deal board 1?')")
+    assert page.window.value("document.getElementById('deal-question').innerText.includes('The session has no board 22: left out.')")
+    page.window.click("#yes")
     page.told("Dealt: 1.")
     path = os.path.join(work, "deals.pbn")
     with open(path, "w", encoding="ascii") as file:
@@ -242,6 +245,7 @@ def deal(page, work):
     page.window.choose_file("#deal-file", path)
     page.window.wait("document.getElementById('deal-text').value.includes('PBN 2.1')")
     page.window.click("#deal")
+    page.window.click("#yes")
     page.told("Dealt: 2.")
     page.window.wait("document.getElementById('shuffle-last').value === '21'")
     page.window.click("#shuffle")
@@ -289,6 +293,7 @@ def first_round(evening, page):
             killed(evening, page)
         for key in list(evening.windows)[1:]:
             is_a_players(evening, key)
+    opens(evening, page)
     page.number("rule-tricks", 11)
     page.rule("rule-set", (1, 2, evening.first_board(1, 2)), "Set declarer's tricks to 11")
     pictures(page.window, PICTURES, "round_is_done")
@@ -307,6 +312,23 @@ def solve(evening, page, board):
     page.window.wait(f"{text_of('solved')} === 'Of the tricks left North and South can win {ns}, and East and West {ew}.'")
 
 
+def opens(evening, page):
+    """A table that was done is opened, and a ruling; what is shown is what was played there, and who played it."""
+    page.window.click("#open-2")
+    page.window.wait("document.getElementById('opened').querySelectorAll('.suit-line').length === 16")
+    first = evening.first_board(1, 2)
+    assert page.window.value(f"{text_of('opened')}.includes('Board {first}')"), "another board is opened"
+    page.window.click(f"#opened-{first + 1}")
+    page.window.wait(f"document.getElementById('rule-board').value === '{first + 1}'")
+    pictures(page.window, PICTURES, "opened")
+    page.window.click("#opened-close")
+    page.window.wait("document.getElementById('opened').childNodes.length === 0")
+    page.open("ruling")
+    page.window.wait("document.getElementById('ruled').querySelectorAll('button').length === 2")
+    ruled = page.window.value(text_of("ruled"))
+    assert "table 3, board" in ruled and "taken out" in ruled and "60 and 40 per cent" in ruled, ruled
+
+
 def boards_unseen(evening):
     """A page that has not seen which boards were played names a board by its place, and takes no number that is lacking."""
     window = Window(evening.browser, f"http://127.0.0.1:{PORT}/")
@@ -319,6 +341,7 @@ def boards_unseen(evening):
         window.type(f"#{field}", str(number))
     window.click("#rule-void")
     window.wait("document.getElementById('rule-question').innerText.startsWith('Take the play out, round 1, table 2, board in place 2 of its set?')")
+    assert window.value("document.getElementById('rule-question').innerText.includes('Then: taken out by the director.')")
     window.click("#no")
     window.type("#rule-tricks", "")
     window.click("#rule-set")
@@ -423,7 +446,9 @@ def main():
             is_refused(evening, closed)
             for key in players:
                 if closed:
-                    evening.windows[key].wait("document.getElementById('main').innerText.includes('Ranking')")
+                    window = evening.windows[key]
+                    window.click("#onward")
+                    window.wait("document.getElementById('main').innerText.includes('Ranking')")
                     pictures(evening.windows[key], PICTURES, "players_ranking")
                 is_a_players(evening, key)
             page.goes_on()

@@ -9,6 +9,7 @@ import http.client
 import http.server
 import json
 import os
+import socket
 import subprocess
 import sys
 import tempfile
@@ -99,9 +100,17 @@ def director_sends(window, line):
     assert reply == "OK\n", reply
 
 
+def goes_on(window):
+    """From a board that is over, which the page shows until the player goes on."""
+    if window.value("Boolean(document.getElementById('band'))"):
+        window.click("#onward")
+        window.wait("!document.getElementById('band')")
+
+
 def play(window, line):
     """One line by clicks; it was taken once the page shows so."""
     words = line.split(" ")
+    goes_on(window)
     before = window.value("document.body.innerText")
     if words[0] == "CALL":
         window.click(f"#call-{words[4]}")
@@ -115,7 +124,8 @@ def play(window, line):
         window.click("#agree" if words[0] == "AGREE" else "#refuse")
     window.wait(f"document.body.innerText !== {json.dumps(before)}")
     notice = window.value("document.getElementById('notice').textContent")
-    assert notice == "", f"{line}: {notice}"
+    due = "The claim was not agreed. Play goes on; call the director if need be." if words[0] == "REFUSE" else ""
+    assert notice == due, f"{line}: {notice}"
 
 
 def asked(method, path, body=None, **headers):
@@ -169,8 +179,32 @@ def other_sites(browser, disk):
     site.shutdown()
 
 
+def crowded():
+    """Where one address takes all places that there are, another is let in, and neither has more than half of them."""
+    held = []
+    for _ in range(140):
+        held.append(socket.create_connection(("127.0.0.1", PORT)))
+    other = socket.create_connection(("127.0.0.1", PORT), timeout=10, source_address=("127.0.0.2", 0))
+    other.sendall(f"GET /nothing HTTP/1.1\r\nHost: 127.0.0.1:{PORT}\r\n\r\n".encode())
+    assert other.recv(100).startswith(b"HTTP/1.1 404"), "another address is not let in"
+    time.sleep(0.5)
+    left = 0
+    for one in held:
+        one.setblocking(False)
+        try:
+            one.recv(1)
+        except BlockingIOError:
+            left += 1
+        except ConnectionResetError:
+            pass
+        one.close()
+    other.close()
+    assert 50 <= left <= 64, f"one address has {left} places beside another"
+
+
 def leaves(window):
     """Who leaves is asked for a key, in the next seconds too and on a page loaded anew, and the window keeps none."""
+    window.click("#menu")
     window.click("#leave")
     window.click("#leave")
     for is_loaded_anew in [False, True]:
@@ -180,6 +214,25 @@ def leaves(window):
         time.sleep(2.5)
         assert window.value("document.getElementById('key') && document.getElementById('key').value === ''"), "who left is shown a table"
         assert window.value("sessionStorage.length + localStorage.length + document.cookie.length") == 0, "a key is kept"
+
+
+def boards_over(windows, tables):
+    """Each player is shown the board that he played last, with its result, its hands and its play, until he goes on."""
+    for table in tables:
+        told = set()
+        for key, seat in table.seats.items():
+            window = windows[key]
+            window.wait("document.getElementById('band')")
+            told.add(window.value("document.getElementById('band').querySelector('.large').textContent").split(" by ")[0])
+            shown = window.value("document.querySelectorAll('.diagram .suit-line').length")
+            assert shown == 16, f"{key} sees {shown} suits"
+            if table.played:
+                window.click("#step-end")
+                window.wait("document.getElementById('step-on').disabled")
+                gone = window.value("document.querySelectorAll('.diagram s').length")
+                assert gone == len(table.played), f"{key} sees {gone} cards gone of {len(table.played)}"
+            goes_on(window)
+        assert len(told) == 1, told
 
 
 def main():
@@ -208,7 +261,7 @@ def main():
                     picture(window, "login")
                 window.type("#key", key)
                 window.key("Enter", 13, "\r")
-                window.wait("!document.getElementById('leave').hidden")
+                window.wait("!document.getElementById('menu').hidden")
             picture(windows["11"], "waiting")
             steps = 0
             for line in lines:
@@ -242,12 +295,14 @@ def main():
                 if word == "CLAIM":
                     time.sleep(1.2)
                     picture(windows["31" if key == "11" else "41"], f"claim_{key}_{steps}")
+            boards_over(windows, tables)
             windows["11"].wait("document.getElementById('main').innerText.includes('Ranking')")
             picture(windows["11"], "closed")
             picture(windows["100"], "director")
             leaves(windows["12"])
             assert not complaints(windows), complaints(windows)
             other_sites(browser, disk)
+            crowded()
         finally:
             browser.close()
             server.kill()

@@ -16,14 +16,21 @@ const AT_PLAY = ["TABLE 1 1 8 4 AUCTION E 3 0", "TABLE 2 2 9 6 PLAY S 7 21", "TA
 const DONE = ["TABLE 1 1 8 - NotCurrent", "TABLE 2 2 9 - NotCurrent"];
 const tables = (lines, round = 2) => ["OK", `ROUND ${round} 7`, "BOARDS 3 21", ...lines, ".", ""].join("\n");
 
-// A page at which the director has logged in; lines are answered so.
-async function opened(told, done = "OK\n") {
+// What is told of a play at table 2, and otherwise.
+const played = (other = {}) => ["OK", "OTHERS SHUT", ...Object.entries({
+  BOARD: "6 2 2 3 -", NAMES: "Cat Eve Dan Fay", DEAL: "N:K73.AK652.A.Q652 J652.Q8.QT976.K4 AQ9.J7.K43.JT987 T84.T943.J852.A3", CALLS: "3NT PASS PASS PASS",
+  CARDS: "S H3 H4 H5 H6 D2", CLAIM: "-", RESULT: "3NT E 8 100", ...other,
+}).map(([word, rest]) => `${word} ${rest}`), ".", ""].join("\n");
+
+// A page at which the director has logged in; lines are answered so, and a play is told so.
+async function opened(told, done = "OK\n", play = played()) {
   const page = new Page((where, body) => {
     if (where === "/place") return "ERR 2 NotAllowed\n";
+    if (where === "/boards") return typeof play === "function" ? play(body) : play;
     return where === "/tables" ? told : typeof done === "function" ? done(where, body) : done;
   }, { key: KEY });
   await page.settle();
-  assert.deepStrictEqual(page.asked, [`/place ${KEY}`, `/tables ${KEY}`]);
+  assert.deepStrictEqual(page.asked, [`/place ${KEY}`, `/tables ${KEY}`, `/results ${KEY}`]);
   return page;
 }
 
@@ -33,16 +40,19 @@ function fill(page, values) {
   for (const [id, value] of Object.entries(values)) page.at(id).value = value;
 }
 
-// What is sent at a click, and at Yes where it asks; a look follows.
-async function sent(page, id, question) {
+// What is sent at a click, and at Yes where it asks; a look follows. A play that is ruled on is asked for before and after the
+// question.
+async function sent(page, id, question, asked = []) {
   const first = await page.click(id);
   if (!question) {
     assert.deepStrictEqual(first.slice(1), LOOKS);
     return first[0];
   }
-  assert.deepStrictEqual(first, []);
+  assert.deepStrictEqual(first, asked);
   assert.match(page.text("main"), question);
-  const [line, ...rest] = await page.click("yes");
+  const again = await page.click("yes");
+  assert.deepStrictEqual(again.slice(0, asked.length), asked);
+  const [line, ...rest] = again.slice(asked.length);
   assert.deepStrictEqual(rest, LOOKS);
   assert.strictEqual(page.at("yes"), null);
   return line;
@@ -53,19 +63,22 @@ const SEED = [...Array(32).keys()].map((i) => (i + 1).toString(16).padStart(2, "
 
 run({
   "the tables stand as they are told": async () => {
-    const page = await opened(tables(AT_PLAY));
+    const page = await opened(tables(AT_PLAY), "Pair 1: Ann and Bob\n");
     assert.deepStrictEqual(page.rows(page.at("tables")), [
-      ["Table", "N-S", "E-W", "Board", "What goes on", "Min."],
-      ["1", "1", "8", "4", "auction, 3 calls, East in turn", "0"],
-      ["2", "2", "9", "6", "play, 21 cards, South in turn", "0"],
-      ["3", "3", "10", "", "waits for its deal", "0"],
-      ["4", "4", "0", "", "nobody plays here", "0"],
+      ["Table", "N-S", "E-W", "Board", "What goes on", "Min.", "Stands", "Open"],
+      ["1", "1 Ann and Bob", "8", "4", "Auction, East to call", "moved just now", "Playing", "Open"],
+      ["2", "2", "9", "6", "Trick 6, South to play", "moved just now", "Playing", "Open"],
+      ["3", "3", "10", "", "Waits for its deal", "", "No deal", "Open"],
+      ["4", "4", "\u2013", "", "Sits out", "", "Done", ""],
     ]);
     assert.strictEqual(page.text("status"), "Round 2 of 7. Still at play: tables 1, 2, 3.");
     assert.strictEqual(page.text("title"), "Director");
     page.now += 119000;
     assert.deepStrictEqual(await page.look(), LOOKS);
-    assert.deepStrictEqual(page.rows(page.at("tables")).map((row) => row[5]), ["Min.", "2", "2", "2", "2"]);
+    assert.deepStrictEqual(page.rows(page.at("tables")).map((row) => row[5]), ["Min.", "still for 2 min", "still for 2 min", "", ""]);
+    page.now += 180000;
+    await page.look();
+    assert.deepStrictEqual(page.rows(page.at("tables")).map((row) => row[6]), ["Stands", "Slow", "Slow", "No deal", "Done"]);
     assert.strictEqual(page.at("shuffle-last").value, "21");
   },
 
@@ -99,8 +112,13 @@ run({
     const page = await opened(tables(AT_PLAY), "OK\nOK\nERR 23 BadDeal\n");
     const deal = "N:AKQJ.T98.765.432 432.AKQJ.T98.765 765.432.AKQJ.T98 T98.765.432.AKQJ";
     fill(page, { "deal-text": `1 ${deal}\nDEAL 100 2 ${deal}\n[Event "x"]\n[Board "7"]\n[Deal "${deal}"]\n` });
-    assert.strictEqual(await sent(page, "deal"), `/lines ${[1, 2, 7].map((board) => `DEAL ${KEY} ${board} ${deal}\n`).join("")}`);
+    assert.strictEqual(await sent(page, "deal", /Deal boards 1, 2, 7\?/), `/lines ${[1, 2, 7].map((board) => `DEAL ${KEY} ${board} ${deal}\n`).join("")}`);
     assert.strictEqual(page.text("told"), "Dealt: 1, 2. Board 7: these are not four hands of thirteen cards.");
+    fill(page, { "deal-text": `21 ${deal}\n22 ${deal}\n0 ${deal}\n` });
+    assert.strictEqual(await sent(page, "deal", /Deal board 21\?The session has no boards 22, 0: left out\./), `/lines DEAL ${KEY} 21 ${deal}\n`);
+    fill(page, { "deal-text": `36 ${deal}` });
+    assert.deepStrictEqual(await page.click("deal"), []);
+    assert.strictEqual(page.text("told"), "The session has no board 36: left out.");
     fill(page, { "deal-text": "nothing" });
     assert.deepStrictEqual(await page.click("deal"), []);
     assert.strictEqual(page.text("told"), "No deal was found in this text.");
@@ -117,20 +135,69 @@ run({
     const page = await opened(tables(AT_PLAY));
     fill(page, { "rule-round": "2", "rule-table": "2", "rule-board": "6", "rule-tricks": "9" });
     const play = "round 2, table 2, board 6";
-    assert.strictEqual(await sent(page, "rule-set", new RegExp(`Set declarer's tricks to 9, ${play}\\?`)), `/lines TRICKS ${KEY} 2 2 3 9\n`);
+    const asked = [`/boards ${KEY} 2 2 3`];
+    const became = "Now: 3NT E, one down. Then: 3 no trump, made.North Cat, East Eve, South Dan, West Fay.";
+    assert.strictEqual(await sent(page, "rule-set", new RegExp(`Set declarer's tricks to 9, ${play}\\?${became}`), asked), `/lines TRICKS ${KEY} 2 2 3 9\n`);
     assert.strictEqual(page.text("told"), `Set declarer's tricks to 9, ${play}: done.`);
     for (const [ns, ew] of [["60", "40"], ["40", "60"], ["50", "60"]]) {
       fill(page, { "rule-ns": ns, "rule-ew": ew });
-      assert.strictEqual(await sent(page, "rule-average", new RegExp(`Award ${ns} and ${ew} per cent, ${play}\\?`)), `/lines ADJUST ${KEY} 2 2 3 ${ns} ${ew}\n`);
+      assert.strictEqual(await sent(page, "rule-average", new RegExp(`Award ${ns} and ${ew} per cent, ${play}\\?Now: 3NT E, one down. Then: average, ${ns} % and ${ew} %\\.`), asked), `/lines ADJUST ${KEY} 2 2 3 ${ns} ${ew}\n`);
     }
-    assert.strictEqual(await sent(page, "rule-void", new RegExp(`Take the play out, ${play}\\?`)), `/lines VOID ${KEY} 2 2 3\n`);
-    assert.strictEqual(await sent(page, "rule-restore", new RegExp(`Take the ruling back, ${play}\\?`)), `/lines RESTORE ${KEY} 2 2 3\n`);
+    assert.strictEqual(await sent(page, "rule-void", new RegExp(`Take the play out, ${play}\\?Now: 3NT E, one down. Then: taken out by the director.`), asked), `/lines VOID ${KEY} 2 2 3\n`);
+    assert.strictEqual(await sent(page, "rule-restore", new RegExp(`Take the ruling back, ${play}\\?Now: 3NT E, one down. Then: as it was played.`), asked), `/lines RESTORE ${KEY} 2 2 3\n`);
     fill(page, { "rule-board": "9" });
     assert.deepStrictEqual(await page.click("rule-void"), []);
     assert.strictEqual(page.text("told"), "In round 2 table 2 has boards 4 to 6.");
     fill(page, { "rule-board": "" });
     assert.deepStrictEqual(await page.click("rule-void"), []);
     assert.match(page.text("told"), /has to be there/);
+  },
+
+  "a play that changed since it was looked at is not ruled on": async () => {
+    const page = await opened(tables(AT_PLAY));
+    fill(page, { "rule-round": "2", "rule-table": "2", "rule-board": "6" });
+    await page.click("rule-void");
+    page.answer = (where) => (where === "/boards" ? played({ RESULT: "AVERAGE 60 40" }) : "OK\n");
+    assert.deepStrictEqual(await page.click("yes"), [`/boards ${KEY} 2 2 3`]);
+    assert.match(page.text("told"), /has changed since/);
+    page.answer = (where) => (where === "/boards" ? null : "OK\n");
+    assert.deepStrictEqual(await page.click("rule-void"), [`/boards ${KEY} 2 2 3`]);
+    assert.strictEqual(page.text("told"), "No answer came.");
+    assert.strictEqual(page.at("yes"), null);
+  },
+
+  "a table is opened with its hands, its auction and its play": async () => {
+    const page = await opened(tables(AT_PLAY));
+    assert.deepStrictEqual(await page.click("open-2"), [`/boards ${KEY} 2 2 3`]);
+    const hearts = ["3", "4", "5", "6"].map((rank) => "\u2665\ufe0e" + rank);
+    assert.deepStrictEqual(page.rows(page.at("tricks")).slice(1), [["1", "S", ...hearts, "E"], ["2", "E", "\u2666\ufe0e2", "", "", "", ""]]);
+    assert.ok(page.named("Auction").textContent.includes("Dan") && !page.text("opened").includes("You"));
+    assert.deepStrictEqual(["rule-round", "rule-table", "rule-board"].map((id) => page.at(id).value), ["2", "2", "6"]);
+    assert.ok(page.at("ruling").open);
+    assert.deepStrictEqual(await page.look(), [...LOOKS, `/boards ${KEY} 2 2 3`, `/boards ${KEY}`]);
+    page.at("ruling").open = false;
+    assert.deepStrictEqual(await page.click("opened-4"), [`/boards ${KEY} 2 2 1`]);
+    await page.click("opened-close");
+    assert.strictEqual(page.at("tricks"), null);
+    page.at("ruling").open = false;
+    assert.deepStrictEqual(await page.look(), LOOKS);
+    const idle = await opened(tables(AT_PLAY), "OK\n", "ERR 8 NotYet\n");
+    assert.deepStrictEqual(await idle.click("open-3"), [`/boards ${KEY} 2 3 1`]);
+    assert.match(idle.text("told"), /round 2, table 3, board in place 1 of its set: that round has not begun/);
+  },
+
+  "rulings that stand are listed, and what others did is opened and shut": async () => {
+    let others = "SHUT";
+    const page = await opened(tables(AT_PLAY), "OK\n", (body) => {
+      if (body.endsWith("OPEN")) others = "OPEN";
+      return `OK\nOTHERS ${others}\nRULED 1 3 1 7 AVERAGE 60 40\nRULED 1 5 2 11 TRICKS 9\nRULED 2 1 1 4 VOID\n.\n`;
+    });
+    page.at("ruling").open = true;
+    assert.deepStrictEqual(await page.look(), [...LOOKS, `/boards ${KEY}`]);
+    assert.deepStrictEqual(page.at("ruled").nodes.map((node) => node.textContent), ["Round 1, table 3, board 7: 60 and 40 per cent Open", "Round 1, table 5, board 11: 9 tricks Open", "Round 2, table 1, board 4: taken out Open"]);
+    assert.ok(page.text("others").includes("hidden"));
+    assert.deepStrictEqual(await page.click("others-turn"), [`/boards ${KEY} OPEN`, `/boards ${KEY}`]);
+    assert.ok(page.text("others").includes("shown"));
   },
 
   "averages are chosen for each side": async () => {
@@ -144,7 +211,7 @@ run({
   "each refusal has its sentence": async () => {
     for (const [name, said] of Object.entries(SAID)) {
       const page = await opened(tables(AT_PLAY), `ERR 5 ${name}\n`);
-      await sent(page, "rule-void", /Take the play out/);
+      await sent(page, "rule-void", /Take the play out/, [`/boards ${KEY} 1 1 1`]);
       assert.match(page.text("told"), said, name);
     }
   },

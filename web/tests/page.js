@@ -9,7 +9,7 @@ const { readPage } = require("./document.js");
 
 const WEB = path.join(__dirname, "..");
 // What may be asked, and how.
-const PATHS = ["/lines", "/place", "/tables", "/results"];
+const PATHS = ["/lines", "/place", "/tables", "/results", "/boards"];
 const TYPE = "application/x-table-lines";
 
 // The random bytes of the test: 1, 2, 3 ..
@@ -24,6 +24,7 @@ class Page {
     this.answer = answer;
     this.kept = new Map(Object.entries(kept));
     this.timers = new Map();
+    this.listeners = new Map();
     this.printed = 0;
     this.now = 0;
     this.document = readPage(fs.readFileSync(path.join(WEB, "page.html"), "utf8"));
@@ -42,7 +43,7 @@ class Page {
     const { kept, timers } = this;
     return {
       document: this.document,
-      window: { print: () => { this.printed += 1; } },
+      window: { print: () => { this.printed += 1; }, addEventListener: (name, act) => this.listeners.set(name, act) },
       sessionStorage: {
         getItem: (name) => (kept.has(name) ? kept.get(name) : null),
         setItem: (name, value) => { kept.set(name, String(value)); },
@@ -90,9 +91,9 @@ class Page {
     return this.asks(() => due[0][1].act());
   }
 
-  // Lets the time of the next look come.
+  // Lets the time of the next look come: sooner where another player is in turn.
   async look() {
-    return this.pass(1000);
+    return this.pass([...this.timers.values()].some((timer) => timer !== null && timer.wait === 300) ? 300 : 1000);
   }
 
   at(id) {

@@ -30,14 +30,22 @@ const view = (other = {}) => reply({
 // What South sees in the play of a contract, on lead, and otherwise.
 const play = (other = {}) => view({ PHASE: "PLAY", AT: "7 0 0", CALLS: "PASS PASS 1H PASS 2S PASS PASS", ...other });
 
+// A board that South's pair has played, and otherwise.
+const board = (other = {}) => Object.entries({
+  BOARD: "4 1 2 1 NS", NAMES: "Cat Eve Dan Fay", DEAL: "W:T84.T943.J852.A3 K73.AK652.A.Q652 J652.Q8.QT976.K4 AQ9.J7.K43.JT987", CALLS: "PASS 1H PASS 3NT PASS PASS PASS",
+  CARDS: "W D2 DA D6 D3 C2 C4 CJ CA D5", CLAIM: "N 9", RESULT: "3NT S 9 600", ...other,
+}).map(([word, rest]) => (rest === "" ? word : `${word} ${rest}`)).join("\n");
+const boards = (...some) => ["OK", "OTHERS SHUT", ...some, ".", ""].join("\n");
+
 // A page at which a player has logged in; what is done is answered so, and then the same is seen.
-async function seated(placed, seen, done = "OK\n") {
+async function seated(placed, seen, done = "OK\n", over = boards()) {
   const page = new Page((where, body) => {
     if (where === "/place") return placed;
+    if (where === "/boards") return over;
     return body.startsWith("SEE ") ? seen : done;
   }, { key: KEY });
   await page.settle();
-  assert.deepStrictEqual(page.asked, [`/place ${KEY}`, `/lines SEE ${KEY}\n`]);
+  assert.deepStrictEqual(page.asked, [`/place ${KEY}`, `/lines SEE ${KEY}\n`, `/boards ${KEY}`]);
   return page;
 }
 
@@ -55,7 +63,7 @@ run({
     const page = new Page(() => "ERR 1 NoKey\n");
     await page.settle();
     assert.deepStrictEqual(page.asked, []);
-    assert.ok(page.at("leave").hidden);
+    assert.ok(page.at("menu").hidden);
     page.at("key").value = " 31007 ";
     const form = page.document.root.all().find((element) => element.tag === "form");
     assert.deepStrictEqual(await page.asks(() => form.onsubmit({ preventDefault() {} })), ["/place 31007"]);
@@ -67,6 +75,7 @@ run({
   "Leave forgets the key": async () => {
     const page = await seated(place(), view());
     assert.deepStrictEqual([...page.kept], [["key", KEY]]);
+    await page.click("menu");
     assert.deepStrictEqual(await page.click("leave"), []);
     assert.deepStrictEqual([...page.kept], [["key", KEY]]);
     assert.strictEqual(page.text("leave"), "Really leave?");
@@ -82,7 +91,7 @@ run({
     let release;
     const page = new Page(() => new Promise((resolve) => { release = () => resolve(place()); }), { key: KEY });
     await page.settle();
-    page.at("leave").hidden = false;
+    page.at("choices").hidden = false;
     page.at("leave").click();
     page.at("leave").click();
     release();
@@ -159,16 +168,26 @@ run({
     assert.ok((await seated(place({ CONTRACT: "1H N" }), play())).at("claim-open").hidden);
   },
 
+  "a claim says what it comes to, as the score table has it": async () => {
+    for (const [bid, vulnerable, has, comes] of [["3NT", "None", "9", "400"], ["4HX", "NS", "10", "790"], ["6SXX", "None", "13", "1820"], ["1C", "NS", "7", "70"], ["2DX", "None", "8", "180"],
+      ["7NT", "NS", "13", "2220"], ["4S", "None", "8", "\u2212100"], ["4SX", "None", "6", "\u2212800"], ["4SX", "NS", "8", "\u2212500"], ["4SXX", "NS", "9", "\u2212400"]]) {
+      const seen = play({ DEALER: `N VUL ${vulnerable}`, TURN: "W", AT: "7 0 0", TRICKS: `0 ${13 - Number(has)}`, CLAIM: `E 0` });
+      const page = await seated(place({ CONTRACT: `${bid} S`, ANSWER: "DUE" }), seen);
+      assert.ok(page.text("dock").includes(`: ${comes.startsWith("\u2212") ? "" : "+"}${comes} for you`), `${bid} with ${has}: ${page.text("dock")}`);
+    }
+  },
+
   "Agree agrees, and Refuse refuses": async () => {
     for (const [id, word] of [["agree", "AGREE"], ["refuse", "REFUSE"]]) {
       const page = await seated(place({ CONTRACT: "1H E", ANSWER: "DUE" }), play({ AT: "7 20 1", CLAIM: "E 5" }));
-      assert.match(page.text("status"), /^East claims 5 of the 13 left\. Agree\?$/);
+      assert.strictEqual(page.text("status"), "Your answer is waited for");
+      assert.ok(page.text("dock").startsWith("East claims 5 of the 13 tricks left. "), page.text("dock"));
       assert.strictEqual(page.text(id).toUpperCase(), word);
       assert.strictEqual(await sent(page, id), `/lines ${word} ${KEY} 4 1\n`);
     }
     const page = await seated(place({ CONTRACT: "1H E" }), play({ CLAIM: "S 5" }));
     assert.strictEqual(page.at("agree"), null);
-    assert.match(page.text("status"), /^You claim 5 of the 13 left\. Please wait\.$/);
+    assert.match(page.text("status"), /^You claim 5 of the 13 tricks left\. Please wait\.$/);
   },
 
   "the table shows what is seen": async () => {
@@ -177,7 +196,7 @@ run({
     assert.strictEqual(page.text("below"), "N deals \u00b7 E\u2013W vul \u00b7 table 2 \u00b7 round 1 of 3");
     assert.strictEqual(page.at("chip").getAttribute("aria-label"), "Board 4, dealer North, East and West vulnerable");
     assert.strictEqual(page.at("chip").className, "vul-they deals-top");
-    assert.ok(page.text("strip").includes("4\u2660\ufe0eXby West, we need 4"), page.text("strip"));
+    assert.ok(page.text("strip").includes("4\u2660\ufe0eXW \u00b7 we need 4"), page.text("strip"));
     assert.ok(page.named("Tricks: we 1, they 0"));
     assert.strictEqual(page.named("West: 10 of spades").textContent, "10\u2660\ufe0e");
     assert.strictEqual(page.named("North: 2 of hearts").textContent, "2\u2665\ufe0e");
@@ -201,7 +220,7 @@ run({
 
   "where two taps send, the first marks": async () => {
     const twice = async (seen, placed = place()) => {
-      const page = new Page((where, body) => (where === "/place" ? placed : body.startsWith("SEE ") ? seen : "OK\n"), { key: KEY, sent: "twice" });
+      const page = new Page((where, body) => (where === "/place" ? placed : where === "/boards" ? boards() : body.startsWith("SEE ") ? seen : "OK\n"), { key: KEY, sent: "twice" });
       await page.settle();
       return page;
     };
@@ -220,12 +239,13 @@ run({
     assert.strictEqual(page.at("card-HQ").getAttribute("aria-pressed"), "false");
     assert.deepStrictEqual(await page.click("card-HJ"), []);
     assert.deepStrictEqual((await page.click("confirm"))[0], `/lines CARD ${KEY} 4 0 HJ\n`);
-    await page.click("settings");
-    assert.ok(page.at("sent-twice").checked && page.at("suits-two").checked);
+    await page.click("menu");
+    assert.ok(page.at("sent-twice").checked && page.at("suits-two").checked && page.at("light-device").checked);
     page.at("sent-once").onchange();
     page.at("suits-four").onchange();
-    assert.deepStrictEqual([page.kept.get("sent"), page.kept.get("suits")], ["once", "four"]);
-    assert.strictEqual(page.document.documentElement.className, "four");
+    page.at("light-dark").onchange();
+    assert.deepStrictEqual([page.kept.get("sent"), page.kept.get("suits"), page.kept.get("light")], ["once", "four", "dark"]);
+    assert.strictEqual(page.document.documentElement.className, "four dark");
     await page.click("chosen");
     assert.ok(page.at("choices").hidden);
   },
@@ -256,13 +276,34 @@ run({
     assert.strictEqual(page.text("heard"), "South: queen of hearts. West: 2 of hearts. North: 3 of hearts. East: 4 of hearts. Trick to South");
   },
 
+  "where another player is in turn the page looks sooner": async () => {
+    const page = await seated(place(), view({ TURN: "W" }));
+    assert.deepStrictEqual(await page.pass(300), [`/place ${KEY}`, `/lines SEE ${KEY}\n`]);
+    page.answer = (where) => (where === "/place" ? place() : view());
+    await page.pass(300);
+    assert.deepStrictEqual(await page.pass(1000), [`/place ${KEY}`, `/lines SEE ${KEY}\n`]);
+  },
+
   "in the box keys choose": async () => {
     const page = await seated(place(), view());
-    const press = (key) => page.asks(() => page.at("dock").onkeydown({ key }));
+    const press = (key) => page.asks(() => page.at("dock").onkeydown({ key, currentTarget: page.at("dock"), preventDefault() {} }));
     assert.deepStrictEqual(await press("3"), []);
     assert.deepStrictEqual((await press("n"))[0], `/lines CALL ${KEY} 4 2 3NT\n`);
     assert.deepStrictEqual((await press("p"))[0], `/lines CALL ${KEY} 4 2 PASS\n`);
     assert.deepStrictEqual(await press("x"), []);
+  },
+
+  "in a hand keys choose, and arrows go through what may be chosen": async () => {
+    const page = await seated(place({ CONTRACT: "1H E" }), play());
+    const press = (key) => page.asks(() => page.at("hand").onkeydown({ key, currentTarget: page.at("hand"), preventDefault() {} }));
+    assert.deepStrictEqual(await press("d"), []);
+    assert.deepStrictEqual((await press("1"))[0], `/lines CARD ${KEY} 4 0 DT\n`);
+    assert.deepStrictEqual(await press("k"), []);
+    page.at("card-SA").focus();
+    await press("ArrowRight");
+    assert.strictEqual(page.document.activeElement.id, "card-SK");
+    await press("ArrowLeft");
+    assert.strictEqual(page.document.activeElement.id, "card-SA");
   },
 
   "whose turn it is": async () => {
@@ -317,6 +358,30 @@ run({
     assert.match(page.text("notice"), /No answer came/);
   },
 
+  "after 3 seconds without an answer it says so": async () => {
+    const page = await seated(place(), view());
+    page.answer = () => new Promise(() => {});
+    await page.asks(() => { page.at("call-PASS").click(); });
+    await page.pass(3000);
+    assert.match(page.text("notice"), /does not answer yet/);
+    const idle = await seated(place(), view());
+    let release;
+    idle.answer = (where) => new Promise((resolve) => { if (where === "/place") release = () => resolve(place()); else resolve(view()); });
+    idle.look();
+    await idle.settle();
+    await idle.pass(3000);
+    assert.match(idle.text("status"), /does not answer/);
+    idle.answer = (where) => (where === "/place" ? place() : view());
+    release();
+    await idle.settle();
+    assert.strictEqual(idle.text("status"), "Your turn to call");
+  },
+
+  "once the network is back it looks at once": async () => {
+    const page = await seated(place(), view());
+    assert.deepStrictEqual(await page.asks(page.listeners.get("online")), [`/place ${KEY}`, `/lines SEE ${KEY}\n`]);
+  },
+
   "where the page is hidden it looks every 5 seconds, and at once when it is shown": async () => {
     const page = await seated(place(), view());
     page.document.hidden = true;
@@ -341,22 +406,121 @@ run({
     const ranks = { 1: "OK\n1 2 6.0/8.0 75.00\n2 1 2.0/8.0 25.00\n.\n", 2: "OK\n1 4 5.0/8.0 62.50\n.\n" };
     const page = new Page((where, body) => {
       if (where === "/place") return closed;
+      if (where === "/boards") return boards(board({ RESULT: "3NT E 8 -50" }));
       return where === "/results" ? RESULTS : ranks[body.trim().split(" ")[2]];
     }, { key: KEY });
     await page.settle();
     const asked = [`/place ${KEY}`, `/lines RANK ${KEY} 1\n`, `/lines RANK ${KEY} 2\n`];
-    assert.deepStrictEqual(page.asked, [...asked, `/results ${KEY}`]);
+    assert.deepStrictEqual(page.asked, [...asked, `/results ${KEY}`, `/boards ${KEY}`]);
     const titles = ["Place", "Pair", "Names", "Score", "Per cent"];
     assert.deepStrictEqual(page.rows(page.named("Ranking of field 1")), [titles, ["1", "2", "Cy and Di", "6.0/8.0", "75.00"], ["2", "1", "Ann and Bob", "2.0/8.0", "25.00"]]);
     assert.deepStrictEqual(page.rows(page.named("Ranking of field 2")), [titles, ["1", "4", "", "5.0/8.0", "62.50"]]);
     assert.strictEqual(page.text("own"), "You are first of 275.00 %Cy and Di6.0 of 8.0");
-    assert.strictEqual(page.text("own-card"), "My score cardPair 2: Cy and Di\n  Total: 6.0 of 8.0\n\n");
+    assert.deepStrictEqual(page.rows(page.at("card"))[1], ["4", "Eve \u2013 Fay", "3NT E", "8", "\u221250", ""]);
     assert.strictEqual(page.named("Ranking of field 2").parent.nodes[0].textContent, "Ranking, field 2");
     assert.strictEqual(page.named("Ranking of field 1").querySelectorAll("tr")[1].className, "own");
     assert.strictEqual(page.text("results"), RESULTS);
     assert.strictEqual(page.text("status"), "The session is closed.");
     assert.deepStrictEqual(await page.look(), asked);
     page.now += 60000;
-    assert.deepStrictEqual(await page.look(), [...asked, `/results ${KEY}`]);
+    assert.deepStrictEqual(await page.look(), [...asked, `/results ${KEY}`, `/boards ${KEY}`]);
+  },
+
+  "a board that is over stays until the player goes on": async () => {
+    const page = await seated(place({ CONTRACT: "3NT S" }), play({ AT: "7 9 0" }));
+    page.answer = (where) => (where === "/place" ? place() : where === "/boards" ? boards(board()) : view({ PLAY: "1 2 2 5" }));
+    assert.deepStrictEqual(await page.look(), [`/place ${KEY}`, `/lines SEE ${KEY}\n`, `/boards ${KEY}`]);
+    assert.strictEqual(page.text("title"), "Board 4");
+    assert.strictEqual(page.text("band"), "3NT by you, made+6009 tricks \u00b7 lead \u2666\ufe0e2 by West");
+    assert.strictEqual(page.text("onward"), "Next: board 5, your turn");
+    await page.look();
+    assert.ok(page.at("band"));
+    assert.deepStrictEqual(await page.click("onward"), [`/place ${KEY}`, `/lines SEE ${KEY}\n`]);
+    assert.strictEqual(page.at("band"), null);
+    assert.strictEqual(page.text("title"), "Board 5");
+  },
+
+  "the play of a board is stepped through": async () => {
+    const page = await seated(place(), view({ PLAY: "1 2 2 5" }), "OK\n", boards(board()));
+    await page.click("menu");
+    await page.click("menu-boards");
+    assert.deepStrictEqual(page.rows(page.at("card")), [["Board", "Against", "Contract", "Tr.", "Score", "So far"], ["4", "Eve \u2013 Fay", "3NT S", "9", "+600", ""]]);
+    await page.click("open-1-4");
+    const signed = (suit, cards) => cards.map((card) => suit + "\ufe0e" + card);
+    assert.deepStrictEqual(page.rows(page.at("tricks")).slice(1), [
+      ["1", "W", ...signed("\u2666", ["2", "A", "6", "3"]), "N"], ["2", "N", ...signed("\u2663", ["2", "4", "J", "A"]), "W"], ["3", "W", ...signed("\u2666", ["5"]), "", "", "", ""]]);
+    const marked = () => page.at("tricks").querySelectorAll("tr").filter((row) => row.className === "own").map((row) => row.id);
+    const gone = () => page.document.root.all().filter((element) => element.tag === "s").map((element) => element.textContent);
+    assert.deepStrictEqual([marked(), gone()], [[], []]);
+    assert.ok(page.at("step-back").disabled);
+    for (let i = 0; i < 4; i += 1) assert.deepStrictEqual(await page.click("step-on"), []);
+    assert.deepStrictEqual([marked(), gone()], [["trick-0"], ["A", "6", "3", "2"]]);
+    assert.strictEqual(page.named("North: ace of diamonds").className, "played top red diamond won");
+    await page.click("step-end");
+    assert.ok(page.at("step-on").disabled);
+    assert.deepStrictEqual(marked(), ["trick-2"]);
+    assert.ok(page.document.root.textContent.includes("North claimed 9 tricks, and it was agreed."));
+  },
+
+  "trumps win a trick": async () => {
+    const page = await seated(place(), view({ PLAY: "1 2 2 5" }), "OK\n", boards(board({ CALLS: "PASS 4C PASS PASS PASS", CARDS: "E DQ D3 C3 DA", CLAIM: "-", RESULT: "4C N 9 -100" })));
+    await page.click("menu");
+    await page.click("menu-boards");
+    await page.click("open-1-4");
+    assert.strictEqual(page.rows(page.at("tricks"))[1].pop(), "W");
+    assert.strictEqual(page.text("band"), "4\u2663\ufe0e by North, one down\u22121009 tricks \u00b7 lead \u2666\ufe0eQ by East");
+  },
+
+  "each result of a board is told for one's own side": async () => {
+    for (const [result, side, words, score] of [["PASS 0", "NS", "passed out", "0"], ["VOID", "EW", "taken out by the director", ""], ["AVERAGE 60 40", "EW", "average, 60 % and 40 %", "40 %"],
+      ["3NT S 9 600", "EW", "3NT by South, made", "\u2212600"], ["1H E 8 -110", "EW", "1\u2665\ufe0e by you, one over", "+110"]]) {
+      const page = await seated(place({ PLAYER: "7 Eve", TABLE: "2 E 4 6" }), view({ PLAY: "1 2 2 5", SEAT: "E" }), "OK\n", boards(board({ BOARD: `4 1 2 1 ${side}`, CARDS: "-", RESULT: result })));
+      await page.click("menu");
+      await page.click("menu-boards");
+      await page.click("open-1-4");
+      assert.ok(page.text("band").startsWith(words + score), page.text("band"));
+    }
+  },
+
+  "what other tables did is shown where the director opened it": async () => {
+    const told = boards(`${board({ RESULT: "3NT S 9 600" })}\nOTHER 5 2 8 3NT N 7 -200\nOTHER 6 6 9 3NT N 10 630\nWORTH 3.0/4`).replace("SHUT", "OPEN");
+    const page = await seated(place(), view({ PLAY: "1 2 2 5" }), "OK\n", told);
+    await page.click("menu");
+    await page.click("menu-boards");
+    assert.strictEqual(page.rows(page.at("card"))[1].pop(), "75.0 %");
+    await page.click("open-1-4");
+    assert.deepStrictEqual(page.rows(page.named("Scores").querySelectorAll("table")[0]).slice(1), [["6", "3NT N", "10", "+630"], ["2 (we)", "3NT S", "9", "+600"], ["5", "3NT N", "7", "\u2212200"]]);
+    const shut = await seated(place(), view({ PLAY: "1 2 2 5" }), "OK\n", boards(board()));
+    await shut.click("menu");
+    await shut.click("menu-boards");
+    await shut.click("open-1-4");
+    assert.ok(shut.named("Scores").textContent.includes("once the director opens it"));
+  },
+
+  "a ruling is told to those who played": async () => {
+    const page = await seated(place(), view({ PLAY: "1 2 2 5" }), "OK\n", boards(board()));
+    page.answer = (where) => (where === "/place" ? place() : where === "/boards" ? boards(board({ RESULT: "VOID" })) : view({ PLAY: "1 2 2 5" }));
+    page.now += 30000;
+    await page.look();
+    assert.strictEqual(page.text("notice"), "The director has ruled on board 4.");
+  },
+
+  "what had no answer is told once something came": async () => {
+    for (const [seen, fate] of [[view({ AT: "3 0 0", TURN: "W", CALLS: "PASS PASS PASS" }), "It was taken."], [view(), "It was not taken: please try again."]]) {
+      const page = await seated(place(), view(), null);
+      page.answer = (where) => (where === "/place" ? place() : where === "/boards" ? boards() : null);
+      await page.click("call-PASS");
+      page.answer = (where) => (where === "/place" ? place() : seen);
+      page.now += 3000;
+      await page.look();
+      assert.strictEqual(page.text("notice"), fate);
+    }
+  },
+
+  "that a claim was refused is told": async () => {
+    const page = await seated(place({ CONTRACT: "1H E" }), play({ AT: "7 20 1", CLAIM: "S 5" }));
+    page.answer = (where) => (where === "/place" ? place({ CONTRACT: "1H E" }) : play({ AT: "7 20 1" }));
+    await page.look();
+    assert.match(page.text("notice"), /was not agreed/);
   },
 });

@@ -15,16 +15,16 @@
 //! ```
 #![tactic(auto)]
 
-ghost use Rattle.std.specs.Prelude.{◌≡◌, ◌≢◌, ◌⊎◌, [], map};
-ghost use Rattle.clap.specs.Words.{fault_of};
-ghost use Rattle.command_line.specs.Words.{club_app, AsksCommand};
-ghost use Rattle.command_line.specs.declared.command.Command.{Command};
-ghost use Rattle.line_text.specs.Streams.{stream, IsUntouched};
+ghost use Rattle.std.specs.Prelude.{◌≡◌, ◌⊎◌};
+ghost use Rattle.line_text.specs.Streams.{stream};
 ghost use Rattle.bridge_club.specs.Texts.{AreClubTexts, OfClub};
-ghost use Rattle.club_commands.specs.Run.{IsDone, IsCommandStopped, IsWithoutMemory};
+ghost use Rattle.club_commands.specs.Run.{HasRun, HasFailed, IsUsage};
 
 use club_commands::{run_words_with, status_of};
-use page_assets::{DIRECTOR_SCRIPT, PAGE, SHARED_SCRIPT, STYLE, TABLE_SCRIPT};
+use page_assets::{
+    BOARDS_SCRIPT, DIRECTOR_SCRIPT, PAGE, SHARED_SCRIPT, STYLE, TABLE_SCRIPT, TEXTS_SCRIPT,
+    UNKNOWN_PAGE, WRONG_HOST,
+};
 use std::alloc::Global;
 use std::fs::File;
 use std::io::{Read, Write};
@@ -43,9 +43,13 @@ fn club_texts() -> PageTexts
     PageTexts {
         page: PAGE,
         style: STYLE,
+        texts_script: TEXTS_SCRIPT,
         shared_script: SHARED_SCRIPT,
         table_script: TABLE_SCRIPT,
+        boards_script: BOARDS_SCRIPT,
         director_script: DIRECTOR_SCRIPT,
+        unknown_page: UNKNOWN_PAGE,
+        wrong_host: WRONG_HOST,
     }
 }
 
@@ -62,19 +66,13 @@ fn run_words<
     W: Write,
     E: Write,
 >(rt: &S, alloc: Global, words: &[&str], input: &mut R, output: &mut W, errors: &mut E) -> u8
-    ensures done { result ≡ 0 → OfClub (λ texts. (command : Command) × AsksCommand (map (λ word. word.now) words.entry.now) command
-        × IsDone texts command (stream R.remaining input.old input.new)
+    ensures done { result ≡ 0 → OfClub (HasRun words.entry.now (stream R.remaining input.old input.new)
+        (stream W.contents output.old output.new) (stream E.contents errors.old errors.new) 0) }
+    ensures usage { result ≡ 2 → IsUsage words.entry.now (stream R.remaining input.old input.new)
+        (stream W.contents output.old output.new) }
+    ensures fault { result ≡ 3 → OfClub (HasFailed words.entry.now (stream R.remaining input.old input.new)
         (stream W.contents output.old output.new) (stream E.contents errors.old errors.new)) }
-    ensures usage { result ≡ 2 → (fault_of club_app (map (λ word. word.now) words.entry.now) ≢ [])
-        × IsUntouched (stream R.remaining input.old input.new)
-        × IsUntouched (stream W.contents output.old output.new) }
-    ensures fault { result ≡ 3 → OfClub (λ texts. IsWithoutMemory (stream R.remaining input.old input.new)
-        (stream W.contents output.old output.new) (stream E.contents errors.old errors.new)
-        ⊎ ((command : Command) × AsksCommand (map (λ word. word.now) words.entry.now) command
-        × IsCommandStopped texts command (stream R.remaining input.old input.new)
-        (stream W.contents output.old output.new) (stream E.contents errors.old errors.new) 3)) }
-    ensures no_session { result ≡ 4 → OfClub (λ texts. (command : Command) × AsksCommand (map (λ word. word.now) words.entry.now) command
-        × IsCommandStopped texts command (stream R.remaining input.old input.new)
+    ensures no_session { result ≡ 4 → OfClub (HasRun words.entry.now (stream R.remaining input.old input.new)
         (stream W.contents output.old output.new) (stream E.contents errors.old errors.new) 4) }
     ensures status { (result ≡ 0) ⊎ ((result ≡ 2) ⊎ ((result ≡ 3) ⊎ (result ≡ 4))) }
 {

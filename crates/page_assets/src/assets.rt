@@ -10,20 +10,24 @@ pub const PAGE: &str = r##"<!doctype html>
 <title>Bridge table</title>
 <link rel="icon" href="data:,">
 <link rel="stylesheet" href="/table.css">
+<script src="/texts.js" defer></script>
 <script src="/shared.js" defer></script>
 <script src="/table.js" defer></script>
+<script src="/boards.js" defer></script>
 <script src="/director.js" defer></script>
 </head>
 <body>
 <header id="bar">
 <div id="chip" role="img" hidden></div>
 <div id="heads"><h1 id="title">Bridge table</h1><p id="below"></p></div>
-<button id="settings" type="button" hidden>Settings</button>
-<button id="leave" type="button" hidden>Leave</button>
+<button id="menu" type="button" aria-controls="choices" hidden>Menu</button>
 </header>
 <p id="notice" role="alert"></p>
 <main id="main"><noscript>This page needs JavaScript.</noscript></main>
-<section id="choices" class="sheet" aria-label="Settings" hidden></section>
+<section id="choices" class="sheet" aria-label="Menu" hidden>
+<div id="options"></div>
+<div class="row"><button id="leave" type="button">Leave</button><button id="chosen" type="button">Done</button></div>
+</section>
 <p id="status" role="status"></p>
 <p id="heard" role="status"></p>
 </body>
@@ -34,24 +38,29 @@ pub const PAGE: &str = r##"<!doctype html>
 pub const STYLE: &str = r##"/* For a telephone as for a large screen, light and dark, and for print.
    Sizes grow with the reader's letters. */
 :root {
-  color-scheme: light dark;
-  --page: #f4f1e8; --panel: #fff; --soft: #ece8dc; --ink: #14201b; --second: #4a574f; --edge: #7c877f;
-  --bar: #143d31; --on-bar: #fff; --bar-second: #c9dad2; --felt: #1f5c49; --strip: #174a3a; --on-felt: #fff;
-  --plate: #e6efe9; --plate-ink: #14201b; --gold: #ffd84d; --gold-ink: #14201b; --vul: #b3151f; --not-vul: #1b7443;
-  --blue: #0b57a4; --on-blue: #fff; --note: #ffe7b0; --note-ink: #3d2a00; --good: #0f6b3a; --bad: #a8001c; --own: #fff3c4;
-  --diamond: #953a00; --club: #005c2b; --text-diamond: #953a00; --text-club: #005c2b; --wait: #a86400;
-  --off: #5b645f; --face: #fffdf7; --black: #12181c; --red: #a8001c; --shut: #d9d5c8; --shut-red: #6f0012; --lifted: #fff4c6;
-  --text-red: #a8001c; --felt-red: #ffb3b3; --pass: #10603a; --double: #a8121c; --redouble: #12449c;
+  color-scheme: light dark; --page: #f4f1e8; --panel: #fff; --soft: #ece8dc; --ink: #14201b; --second: #4a574f; --edge: #7c877f; --bar: #143d31;
+  --on-bar: #fff; --bar-second: #c9dad2; --felt: #1f5c49; --strip: #174a3a; --on-felt: #fff; --plate: #e6efe9; --plate-ink: #14201b; --gold: #ffd84d;
+  --gold-ink: #14201b; --vul: #b3151f; --not-vul: #1b7443; --blue: #0b57a4; --on-blue: #fff; --note: #ffe7b0; --note-ink: #3d2a00; --good: #0f6b3a;
+  --bad: #a8001c; --own: #fff3c4; --diamond: #953a00; --club: #005c2b; --text-diamond: #953a00; --text-club: #005c2b; --wait: #a86400; --off: #5b645f;
+  --face: #fffdf7; --black: #12181c; --red: #a8001c; --shut: #d9d5c8; --shut-red: #6f0012; --lifted: #fff4c6; --text-red: #a8001c; --felt-red: #ffb3b3;
+  --pass: #10603a; --double: #a8121c; --redouble: #12449c;
 }
 @media (prefers-color-scheme: dark) {
-  :root {
-    --page: #0d1311; --panel: #17201c; --soft: #202b26; --ink: #e9ede9; --second: #a8b5ae; --edge: #64736b;
-    --bar: #0a201a; --on-bar: #e9ede9; --bar-second: #a8c0b5; --felt: #12352b; --strip: #0c271f; --on-felt: #e9ede9;
-    --plate: #21302a; --plate-ink: #e9ede9; --vul: #c4262f; --not-vul: #1f7a48;
-    --blue: #8cc2ff; --on-blue: #071a2e; --note: #3d2f0a; --note-ink: #ffe7b0; --good: #7fd8a0; --bad: #ff8d8d; --own: #3a3312;
-    --diamond: #7d2f00; --club: #00522a; --text-diamond: #ffb067; --text-club: #7fd8a0; --wait: #ffb84d;
-    --off: #97a39c; --face: #e9e4d6; --red: #980019; --shut: #cdc8ba; --text-red: #ff8d8d;
+  :root:not(.light) {
+    --page: #0d1311; --panel: #17201c; --soft: #202b26; --ink: #e9ede9; --second: #a8b5ae; --edge: #64736b; --bar: #0a201a; --on-bar: #e9ede9;
+    --bar-second: #a8c0b5; --felt: #12352b; --strip: #0c271f; --on-felt: #e9ede9; --plate: #21302a; --plate-ink: #e9ede9; --vul: #c4262f; --not-vul: #1f7a48;
+    --blue: #8cc2ff; --on-blue: #071a2e; --note: #3d2f0a; --note-ink: #ffe7b0; --good: #7fd8a0; --bad: #ff8d8d; --own: #3a3312; --diamond: #7d2f00;
+    --club: #00522a; --text-diamond: #ffb067; --text-club: #7fd8a0; --wait: #ffb84d; --off: #97a39c; --face: #e9e4d6; --red: #980019; --shut: #cdc8ba;
+    --text-red: #ff8d8d;
   }
+}
+:root.light { color-scheme: light; }
+:root.dark {
+  color-scheme: dark; --page: #0d1311; --panel: #17201c; --soft: #202b26; --ink: #e9ede9; --second: #a8b5ae; --edge: #64736b; --bar: #0a201a;
+  --on-bar: #e9ede9; --bar-second: #a8c0b5; --felt: #12352b; --strip: #0c271f; --on-felt: #e9ede9; --plate: #21302a; --plate-ink: #e9ede9; --vul: #c4262f;
+  --not-vul: #1f7a48; --blue: #8cc2ff; --on-blue: #071a2e; --note: #3d2f0a; --note-ink: #ffe7b0; --good: #7fd8a0; --bad: #ff8d8d; --own: #3a3312;
+  --diamond: #7d2f00; --club: #00522a; --text-diamond: #ffb067; --text-club: #7fd8a0; --wait: #ffb84d; --off: #97a39c; --face: #e9e4d6; --red: #980019;
+  --shut: #cdc8ba; --text-red: #ff8d8d;
 }
 * { box-sizing: border-box; }
 [hidden] { display: none !important; }
@@ -88,22 +97,33 @@ label { display: inline-flex; align-items: center; gap: .4rem; min-height: 2.75r
   padding-top: max(.25rem, env(safe-area-inset-top));
 }
 #bar button { color: inherit; background: transparent; border-color: var(--bar-second); font-weight: normal; }
-#bar button { padding: .2rem .5rem; font-size: .875rem; } #bar { flex-wrap: wrap; } #heads { flex: 1 1 4rem; min-width: 4rem; }
+#bar button { padding: .2rem .5rem; font-size: .875rem; }
+#bar { flex-wrap: wrap; }
+#heads { flex: 1 1 4rem; min-width: 4rem; }
 #below { margin: 0; font-size: .875rem; color: var(--bar-second); white-space: nowrap; overflow: hidden; text-overflow: ellipsis; }
 #below:empty, #notice:empty, #status:empty { display: none; }
 #notice { grid-area: note; margin: 0; padding: .5rem .75rem; color: var(--note-ink); background: var(--note); font-weight: bold; }
-#status { grid-area: say; justify-self: center; margin: .25rem .5rem; padding: .2rem 1rem; max-width: calc(100% - 1rem); border-radius: 1rem; text-align: center; background: var(--soft); }
-#chip { display: grid; grid-template: 1fr / 1fr; place-items: center; width: 2.5rem; height: 2.5rem; flex: none; border: 1px solid var(--on-bar); border-radius: .25rem; overflow: hidden; }
+#status {
+  grid-area: say; justify-self: center; margin: .25rem .5rem; padding: .2rem 1rem; max-width: calc(100% - 1rem); border-radius: 1rem; text-align: center;
+  background: var(--soft);
+}
+#chip {
+  display: grid; grid-template: 1fr / 1fr; place-items: center; width: 2.5rem; height: 2.5rem; flex: none; border: 1px solid var(--on-bar);
+  border-radius: .25rem; overflow: hidden;
+}
 #chip { border-width: .6rem; border-color: var(--not-vul); color: #12181c; background: #fff; font-weight: bold; position: relative; overflow: visible; font-size: .8125rem; }
 #chip.vul-we { border-top-color: var(--vul); border-bottom-color: var(--vul); }
 #chip.vul-they { border-left-color: var(--vul); border-right-color: var(--vul); }
 #chip::after { content: ""; position: absolute; width: .4rem; height: .4rem; border-radius: 50%; background: #fff; }
-#chip.deals-bottom::after { bottom: -.5rem; } #chip.deals-top::after { top: -.5rem; }
-#chip.deals-left::after { left: -.5rem; } #chip.deals-right::after { right: -.5rem; }
+#chip.deals-bottom::after { bottom: -.5rem; }
+#chip.deals-top::after { top: -.5rem; }
+#chip.deals-left::after { left: -.5rem; }
+#chip.deals-right::after { right: -.5rem; }
 
 /* Pages that scroll: to log in, between boards, results, and the director's. */
 body:not(.at-table) main { max-width: 64rem; margin: 0 auto; padding: .75rem; }
-body:not(.at-table) { display: flex; flex-direction: column; } body:not(.at-table) main { order: 2; width: 100%; }
+body:not(.at-table) { display: flex; flex-direction: column; }
+body:not(.at-table) main { order: 2; width: 100%; }
 body:not(.at-table) #status { order: 1; align-self: center; margin: .75rem .75rem 0; font-weight: bold; }
 .panel { max-width: 40rem; margin: 0 auto .75rem; padding: .75rem 1rem; background: var(--panel); border: 1px solid var(--edge); border-radius: .75rem; }
 .panel h2:first-child { margin-top: 0; }
@@ -120,34 +140,85 @@ body.login .panel label { display: block; min-height: 0; margin-bottom: .3rem; f
 .mark { flex: none; min-width: 1.6rem; padding: 0 .3rem; border-radius: .3rem; text-align: center; font-weight: bold; background: var(--soft); }
 table { border-collapse: collapse; background: var(--panel); }
 th, td { border: 1px solid var(--edge); padding: .2rem .6rem; text-align: center; }
-tr.own td { background: var(--own); font-weight: bold; }
+tr.own :is(td, th) { background: var(--own); font-weight: bold; }
 pre { background: var(--panel); padding: .5rem; overflow-x: auto; font-size: .8rem; }
 .row { display: flex; flex-wrap: wrap; gap: .4rem; align-items: center; margin: .4rem 0; }
 .field { display: inline-flex; flex-wrap: wrap; gap: .3rem; align-items: center; }
 .field input[type=number] { width: 5.5rem; }
 details { margin: .6rem 0; border-top: 1px solid var(--edge); padding-top: .4rem; }
 /* The results. */
-.final #main { max-width: 72rem; } .sides { display: grid; grid-template-columns: repeat(auto-fit, minmax(min(100%, 24rem), 1fr)); gap: 0 1rem; }
-.sides .panel { width: 100%; max-width: none; } .sides table { width: 100%; } .sides th, .sides td { border: 0; border-bottom: 1px solid var(--edge); padding: .35rem .3rem; } .who { text-align: left; overflow-wrap: anywhere; }
-.banner { display: grid; grid-template-columns: 1fr auto; align-items: baseline; padding: .5rem 1rem; margin-bottom: .75rem; color: var(--on-felt); background: var(--felt); border-radius: .75rem; } .banner .large { font-size: 1.375rem; } .banner p { margin: 0; }
-.sheet fieldset { border: 1px solid var(--edge); border-radius: .5rem; margin: .5rem 0; } .sheet fieldset label { display: flex; } #chosen { width: 100%; color: var(--on-blue); background: var(--blue); }
-/* The director's tables: a card each. */
-.director #tables { display: block; background: none; } .director #tables thead { position: absolute; width: 1px; height: 1px; overflow: hidden; clip-path: inset(50%); }
-.director #tables tbody { display: grid; grid-template-columns: repeat(auto-fill, minmax(min(100%, 18rem), 1fr)); gap: .6rem; }
-.director #tables tr { display: grid; grid-template: "n b b m" auto "w w w w" auto "p p q q" auto / auto auto 1fr auto; gap: .1rem .75rem; align-items: baseline; padding: .5rem .75rem; background: var(--panel); border: 1px solid var(--edge); border-left: .5rem solid var(--edge); border-radius: .75rem; }
-.director #tables td { border: 0; padding: 0; text-align: left; } .director #tables td:nth-child(1) { grid-area: n; font-size: 1.5rem; font-weight: bold; }
-.director #tables td:nth-child(2) { grid-area: p; } .director #tables td:nth-child(2)::before { content: "N\2013S pair "; } .director #tables td:nth-child(3) { grid-area: q; } .director #tables td:nth-child(3)::before { content: "E\2013W pair "; }
-.director #tables td:nth-child(2), .director #tables td:nth-child(3) { color: var(--second); font-size: .9375rem; }
-.director #tables td:nth-child(4) { grid-area: b; font-weight: bold; } .director #tables td:nth-child(4):not(:empty)::before { content: "Board "; } .director #tables td:nth-child(5) { grid-area: w; }
-.director #tables td:nth-child(6) { grid-area: m; font-size: .875rem; color: var(--second); } .director #tables td:nth-child(6)::after { content: " min"; }
-.director #tables .done { border-left-color: var(--good); } .director #tables .waits { border-left-color: var(--blue); } .director #tables .slow { border-color: var(--wait); }
-.director #tables .slow td:nth-child(6) { padding: 0 .5rem; border-radius: 1rem; color: var(--gold-ink); background: var(--gold); font-weight: bold; }
-.director summary { min-height: 0; padding: .45rem 0; }
-@media (min-width: 60em) {
-  .director #main { display: grid; grid-template-columns: minmax(0, 1fr) 22rem; gap: 0 1rem; align-items: start; max-width: 90rem; } .director #main > * { grid-column: 2; min-width: 0; }
-  .director #main > #tables { grid-column: 1; grid-row: 2 / span 6; } .director #main > .row { grid-row: 2; margin-top: 0; } .director #main > #told, .director #main > #publishing, .director #main > #lines { grid-column: 1 / -1; }
+.final #main { max-width: 72rem; }
+.sides { display: grid; grid-template-columns: repeat(auto-fit, minmax(min(100%, 24rem), 1fr)); gap: 0 1rem; }
+.sides .panel { width: 100%; max-width: none; }
+.sides table { width: 100%; }
+.sides th, .sides td { border: 0; border-bottom: 1px solid var(--edge); padding: .35rem .3rem; }
+.who { text-align: left; overflow-wrap: anywhere; }
+.banner {
+  display: grid; grid-template-columns: 1fr auto; align-items: baseline; padding: .5rem 1rem; margin-bottom: .75rem; color: var(--on-felt);
+  background: var(--felt); border-radius: .75rem;
 }
-.director details { padding: .5rem 1rem; background: var(--panel); border: 1px solid var(--edge); border-radius: .75rem; } 
+.banner .large { font-size: 1.375rem; }
+.banner p { margin: 0; }
+.sheet fieldset { border: 1px solid var(--edge); border-radius: .5rem; margin: .5rem 0; }
+.sheet fieldset label { display: flex; }
+#chosen { width: 100%; color: var(--on-blue); background: var(--blue); }
+/* The director's tables: a card each. */
+.director #tables { display: block; background: none; }
+.director #tables thead { position: absolute; width: 1px; height: 1px; overflow: hidden; clip-path: inset(50%); }
+.director #tables tbody { display: grid; grid-template-columns: repeat(auto-fill, minmax(min(100%, 18rem), 1fr)); gap: .6rem; }
+.director #tables tr {
+  display: grid; grid-template: "n b s" auto "w w w" auto "p p o" auto "q q o" auto "m m o" 1fr / auto 1fr auto; gap: .1rem .75rem; align-items: baseline;
+  align-content: start; padding: .5rem .75rem; background: var(--panel); border: 1px solid var(--edge); border-left: .5rem solid var(--edge);
+  border-radius: .75rem;
+}
+.director #tables td { border: 0; padding: 0; text-align: left; overflow-wrap: anywhere; }
+.director #tables td:nth-child(1) { grid-area: n; font-size: 1.5rem; font-weight: bold; }
+.director #tables td:nth-child(2) { grid-area: p; }
+.director #tables td:nth-child(2)::before { content: "N\2013S "; }
+.director #tables td:nth-child(3) { grid-area: q; }
+.director #tables td:nth-child(3)::before { content: "E\2013W "; }
+.director #tables td:nth-child(2), .director #tables td:nth-child(3) { color: var(--second); font-size: .9375rem; }
+.director #tables td:nth-child(4) { grid-area: b; font-weight: bold; }
+.director #tables td:nth-child(4):not(:empty)::before { content: "Board "; }
+.director #tables td:nth-child(5) { grid-area: w; }
+.director #tables td:nth-child(6) { grid-area: m; font-size: .875rem; color: var(--second); }
+.director #tables td:nth-child(7) {
+  grid-area: s; padding: .05rem .6rem; border-radius: 1rem; font-size: .875rem; font-weight: bold; background: var(--soft); justify-self: end;
+  white-space: nowrap;
+}
+.director #tables td:nth-child(8) { grid-area: o; align-self: end; }
+.director #tables .done { border-left-color: var(--good); }
+.director #tables .done td:nth-child(7) { color: #fff; background: var(--not-vul); }
+.director #tables .waits { border-left-color: var(--blue); }
+.director #tables .slow { border-color: var(--wait); }
+.director #tables .slow td:nth-child(7) { color: var(--gold-ink); background: var(--gold); }
+.director #tables .slow td:nth-child(6) { color: var(--ink); font-weight: bold; }
+@media (min-width: 60em) {
+  .director #main { display: grid; grid-template-columns: minmax(0, 1fr) 22rem; gap: 0 1rem; align-items: start; max-width: 90rem; }
+  .director #main > * { grid-column: 2; min-width: 0; }
+  .director #main > #told, .director #main > #opened { grid-column: 1 / -1; }
+  .director #main > #tables { grid-column: 1; grid-row: 3 / span 6; }
+  .director #main > .row { grid-row: 3; margin-top: 0; }
+  .director #main > #publishing, .director #main > #lines { grid-column: 1 / -1; }
+}
+#opened:empty { display: none; }
+#opened { padding: .5rem .75rem; margin-bottom: .75rem; border: 2px solid var(--gold); border-radius: .75rem; background: var(--page); }
+#opened h2 { margin: 0 .5rem 0 0; }
+#opened .panel { width: 100%; max-width: none; margin: 0 0 .5rem; }
+#opened .part { display: block; }
+#opened .row [aria-pressed=true] { color: var(--page); background: var(--ink); }
+#opened-close { margin-left: auto; }
+#rankings table { width: 100%; }
+#rankings th, #rankings td { border: 0; border-bottom: 1px solid var(--edge); padding: .25rem .2rem; }
+@media (min-width: 60em) {
+  #rankings :is(th, td):nth-child(2):not(:nth-last-child(-n+2)), #rankings :is(th, td):nth-child(4):not(:last-child) { display: none; }
+}
+#ruled { margin: 0; padding-left: 1.2rem; }
+#ruled li { margin: .2rem 0; }
+h3 { font-size: 1rem; margin: .6rem 0 .2rem; }
+#others:empty { display: none; }
+.director summary { min-height: 0; padding: .45rem 0; }
+.director details { padding: .5rem 1rem; background: var(--panel); border: 1px solid var(--edge); border-radius: .75rem; }
 summary { cursor: pointer; min-height: 2.2rem; font-weight: bold; }
 .tables td, .tables th { padding: .2rem .35rem; }
 #told { position: sticky; top: 0; z-index: 1; color: var(--note-ink); background: var(--note); padding: .4rem .6rem; border-radius: .5rem; }
@@ -158,30 +229,55 @@ summary { cursor: pointer; min-height: 2.2rem; font-weight: bold; }
 .at-table main { display: contents; }
 .at-table #status { color: var(--plate-ink); background: var(--plate); }
 .at-table #status.turn { color: var(--gold-ink); background: var(--gold); font-weight: bold; }
-#strip { grid-area: strip; display: flex; align-items: center; gap: .5rem; min-height: 2.125rem; padding: .1rem .6rem; color: var(--on-felt); background: var(--strip); position: relative; }
-#strip .red { color: var(--felt-red); } .four #strip .diamond { color: #ffc48a; } .four #strip .club { color: #a8e6bd; }
+#strip {
+  grid-area: strip; display: flex; align-items: center; gap: .5rem; min-height: 2.125rem; padding: .1rem .6rem; color: var(--on-felt);
+  background: var(--strip); position: relative;
+}
+#strip .red { color: var(--felt-red); }
+.four #strip .diamond { color: #ffc48a; }
+.four #strip .club { color: #a8e6bd; }
 #strip .suit, .face .suit { font-weight: normal; }
 .contract { font-size: 1.125rem; font-weight: bold; }
 #calls { border: 0; margin: 0; padding: 0; flex: 1; }
 #calls summary { min-height: 2rem; list-style: none; font-weight: normal; display: flex; gap: .4rem; align-items: center; }
 #calls summary::after { content: "\25be"; color: var(--bar-second); }
-#calls[open] > div { position: absolute; inset: 100% .4rem auto; z-index: 5; padding: .5rem; color: var(--ink); background: var(--panel); border: 1px solid var(--edge); border-radius: .75rem; }
-#calls .red { color: var(--text-red); } .four #calls td .diamond { color: var(--text-diamond); } .four #calls td .club { color: var(--text-club); } #calls summary .red { color: var(--felt-red); }
+#calls[open] > div {
+  position: absolute; inset: 100% .4rem auto; z-index: 5; padding: .5rem; color: var(--ink); background: var(--panel); border: 1px solid var(--edge);
+  border-radius: .75rem;
+}
+#calls .red { color: var(--text-red); }
+.four #calls td .diamond { color: var(--text-diamond); }
+.four #calls td .club { color: var(--text-club); }
+#calls summary .red { color: var(--felt-red); }
 .tally { display: flex; gap: 2px; align-items: center; }
 .tally i { width: .35rem; height: .35rem; border-radius: 50%; background: var(--bar-second); opacity: .7; }
 .tally .ours { width: .4rem; height: .85rem; border-radius: 1px; background: #fff; opacity: 1; }
 .tally .theirs { width: .85rem; height: .4rem; border-radius: 1px; background: var(--felt-red); opacity: 1; }
-#stage { grid-area: stage; display: grid; grid-template: auto minmax(0, 1fr) / 5rem minmax(0, 1fr) 5rem; grid-template-areas: "top top top" "left mid right"; gap: .4rem; align-items: center; padding: .4rem .5rem; min-height: 0; min-width: 0; }
-.at-top { grid-area: top; justify-self: center; max-width: 100%; min-width: 0; } .at-left { grid-area: left; min-width: 0; } .at-right { grid-area: right; min-width: 0; }
-.plate { display: flex; flex-wrap: wrap; justify-content: center; align-items: center; gap: .15rem .4rem; padding: .2rem .5rem; color: var(--plate-ink); background: var(--plate); border-radius: 1rem; text-align: center; overflow-wrap: anywhere; }
+#stage {
+  grid-area: stage; display: grid; grid-template: auto minmax(0, 1fr) / 5rem minmax(0, 1fr) 5rem; grid-template-areas: "top top top" "left mid right";
+  gap: .4rem; align-items: center; padding: .4rem .5rem; min-height: 0; min-width: 0;
+}
+.at-top { grid-area: top; justify-self: center; max-width: 100%; min-width: 0; }
+.at-left { grid-area: left; min-width: 0; }
+.at-right { grid-area: right; min-width: 0; }
+.plate {
+  display: flex; flex-wrap: wrap; justify-content: center; align-items: center; gap: .15rem .4rem; padding: .2rem .5rem; color: var(--plate-ink);
+  background: var(--plate); border-radius: 1rem; text-align: center; overflow-wrap: anywhere;
+}
 .at-left > .plate, .at-right > .plate { border-radius: .5rem; padding: .2rem; font-size: .8125rem; line-height: 1.2; flex-direction: column; }
 .at-top > .plate { width: fit-content; max-width: 100%; margin: 0 auto .2rem; }
 .plate.turn { color: var(--gold-ink); background: var(--gold); }
 .plate b { display: inline-grid; place-items: center; width: 1.6rem; height: 1.6rem; border-radius: 50%; color: #fff; background: var(--not-vul); flex: none; }
 .plate b.vul { background: var(--vul); }
 .plate em { padding: 0 .25rem; border: 1px solid currentcolor; border-radius: .25rem; font-style: normal; font-size: .75rem; font-weight: bold; }
-.trick { grid-area: mid; justify-self: center; display: grid; grid-template: repeat(3, auto) / repeat(3, auto); grid-template-areas: ". t ." "l . r" ". b ."; place-items: center; gap: .15rem; }
-.trick .top { grid-area: t; } .trick .left { grid-area: l; } .trick .right { grid-area: r; } .trick .bottom { grid-area: b; }
+.trick {
+  grid-area: mid; justify-self: center; display: grid; grid-template: repeat(3, auto) / repeat(3, auto); grid-template-areas: ". t ." "l . r" ". b .";
+  place-items: center; gap: .15rem;
+}
+.trick .top { grid-area: t; }
+.trick .left { grid-area: l; }
+.trick .right { grid-area: r; }
+.trick .bottom { grid-area: b; }
 .trick { grid-template-areas: ". t ." "l t r" "l b r" ". b ."; grid-template-rows: repeat(4, auto); }
 .played, .due { display: grid; place-content: center; justify-items: center; width: var(--tw); height: var(--th); border-radius: .375rem; line-height: 1; }
 .played { color: var(--black); background: var(--face); border: 1px solid #8f8b7e; box-shadow: 0 1px 2px rgb(0 0 0 / 35%); font-size: 1.375rem; font-weight: bold; }
@@ -192,22 +288,32 @@ summary { cursor: pointer; min-height: 2.2rem; font-weight: bold; }
 .hand { min-width: 0; }
 #hand { grid-area: hand; padding: .25rem .4rem .4rem; min-width: 0; }
 .hand > h2 { position: absolute; width: 1px; height: 1px; overflow: hidden; clip-path: inset(50%); margin: 0; }
-.cards { display: flex; flex-direction: column; gap: .25rem; width: fit-content; max-width: 100%; margin: 0 auto; padding: .25rem; border: 2px solid transparent; border-radius: .7rem; }
+.cards {
+  display: flex; flex-direction: column; gap: .25rem; width: fit-content; max-width: 100%; margin: 0 auto; padding: .25rem; border: 2px solid transparent;
+  border-radius: .7rem;
+}
 .hand.on .cards { border-color: var(--gold); background: rgb(255 216 77 / 16%); }
 .line, .group { display: flex; justify-content: center; min-width: 0; }
-.line { gap: .375rem; } .group { gap: .2rem; }
+.line { gap: .375rem; }
+.group { gap: .2rem; }
 .card {
-  display: grid; align-content: start; justify-items: start; width: var(--cw); min-width: 0; height: var(--ch); min-height: 0; padding: .15rem 0 0 .3rem; flex: none;
-  color: var(--black); background: var(--face); border: 1px solid #8f8b7e; border-radius: .375rem; box-shadow: 0 1px 2px rgb(0 0 0 / 35%); line-height: 1; font-size: 1.375rem; font-weight: bold; text-align: left;
+  display: grid; align-content: start; justify-items: start; width: var(--cw); min-width: 0; height: var(--ch); min-height: 0; padding: .15rem 0 0 .3rem;
+  flex: none; color: var(--black); background: var(--face); border: 1px solid #8f8b7e; border-radius: .375rem; box-shadow: 0 1px 2px rgb(0 0 0 / 35%);
+  line-height: 1; font-size: 1.375rem; font-weight: bold; text-align: left;
 }
 .card .suit, .played .suit { font-size: 1.25rem; line-height: 1; margin-top: .1rem; }
 .card.red { color: var(--red); }
 .card:disabled { color: var(--black); background: var(--face); border: 1px solid #8f8b7e; font-weight: bold; }
 .card.red:disabled { color: var(--red); }
-.hand.on .card:disabled { background: var(--shut); box-shadow: none; } .hand.on .card.red:disabled { color: var(--shut-red); }
-.four .diamond { color: var(--text-diamond); } .four .club { color: var(--text-club); }
-.four .card.diamond, .four .played.diamond { color: var(--diamond); } .four .card.club, .four .played.club { color: var(--club); }
-.four .hand.on .card.diamond:disabled { color: #5c2400; } .four .hand.on .card.club:disabled { color: #00401f; } .four .card[aria-pressed=true].diamond { color: #853200; }
+.hand.on .card:disabled { background: var(--shut); box-shadow: none; }
+.hand.on .card.red:disabled { color: var(--shut-red); }
+.four .diamond { color: var(--text-diamond); }
+.four .club { color: var(--text-club); }
+.four .card.diamond, .four .played.diamond { color: var(--diamond); }
+.four .card.club, .four .played.club { color: var(--club); }
+.four .hand.on .card.diamond:disabled { color: #5c2400; }
+.four .hand.on .card.club:disabled { color: #00401f; }
+.four .card[aria-pressed=true].diamond { color: #853200; }
 .card[aria-pressed=true] { background: var(--lifted); transform: translateY(-.75rem); outline: 3px solid var(--gold); }
 .ten { letter-spacing: -.12em; }
 .at-left .cards, .at-right .cards { flex-direction: column; padding: .1rem; gap: .15rem; }
@@ -215,94 +321,177 @@ summary { cursor: pointer; min-height: 2.2rem; font-weight: bold; }
 .at-left .card, .at-right .card { width: var(--fw); margin-right: calc(var(--cw) - var(--fw)); font-size: 1.125rem; padding-left: .15rem; }
 .at-left .card:last-child, .at-right .card:last-child { margin-right: 0; }
 .at-left .card .suit, .at-right .card .suit { font-size: 1rem; }
-.at-left .line, .at-right .line { flex-direction: column; gap: .15rem; } .at-left .group, .at-right .group { justify-content: flex-start; gap: 0; }
+.at-left .line, .at-right .line { flex-direction: column; gap: .15rem; }
+.at-left .group, .at-right .group { justify-content: flex-start; gap: 0; }
 .void { padding: 0 .5rem; border-radius: .5rem; color: var(--plate-ink); background: var(--plate); font-size: .875rem; }
 .dummy-left .at-left > .plate, .dummy-right .at-right > .plate { flex-flow: row wrap; }
-.dummy-left #stage { grid-template-columns: 9rem minmax(0, 1fr) 4rem; } .dummy-right #stage { grid-template-columns: 4rem minmax(0, 1fr) 9rem; }
+.dummy-left #stage { grid-template-columns: 9rem minmax(0, 1fr) 4rem; }
+.dummy-right #stage { grid-template-columns: 4rem minmax(0, 1fr) 9rem; }
 .dummy-left, .dummy-right { --tw: 2.75rem; --th: 3.75rem; }
 
 /* The auction, and what is pressed. */
 .auction { grid-area: mid; align-self: start; width: 100%; max-height: 100%; overflow-y: auto; border-radius: .6rem; background: var(--panel); color: var(--ink); }
 @media (max-width: 39.99em), (max-height: 30em) {
-  .bidding #stage { position: relative; min-height: 6.5rem; } .bidding .auction { position: absolute; inset: .4rem .5rem auto; width: auto; max-height: calc(100% - .8rem); }
+  .bidding #stage { position: relative; min-height: 6.5rem; }
+  .bidding .auction { position: absolute; inset: .4rem .5rem auto; width: auto; max-height: calc(100% - .8rem); }
 }
 #dock.play #claim-open[hidden] + #confirm { grid-column: span 7; }
 .at-top.none, .bidding .at-left, .bidding .at-right, .bidding .at-top { display: none; }
 .bidding #stage { grid-template: minmax(0, 1fr) / minmax(0, 1fr); grid-template-areas: "mid"; }
 .auction table, #calls table, #side table { width: 100%; table-layout: fixed; background: none; }
-.auction th, .auction td, #calls th, #calls td, #side th, #side td { border: 0; padding: .2rem .1rem; overflow: hidden; text-overflow: ellipsis; white-space: nowrap; font-weight: normal; }
-.auction th, #calls th, #side th { font-size: .8125rem; line-height: 1.25; color: var(--plate-ink); background: var(--plate); } .auction th { position: sticky; top: 0; }
+.auction th, .auction td, #calls th, #calls td, #side th, #side td {
+  border: 0; padding: .2rem .1rem; overflow: hidden; text-overflow: ellipsis; white-space: nowrap; font-weight: normal;
+}
+.auction th, #calls th, #side th { font-size: .8125rem; line-height: 1.25; color: var(--plate-ink); background: var(--plate); }
+.auction th { position: sticky; top: 0; }
 .auction tbody tr:nth-child(even), #calls tbody tr:nth-child(even), #side tbody tr:nth-child(even) { background: var(--soft); }
 .auction td .bid, #calls td .bid, #side td .bid { font-weight: bold; }
 td .pass { color: var(--second); }
-.double, .redouble { padding: 0 .4rem; border-radius: .25rem; color: #fff; background: var(--double); font-weight: bold; } .redouble { background: var(--redouble); }
-.seat { display: inline-block; min-width: 1.4rem; border-radius: .25rem; color: #fff; background: var(--not-vul); font-weight: bold; } .seat.vul { background: var(--vul); }
-th.turn, td.turn, .auction th.turn { color: var(--gold-ink); background: var(--gold); } td.turn { font-weight: bold !important; }
-#dock { grid-area: dock; display: grid; grid-template-columns: repeat(10, minmax(0, 1fr)); gap: .25rem; align-content: start; padding: .4rem .5rem max(.4rem, env(safe-area-inset-bottom)); color: var(--ink); background: var(--page); border-top: 1px solid var(--edge); min-width: 0; }
+.double, .redouble { padding: 0 .4rem; border-radius: .25rem; color: #fff; background: var(--double); font-weight: bold; }
+.redouble { background: var(--redouble); }
+.seat { display: inline-block; min-width: 1.4rem; border-radius: .25rem; color: #fff; background: var(--not-vul); font-weight: bold; }
+.seat.vul { background: var(--vul); }
+th.turn, td.turn, .auction th.turn { color: var(--gold-ink); background: var(--gold); }
+td.turn { font-weight: bold !important; }
+#dock {
+  grid-area: dock; display: grid; grid-template-columns: repeat(10, minmax(0, 1fr)); gap: .25rem; align-content: start;
+  padding: .4rem .5rem max(.4rem, env(safe-area-inset-bottom)); color: var(--ink); background: var(--page); border-top: 1px solid var(--edge); min-width: 0;
+}
 #dock button { padding: .1rem; min-width: 0; }
 .box { --bid: clamp(2.25rem, calc((100dvh - 24.2rem) / 7), 3rem); }
 #dock .bid { grid-column: span 2; min-height: var(--bid); color: var(--black); background: #fffdf7; font-size: 1.125rem; line-height: 1; }
-#dock .bid .red { color: #a8001c; } .four #dock .bid .diamond { color: #953a00; } .four #dock .bid .club { color: #005c2b; }
+#dock .bid .red { color: #a8001c; }
+.four #dock .bid .diamond { color: #953a00; }
+.four #dock .bid .club { color: #005c2b; }
 #dock .bid:disabled, #dock .bid:disabled .red { color: var(--off); background: var(--soft); border: 1px solid var(--soft); }
-#call-PASS { grid-column: span 3; } #call-X, #call-XX { grid-column: span 2; } .box #confirm { grid-column: span 3; }
-#dock #call-PASS:enabled { color: #fff; background: var(--pass); } #dock #call-X:enabled { color: #fff; background: var(--double); } #dock #call-XX:enabled { color: #fff; background: var(--redouble); }
+#call-PASS { grid-column: span 3; }
+#call-X, #call-XX { grid-column: span 2; }
+.box #confirm { grid-column: span 3; }
+#dock #call-PASS:enabled { color: #fff; background: var(--pass); }
+#dock #call-X:enabled { color: #fff; background: var(--double); }
+#dock #call-XX:enabled { color: #fff; background: var(--redouble); }
 #dock .box-call[aria-pressed=true], #dock .bid[aria-pressed=true] { color: var(--gold-ink); background: var(--gold); outline: 3px solid var(--blue); }
-#last { grid-column: span 3; } #claim-open { grid-column: span 3; } #dock.play #confirm { grid-column: span 4; }
-#dock.play button { min-height: 2.75rem; } #dock.claimed { grid-template-columns: 1fr 1fr; color: var(--gold-ink); background: var(--gold); }
-#dock.claimed p { grid-column: 1 / -1; margin: 0; } #refuse { color: #a8001c; background: #fff; } #agree { color: #fff; background: #0b57a4; border-color: #0b57a4; }
+#last { grid-column: span 3; }
+#claim-open { grid-column: span 3; }
+#dock.play #confirm { grid-column: span 4; }
+#dock.play button { min-height: 2.75rem; }
+#dock.claimed { grid-template-columns: 1fr 1fr; color: var(--gold-ink); background: var(--gold); }
+#dock.claimed p { grid-column: 1 / -1; margin: 0; }
+#refuse { color: #a8001c; background: #fff; }
+#agree { color: #fff; background: #0b57a4; border-color: #0b57a4; }
 #dock.claimed button:disabled { color: #5b645f; background: #ece8dc; }
-.sheet { position: fixed; inset: auto .5rem 4.5rem; z-index: 6; max-width: 30rem; margin: 0 auto; padding: .75rem; color: var(--ink); background: var(--panel); border: 1px solid var(--edge); border-radius: .75rem; max-height: calc(100dvh - 5rem); overflow-y: auto; box-shadow: 0 2px 12px rgb(0 0 0 / 40%); }
-.sheet h2 { margin-top: 0; } .numbers { display: grid; grid-template-columns: repeat(auto-fill, minmax(2.75rem, 1fr)); gap: .25rem; margin: .5rem 0; } .numbers button { padding: 0; } .numbers button[aria-pressed=true] { color: var(--gold-ink); background: var(--gold); }
+.sheet {
+  position: fixed; inset: auto .5rem 4.5rem; z-index: 6; max-width: 30rem; margin: 0 auto; padding: .75rem; color: var(--ink); background: var(--panel);
+  border: 1px solid var(--edge); border-radius: .75rem; max-height: calc(100dvh - 5rem); overflow-y: auto; box-shadow: 0 0 0 100vmax rgb(10 20 16 / 45%);
+}
+.sheet h2 { margin-top: 0; }
+.numbers { display: grid; grid-template-columns: repeat(auto-fill, minmax(2.75rem, 1fr)); gap: .25rem; margin: .5rem 0; }
+.numbers button { padding: 0; }
+.numbers button[aria-pressed=true] { color: var(--gold-ink); background: var(--gold); }
 .sheet .row { justify-content: space-between; }
 #side { display: none; }
 
 /* Shapes of screens. */
 @media (orientation: landscape) and (max-height: 30em) {
-  .at-table { --ch: 4rem; --cw: min(3rem, calc((100vw - 13rem) / 13.4)); --tw: 2.1rem; --th: 2.75rem; grid-template: "bar bar" auto "note note" auto "stage strip" auto "stage dock" 1fr "say dock" auto "hand dock" auto / minmax(0, 1fr) 11rem; }
-  .at-table.bidding { --cw: min(3rem, calc((100vw - 27rem) / 13.4)); grid-template: "bar bar" auto "note note" auto "stage dock" 1fr "say dock" auto "hand dock" auto / minmax(0, 1fr) 25rem; }
-  #bar { min-height: 2.75rem; padding-top: 0; padding-bottom: 0; } #chip { width: 2.25rem; height: 2.25rem; }
-  .cards { flex-direction: row; } .card { padding-left: .15rem; }
-  .box { --bid: calc((100dvh - 5.4rem) / 8); } #dock.box button { min-height: var(--bid); } #dock { align-content: end; } #dock.play { grid-template-columns: 1fr; align-content: end; } #dock.play button, #dock.play #confirm { grid-column: auto; }
-  #strip { flex-wrap: wrap; align-content: center; } #calls { flex-basis: 100%; } .at-left .line, .at-right .line { gap: .1rem; } .at-left, .at-right { --ch: 1.75rem; --cw: 1.9rem; --fw: 2.3rem; } .at-left .card, .at-right .card { align-content: center; justify-content: start; grid-auto-flow: column; padding: 0 0 0 .2rem; }
-  .dummy-left .at-left > .plate, .dummy-right .at-right > .plate { flex-flow: row nowrap; } .dummy-left .at-left > .plate span, .dummy-right .at-right > .plate span { overflow: hidden; text-overflow: ellipsis; white-space: nowrap; } .dummy-left #stage { grid-template-columns: 12rem minmax(0, 1fr) 4rem; } .dummy-right #stage { grid-template-columns: 4rem minmax(0, 1fr) 12rem; }
+  .at-table {
+    --ch: 4rem; --cw: min(3rem, calc((100vw - 13rem) / 13.4)); --tw: 2.1rem; --th: 2.75rem;
+    grid-template: "bar bar" auto "note note" auto "stage strip" auto "stage dock" 1fr "say dock" auto "hand dock" auto / minmax(0, 1fr) 11rem;
+  }
+  .at-table.bidding {
+    --cw: min(3rem, calc((100vw - 27rem) / 13.4));
+    grid-template: "bar bar" auto "note note" auto "stage dock" 1fr "say dock" auto "hand dock" auto / minmax(0, 1fr) 25rem;
+  }
+  #bar { min-height: 2.75rem; padding-top: 0; padding-bottom: 0; }
+  #chip { width: 2.25rem; height: 2.25rem; }
+  .cards { flex-direction: row; }
+  .card { padding-left: .15rem; }
+  .box { --bid: calc((100dvh - 5.4rem) / 8); }
+  #dock.box button { min-height: var(--bid); }
+  #dock { align-content: end; }
+  #dock.play { grid-template-columns: 1fr; align-content: end; }
+  #dock.play button, #dock.play #confirm { grid-column: auto; }
+  #strip { flex-wrap: wrap; align-content: center; }
+  #calls { flex-basis: 100%; }
+  .at-left .line, .at-right .line { gap: .1rem; }
+  .at-left, .at-right { --ch: 1.75rem; --cw: 1.9rem; --fw: 2.3rem; }
+  .at-left .card, .at-right .card { align-content: center; justify-content: start; grid-auto-flow: column; padding: 0 0 0 .2rem; }
+  .dummy-left .at-left > .plate, .dummy-right .at-right > .plate { flex-flow: row nowrap; }
+  .dummy-left .at-left > .plate span, .dummy-right .at-right > .plate span { overflow: hidden; text-overflow: ellipsis; white-space: nowrap; }
+  .dummy-left #stage { grid-template-columns: 12rem minmax(0, 1fr) 4rem; }
+  .dummy-right #stage { grid-template-columns: 4rem minmax(0, 1fr) 12rem; }
 }
 @media (min-width: 40em) and (orientation: portrait) and (min-height: 30.01em) {
-  .at-table { --cw: 3.4rem; --fw: 5rem; --ch: 7.5rem; --tw: 5.25rem; --th: 7.25rem; } .cards { flex-direction: row; }
+  .at-table { --cw: 3.4rem; --fw: 5rem; --ch: 7.5rem; --tw: 5.25rem; --th: 7.25rem; }
+  .cards { flex-direction: row; }
 }
 @media (min-width: 56em) and (orientation: landscape) and (min-height: 30.01em) {
-  .at-table { --cw: 3.2rem; --fw: 4.375rem; --ch: 6.25rem; --tw: 4.5rem; --th: 6.25rem; grid-template: "bar bar" auto "note side" auto "stage side" 1fr "say side" auto "hand side" auto "dock side" auto / minmax(0, 1fr) 18rem; }
+  .at-table {
+    --cw: 3.2rem; --fw: 4.375rem; --ch: 6.25rem; --tw: 4.5rem; --th: 6.25rem;
+    grid-template: "bar bar" auto "note side" auto "stage side" 1fr "say side" auto "hand side" auto "dock side" auto / minmax(0, 1fr) 18rem;
+  }
   .at-table.bidding { --cw: 2.8rem; grid-template: "bar bar" auto "note dock" auto "stage dock" 1fr "say dock" auto "hand dock" auto / minmax(0, 1fr) 23rem; }
-  .cards { flex-direction: row; } #strip { display: none; } .bidding #side { display: none; }
-  #bar { min-height: 3.5rem; padding: .25rem 1rem; } #chip { width: 2.75rem; height: 2.75rem; }
+  .cards { flex-direction: row; }
+  #strip { display: none; }
+  .bidding #side { display: none; }
+  #bar { min-height: 3.5rem; padding: .25rem 1rem; }
+  #chip { width: 2.75rem; height: 2.75rem; }
   #side { grid-area: side; display: block; padding: .75rem 1rem; color: var(--ink); background: var(--panel); overflow-y: auto; min-width: 0; }
-  #side h2 { font-size: .875rem; font-weight: normal; color: var(--second); margin: .9rem 0 .2rem; } #side .contract { font-size: 2.25rem; line-height: 1; } #side .tally i { background: var(--second); } #side .tally .ours { background: var(--good); } #side .tally .theirs { background: var(--bad); }
+  #side h2 { font-size: .875rem; font-weight: normal; color: var(--second); margin: .9rem 0 .2rem; }
+  #side .contract { font-size: 2.25rem; line-height: 1; }
+  #side .tally i { background: var(--second); }
+  #side .tally .ours { background: var(--good); }
+  #side .tally .theirs { background: var(--bad); }
   #side table { border: 1px solid var(--edge); border-radius: .5rem; }
-  .box { --bid: 2.75rem; } #dock.box { grid-template-rows: none; align-content: stretch; border-top: 0; border-left: 1px solid var(--edge); } #dock.box .bid { order: -1; } #dock.box button { min-height: 2.75rem; font-size: 1.375rem; } .box #confirm { grid-column: 1 / -1; font-size: 1.125rem !important; } .box #call-PASS { grid-column: span 4; } .box #call-X, .box #call-XX { grid-column: span 3; }
+  .box { --bid: 2.75rem; }
+  #dock.box { grid-template-rows: none; align-content: stretch; border-top: 0; border-left: 1px solid var(--edge); }
+  #dock.box .bid { order: -1; }
+  #dock.box button { min-height: 2.75rem; font-size: 1.375rem; }
+  .box #confirm { grid-column: 1 / -1; font-size: 1.125rem !important; }
+  .box #call-PASS { grid-column: span 4; }
+  .box #call-X, .box #call-XX { grid-column: span 3; }
   #dock.play button { min-height: 3.25rem; }
-  .bidding #stage { grid-template: auto minmax(0, 1fr) / 8rem minmax(0, 1fr) 8rem; grid-template-areas: "top top top" "left mid right"; } .bidding .at-left, .bidding .at-right, .bidding .at-top { display: block; } .bidding .auction { align-self: center; } .auction td { font-size: 1.0625rem; }
-  #stage { grid-template-columns: 8rem minmax(0, 1fr) 8rem; } .at-left > .plate, .at-right > .plate { font-size: .9375rem; }
-  .dummy-left #stage { grid-template-columns: 13.5rem minmax(0, 1fr) 8rem; } .dummy-right #stage { grid-template-columns: 8rem minmax(0, 1fr) 13.5rem; } .at-left, .at-right { --cw: 1.875rem; --fw: 3.25rem; --ch: 4.25rem; } .at-left .card, .at-right .card { font-size: 1.5rem; }
+  .bidding #stage { grid-template: auto minmax(0, 1fr) / 8rem minmax(0, 1fr) 8rem; grid-template-areas: "top top top" "left mid right"; }
+  .bidding .at-left, .bidding .at-right, .bidding .at-top { display: block; }
+  .bidding .auction { align-self: center; }
+  .auction td { font-size: 1.0625rem; }
+  #stage { grid-template-columns: 8rem minmax(0, 1fr) 8rem; }
+  .at-left > .plate, .at-right > .plate { font-size: .9375rem; }
+  .dummy-left #stage { grid-template-columns: 13.5rem minmax(0, 1fr) 8rem; }
+  .dummy-right #stage { grid-template-columns: 8rem minmax(0, 1fr) 13.5rem; }
+  .at-left, .at-right { --cw: 1.875rem; --fw: 3.25rem; --ch: 4.25rem; }
+  .at-left .card, .at-right .card { font-size: 1.5rem; }
 }
 @media (min-width: 75em) and (orientation: landscape) and (min-height: 48em) {
-  .at-table { --cw: 4.2rem; --fw: 5.5rem; --ch: 7.75rem; --tw: 5.5rem; --th: 7.75rem; grid-template-columns: minmax(0, 1fr) 22rem; } .at-table.bidding { --cw: 4rem; grid-template-columns: minmax(0, 1fr) 27rem; }
+  .at-table { --cw: 4.2rem; --fw: 5.5rem; --ch: 7.75rem; --tw: 5.5rem; --th: 7.75rem; grid-template-columns: minmax(0, 1fr) 22rem; }
+  .at-table.bidding { --cw: 4rem; grid-template-columns: minmax(0, 1fr) 27rem; }
 }
 @media (min-width: 40em) {
-  #hand .card, .at-top .card { width: var(--fw); margin-right: calc(var(--cw) - var(--fw)); } #hand .line:last-child .group:last-child .card:last-child, .at-top .line:last-child .group:last-child .card:last-child { margin-right: 0; }
-  #hand .line, .at-top .line, #hand .group, .at-top .group { gap: 0; } #hand .group + .group, #hand .line + .line, .at-top .group + .group, .at-top .line + .line { padding-left: .375rem; }
-  #hand .card, .at-top .card, .played { font-size: 1.9375rem; } #hand .card .suit, .at-top .card .suit, .played .suit { font-size: 2rem; }
+  #hand .card, .at-top .card { width: var(--fw); margin-right: calc(var(--cw) - var(--fw)); }
+  #hand .line:last-child .group:last-child .card:last-child, .at-top .line:last-child .group:last-child .card:last-child { margin-right: 0; }
+  #hand .line, .at-top .line, #hand .group, .at-top .group { gap: 0; }
+  #hand .group + .group, #hand .line + .line, .at-top .group + .group, .at-top .line + .line { padding-left: .375rem; }
+  #hand .card, .at-top .card, .played { font-size: 1.9375rem; }
+  #hand .card .suit, .at-top .card .suit, .played .suit { font-size: 2rem; }
 }
 @media (orientation: landscape) and (max-height: 30em) {
-  .at-table { --fw: 3.1rem; } #hand .card, .at-top .card, .played { font-size: 1.375rem; } #hand .card .suit, .at-top .card .suit, .played .suit { font-size: 1.2rem; } .at-left .card .suit, .at-right .card .suit { font-size: 1rem; }
+  .at-table { --fw: 3.1rem; }
+  #hand .card, .at-top .card, .played { font-size: 1.375rem; }
+  #hand .card .suit, .at-top .card .suit, .played .suit { font-size: 1.2rem; }
+  .at-left .card .suit, .at-right .card .suit { font-size: 1rem; }
 }
-.bidding #hand .cards { flex-direction: row; }
-@media (max-width: 39.99em) and (orientation: portrait) {
+@media (max-width: 39.99em) and (orientation: portrait) and (max-height: 49.99em) {
+  .bidding #hand .cards { flex-direction: row; }
   .bidding { --cw: calc((100vw - 4.3rem) / 13); --ch: clamp(3.25rem, 8.65dvh, 4.6rem); }
-  .bidding #hand .card { width: 3rem; margin-right: calc(var(--cw) - 3rem); } .bidding #hand .line, .bidding #hand .group { gap: 0; } .bidding #hand .line:last-child .group:last-child .card:last-child { margin-right: 0; }
+  .bidding #hand .card { width: 3rem; margin-right: calc(var(--cw) - 3rem); }
+  .bidding #hand .line, .bidding #hand .group { gap: 0; }
+  .bidding #hand .line:last-child .group:last-child .card:last-child { margin-right: 0; }
 }
-@media (prefers-reduced-motion: no-preference) { .card { transition: transform 120ms ease-out; } }
-/* 1 */
+@media (prefers-reduced-motion: no-preference) {
+  .card { transition: transform 120ms ease-out; }
+}
+/* The trick. */
 .trick { grid-template-columns: repeat(3, var(--tw)); grid-template-rows: repeat(4, calc((var(--th) - .15rem) / 2)); }
-/* 2 */
+/* Dummy at a side. */
 .at-left .cards, .at-right .cards { border: 0; padding: 0 calc(var(--fw) - var(--cw)) 0 0; }
 .at-left .group, .at-right .group { flex-wrap: wrap; max-width: calc(6 * var(--cw) + 1px); row-gap: .1rem; }
 .at-left .card:last-child, .at-right .card:last-child { margin-right: calc(var(--cw) - var(--fw)); }
@@ -311,7 +500,9 @@ th.turn, td.turn, .auction th.turn { color: var(--gold-ink); background: var(--g
   .dummy-left, .dummy-right { --tw: clamp(2rem, calc((100vw - 15.5rem) / 3), 2.75rem); }
   .at-left, .at-right { --ch: clamp(2.45rem, 6dvh, 3.5rem); }
   .at-left .card, .at-right .card { padding-top: .1rem; }
-  .dummy-left .at-left > .plate, .dummy-right .at-right > .plate { display: grid; grid-template: "b n" "b e" / auto minmax(0, 1fr); gap: 0 .35rem; justify-items: start; text-align: left; margin-bottom: .2rem; }
+  .dummy-left .at-left > .plate, .dummy-right .at-right > .plate {
+    display: grid; grid-template: "b n" "b e" / auto minmax(0, 1fr); gap: 0 .35rem; justify-items: start; text-align: left; margin-bottom: .2rem;
+  }
   .dummy-left .at-left > .plate b, .dummy-right .at-right > .plate b { grid-area: b; }
   #stage { grid-template-columns: clamp(5rem, calc(50vw - 6rem), 6.25rem) minmax(0, 1fr) clamp(5rem, calc(50vw - 6rem), 6.25rem); }
   .wide { display: none; }
@@ -319,85 +510,660 @@ th.turn, td.turn, .auction th.turn { color: var(--gold-ink); background: var(--g
 @media (max-width: 39.99em) and (orientation: portrait) and (max-height: 44em) {
   .bidding #status:not(.lost) { position: absolute; width: 1px; height: 1px; margin: 0; padding: 0; overflow: hidden; clip-path: inset(50%); }
 }
-/* 3 */
+/* Tablets that stand upright. */
 @media (min-width: 40em) and (orientation: portrait) and (min-height: 30.01em) {
-  #stage { grid-template-columns: 8rem minmax(0, 1fr) 8rem; } .at-left > .plate, .at-right > .plate { font-size: .9375rem; }
-  .dummy-left #stage { grid-template-columns: 13.5rem minmax(0, 1fr) 8rem; } .dummy-right #stage { grid-template-columns: 8rem minmax(0, 1fr) 13.5rem; }
-  .dummy-left, .dummy-right { --tw: 4.25rem; --th: 6rem; } .at-left, .at-right { --cw: 1.875rem; --fw: 3.25rem; --ch: 4.25rem; } .at-left .card, .at-right .card { font-size: 1.5rem; }
-  #dock button { min-height: 3.25rem; } #dock .bid { font-size: 1.375rem; }
+  #stage { grid-template-columns: 8rem minmax(0, 1fr) 8rem; }
+  .at-left > .plate, .at-right > .plate { font-size: .9375rem; }
+  .dummy-left #stage { grid-template-columns: 13.5rem minmax(0, 1fr) 8rem; }
+  .dummy-right #stage { grid-template-columns: 8rem minmax(0, 1fr) 13.5rem; }
+  .dummy-left, .dummy-right { --tw: 4.25rem; --th: 6rem; }
+  .at-left, .at-right { --cw: 1.875rem; --fw: 3.25rem; --ch: 4.25rem; }
+  .at-left .card, .at-right .card { font-size: 1.5rem; }
+  #dock button { min-height: 3.25rem; }
+  #dock .bid { font-size: 1.375rem; }
 }
-@media (min-width: 40em) and (min-height: 30.01em) { .at-left .card .suit, .at-right .card .suit { font-size: 1.5rem; } }
-/* 4 */
+@media (min-width: 40em) and (min-height: 30.01em) {
+  .at-left .card .suit, .at-right .card .suit { font-size: 1.5rem; }
+}
+/* A hand in one fan. */
 @media (min-width: 40em) {
-  #hand .line, .at-top .line { display: contents; } #hand .cards, .at-top .cards { column-gap: .375rem; padding-right: calc(.25rem + var(--fw) - var(--cw)); }
-  #hand .group + .group, .at-top .group + .group { padding-left: 0; } .in-H { order: 1; } .in-C { order: 2; } .in-D { order: 3; }
+  #hand .line, .at-top .line { display: contents; }
+  #hand .cards, .at-top .cards { column-gap: .375rem; padding-right: calc(.25rem + var(--fw) - var(--cw)); }
+  #hand .group + .group, .at-top .group + .group { padding-left: 0; }
+  .in-H { order: 1; }
+  .in-C { order: 2; }
+  .in-D { order: 3; }
   #hand .line:last-child .group:last-child .card:last-child, .at-top .line:last-child .group:last-child .card:last-child { margin-right: calc(var(--cw) - var(--fw)); }
 }
-@media (max-width: 39.99em) and (orientation: portrait) {
-  .bidding #hand .line { display: contents; } .bidding #hand .cards { gap: 0 .2rem; padding-right: calc(3.25rem - var(--cw)); } .bidding .in-H { order: 1; } .bidding .in-C { order: 2; } .bidding .in-D { order: 3; }
+@media (max-width: 39.99em) and (orientation: portrait) and (max-height: 49.99em) {
+  .bidding #hand .line { display: contents; }
+  .bidding #hand .cards { gap: 0 .2rem; padding-right: calc(3.25rem - var(--cw)); }
+  .bidding .in-H { order: 1; }
+  .bidding .in-C { order: 2; }
+  .bidding .in-D { order: 3; }
   .bidding #hand .line:last-child .group:last-child .card:last-child { margin-right: calc(var(--cw) - 3rem); }
 }
-/* 5 */
+/* Telephones that lie across. */
 @media (orientation: landscape) and (max-height: 30em) {
   .dummy-left, .dummy-right { --tw: 2.75rem; --th: 3.5rem; }
-  .at-table:not(.dummy-left):not(.dummy-right) .played { font-size: 1.125rem; } .at-table:not(.dummy-left):not(.dummy-right) .played .suit { font-size: 1rem; margin-top: 0; }
+  .at-table:not(.dummy-left):not(.dummy-right) .played { font-size: 1.125rem; }
+  .at-table:not(.dummy-left):not(.dummy-right) .played .suit { font-size: 1rem; margin-top: 0; }
   #dock.play #claim-open[hidden] + #confirm { grid-column: auto; }
   .sheet { inset: auto .5rem .4rem; max-height: calc(100dvh - .8rem); max-width: 46rem; padding: .5rem .75rem; }
-  #choices { display: grid; grid-template-columns: 1fr 1fr; gap: 0 .75rem; } #choices h2, #choices button { grid-column: 1 / -1; margin: 0; }
-  .dummy-left .at-left wbr, .dummy-right .at-right wbr { display: none; } .at-left .group, .at-right .group { row-gap: .05rem; } .at-left, .at-right { --ch: 1.6rem; }
-  .dummy-left .at-left .cards, .dummy-right .at-right .cards { gap: .05rem; } .at-left .line, .at-right .line { gap: .05rem; }
+  #choices { display: grid; grid-template-columns: 1fr 1fr; gap: 0 .75rem; }
+  #choices h2, #choices button { grid-column: 1 / -1; margin: 0; }
+  .dummy-left .at-left wbr, .dummy-right .at-right wbr { display: none; }
+  .at-left .group, .at-right .group { row-gap: .05rem; }
+  .at-left, .at-right { --ch: 1.6rem; }
+  .dummy-left .at-left .cards, .dummy-right .at-right .cards { gap: .05rem; }
+  .at-left .line, .at-right .line { gap: .05rem; }
 }
-/* 6 */
+/* The panel beside the table. */
 #side > p:first-child { display: flex; align-items: baseline; gap: .6rem; }
-/* 7 */
-#dock .bid { background: var(--face); } #dock .bid .red { color: var(--red); } .four #dock .bid .diamond { color: var(--diamond); } .four #dock .bid .club { color: var(--club); }
-#dock .bid:disabled { background: var(--soft); } #dock .bid:disabled .suit { color: var(--off); } #dock .bid[aria-pressed=true] { background: var(--gold); }
-#dock.claimed { column-gap: clamp(.5rem, 8vw, 6rem); } #dock.claimed button { min-height: 3.25rem; }
+/* Bids are cards, and the answers to a claim stand apart. */
+#dock .bid { background: var(--face); }
+#dock .bid .red { color: var(--red); }
+.four #dock .bid .diamond { color: var(--diamond); }
+.four #dock .bid .club { color: var(--club); }
+#dock .bid:disabled { background: var(--soft); }
+#dock .bid:disabled .suit { color: var(--off); }
+#dock .bid[aria-pressed=true] { background: var(--gold); }
+#dock.claimed { column-gap: clamp(.5rem, 8vw, 6rem); }
+#dock.claimed button { min-height: 3.25rem; }
+/* Between the boards. */
+.between #main { display: grid; grid-template-columns: repeat(auto-fit, minmax(min(100%, 26rem), 1fr)); gap: .75rem; align-items: start; width: 100%; }
+.between .panel { width: 100%; max-width: 40rem; margin: 0 auto; }
+.round { display: flex; gap: .4rem; margin: 0; padding: 0; list-style: none; }
+.round li { display: grid; flex: 1; justify-items: center; padding: .2rem; border: 1px solid var(--edge); border-radius: .5rem; font-size: .875rem; }
+.round .now { color: var(--gold-ink); background: var(--gold); border-color: var(--gold); }
+
+/* Boards that are over, and the score card. */
+.boards #main { display: flex; flex-direction: column; flex: 1; max-width: 84rem; padding-bottom: 0; }
+.wide-panel { max-width: none; }
+.boards .panel { width: 100%; max-width: none; margin: 0 0 .75rem; }
+.figures { display: grid; grid-template-columns: repeat(auto-fit, minmax(5.5rem, 1fr)); gap: 0 .6rem; }
+.figure p { margin: 0; }
+.figure .large { font-size: clamp(1.25rem, 5vw, 1.875rem); }
+.list { width: 100%; background: none; }
+.list th, .list td { border: 0; border-bottom: 1px solid var(--edge); padding: .35rem .25rem; text-align: left; }
+.list thead th { color: var(--second); font-size: .8125rem; }
+.list .number { text-align: right; white-space: nowrap; }
+#dock.onward {
+  position: sticky; bottom: 0; z-index: 1; display: flex; justify-content: center; gap: .5rem; margin: auto -.75rem 0;
+  padding: .5rem .75rem max(.5rem, env(safe-area-inset-bottom)); background: var(--page); border-top: 1px solid var(--edge);
+}
+#dock.onward button { min-height: 3.25rem; padding: .2rem 1rem; font-size: 1rem; }
+#dock.onward .send { flex: 1 1 auto; max-width: 40rem; font-size: 1.125rem; }
+#parts { display: flex; gap: .4rem; margin-bottom: .6rem; }
+#parts button { flex: 1 1 auto; }
+#parts [aria-pressed=true] { color: var(--page); background: var(--ink); }
+#band .contract, #band .large { font-size: 1.375rem; }
+#band .red { color: var(--felt-red); }
+#band .ten { letter-spacing: -.12em; }
+.four #band .diamond { color: #ffc48a; }
+.four #band .club { color: #a8e6bd; }
+.diagram {
+  --tw: 2.25rem; --th: 3rem; display: grid; grid-template: ". top top" auto "left middle right" auto ". bottom bottom" auto / minmax(0, 1fr) auto minmax(0, 1fr);
+  gap: .3rem .6rem; align-items: center;
+}
+.of-top { grid-area: top; }
+.of-left { grid-area: left; }
+.of-right { grid-area: right; }
+.of-bottom { grid-area: bottom; }
+.of-middle { grid-area: middle; display: grid; place-items: center; min-width: 8rem; min-height: 8rem; }
+.of-top, .of-bottom { max-width: 11rem; }
+.diagram p { display: flex; gap: .35rem; align-items: center; margin: 0; font-size: .875rem; overflow-wrap: anywhere; line-height: 1.15; }
+.mark.vul { color: #fff; background: var(--vul); }
+.mark.safe { color: #fff; background: var(--not-vul); }
+.suit-line { padding-left: 1.25rem; font-size: 1.0625rem; line-height: 1.3; }
+.suit-line .suit { display: inline-block; width: 1.25rem; margin-left: -1.25rem; }
+.suit-line > :not(.suit) { margin-right: .22rem; }
+.suit-line .ten { margin-right: .35rem !important; }
+.suit-line s { color: var(--second); }
+.diagram .trick .played { font-size: 1.125rem; }
+.diagram .trick .played .suit { font-size: 1rem; }
+.diagram .trick { grid-area: auto; padding: .4rem; border-radius: .5rem; background: var(--felt); }
+.board-picture {
+  display: grid; grid-template: "top top top" 1.5rem "left middle right" 1fr "bottom bottom bottom" 1.5rem / 1.5rem 1fr 1.5rem; width: 8rem; height: 8rem;
+  overflow: hidden; border-radius: .5rem; font-size: .75rem; font-weight: bold;
+}
+.board-picture span { display: grid; place-items: center; color: #fff; }
+.board-picture .left, .board-picture .right { writing-mode: vertical-rl; }
+.board-picture .left { transform: rotate(180deg); }
+.board-picture .top { grid-area: top; }
+.board-picture .left { grid-area: left; }
+.board-picture .right { grid-area: right; }
+.board-picture .bottom { grid-area: bottom; }
+.board-picture .vul { background: var(--vul); }
+.board-picture .safe { background: var(--not-vul); }
+.board-picture b { grid-area: middle; display: grid; place-items: center; color: #12181c; background: #fff; font-size: 1.625rem; }
+.stepper { display: grid; grid-template-columns: auto auto 1fr auto auto; gap: .3rem; align-items: center; margin-top: .5rem; text-align: center; }
+.stepper p { margin: 0; font-size: .875rem; line-height: 1.2; }
+.stepper button { padding: 0; font-size: 1.25rem; }
+#step { width: 100%; min-height: 1.75rem; padding: 0; border: 0; background: none; accent-color: var(--blue); }
+.part > table:not(.list) { width: 100%; table-layout: fixed; background: none; }
+.part > table:not(.list) th, .part > table:not(.list) td { border: 0; padding: .2rem .1rem; overflow: hidden; text-overflow: ellipsis; white-space: nowrap; font-weight: normal; }
+@media (max-width: 55.99em) {
+  .part { display: none; }
+  .part-hands .hands, .part-play .play, .part-scores .scores { display: block; }
+}
+@media (min-width: 56em) {
+  #parts { display: none; }
+  #opened .parts { grid-template: "h p" auto / 1fr 1fr; }
+  .parts { display: grid; grid-template: "h s" auto "h p" 1fr / 1fr 1fr; gap: 0 .75rem; align-items: start; }
+  .hands { grid-area: h; }
+  .scores { grid-area: s; }
+  .play { grid-area: p; }
+}
+@media (orientation: landscape) and (max-height: 30em) {
+  .over .diagram { grid-template: "left top right bottom middle" auto / minmax(0, 1fr) minmax(0, 1fr) minmax(0, 1fr) minmax(0, 1fr) auto; align-items: start; }
+  .over .diagram .of-top, .over .diagram .of-bottom { max-width: none; }
+  .over .banner { margin-bottom: .4rem; padding: .1rem 1rem; }
+  .boards #main { padding: .4rem .75rem 0; }
+  #dock.onward { padding: .3rem .75rem; }
+  #dock.onward button, #parts button { min-height: 2.75rem; }
+  #parts { margin-bottom: .4rem; }
+}
+@media (min-width: 75em) {
+  .over .parts { grid-template: "h s p" auto / 5fr 4fr 4fr; }
+}
+@media (max-width: 39.99em) {
+  #card .who, #card th:nth-child(2) { display: none; }
+  .over #main { padding: .5rem .5rem 0; }
+  .over .panel { padding: .5rem; }
+  .over .banner { margin-bottom: .5rem; }
+  .suit-line { font-size: 1rem; line-height: 1.25; }
+  .over .diagram .who span { display: -webkit-box; -webkit-box-orient: vertical; -webkit-line-clamp: 2; overflow: hidden; }
+  .list .who + td { overflow-wrap: anywhere; }
+  .diagram { gap: .1rem .4rem; }
+  .of-middle { min-width: 5.75rem; min-height: 5.75rem; }
+  .board-picture { width: 5.75rem; height: 5.75rem; grid-template-rows: 1.2rem 1fr 1.2rem; grid-template-columns: 1.2rem 1fr 1.2rem; }
+  .diagram { --tw: 1.7rem; --th: 2.3rem; }
+  .suit-line > :not(.suit) { margin-right: .14rem; }
+  .over #dock.onward { margin: auto -.5rem 0; }
+}
+@media (max-width: 39.99em) and (orientation: portrait) and (max-height: 44em) {
+  #dock.claimed { padding-top: .2rem; }
+  #dock.claimed button { min-height: 2.75rem; }
+}
 /* Large letters on a small screen: one below the other. */
 @media (max-width: 17em) {
-  .at-table { --tw: 2rem; --th: 2.75rem; } #strip { flex-wrap: wrap; } #strip #calls { flex-basis: 100%; }
-  .at-table:not(.bidding) #stage { grid-template: "top" auto "left" auto "mid" auto "right" auto / minmax(0, 1fr); } .at-left > .plate, .at-right > .plate { flex-direction: row; }
+  .at-table { --tw: 2rem; --th: 2.75rem; }
+  #strip { flex-wrap: wrap; }
+  #strip #calls { flex-basis: 100%; }
+  .at-table:not(.bidding) #stage { grid-template: "top" auto "left" auto "mid" auto "right" auto / minmax(0, 1fr); }
+  .at-left > .plate, .at-right > .plate { flex-direction: row; }
+  .over .diagram { grid-template: "top" auto "left" auto "middle" auto "right" auto "bottom" auto / minmax(0, 1fr); }
+  .boards .panel, .between .panel { overflow-x: auto; }
+  .stepper { grid-template-columns: repeat(4, 1fr); }
+  .stepper p { grid-column: 1 / -1; order: -1; }
+  .banner { grid-template-columns: minmax(0, 1fr); }
+  .banner p:nth-child(even) { text-align: left; }
+  #parts, #dock.onward { flex-wrap: wrap; }
+  #parts button, #dock.onward button { min-width: 0; max-width: 100%; overflow-wrap: anywhere; }
 }
-@media print { #bar button, button, summary, label, input, select, textarea, #status, #told, #tables, .director details:not(#publishing) { display: none !important; } body, #bar { color: #000; background: #fff; } }
+/* Nearer to the pictures. */
+.numbers { grid-template-columns: repeat(7, minmax(2.75rem, 1fr)); }
+.numbers button:first-child, .numbers button:last-child { grid-column: span 2; }
+.sheet > p:not(.second) { padding: .5rem .75rem; background: var(--soft); border-radius: .5rem; font-weight: bold; }
+.sheet .row > .send { flex: 1; min-height: 3.25rem; }
+.sheet .row { gap: .6rem; }
+#options { display: flex; flex-wrap: wrap; justify-content: space-between; align-items: center; }
+#options > h2 { margin: 0; }
+#options > fieldset { flex-basis: 100%; min-width: 0; }
+.sheet fieldset { padding: 0 .5rem; margin: .3rem 0; }
+legend { font-weight: bold; padding: 0 .3rem; }
+.director > #main > .row #end-round, #end-round { width: 100%; min-height: 3.25rem; }
+@media (min-width: 60em) {
+  .director #main:has(#opened:not(:empty)) > #opened { grid-column: 1; grid-row: 2; }
+  .director #main:has(#opened:not(:empty)) > #ruling { grid-row: 2; margin: 0; }
+  #opened .parts { grid-template: "h" auto "p" auto / 1fr; }
+  .director #main > #told { grid-row: 1; }
+  .director #main > #opened { grid-row: 2; }
+  .director #main > .row { grid-row: 3; }
+  #end-question { grid-row: 4; }
+  #dealing { grid-row: 5; }
+  #ruling { grid-row: 6; }
+  #solving { grid-row: 7; }
+  #ranking { grid-row: 8; }
+  #publishing { grid-row: 9; }
+  #lines { grid-row: 10; }
+}
+@media (min-width: 80em) { #opened .parts { grid-template: "h p" auto / 1fr 1fr; } }
+
+:root { --line: #d9d4c6; }
+@media (prefers-color-scheme: dark) { :root:not(.light) { --line: #33403a; } }
+:root.dark { --line: #33403a; }
+.panel, .director #tables tr, .director details { border-color: var(--line); }
+.list th, .list td { border-bottom-color: var(--line); }
+.list thead th { border-bottom-color: var(--edge); }
+#chip { font-size: 1.0625rem; border-width: .55rem; }
+#dock #confirm .bid, #dock #confirm .suit { color: inherit; background: none; font-size: inherit; min-height: 0; }
+td.marked { outline: 2px dashed var(--blue); outline-offset: -2px; }
+#band > p:first-child::first-letter { text-transform: uppercase; }
+.banner p:nth-child(even) { text-align: right; }
+td.turn .red { color: var(--red); }
+@media (min-width: 40em) { .more { margin-left: -.375rem; } }
+.bidding .more { margin-left: -.2rem; }
+.part > table:not(.list) th { font-size: .8125rem; color: var(--plate-ink); background: var(--plate); }
+.part > table:not(.list) tbody tr:nth-child(even) { background: var(--soft); }
+.part > table:not(.list) td .bid { font-weight: bold; }
+#tricks td, #tricks th { padding: .1rem .25rem; font-size: .9375rem; }
+.figure { padding: .5rem .6rem; }
+.figure .second { font-size: .8125rem; line-height: 1.2; }
+.void-of { display: none; }
+.at-left .void-of, .at-right .void-of { display: flex; }
+.void .red { color: var(--text-red); }
+#strip summary > span:last-child { font-size: .875rem; white-space: nowrap; }
+.bidding .board-picture { display: none; }
+body.login { background: var(--felt); }
+body.login #bar { position: absolute; width: 1px; height: 1px; min-height: 0; overflow: hidden; clip-path: inset(50%); }
+body.login main { margin: auto !important; }
+body.login .panel { margin: 0 auto; padding: 1.25rem; border: 0; border-radius: 1rem; box-shadow: 0 6px 24px rgb(0 0 0 / 35%); position: relative; }
+body.login .panel input { text-align: left; border-width: 2px; }
+body.login .panel .send { font-size: 1.125rem; }
+body.login .second { font-size: .875rem; }
+body.login::before {
+  content: "\2660\fe0e\2665\fe0e\A\2666\fe0e\2663\fe0e"; white-space: pre; position: fixed; inset: 0; display: grid; place-content: center; color: rgb(255 255 255 / 7%);
+  font: 14rem/1.2 "Segoe UI Symbol", "Apple Symbols", "Noto Sans Symbols2", "DejaVu Sans", sans-serif; overflow: hidden; pointer-events: none;
+}
+@media (orientation: landscape) and (max-height: 30em) {
+  #options { display: grid; grid-template-columns: repeat(3, 1fr); gap: 0 .75rem; align-items: start; }
+  #options > h2 { grid-area: 1 / 1 / 2 / 3; align-self: center; margin: 0; }
+  #options > button { grid-area: 1 / 3; }
+  #options > fieldset { grid-row: 2; }
+  #choices .row { grid-column: 1 / -1; flex-wrap: nowrap; margin: 0; }
+  #choices { display: block; }
+  #dock.play, #dock.claimed { border-top: 0; }
+  #dock.play { color: var(--on-felt); background: var(--strip); }
+  #dock.play button { color: var(--ink); }
+  #dock.play .send { color: var(--on-blue); }
+  #dock.play button:disabled { color: var(--off); }
+  #dock.claimed { column-gap: .4rem; align-content: end; }
+  #dock.claimed button { min-height: 2.75rem; font-size: .875rem; }
+}
+@media (max-width: 39.99em) and (orientation: portrait) and (min-height: 50em) {
+  .at-table { --tw: min(3.6875rem, calc((100vw - 11.9rem) / 3)); --th: 5.0625rem; }
+  #stage { grid-template-columns: 5rem minmax(0, 1fr) 5rem; }
+  .dummy-left, .dummy-right { --tw: 2.75rem; --th: 4.125rem; }
+}
+@media (min-width: 56em) and (orientation: landscape) and (min-height: 30.01em) {
+  .bidding .auction th br, #side th br { display: none; }
+  .bidding .auction th br + span, #side th br + span { position: absolute; width: 1px; height: 1px; overflow: hidden; clip-path: inset(50%); }
+  .bidding .auction td { font-size: 1.375rem; padding: .35rem .1rem; }
+  .bidding .board-picture { display: grid; grid-area: mid; place-self: start center; width: 9rem; height: 9rem; }
+  #side { display: flex; flex-direction: column; }
+}
+@media (min-width: 40em) and (orientation: portrait) and (min-height: 30.01em) {
+  .bidding #stage { grid-template: auto minmax(0, 1fr) / 8rem minmax(0, 1fr) 8rem; grid-template-areas: "top top top" "left mid right"; }
+  .bidding .at-left, .bidding .at-right, .bidding .at-top { display: block; }
+  .bidding .auction { align-self: center; }
+  .bidding .auction th br { display: none; }
+  .bidding .auction th br + span { position: absolute; width: 1px; height: 1px; overflow: hidden; clip-path: inset(50%); }
+  .bidding .auction td { font-size: 1.375rem; padding: .35rem .1rem; }
+}
+@media print {
+  #bar button, button, summary, label, input, select, textarea, #status, #told, #tables, .director details:not(#publishing) { display: none !important; }
+  body, #bar { color: #000; background: #fff; }
+}
 "##;
 
-/// What the two other scripts share.
+/// All that the scripts say.
+pub const TEXTS_SCRIPT: &str = r##""use strict";
+// All that the pages say. Another language is another file of this form.
+
+const TEXTS = {
+  title: "Bridge table",
+  yourTurn: "\u25cf Your turn \u2013 Bridge table",
+  pieces: { S: "spade", H: "heart", D: "diamond", C: "club", N: "no trump" },
+  suits: { S: "spades", H: "hearts", D: "diamonds", C: "clubs" },
+  ranks: { A: "ace", K: "king", Q: "queen", J: "jack", T: "10" },
+  seats: { N: "North", E: "East", S: "South", W: "West" },
+  cardName: (rank, suit) => rank + " of " + suit,
+  rankText: (rank) => (rank === "T" ? "10" : rank),
+  passName: "pass",
+  doubleName: "double",
+  redoubleName: "redouble",
+  bidName: (level, strain, doubled) => level + " " + strain + doubled,
+  doubled: { X: " doubled", XX: " redoubled" },
+  vulnerable: { None: "nobody vulnerable", NS: "North and South vulnerable", EW: "East and West vulnerable", All: "all vulnerable" },
+  vulnerableShort: { None: "nobody vul", NS: "N\u2013S vul", EW: "E\u2013W vul", All: "all vul" },
+  you: "You",
+  yes: "Yes",
+  no: "No",
+  done: "Done",
+  back: "Back",
+  close: "Close",
+  print: "Print",
+
+  // To log in, and the menu.
+  yourKey: "Your key",
+  keyHelp: "The number on your slip. Spaces do not matter.",
+  slipLost: "Slip lost? The director has a new one.",
+  sitDown: "Sit down",
+  noKey: "That is no key.",
+  leave: "Leave",
+  reallyLeave: "Really leave?",
+  menu: "Menu",
+  textAndPlay: "Text and play",
+  sentTitle: "A call or card is sent",
+  sentTwice: "by a second tap, or the button below",
+  sentOnce: "at once",
+  suitsTitle: "Suits",
+  suitsTwo: "in two colours",
+  suitsFour: "in four colours",
+  lightTitle: "Light",
+  lights: { device: "as the device has it", light: "light", dark: "dark" },
+
+  // What is said of a refusal.
+  refusals: {
+    NoKey: "Nobody has this key.",
+    NotAllowed: "That is not yours to do.",
+    Closed: "The session is closed.",
+    SitsOut: "You sit out in this round.",
+    NotCurrent: "That board is not being played at your table now.",
+    NotDealt: "The board is not dealt yet.",
+    WrongPhase: "That is not possible now.",
+    Stale: "Something else came first. Look again.",
+    NoClaim: "No claim stands.",
+    ClaimStands: "A claim stands and has to be answered first.",
+    NotAsked: "This claim does not ask you, or you have answered.",
+    NotYourTurn: "It is not your turn.",
+    MidTrick: "Claims are made between tricks.",
+    TooManyTricks: "There are not so many tricks left.",
+    InsufficientBid: "That bid is not sufficient.",
+    InadmissibleDouble: "There is nothing that you may double.",
+    InadmissibleRedouble: "There is nothing that you may redouble.",
+    NotHeld: "That card is not in the hand.",
+    MustFollow: "The hand has to follow suit.",
+    ClaimsSpent: "No more claims can be made on this board.",
+    Disk: "The server's disk has failed. Call the director.",
+    EpochsSpent: "The server's disk is used up. Call the director.",
+    BadLine: "That cannot be read.",
+  },
+  directorRefusals: {
+    AlreadyDealt: "already dealt",
+    BadDeal: "these are not four hands of thirteen cards",
+    BadLine: "that cannot be read",
+    LongLine: "that cannot be read",
+    NoSuchPlay: "there is no such play",
+    NotDealt: "the board is not dealt yet",
+    NotYet: "that round has not begun",
+    RoundOpen: "a table is still at play",
+    NoContract: "there is no contract",
+    NotFinished: "the play is not over",
+    NotAnEnding: "at most six whole tricks may be left, and so many must have been played",
+    NotMatchPoints: "averages are for matchpoints alone",
+    WrongPhase: "that is not possible now",
+    Stale: "that is not the round at play",
+    Closed: "the session is closed",
+    Disk: "the server's disk has failed",
+    EpochsSpent: "the server's disk is used up",
+  },
+  unreachable: "The server does not answer. Trying again.",
+  slow: "The server does not answer yet. What you see next tells whether it was taken.",
+  unknownFate: "No answer came. It may or may not have been taken; what you see next tells.",
+  wasTaken: "It was taken.",
+  wasNotTaken: "It was not taken: please try again.",
+
+  // The table.
+  pass: "Pass",
+  double: "Double",
+  redouble: "Redouble",
+  biddingBox: "Bidding box",
+  tapCall: "Tap a call",
+  yourCall: "Your call",
+  toCall: (seat) => seat + " to call",
+  dueCall: "to call",
+  callIt: "Call ",
+  playIt: "Play ",
+  sending: "Sending \u2026",
+  tapCard: "Tap a card",
+  yourCard: "Your card",
+  pleaseWait: "Please wait",
+  auction: "Auction",
+  deals: "deals",
+  trickTo: (seat) => "Trick to " + seat,
+  dealsShort: (seat) => seat + " deals",
+  atTable: (table, round, rounds) => " \u00b7 table " + table + " \u00b7 round " + round + " of " + rounds,
+  declarerShort: "decl.",
+  declarer: "declarer",
+  dummy: "dummy",
+  dummyHand: (seat) => "Dummy, " + seat,
+  ownHand: (seat) => "Your hand, " + seat,
+  ownDummy: "Your hand, which is dummy",
+  table: "Table",
+  lastTrick: "Last trick",
+  trickNow: "Trick",
+  tally: (we, they) => "Tricks: we " + we + ", they " + they,
+  tricksHead: "Tricks",
+  contract: "Contract",
+  by: (seat, own) => (own ? "by you" : "by " + (TEXTS.seats[seat] || seat)),
+  needs: (tricks) => " \u00b7 needs " + tricks,
+  weNeed: (tricks) => " \u00b7 we need " + tricks,
+  theBoard: "The board",
+  dock: "What you can do",
+  board: (number) => "Board " + number,
+  boardWords: (number, dealer, vulnerable) => "Board " + number + ", dealer " + dealer + ", " + vulnerable,
+  made: (over) => (over >= 0 ? ["made", "one over", "two over", "three over"][over] || over + " over" : ["", "one down", "two down", "three down"][-over] || -over + " down"),
+
+  // Whose turn it is.
+  isToCall: (seat) => seat + " is to call.",
+  yourTurnToCall: "Your turn to call",
+  follow: (suit) => "Your turn: follow with a " + suit,
+  followDummy: (suit) => "Your turn: from dummy, a " + suit,
+  openingLead: "Your turn: the opening lead",
+  turnIsYours: "Your turn",
+  turnFromDummy: "Your turn: play from dummy",
+  isToPlay: (seat, lead) => seat + " is to play" + (lead ? " the opening lead." : "."),
+  youAreToPlay: "You are to play.",
+  youAreDummy: (name) => "You are dummy. " + name + " plays your cards.",
+  fromDummy: (seat) => seat + " is to play from dummy.",
+
+  // Claims.
+  claim: "Claim",
+  forYou: (score) => score + " for you",
+  claimTitle: "Claim or concede",
+  claimOf: (left) => "Of the " + left + " tricks left my side wins",
+  claimNone: "None",
+  claimAll: (left) => "All " + left,
+  claimTricks: (tricks) => "Claim " + tricks + (tricks === 1 ? " trick" : " tricks"),
+  claimHelp: "Say your line aloud. Who is asked agrees or refuses.",
+  theClaim: "The claim",
+  ifAgreed: ", if all agree.",
+  refuse: "Refuse",
+  agree: "Agree",
+  youClaim: (tricks, left) => "You claim " + TEXTS.someOf(tricks, left) + ". ",
+  someOf: (tricks, left) => (Number(tricks) === left ? (left === 1 ? "the last trick" : "all " + left + " tricks left") : (Number(tricks) === 0 ? "none" : tricks) + " of the " + left + " tricks left"),
+  claims: (seat, tricks, left) => seat + " claims " + TEXTS.someOf(tricks, left) + ". ",
+  answerWaited: "Your answer is waited for",
+  waitPlease: "Please wait.",
+  claimed: (seat, tricks) => seat + " claimed " + tricks + (tricks === "1" ? " trick" : " tricks") + ", and it was agreed.",
+  claimRefused: "The claim was not agreed. Play goes on; call the director if need be.",
+
+  // Between the boards, and at the end.
+  boardsOf: (first, last) => (first === last ? "Board " + first : "Boards " + first + " to " + last),
+  sitsOut: "You sit out in this round.",
+  sitOut: "You sit out",
+  sitsOutNext: "You sit out in the next round.",
+  nextRound: (table, seat) => "Next round: table " + table + ", " + seat + ".",
+  ofPair: (name, pair) => name + ", pair " + pair,
+  isYou: (name) => "You, " + name,
+  nextOf: (round, rounds) => "Next, round " + round + " of " + rounds,
+  roundOf: (round, rounds) => "Round " + round + " of " + rounds,
+  tableRound: (table, round, rounds) => "Table " + table + ", round " + round + " of " + rounds,
+  tableSeat: (table, seat) => "Table " + table + ", " + seat,
+  stay: "Stay at your table.",
+  goTo: (table) => "Go to table " + table + ".",
+  roundBegins: "The next round begins when the director ends this one.",
+  notDealtYet: "The next board is not dealt yet.",
+  boardsDone: "Your boards of this round are done. ",
+  closed: "The session is closed.",
+  ordinals: ["first", "second", "third", "fourth", "fifth", "sixth", "seventh", "eighth", "ninth", "tenth", "eleventh", "twelfth"],
+  atPlace: (place) => "at place " + place,
+  youAreOf: (place, among) => "You are " + place + " of " + among,
+  pointsOf: (score) => score.replace("/", " of "),
+  percent: (number) => number + " %",
+  ranking: (field) => "Ranking, field " + field,
+  rankingOf: (field) => "Ranking of field " + field,
+  rankingHeads: ["Place", "Pair", "Score", "Per cent"],
+  names: "Names",
+  allBoards: "All boards",
+  roundSoFar: "This round",
+  eveningSoFar: "Evening so far: ",
+  now: "now",
+
+  // A board that is over, and the score card.
+  myBoards: "My boards",
+  goOn: "Go on",
+  toTable: "To the table",
+  nextBoard: (number) => "Next: board " + number,
+  nextYours: (number) => "Next: board " + number + ", your turn",
+  toNext: "Go on",
+  result: "The result",
+  noResult: "at play",
+  takenOut: "taken out by the director",
+  average: (ns, ew) => "average, " + ns + " % and " + ew + " %",
+  passedOut: "passed out",
+  tricks: (tricks) => tricks + (tricks === 1 ? " trick" : " tricks"),
+  lead: "lead",
+  soFar: (worth) => (worth === "" ? "so far" : worth + " so far"),
+  imps: (points) => points + " IMPs",
+  impsName: "IMPs",
+  hands: "Hands",
+  auctionAndPlay: "Auction and play",
+  scores: "Scores",
+  parts: "What is shown",
+  play: "Play",
+  trick: (number) => "Trick " + number,
+  beforeLead: "Before the lead",
+  stepThrough: "step through the play",
+  cardOf: (card, of) => "card " + card + " of " + of,
+  steps: { first: "To the beginning", back: "One card back", on: "One card on", end: "To the end" },
+  trickHeads: ["Tr.", "Led by", "1st", "2nd", "3rd", "4th", "Won"],
+  scoresShut: "What other tables did is shown once the director opens it.",
+  scoreHeads: ["Table", "Contract", "Tricks", "N\u2013S"],
+  we: "(we)",
+  tablesSoFar: (count) => (count === 1 ? "This table alone so far" : count + " tables so far"),
+  ours: (worth) => "Ours: " + worth.replace("/", " of ") + ".",
+  scoreCard: "Score card",
+  cardHeads: ["Board", "Against", "Contract", "Tr.", "Score", "So far"],
+  openBoard: (number) => "Open board " + number,
+  boardsPlayed: (count) => (count === 1 ? "board played" : "boards played"),
+  ofPoints: (of) => "of " + of + " matchpoints",
+  noBoards: "No board is over yet.",
+  ruledOn: (number) => "The director has ruled on board " + number + ".",
+
+  // The director.
+  director: "Director",
+  answerAwaited: "An answer is still waited for; nothing was sent.",
+  unknownDone: "No answer came. It may or may not have been done; what you see next tells.",
+  noAnswer: "No answer came.",
+  doneWord: "done",
+  becameOf: (what, outcome) => what + ": " + outcome + ".",
+  asks: (what) => what + "?",
+  yesTo: (question) => "Yes: " + question,
+  idle: { NotDealt: "Waits for its deal", NotCurrent: "Has done its boards", SitsOut: "Sits out" },
+  progress: (playing, made, seat) => (playing ? "Trick " + (Math.floor(made / 4) + 1) + ", " + seat + " to play" : "Auction, " + seat + " to call"),
+  stillFor: (minutes) => (minutes === 0 ? "moved just now" : "still for " + minutes + " min"),
+  tables: "Tables",
+  tableHeads: ["Table", "N-S", "E-W", "Board", "What goes on", "Min.", "Stands", "Open"],
+  stands: { done: "Done", plays: "Playing", slow: "Slow", waits: "No deal" },
+  open: "Open",
+  openTable: (table) => "Open table " + table,
+  openedAt: (table, round) => "Table " + table + ", round " + round,
+  allDone: "All tables have done their boards.",
+  stillPlaying: (tables) => (tables.length === 1 ? "Still at play: table " : "Still at play: tables ") + tables.join(", ") + ".",
+  roundIs: (round, rounds, still) => "Round " + round + " of " + rounds + ". " + still,
+  allEnded: "All rounds are ended",
+  endRound: (round, last) => "End round " + round + (last ? ", and close the session" : ""),
+  endOf: (round) => "End of round " + round,
+  endTheRound: "End the round",
+  dealt: (boards) => "Dealt: " + boards.join(", ") + ".",
+  notDealt: (boards, why) => (boards.length === 1 ? "Board " : "Boards ") + boards.join(", ") + ": " + why + ".",
+  nothingDealt: "No board was dealt.",
+  noBoardsThere: "There are no such boards.",
+  noDeals: "No deal was found in this text.",
+  dealThese: (boards) => "Deal " + (boards.length === 1 ? "board " : "boards ") + boards.join(", "),
+  notOfSession: (boards) => "The session has no " + (boards.length === 1 ? "board " : "boards ") + boards.join(", ") + ": left out.",
+  dealBoards: "Deal boards",
+  shuffleFrom: "Shuffle boards",
+  to: "to",
+  shuffle: "Shuffle",
+  dealFile: "Or a file of deals (PBN)",
+  dealText: "Or their text: PBN, or lines such as 1 N:AKQJ.T98.765.432 ...",
+  deal: "Deal these",
+  fillIn: "Each number has to be there, and in its range.",
+  tableHas: (round, table, first, last) => "In round " + round + " table " + table + " has " + (first === last ? "board " + first : "boards " + first + " to " + last) + ".",
+  playOf: (round, table, board) => "round " + round + ", table " + table + ", " + board,
+  boardNumber: (board) => "board " + board,
+  boardInPlace: (place) => "board in place " + place + " of its set",
+  round: "Round",
+  tableField: "Table",
+  boardField: "Board",
+  rulings: "Rulings",
+  openPlay: "Show this play",
+  per: [["60", "60: in no way at fault"], ["50", "50: partly at fault"], ["40", "40: directly at fault"]],
+  setTricksTo: (tricks) => "Set declarer's tricks to " + tricks,
+  award: (ns, ew) => "Award " + ns + " and " + ew + " per cent",
+  takeOut: "Take the play out",
+  takeBack: "Take the ruling back",
+  asPlayed: "as it was played",
+  takeBackButton: "Take a ruling back",
+  declarersTricks: "Declarer's tricks",
+  setTricks: "Set the tricks",
+  northSouthPer: "North and South, per cent",
+  eastWestPer: "East and West, per cent",
+  awardAverages: "Award averages",
+  nowIs: "Now: ",
+  thenIs: ". Then: ",
+  playedBy: (names) => "North " + names.N + ", East " + names.E + ", South " + names.S + ", West " + names.W + ".",
+  changedSince: "This play has changed since you looked at it. Look again, and rule then.",
+  rulingsStand: "Rulings that stand",
+  noRulings: "None.",
+  ruled: (round, table, board, what) => "Round " + round + ", table " + table + ", board " + board + ": " + what,
+  ruledAs: { VOID: () => "taken out", AVERAGE: (words) => words[0] + " and " + words[1] + " per cent", TRICKS: (words) => words[0] + " tricks" },
+  solving: "What can still be won",
+  afterTricks: "After so many tricks",
+  solve: "Solve",
+  solved: (ns, ew) => "Of the tricks left North and South can win " + ns + ", and East and West " + ew + ".",
+  notSolved: (why) => "No answer: " + why + ".",
+  standings: "Standings",
+  showRanking: "Show the ranking",
+  asOf: (time) => "As of " + time + ".",
+  othersTitle: "Players see what other tables did, of boards that they have played:",
+  othersOpen: "Show it to them",
+  othersShut: "Hide it from them",
+  othersAre: { true: "shown", false: "hidden" },
+  results: "Results",
+  showResults: "Show the results",
+  lines: "Lines",
+  linesLabel: "Lines of the protocol, without the key",
+  send: "Send",
+  replies: "Replies",
+  unknownLines: "No answer came. The lines may or may not have been taken.",
+};
+"##;
+
+/// What the other scripts share.
 pub const SHARED_SCRIPT: &str = r##""use strict";
 // What the players' page and the director's share: how they ask, what is said of a refusal, how nodes are made and shown, who
 // has logged in, and when they look.
 
 const SEATS = ["N", "E", "S", "W"];
-const SEAT_NAMES = { N: "North", E: "East", S: "South", W: "West" };
+const SEAT_NAMES = TEXTS.seats;
 const LOGIN = "login";
-// Milliseconds: an answer that comes later is none; how often the page looks, also where it is hidden.
+// Milliseconds: an answer that comes later is none; how often the page looks, where another player is in turn, and where it is
+// hidden.
 const LATE = 8000;
 const LOOK = 1000;
+const SOON = 300;
 const HIDDEN_LOOK = 5000;
-const SENTENCES = {
-  NoKey: "Nobody has this key.",
-  NotAllowed: "That is not yours to do.",
-  Closed: "The session is closed.",
-  SitsOut: "You sit out in this round.",
-  NotCurrent: "That board is not being played at your table now.",
-  NotDealt: "The board is not dealt yet.",
-  WrongPhase: "That is not possible now.",
-  Stale: "Something else came first. Look again.",
-  NoClaim: "No claim stands.",
-  ClaimStands: "A claim stands and has to be answered first.",
-  NotAsked: "This claim does not ask you, or you have answered.",
-  NotYourTurn: "It is not your turn.",
-  MidTrick: "Claims are made between tricks.",
-  TooManyTricks: "There are not so many tricks left.",
-  InsufficientBid: "That bid is not sufficient.",
-  InadmissibleDouble: "There is nothing that you may double.",
-  InadmissibleRedouble: "There is nothing that you may redouble.",
-  NotHeld: "That card is not in the hand.",
-  MustFollow: "The hand has to follow suit.",
-  ClaimsSpent: "No more claims can be made on this board.",
-  Disk: "The server's disk has failed. Call the director.",
-  EpochsSpent: "The server's disk is used up. Call the director.",
-  BadLine: "That cannot be read.",
-};
+// Milliseconds after which the page says that no answer has come.
+const SLOW = 3000;
+let pace = LOOK;
+// The key of the player who was shown a table last.
+let seen = null;
 
 const at = (id) => document.getElementById(id);
 let key = sessionStorage.getItem("key");
@@ -468,7 +1234,12 @@ function show(made, status, shape, nodes) {
   main.replaceChildren(...nodes());
   for (const id of open) if (at(id)) at(id).open = true;
   movedAt = Date.now();
-  if (focus && at(focus) && !at(focus).disabled) at(focus).focus();
+  if (!focus) return;
+  // What was in the focus stays there; where it is gone, the first card or call that may be chosen.
+  const isChosen = (id) => /^c(ard|all)-/.test(id);
+  const kept = at(focus) && !at(focus).disabled ? at(focus)
+    : [...main.querySelectorAll("button")].find((node) => isChosen(node.id) && isChosen(focus) && !node.disabled);
+  if (kept) kept.focus();
 }
 
 const rankingLines = (reply) => reply.split("\n").filter((line) => /^\d/.test(line)).map((line) => line.split(" "));
@@ -480,24 +1251,25 @@ const namesIn = (text) => new Map([...text.matchAll(/^Pair (\d+): (.*)$/gm)].map
 function rankingNode(field, reply, own, names = new Map()) {
   const lines = rankingLines(reply);
   const named = names.size > 0;
-  const titles = ["Place", "Pair", "Score", "Per cent"].slice(0, lines.length ? lines[0].length : 0);
-  if (named) titles.splice(2, 0, "Names");
+  const titles = TEXTS.rankingHeads.slice(0, lines.length ? lines[0].length : 0);
+  if (named) titles.splice(2, 0, TEXTS.names);
   const head = make("tr", null, ...titles.map((title) => make("th", { scope: "col" }, title)));
   const cells = (words) => (named ? [...words.slice(0, 2), names.get(Number(words[1])) || "", ...words.slice(2)] : words);
   const rows = lines.map((words) => make("tr", { className: Number(words[1]) === own ? "own" : "" },
     ...cells(words).map((word, i) => make("td", { className: named && i === 2 ? "who" : "" }, word))));
-  return [make("h2", null, "Ranking, field " + field), make("table", { aria_label: "Ranking of field " + field }, make("thead", null, head), make("tbody", null, ...rows))];
+  return [make("h2", null, TEXTS.ranking(field)),
+    make("table", { aria_label: TEXTS.rankingOf(field) }, make("thead", null, head), make("tbody", null, ...rows))];
 }
 
 // ---- who has logged in, and when the page looks
 
 function showLogin() {
-  at("title").textContent = "Bridge table";
-  at("leave").hidden = true;
+  at("title").textContent = TEXTS.title;
   at("below").textContent = "";
   at("chip").hidden = true;
-  at("settings").hidden = true;
+  at("menu").hidden = true;
   at("choices").hidden = true;
+  document.title = TEXTS.title;
   show(LOGIN, "", "login", () => {
     const field = make("input", { id: "key", type: "text", inputMode: "numeric", autocomplete: "off", pattern: "[0-9 ]+", required: true });
     const enter = (event) => {
@@ -506,14 +1278,20 @@ function showLogin() {
       say("notice", "");
       look();
     };
-    const form = make("form", { onsubmit: enter, className: "panel" }, make("label", { for: "key" }, "Your key"), field,
-      make("p", { className: "second" }, "The number on your slip. Spaces do not matter."), make("button", { type: "submit", className: "send" }, "Sit down"));
+    const form = make("form", { onsubmit: enter, className: "panel" }, make("label", { for: "key" }, TEXTS.yourKey), field,
+      make("p", { className: "second" }, TEXTS.keyHelp), make("button", { type: "submit", className: "send" }, TEXTS.sitDown),
+      make("p", { className: "second" }, TEXTS.slipLost));
+    field.oninput = () => {
+      if (field.selectionStart === field.value.length) field.value = field.value.replace(/\s/g, "").replace(/(\d{3})(?=\d)/g, "$1 ");
+    };
     return [form];
   });
+  if (document.activeElement === document.body) at("key").focus();
 }
 
 function leave() {
   key = null;
+  seen = null;
   turn += 1;
   sessionStorage.removeItem("key");
   say("notice", "");
@@ -521,30 +1299,34 @@ function leave() {
 }
 
 function unreachable() {
-  say("status", "The server does not answer. Trying again.");
+  say("status", TEXTS.unreachable);
   at("status").className = "lost";
 }
 
-// Looks once, and again after a second.
+// Looks once, and again after a while.
 async function look() {
   clearTimeout(timer);
   const asked = key;
   if (asked === null) return showLogin();
+  pace = LOOK;
   if (!busy) {
     const mine = turn + 1;
+    const slow = setTimeout(unreachable, SLOW);
     // What is no answer of this server, as that of a network's own login page, cannot be read.
     await lookOnce(asked).catch(unreachable);
+    clearTimeout(slow);
     // After a later look, an act or Leave those go on.
     if (turn !== mine) return;
   }
   clearTimeout(timer);
-  if (key !== null) timer = setTimeout(look, document.hidden ? HIDDEN_LOOK : LOOK);
+  if (key !== null) timer = setTimeout(look, document.hidden ? HIDDEN_LOOK : pace);
 }
 
 async function lookOnce(asked) {
   turn += 1;
   const mine = turn;
-  const place = await ask("/place", asked);
+  // Where a player was shown a table last, his place and what he sees are asked for at once.
+  const [place, view] = await Promise.all([ask("/place", asked), seen === asked ? ask("/lines", "SEE " + asked + "\n") : undefined]);
   if (mine !== turn) return;
   if (place === null) return unreachable();
   const refused = refusal(place);
@@ -554,16 +1336,16 @@ async function lookOnce(asked) {
   }
   if (refused) {
     leave();
-    return say("notice", SENTENCES[refused] || "That is no key.");
+    return say("notice", TEXTS.refusals[refused] || TEXTS.noKey);
   }
   enter(asked);
-  return showPlayer(place, asked, mine);
+  return showPlayer(place, asked, mine, view);
 }
 
 function enter(asked) {
   sessionStorage.setItem("key", asked);
   sayLeave();
-  at("leave").hidden = false;
+  at("menu").hidden = false;
 }
 
 // Leave is asked: it wants a second press within some seconds.
@@ -572,7 +1354,7 @@ let askedAt = -ASKED;
 const isAsked = () => Date.now() - askedAt < ASKED;
 
 function sayLeave() {
-  const label = isAsked() ? "Really leave?" : "Leave";
+  const label = isAsked() ? TEXTS.reallyLeave : TEXTS.leave;
   if (at("leave").textContent !== label) at("leave").textContent = label;
 }
 
@@ -582,6 +1364,7 @@ at("leave").onclick = () => {
   sayLeave();
   if (again) leave();
 };
+window.addEventListener("online", () => look());
 document.addEventListener("visibilitychange", () => { if (!document.hidden) look(); });
 // Once the scripts of both pages are there.
 document.addEventListener("DOMContentLoaded", () => look());
@@ -594,9 +1377,6 @@ pub const TABLE_SCRIPT: &str = r##""use strict";
 const SUITS = ["S", "H", "C", "D"];
 const HAND_SUITS = ["S", "H", "D", "C"];
 const SIGNS = { S: "\u2660\ufe0e", H: "\u2665\ufe0e", D: "\u2666\ufe0e", C: "\u2663\ufe0e" };
-const SUIT_WORDS = { S: "spade", H: "heart", D: "diamond", C: "club", N: "no trump" };
-const SUIT_NAMES = { S: "spades", H: "hearts", D: "diamonds", C: "clubs" };
-const RANK_NAMES = { A: "ace", K: "king", Q: "queen", J: "jack", T: "10" };
 const STRAINS = ["C", "D", "H", "S", "NT"];
 // Milliseconds: how long results last.
 const RESULTS_LAST = 60000;
@@ -624,7 +1404,7 @@ function readPlace(reply) {
     names: some(f.NAMES, (w) => ({ N: w[0], E: w[1], S: w[2], W: w[3] })),
     contract: some(f.CONTRACT, (w) => ({ bid: w[0], declarer: w[1] })),
     answer: f.ANSWER[0] === "DUE",
-    next: some(f.NEXT, (w) => ({ number: w[0], seat: w[1] })),
+    next: some(f.NEXT, (w) => ({ number: w[0], seat: w[1], first: w[2], last: w[3] })),
   };
 }
 
@@ -661,9 +1441,8 @@ function readView(reply) {
 }
 
 const partner = (seat) => SEATS[(SEATS.indexOf(seat) + 2) % 4];
-const rankName = (rank) => RANK_NAMES[rank] || rank;
-const cardName = (card) => rankName(card[1]) + " of " + SUIT_NAMES[card[0]];
-const rankText = (rank) => (rank === "T" ? "10" : rank);
+const cardName = (card) => TEXTS.cardName(TEXTS.ranks[card[1]] || card[1], TEXTS.suits[card[0]]);
+const { rankText } = TEXTS;
 
 // The classes that give a suit its colour: of two, or of four where these are chosen.
 const SUIT_CLASSES = { S: "", H: " red", D: " red diamond", C: " club" };
@@ -675,12 +1454,13 @@ function suitSign(suit) {
 const strainOf = (call) => call.slice(1).replace(/X+$/, "");
 
 function cardNodes(card) {
-  return [make("span", { className: card[1] === "T" ? "ten" : "" }, rankText(card[1])), make("span", { className: "suit", aria_hidden: "true" }, SIGNS[card[0]])];
+  return [make("span", { className: card[1] === "T" ? "ten" : "" }, rankText(card[1])),
+    make("span", { className: "suit", aria_hidden: "true" }, SIGNS[card[0]])];
 }
 
 // A call as text nodes; doubles stand behind the bid in a contract.
 function callNodes(call) {
-  if (call === "PASS") return [make("span", { className: "pass" }, "Pass")];
+  if (call === "PASS") return [make("span", { className: "pass" }, TEXTS.pass)];
   if (call === "X") return [make("span", { className: "double" }, "X")];
   if (call === "XX") return [make("span", { className: "redouble" }, "XX")];
   const strain = strainOf(call);
@@ -689,16 +1469,15 @@ function callNodes(call) {
 
 // A call in words.
 function callName(call) {
-  if (call === "PASS") return "pass";
-  if (call === "X") return "double";
-  if (call === "XX") return "redouble";
+  const named = { PASS: TEXTS.passName, X: TEXTS.doubleName, XX: TEXTS.redoubleName }[call];
+  if (named) return named;
   const strain = strainOf(call);
-  const doubled = { X: " doubled", XX: " redoubled" }[call.slice(1 + strain.length)] || "";
-  return call[0] + " " + SUIT_WORDS[strain[0]] + (strain !== "NT" && call[0] !== "1" ? "s" : "") + doubled;
+  const many = strain !== "NT" && call[0] !== "1";
+  return TEXTS.bidName(call[0], (many ? TEXTS.suits : TEXTS.pieces)[strain[0]], TEXTS.doubled[call.slice(1 + strain.length)] || "");
 }
 
 function vulnerableText(words) {
-  return { None: "nobody vulnerable", NS: "North and South vulnerable", EW: "East and West vulnerable", All: "all vulnerable" }[words] || words;
+  return TEXTS.vulnerable[words] || words;
 }
 
 // Whose call was the last that was no pass: [call, seat], or null.
@@ -768,7 +1547,8 @@ function send(line) {
 
 function confirmButton(prompt, sending) {
   const ready = marked !== null && !busy;
-  const label = busy ? "Sending \u2026" : marked ? [sending, ...(marked.what.startsWith("card-") ? cardNodes(marked.what.slice(5)) : callNodes(marked.what.slice(5)))] : prompt;
+  const label = busy ? TEXTS.sending : marked ? [sending,
+    ...(marked.what.startsWith("card-") ? cardNodes(marked.what.slice(5)).reverse() : callNodes(marked.what.slice(5)))] : prompt;
   const node = button(make("span", null, ...[].concat(label)), "", "confirm", ready, () => { if (marked) send(marked.line); });
   if (ready) node.className = "send";
   return node;
@@ -806,17 +1586,48 @@ function biddingBox(view) {
     node.setAttribute("aria-pressed", String(marked !== null && marked.what === id));
     return node;
   };
-  const cells = [call("PASS", "Pass", "", "box-call"), call("X", "X", "Double", "box-call"), call("XX", "XX", "Redouble", "box-call"),
-    confirmButton(mine ? (isSafe() ? "Tap a call" : "Your call") : SEAT_NAMES[view.turn] + " to call", "Call ")];
+  const cells = [call("PASS", TEXTS.pass, "", "box-call"), call("X", "X", TEXTS.double, "box-call"), call("XX", "XX", TEXTS.redouble, "box-call"),
+    confirmButton(mine ? (isSafe() ? TEXTS.tapCall : TEXTS.yourCall) : TEXTS.toCall(SEAT_NAMES[view.turn]), TEXTS.callIt)];
   for (let level = 1; level <= 7; level += 1) {
     for (const strain of STRAINS) {
       const word = level + strain;
       cells.push(call(word, make("span", null, String(level), SIGNS[strain] ? suitSign(strain) : strain), callName(word), "bid"));
     }
   }
-  const box = make("section", { id: "dock", className: "box", aria_label: "Bidding box" }, ...cells);
-  box.onkeydown = (event) => boxKey(event);
+  const box = make("section", { id: "dock", className: "box", aria_label: TEXTS.biddingBox }, ...cells);
+  box.onkeydown = (event) => { arrowKey(event, 5); boxKey(event); };
   return box;
+}
+
+// Arrows go through what may be chosen in a hand or a box of so many columns.
+function arrowKey(event, columns) {
+  const nodes = [...event.currentTarget.querySelectorAll("button")];
+  const step = { ArrowRight: 1, ArrowLeft: -1, ArrowDown: columns, ArrowUp: -columns }[event.key];
+  const from = nodes.indexOf(document.activeElement);
+  if (!step || from < 0) return;
+  event.preventDefault();
+  let to = from + step;
+  while (nodes[to] && nodes[to].disabled) to += step;
+  if (nodes[to]) nodes[to].focus();
+}
+
+// What keys have chosen is in the focus, and as if it were clicked.
+function choseKey(node) {
+  if (!node || node.disabled) return;
+  node.focus();
+  node.click();
+}
+
+// In a hand keys choose: s, h, d or c, and then a rank, of which 1 is the ten's.
+let suitKey = "";
+function handKey(event) {
+  const word = event.key.toUpperCase();
+  if (SUITS.includes(word)) {
+    suitKey = word;
+    return;
+  }
+  choseKey(suitKey ? at("card-" + suitKey + (word === "1" ? "T" : word)) : null);
+  suitKey = "";
 }
 
 // In the box keys choose: p, x, r, or a level and then c, d, h, s or n.
@@ -830,29 +1641,27 @@ function boxKey(event) {
   const strain = { c: "C", d: "D", h: "H", s: "S", n: "NT" }[word];
   const chosen = { p: "PASS", x: "X", r: "XX" }[word] || (level && strain ? level + strain : "");
   level = "";
-  const node = chosen ? at("call-" + chosen) : null;
-  if (node && !node.disabled) {
-    node.focus();
-    node.click();
-  }
+  choseKey(chosen ? at("call-" + chosen) : null);
 }
 
 function auctionTable(place, view) {
   const columns = ["W", "N", "E", "S"];
   const due = view.playing ? null : view.turn;
   const head = make("tr", null, ...columns.map((seat) => make("th", { scope: "col", className: seat === due ? "turn" : "" },
-    make("span", { className: "seat" + (isVulnerable(view, seat) ? " vul" : ""), aria_hidden: "true" }, seat), seat === view.dealer ? " deals" : "", make("br"),
-    make("span", { aria_label: SEAT_NAMES[seat] }, seat === view.seat ? "You" : place.names ? place.names[seat] : ""))));
+    make("span",
+      { className: "seat" + (isVulnerable(view, seat) ? " vul" : ""), aria_hidden: "true" }, seat), seat === view.dealer ? " " + TEXTS.deals : "", make("br"),
+    make("span", { aria_label: SEAT_NAMES[seat] }, seat === view.seat && view.isOwn !== false ? TEXTS.you : place.names ? place.names[seat] : ""))));
   const cells = Array(columns.indexOf(view.dealer)).fill("").concat(view.calls);
   const rows = [];
   for (let i = 0; i < cells.length + (due ? 1 : 0); i += 4) {
     rows.push(make("tr", null, ...[0, 1, 2, 3].map((j) => {
       const dueHere = due !== null && i + j === cells.length;
-      if (dueHere) return make("td", { className: "turn", aria_label: "to call" }, "?");
+      if (dueHere && marked && marked.what.startsWith("call-")) return make("td", { className: "turn marked" }, ...callNodes(marked.what.slice(5)));
+      if (dueHere) return make("td", { className: "turn", aria_label: TEXTS.dueCall }, "?");
       return make("td", null, ...(cells[i + j] ? callNodes(cells[i + j]) : [""]));
     })));
   }
-  return make("table", { aria_label: "Auction" }, make("thead", null, head), make("tbody", null, ...rows));
+  return make("table", { aria_label: TEXTS.auction }, make("thead", null, head), make("tbody", null, ...rows));
 }
 
 // Which suits stand in which of two rows, for as long as the board is played: so that neither row has more than seven cards.
@@ -862,16 +1671,22 @@ function rowsOf(hand, board, whose) {
   if (!rowsKept.has(name)) {
     const pairings = [[["S", "H"], ["C", "D"]], [["S", "D"], ["C", "H"]], [["S", "C"], ["H", "D"]]];
     const fits = pairings.find((rows) => rows.every((row) => row.reduce((sum, suit) => sum + hand[suit].length, 0) <= 7));
-    rowsKept.set(name, fits || pairings[0]);
+    rowsKept.set(name, fits || null);
   }
-  return rowsKept.get(name);
+  const rows = rowsKept.get(name);
+  if (rows) return rows.map((row) => row.map((suit) => [suit, hand[suit]]));
+  // No pairing fits: in order, cut at seven.
+  const all = SUITS.flatMap((suit) => [...hand[suit]].map((rank) => suit + rank));
+  const ranksIn = (row, suit) => row.filter((card) => card[0] === suit).map((card) => card[1]).join("");
+  return [all.slice(0, 7), all.slice(7)].map((row) => SUITS.map((suit) => [suit, ranksIn(row, suit)]));
 }
 
 // A hand; its cards can be tapped where they may be played.
-function handNode(view, hand, label, id, mine) {
+function handNode(view, hand, label, id, mine, where) {
   const led = ledSuit(view);
   const follows = led !== null && hand[led] !== "";
   const node = make("section", { className: "hand" + (mine ? " on" : ""), id, aria_label: label }, make("h2", null, label));
+  node.onkeydown = (event) => { arrowKey(event, 1); handKey(event); };
   const card = (suit, rank) => {
     const name = "card-" + suit + rank;
     const line = "CARD " + key + " " + view.board + " " + view.made.cards + " " + suit + rank;
@@ -881,18 +1696,23 @@ function handNode(view, hand, label, id, mine) {
     if (mine) made.setAttribute("aria-pressed", String(marked !== null && marked.what === name));
     return made;
   };
-  const group = (suit) => make("div", { className: "group in-" + suit }, ...[...hand[suit]].map((rank) => card(suit, rank)));
-  const rows = rowsOf(hand, view.board, id).map((row) => row.filter((suit) => hand[suit] !== "")).filter((row) => row.length > 0);
+  const voidNode = (suit) => make("div", { className: "group void-of in-" + suit }, make("span", { className: "void" }, suitSign(suit), " \u2013"));
+  const group = ([suit, ranks]) => (ranks === "" ? voidNode(suit)
+    : make("div", { className: "group in-" + suit + (ranks[0] === hand[suit][0] ? "" : " more") }, ...[...ranks].map((rank) => card(suit, rank))));
+  const isShown = ([suit, ranks]) => ranks !== "" || (id === "dummy" && hand[suit] === "");
+  const suits = where === "left" || where === "right" ? SUITS.map((suit) => [[suit, hand[suit]]]) : rowsOf(hand, view.board, id);
+  const rows = suits.map((row) => row.filter(isShown)).filter((row) => row.length > 0);
   node.append(make("div", { className: "cards" }, ...rows.map((row) => make("div", { className: "line" }, ...row.map(group)))));
   return node;
 }
 
 function plate(place, view, seat) {
   const declarer = place.contract ? place.contract.declarer : null;
-  const node = make("div", { className: "plate" + (onTurn(view) === seat ? " turn" : "") },
+  const acts = onTurn(view) === dummyOf(place) && view.seat === dummyOf(place) ? declarer : onTurn(view);
+  const node = make("div", { className: "plate" + (acts === seat ? " turn" : "") },
     make("b", { className: isVulnerable(view, seat) ? "vul" : "", aria_label: SEAT_NAMES[seat] }, seat), make("span", null, ...nameNodes(place.names ? place.names[seat] : SEAT_NAMES[seat])));
-  if (seat === declarer) node.append(make("em", { aria_label: "declarer" }, "decl."));
-  if (view.playing && seat === dummyOf(place)) node.append(make("em", null, "dummy"));
+  if (seat === declarer) node.append(make("em", { aria_label: TEXTS.declarer }, TEXTS.declarerShort));
+  if (view.playing && seat === dummyOf(place)) node.append(make("em", null, TEXTS.dummy));
   return node;
 }
 
@@ -900,7 +1720,7 @@ function plate(place, view, seat) {
 function trickNode(view) {
   const whole = view.trick.length === 0;
   const trick = whole ? view.last : view.trick;
-  const node = make("div", { className: "trick", role: "group", aria_label: whole && trick.length ? "Last trick" : "Trick" });
+  const node = make("div", { className: "trick", role: "group", aria_label: whole && trick.length ? TEXTS.lastTrick : TEXTS.trickNow });
   for (const { seat, card } of trick) {
     const won = whole && seat === view.turn;
     node.append(make("span", { className: "played " + placeOf(view, seat) + SUIT_CLASSES[card[0]] + (won ? " won" : ""), role: "img",
@@ -911,13 +1731,14 @@ function trickNode(view) {
 }
 
 function stageNode(place, view, middle) {
-  const node = make("section", { id: "stage", aria_label: "Table" });
+  const node = make("section", { id: "stage", aria_label: TEXTS.table });
   const dummy = dummyOf(place);
   for (const seat of SEATS) {
     const where = placeOf(view, seat);
     if (where === "bottom") continue;
     const box = make("div", { className: "at-" + where }, plate(place, view, seat));
-    if (view.playing && seat === dummy && view.dummy) box.append(handNode(view, view.dummy, "Dummy, " + SEAT_NAMES[seat], "dummy", handPlayed(place, view) === "dummy"));
+    if (view.playing && seat === dummy && view.dummy) box.append(handNode(view,
+      view.dummy, TEXTS.dummyHand(SEAT_NAMES[seat]), "dummy", handPlayed(place, view) === "dummy", where));
     node.append(box);
   }
   node.append(middle);
@@ -928,40 +1749,43 @@ function stageNode(place, view, middle) {
 function tallyNode(place, view) {
   const [we, they] = view.seat === "N" || view.seat === "S" ? [view.tricks.NS, view.tricks.EW] : [view.tricks.EW, view.tricks.NS];
   const marks = Array(Number(we)).fill("ours").concat(Array(Number(they)).fill("theirs"), Array(13 - Number(we) - Number(they)).fill(""));
-  return [make("span", { className: "tally", role: "img", aria_label: "Tricks: we " + we + ", they " + they }, ...marks.map((mark) => make("i", { className: mark }))),
+  return [make("span",
+    { className: "tally", role: "img", aria_label: TEXTS.tally(we, they) }, ...marks.map((mark) => make("i", { className: mark }))),
     make("span", { className: "score", aria_hidden: "true" }, we + "\u2013" + they)];
 }
 
-function contractNodes(place, view) {
+function contractNodes(place, view, short) {
   const { bid, declarer } = place.contract;
   const ours = declarer === view.seat || declarer === partner(view.seat);
   const needs = 6 + Number(bid[0]);
-  const words = (declarer === view.seat ? "by you" : "by " + SEAT_NAMES[declarer]) + (ours ? ", needs " + needs : ", we need " + (14 - needs));
+  const words = (short && declarer !== view.seat ? declarer : TEXTS.by(declarer, declarer === view.seat)) + (ours ? TEXTS.needs(needs) : TEXTS.weNeed(14 - needs));
   return [make("span", { className: "contract", aria_label: callName(bid) }, ...callNodes(bid)), make("span", null, words)];
 }
 
 function stripNode(place, view) {
-  const calls = make("details", { id: "calls" }, make("summary", null, ...contractNodes(place, view)), make("div", null, auctionTable(place, view)));
-  return make("section", { id: "strip", aria_label: "Contract" }, calls, ...tallyNode(place, view));
+  const calls = make("details", { id: "calls" }, make("summary", null, ...contractNodes(place, view, true)), make("div", null, auctionTable(place, view)));
+  return make("section", { id: "strip", aria_label: TEXTS.contract }, calls, ...tallyNode(place, view));
 }
 
 function lastTrickNodes(view) {
-  return view.last.map(({ seat, card }) => make("span", { className: "field" }, seat + " ", make("span", { className: SUIT_CLASSES[card[0]].trim(), role: "img", aria_label: SEAT_NAMES[seat] + ": " + cardName(card) }, ...cardNodes(card).reverse())));
+  return view.last.map(({ seat, card }) => make("span", { className: "field" },
+    seat + " ",
+    make("span", { className: SUIT_CLASSES[card[0]].trim(), role: "img", aria_label: SEAT_NAMES[seat] + ": " + cardName(card) }, ...cardNodes(card).reverse())));
 }
 
 function sideNode(place, view) {
-  const node = make("aside", { id: "side", aria_label: "The board" }, make("p", null, ...contractNodes(place, view)), make("h2", null, "Tricks"), make("p", { className: "row" }, ...tallyNode(place, view)));
-  if (view.last.length) node.append(make("h2", null, "Last trick"), make("p", { className: "row" }, ...lastTrickNodes(view)));
-  node.append(make("h2", null, "Auction"), auctionTable(place, view));
+  const node = make("aside", { id: "side", aria_label: TEXTS.theBoard },
+    make("p", null, ...contractNodes(place, view)), make("h2", null, TEXTS.tricksHead),
+    make("p", { className: "row" }, ...tallyNode(place, view)));
+  if (view.last.length) node.append(make("h2", null, TEXTS.lastTrick), make("p", { className: "row" }, ...lastTrickNodes(view)));
+  node.append(make("h2", null, TEXTS.auction), auctionTable(place, view), make("h2", null, TEXTS.roundSoFar), roundNode(place, view));
   return node;
 }
 
 // What a contract comes to with so many tricks, in words.
 function resultWords(bid, tricks) {
   const over = tricks - 6 - Number(bid[0]);
-  const made = ["made", "one over", "two over", "three over"][over] || over + " over";
-  const down = ["", "one down", "two down", "three down"][-over] || -over + " down";
-  return callName(bid) + (over === 0 ? " " : ", ") + (over >= 0 ? made : down);
+  return callName(bid) + (over === 0 ? " " : ", ") + TEXTS.made(over);
 }
 
 // What the claim of a side comes to, by the tricks that it has and those that it claims.
@@ -970,7 +1794,24 @@ function claimWords(place, view, seat, tricks) {
   const north = seat === "N" || seat === "S";
   const has = Number(north ? view.tricks.NS : view.tricks.EW) + tricks;
   const declares = (place.contract.declarer === "N" || place.contract.declarer === "S") === north;
-  return resultWords(bid, declares ? has : 13 - has);
+  const made = declares ? has : 13 - has;
+  const score = scoreOf(bid, made, isVulnerable(view, place.contract.declarer));
+  const own = (place.contract.declarer === view.seat || place.contract.declarer === partner(view.seat)) ? score : -score;
+  return resultWords(bid, made) + ": " + TEXTS.forYou(signed(own));
+}
+
+// The score of a contract with so many tricks, for its declarer (Law 77).
+function scoreOf(bid, tricks, isVul) {
+  const level = Number(bid[0]);
+  const strain = strainOf(bid);
+  const by = [1, 2, 4][/X*$/.exec(bid)[0].length];
+  const over = tricks - 6 - level;
+  if (over < 0 && by === 1) return (isVul ? 100 : 50) * over;
+  if (over < 0) return -(by / 2) * (isVul ? 300 * -over - 100 : -over <= 3 ? 200 * -over - 100 : 300 * -over - 400);
+  const each = strain === "C" || strain === "D" ? 20 : 30;
+  const base = (each * level + (strain === "NT" ? 10 : 0)) * by;
+  const slam = level === 7 ? (isVul ? 1500 : 1000) : level === 6 ? (isVul ? 750 : 500) : 0;
+  return base + (base >= 100 ? (isVul ? 500 : 300) : 50) + slam + (by === 1 ? each * over : (by / 2) * (50 + (isVul ? 200 : 100) * over));
 }
 
 const leftOf = (view) => 13 - Number(view.tricks.NS) - Number(view.tricks.EW);
@@ -982,59 +1823,66 @@ function claimSheet(place, view) {
     node.setAttribute("aria-pressed", String(claiming.tricks === tricks));
     return node;
   };
-  const numbers = Array.from({ length: left + 1 }, (_none, tricks) => choice(tricks, tricks === 0 ? "None" : tricks === left ? "All " + left : String(tricks)));
+  const numbers = Array.from({ length: left + 1 },
+    (_none, tricks) => choice(tricks, tricks === 0 ? TEXTS.claimNone : tricks === left ? TEXTS.claimAll(left) : String(tricks)));
   const line = "CLAIM " + key + " " + view.board + " " + view.made.claims + " " + claiming.tricks;
-  const claim = button("Claim " + claiming.tricks + (claiming.tricks === 1 ? " trick" : " tricks"), "", "claim-button", true, (event) => { if (!isDeaf(event)) send(line); });
+  const claim = button(TEXTS.claimTricks(claiming.tricks), "", "claim-button", true, (event) => { if (!isDeaf(event)) send(line); });
   claim.className = "send";
-  return make("section", { id: "claiming", className: "sheet", aria_label: "Claim or concede" },
-    make("h2", null, "Of the " + left + " tricks left my side wins"), make("div", { className: "numbers" }, ...numbers),
-    make("p", null, claimWords(place, view, view.seat, claiming.tricks) + "."), make("p", { className: "second" }, "Say your line aloud. Who is asked agrees or refuses."),
-    make("div", { className: "row" }, button("Back", "", "claim-back", true, () => { claiming = null; drawn(); }), claim));
+  return make("section", { id: "claiming", className: "sheet", aria_label: TEXTS.claimTitle },
+    make("h2", null, TEXTS.claimOf(left)), make("div", { className: "numbers" }, ...numbers),
+    make("p", null, claimWords(place, view, view.seat, claiming.tricks) + "."), make("p", { className: "second" }, TEXTS.claimHelp),
+    make("div", { className: "row" }, button(TEXTS.back, "", "claim-back", true, () => { claiming = null; drawn(); }), claim));
 }
 
 function lastSheet(view) {
-  return make("section", { id: "last-trick", className: "sheet", aria_label: "Last trick" }, make("h2", null, "Last trick"),
-    make("div", { className: "row" }, ...lastTrickNodes(view)), button("Close", "", "last-close", true, () => { looking = false; drawn(); }));
+  return make("section", { id: "last-trick", className: "sheet", aria_label: TEXTS.lastTrick }, make("h2", null, TEXTS.lastTrick),
+    make("div", { className: "row" }, ...lastTrickNodes(view)), button(TEXTS.close, "", "last-close", true, () => { looking = false; drawn(); }));
 }
 
 // Answers to a claim that this player is asked for.
 function answerDock(place, view) {
   const line = (word) => word + " " + key + " " + view.board + " " + view.made.claims;
-  return make("section", { id: "dock", className: "claimed", aria_label: "The claim" },
-    make("p", null, claimWords(place, view, view.claim.seat, Number(view.claim.tricks)) + ", if all agree."),
-    button("Refuse", "", "refuse", true, (event) => { if (!isDeaf(event)) send(line("REFUSE")); }),
-    button("Agree", "", "agree", true, (event) => { if (!isDeaf(event)) send(line("AGREE")); }));
+  return make("section", { id: "dock", className: "claimed", aria_label: TEXTS.theClaim },
+    make("p", null, make("b", null, TEXTS.claims(SEAT_NAMES[view.claim.seat], view.claim.tricks, leftOf(view))), make("br"),
+      claimWords(place, view, view.claim.seat, Number(view.claim.tricks)) + TEXTS.ifAgreed),
+    button(TEXTS.refuse, "", "refuse", true, (event) => { if (!isDeaf(event)) send(line("REFUSE")); }),
+    button(TEXTS.agree, "", "agree", true, (event) => { if (!isDeaf(event)) send(line("AGREE")); }));
 }
 
 function playDock(place, view) {
   const played = handPlayed(place, view);
   const isDummy = dummyOf(place) === view.seat;
-  const cells = [button("Last trick", "", "last", view.last.length > 0, () => { looking = !looking; drawn(); })];
-  const claim = button("Claim", "", "claim-open", !isDummy && !view.claim && view.trick.length === 0, () => { claiming = { board: view.board, tricks: leftOf(view) }; drawn(); });
+  const cells = [button(TEXTS.lastTrick, "", "last", view.last.length > 0, () => { looking = !looking; drawn(); })];
+  const claim = button(TEXTS.claim, "", "claim-open",
+    !isDummy && !view.claim && view.trick.length === 0, () => { claiming = { board: view.board, tricks: leftOf(view) }; drawn(); });
   claim.hidden = isDummy;
-  cells.push(claim, confirmButton(played ? (isSafe() ? "Tap a card" : "Your card") : "Please wait", "Play "));
-  return make("section", { id: "dock", className: "play", aria_label: "What you can do" }, ...cells);
+  if (isDummy) cells.push(claim, button(TEXTS.myBoards, "", "confirm", true, () => turnLeaf({ card: true })));
+  else cells.push(claim, confirmButton(played ? (isSafe() ? TEXTS.tapCard : TEXTS.yourCard) : TEXTS.pleaseWait, TEXTS.playIt));
+  return make("section", { id: "dock", className: "play", aria_label: TEXTS.dock }, ...cells);
 }
+
+const toPlay = (view, lead) => (view.turn === view.seat ? TEXTS.youAreToPlay : TEXTS.isToPlay(SEAT_NAMES[view.turn], lead));
 
 // What is waited for, in a sentence.
 function waiting(place, view) {
-  const who = (seat) => (seat === view.seat ? "You are" : SEAT_NAMES[seat] + " is");
   if (view.claim) {
-    const claims = (view.claim.seat === view.seat ? "You claim " : SEAT_NAMES[view.claim.seat] + " claims ") + view.claim.tricks + " of the " + leftOf(view) + " left. ";
-    return claims + (place.answer ? "Agree?" : "Please wait.");
+    const { seat, tricks } = view.claim;
+    if (place.answer) return TEXTS.answerWaited;
+    return (seat === view.seat ? TEXTS.youClaim(tricks, leftOf(view)) : TEXTS.claims(SEAT_NAMES[seat], tricks, leftOf(view))) + TEXTS.waitPlease;
   }
-  if (!view.playing) return view.turn === view.seat ? "Your turn to call" : who(view.turn) + " to call.";
+  if (!view.playing) return view.turn === view.seat ? TEXTS.yourTurnToCall : TEXTS.isToCall(SEAT_NAMES[view.turn]);
   const played = handPlayed(place, view);
   if (played) {
     const hand = played === "own" ? view.hand : view.dummy;
     const led = ledSuit(view);
-    if (led && hand && hand[led] !== "") return (played === "own" ? "Your turn: follow with a " : "Your turn: from dummy, a ") + SUIT_WORDS[led];
-    if (view.made.cards === "0") return "Your turn: the opening lead";
-    return played === "own" ? "Your turn" : "Your turn: play from dummy";
+    if (led && hand && hand[led] !== "") return (played === "own" ? TEXTS.follow : TEXTS.followDummy)(TEXTS.pieces[led]);
+    if (view.made.cards === "0") return TEXTS.openingLead;
+    return played === "own" ? TEXTS.turnIsYours : TEXTS.turnFromDummy;
   }
-  if (!place.contract) return who(view.turn) + " to play.";
-  if (view.turn === dummyOf(place)) return SEAT_NAMES[place.contract.declarer] + " is to play from dummy.";
-  return who(view.turn) + " to play" + (view.made.cards === "0" ? " the opening lead." : ".");
+  if (!place.contract) return toPlay(view, false);
+  if (view.seat === dummyOf(place)) return TEXTS.youAreDummy(place.names[place.contract.declarer]);
+  if (view.turn === dummyOf(place)) return TEXTS.fromDummy(SEAT_NAMES[place.contract.declarer]);
+  return toPlay(view, view.made.cards === "0");
 }
 
 function isMine(place, view) {
@@ -1044,9 +1892,13 @@ function isMine(place, view) {
 
 function playNodes(place, view) {
   const dummy = dummyOf(place);
-  const own = handNode(view, view.hand, view.seat === dummy && view.playing ? "Your hand, which is dummy" : "Your hand, " + SEAT_NAMES[view.seat], "hand", handPlayed(place, view) === "own");
+  const own = handNode(view, view.hand,
+    view.seat === dummy && view.playing ? TEXTS.ownDummy : TEXTS.ownHand(SEAT_NAMES[view.seat]), "hand", handPlayed(place, view) === "own");
   if (!view.playing || !place.contract) {
-    return [stageNode(place, view, make("div", { id: "auction", className: "auction" }, auctionTable(place, view))), own, biddingBox(view)];
+    const stage = stageNode(place, view, make("div", { id: "auction", className: "auction" }, auctionTable(place, view)));
+    // The board lies there while there is room.
+    if (view.calls.length < 8) stage.append(boardPicture({ number: Number(view.board), side: "NS", calls: [] }, view.seat));
+    return [stage, own, biddingBox(view)];
   }
   const nodes = [stripNode(place, view), stageNode(place, view, trickNode(view)), own];
   if (claiming && (claiming.board !== view.board || view.claim || view.trick.length > 0)) claiming = null;
@@ -1064,13 +1916,14 @@ let before = null;
 function news(view) {
   const old = before;
   before = view;
-  if (!old || old.board !== view.board) return "Board " + view.board;
+  if (!old || old.board !== view.board) return TEXTS.board(view.board);
   const said = [];
   view.calls.slice(old.calls.length).forEach((call, i) => said.push(SEAT_NAMES[SEATS[(SEATS.indexOf(view.dealer) + old.calls.length + i) % 4]] + ": " + callName(call)));
   const cards = view.trick.length ? view.trick : view.made.cards === old.made.cards ? [] : view.last;
   const fresh = Number(view.made.cards) - Number(old.made.cards);
   cards.slice(Math.max(0, cards.length - fresh)).forEach(({ seat, card }) => said.push(SEAT_NAMES[seat] + ": " + cardName(card)));
-  if (view.last.length && view.trick.length === 0 && fresh > 0) said.push("Trick to " + SEAT_NAMES[view.turn]);
+  if (old.claim && !view.claim) say("notice", TEXTS.claimRefused);
+  if (view.last.length && view.trick.length === 0 && fresh > 0) said.push(TEXTS.trickTo(SEAT_NAMES[view.turn]));
   return said.join(". ");
 }
 
@@ -1092,40 +1945,52 @@ function playLast(place, view) {
 
 function placeText(place) {
   const table = place.table;
-  if (!table) return "You sit out in this round.";
-  return table.first === table.last ? "Board " + table.first : "Boards " + table.first + " to " + table.last;
+  return table ? TEXTS.boardsOf(table.first, table.last) : TEXTS.sitsOut;
 }
 
 function nextText(place) {
   if (place.round >= place.rounds) return "";
-  if (!place.next) return "You sit out in the next round.";
-  return "Next round: table " + place.next.number + ", " + SEAT_NAMES[place.next.seat] + ".";
+  return place.next ? TEXTS.nextRound(place.next.number, SEAT_NAMES[place.next.seat]) : TEXTS.sitsOutNext;
 }
 
 function headText(place) {
-  return place.name + ", pair " + place.pair;
+  return TEXTS.ofPair(place.name, place.pair);
 }
 
 // Who sits at a table, this player and his partner first.
 function namesNode(place) {
   const seat = place.table.seat;
   const around = [seat, partner(seat), ...SEATS.filter((one) => one !== seat && one !== partner(seat))];
-  return make("ul", { className: "names" }, ...around.map((one) => make("li", null, make("span", { className: "mark", aria_label: SEAT_NAMES[one] }, one), one === seat ? "You, " + place.names[one] : place.names[one])));
+  return make("ul", { className: "names" },
+    ...around.map((one) => make("li", null, make("span", { className: "mark", aria_label: SEAT_NAMES[one] }, one), one === seat ? TEXTS.isYou(place.names[one]) : place.names[one])));
+}
+
+// What the evening has come to so far, and the way to the score card.
+function soFarNodes() {
+  const all = worthOfAll(told.boards);
+  const words = all ? [make("p", null, TEXTS.eveningSoFar, make("b", null, all.percent ? TEXTS.percent(all.percent) : TEXTS.imps(all.points)))] : [];
+  return [...words, make("div", { className: "row" }, button(TEXTS.myBoards, "", "between-boards", true, () => turnLeaf({ card: true })))];
 }
 
 function betweenNodes(place, done) {
   const nodes = [];
   const next = done && place.next;
   if (next) {
-    nodes.push(make("section", { className: "panel" }, make("p", { className: "second" }, "Next, round " + (place.round + 1) + " of " + place.rounds),
-      make("p", { className: "large" }, "Table " + next.number + ", " + SEAT_NAMES[next.seat]),
-      make("p", null, "Boards " + next.first + (next.first === next.last ? "" : " to " + next.last) + ". ", make("b", null, place.table && next.number === place.table.number ? "Stay at your table." : "Go to table " + next.number + ".")),
-      make("p", { className: "second" }, "The next round begins when the director ends this one.")));
+    nodes.push(make("section", { className: "panel" }, make("p", { className: "second" }, TEXTS.nextOf(place.round + 1, place.rounds)),
+      make("p", { className: "large" }, TEXTS.tableSeat(next.number, SEAT_NAMES[next.seat])),
+      make("p", null, TEXTS.boardsOf(next.first, next.last) + ". ",
+        make("b", null, place.table && next.number === place.table.number ? TEXTS.stay : TEXTS.goTo(next.number))),
+      make("p", { className: "second" }, TEXTS.roundBegins)));
   }
-  const here = make("section", { className: "panel" }, make("p", { className: "second" }, "Round " + place.round + " of " + place.rounds));
-  if (place.table) here.append(make("p", { className: "large" }, "Table " + place.table.number + ", " + SEAT_NAMES[place.table.seat]), make("p", null, placeText(place) + "."), namesNode(place));
-  else here.append(make("p", { className: "large" }, "You sit out"));
-  nodes.push(here);
+  const here = make("section", { className: "panel" }, make("p", { className: "second" }, TEXTS.roundOf(place.round, place.rounds)));
+  if (place.table) here.append(
+    make("p", { className: "large" }, TEXTS.tableSeat(place.table.number, SEAT_NAMES[place.table.seat])),
+    make("p", null, placeText(place) + "."), namesNode(place));
+  else here.append(make("p", { className: "large" }, TEXTS.sitOut));
+  if (!next) nodes.push(here);
+  const played = told.boards.filter((board) => board.round === String(place.round));
+  if (played.length) nodes.push(make("section", { className: "panel wide-panel" }, make("h2", null, TEXTS.roundSoFar), cardTable(place, played),
+    ...soFarNodes()));
   return nodes;
 }
 
@@ -1134,10 +1999,9 @@ function betweenNodes(place, done) {
 function barFor(place, view) {
   const chip = at("chip");
   chip.hidden = !view;
-  at("settings").hidden = false;
   if (!view) {
     at("title").textContent = headText(place);
-    at("below").textContent = place.table ? "Table " + place.table.number + ", round " + place.round + " of " + place.rounds : "Round " + Math.min(place.round, place.rounds) + " of " + place.rounds;
+    at("below").textContent = place.table ? TEXTS.tableRound(place.table.number, place.round, place.rounds) : TEXTS.roundOf(Math.min(place.round, place.rounds), place.rounds);
     return;
   }
   const ours = view.seat === "N" || view.seat === "S" ? "NS" : "EW";
@@ -1145,10 +2009,10 @@ function barFor(place, view) {
   const is = (side) => view.vulnerable === "All" || view.vulnerable === side;
   chip.className = (is(ours) ? "vul-we " : "") + (is(theirs) ? "vul-they " : "") + "deals-" + placeOf(view, view.dealer);
   chip.textContent = view.board;
-  chip.setAttribute("aria-label", "Board " + view.board + ", dealer " + SEAT_NAMES[view.dealer] + ", " + vulnerableText(view.vulnerable));
-  at("title").textContent = "Board " + view.board;
-  at("below").replaceChildren(view.dealer + " deals \u00b7 " + { None: "nobody vul", NS: "N\u2013S vul", EW: "E\u2013W vul", All: "all vul" }[view.vulnerable],
-    make("span", { className: "wide" }, " \u00b7 table " + place.table.number + " \u00b7 round " + place.round + " of " + place.rounds));
+  chip.setAttribute("aria-label", TEXTS.boardWords(view.board, SEAT_NAMES[view.dealer], vulnerableText(view.vulnerable)));
+  at("title").textContent = TEXTS.board(view.board);
+  at("below").replaceChildren(TEXTS.dealsShort(view.dealer) + " \u00b7 " + TEXTS.vulnerableShort[view.vulnerable],
+    make("span", { className: "wide" }, place.table ? TEXTS.atTable(place.table.number, place.round, place.rounds) : ""));
 }
 
 // The classes by which the style lays the page out.
@@ -1160,7 +2024,7 @@ function shapeOf(place, view) {
 }
 
 function turnTitle(mine) {
-  document.title = mine ? "\u25cf Your turn \u2013 Bridge table" : "Bridge table";
+  document.title = mine ? TEXTS.yourTurn : TEXTS.title;
 }
 
 function showView(placeReply, reply) {
@@ -1172,23 +2036,28 @@ function showView(placeReply, reply) {
     unmark();
     turnTitle(false);
     const done = refused === "NotCurrent";
-    const status = refused === "NotDealt" ? "The next board is not dealt yet." : done ? "Your boards of this round are done. " + nextText(place)
-      : refused === "SitsOut" ? "You sit out in this round. " + nextText(place) : SENTENCES[refused] || reply;
+    const status = refused === "NotDealt" ? TEXTS.notDealtYet : done ? TEXTS.boardsDone + nextText(place)
+      : refused === "SitsOut" ? TEXTS.sitsOut + " " + nextText(place) : TEXTS.refusals[refused] || reply;
+    if (showLeaf(place, TEXTS.toNext)) return;
     barFor(place, null);
-    show(made, status, "between", () => betweenNodes(place, done || refused === "SitsOut"));
+    show(made + told.text, status, "between", () => betweenNodes(place, done || refused === "SitsOut"));
     return;
   }
   const view = readView(reply);
+  if (unsure) sayFate(place, view);
   if (marked && !marked.line.startsWith(marked.what.startsWith("card-") ? "CARD " + key + " " + view.board + " " + view.made.cards + " " : "CALL " + key + " " + view.board + " " + view.made.calls + " ")) marked = null;
   const mine = isMine(place, view);
-  barFor(place, view);
   turnTitle(mine);
-  drawn = () => show(made + JSON.stringify([marked, claiming, looking, isSafe()]), waiting(place, view), shapeOf(place, view) + (mine ? " mine" : ""), () => playNodes(place, view));
+  if (!mine) pace = SOON;
+  const said = news(view);
+  if (said) say("heard", said);
+  if (showLeaf(place, (mine ? TEXTS.nextYours : TEXTS.nextBoard)(view.board))) return;
+  barFor(place, view);
+  drawn = () => show(made + JSON.stringify([marked, claiming, looking, isSafe()]),
+    waiting(place, view), shapeOf(place, view) + (mine ? " mine" : ""), () => playNodes(place, view));
   drawn();
   // The newest row of a long auction is in view.
   if (at("auction")) at("auction").scrollTop = at("auction").scrollHeight;
-  const said = news(view);
-  if (said) say("heard", said);
   playLast(place, view);
 }
 
@@ -1206,27 +2075,20 @@ async function showClosed(placeReply, asked, mine) {
     if (text === null) return unreachable();
     results = { made, text, at: Date.now() };
   }
-  barFor(place, null);
+  await lookAtBoards(asked, place, null);
+  if (mine !== turn) return;
   turnTitle(false);
+  if (showLeaf(place, TEXTS.toNext)) return;
+  barFor(place, null);
   const both = [[1, first], [2, second]].filter((one) => !refusal(one[1]));
-  show(made + results.text, "The session is closed.", "final", () => finalNodes(place, both));
+  show(made + results.text + told.text, TEXTS.closed, "final", () => finalNodes(place, both));
 }
-
-// The score card of a pair, as the results have it.
-function cardIn(text, pair) {
-  const from = text.search(new RegExp("^Pair " + pair + ": ", "m"));
-  const card = from < 0 ? "" : text.slice(from);
-  const next = card.slice(1).search(/^Pair /m);
-  return next < 0 ? card : card.slice(0, next + 1);
-}
-
-const ORDINALS = ["first", "second", "third", "fourth", "fifth", "sixth", "seventh", "eighth", "ninth", "tenth", "eleventh", "twelfth"];
 
 // What has come of the evening for this player's pair: [place, pair, score, per cent] among so many.
 function bannerNode(place, own, among, names) {
   const large = (words) => make("p", { className: "large" }, words);
-  return make("section", { id: "own", className: "banner" }, large("You are " + (ORDINALS[own[0] - 1] || "at place " + own[0]) + " of " + among),
-    large(own[3] ? own[3] + " %" : own[2]), make("p", null, names.get(place.pair) || headText(place)), make("p", null, own[3] ? own[2].replace("/", " of ") : ""));
+  return make("section", { id: "own", className: "banner" }, large(TEXTS.youAreOf(TEXTS.ordinals[own[0] - 1] || TEXTS.atPlace(own[0]), among)),
+    large(own[3] ? TEXTS.percent(own[3]) : own[2]), make("p", null, names.get(place.pair) || headText(place)), make("p", null, own[3] ? TEXTS.pointsOf(own[2]) : ""));
 }
 
 function finalNodes(place, both) {
@@ -1236,22 +2098,39 @@ function finalNodes(place, both) {
     const own = lines.find((words) => Number(words[1]) === place.pair);
     if (own) nodes.push(bannerNode(place, own, lines.length, names));
   }
-  nodes.push(make("div", { className: "sides" }, ...both.map((one) => make("section", { className: "panel" }, ...rankingNode(one[0], one[1], place.pair, names)))));
-  const card = cardIn(results.text, place.pair);
-  if (card) nodes.push(make("details", { id: "own-card", open: true }, make("summary", null, "My score card"), make("pre", null, card)));
-  nodes.push(make("details", { id: "all-results" }, make("summary", null, "All boards"), make("pre", { id: "results" }, results.text)),
-    button("Print", "", "print", true, () => window.print()));
+  nodes.push(make("div", { className: "sides" },
+    ...both.map((one) => make("section", { className: "panel" }, ...rankingNode(one[0], one[1], place.pair, names)))));
+  if (told.boards.length) nodes.push(make("section",
+    { id: "own-card", className: "panel wide-panel" }, make("h2", null, TEXTS.scoreCard), cardTable(place, told.boards)));
+  nodes.push(make("details", { id: "all-results" }, make("summary", null, TEXTS.allBoards), make("pre", { id: "results" }, results.text)),
+    button(TEXTS.print, "", "print", true, () => window.print()));
   return nodes;
 }
 
 // Shows where a player sits, and the play there, or what came of the session.
-async function showPlayer(place, asked, mine) {
+async function showPlayer(place, asked, mine, early) {
   const where = readPlace(place);
-  if (where.round > where.rounds) return showClosed(place, asked, mine);
-  const view = await ask("/lines", "SEE " + asked + "\n");
+  seen = where.round > where.rounds ? null : asked;
+  if (seen === null) return showClosed(place, asked, mine);
+  const view = early === undefined ? await ask("/lines", "SEE " + asked + "\n") : early;
   if (mine !== turn) return;
   if (view === null) return unreachable();
-  showView(place, view);
+  await lookAtBoards(asked, where, refusal(view) ? null : readView(view).board);
+  if (mine === turn) showView(place, view);
+}
+
+// The line that had no answer; what has become of it the next view tells, where it is of the same board.
+let unsure = "";
+let unsureAt = 0;
+// Milliseconds in which it may still come to the server.
+const UNSURE = 3000;
+function sayFate(place, view) {
+  const [kind, , board, made] = unsure.split(" ");
+  const now = { CALL: view.made.calls, CARD: view.made.cards, CLAIM: view.made.claims }[kind];
+  const taken = now === undefined ? !place.answer : Number(now) > Number(made);
+  if (view.board === board && !taken && Date.now() - unsureAt < UNSURE) return;
+  unsure = "";
+  say("notice", view.board !== board ? "" : taken ? TEXTS.wasTaken : TEXTS.wasNotTaken);
 }
 
 // Sends one line, and shows what has become of it.
@@ -1262,12 +2141,17 @@ async function act(line) {
   turn += 1;
   say("notice", "");
   for (const node of at("main").querySelectorAll("button")) node.disabled = true;
+  const slow = setTimeout(() => say("notice", TEXTS.slow), SLOW);
   const reply = await ask("/lines", line + "\n");
+  clearTimeout(slow);
   busy = false;
+  if (at("notice").textContent === TEXTS.slow) say("notice", "");
   if (key !== asked) return key === null ? undefined : look();
   shown = "";
-  if (reply === null) say("notice", "No answer came. It may or may not have been taken; what you see next tells.");
-  else if (refusal(reply)) say("notice", SENTENCES[refusal(reply)] || reply);
+  unsure = reply === null ? line : "";
+  unsureAt = Date.now();
+  if (reply === null) say("notice", TEXTS.unknownFate);
+  else if (refusal(reply)) say("notice", TEXTS.refusals[refusal(reply)] || reply);
   return look();
 }
 
@@ -1281,23 +2165,35 @@ function choiceOf(title, name, now, options) {
   return make("fieldset", null, make("legend", null, title), ...options.map(radio));
 }
 
+const lightNow = () => sessionStorage.getItem("light") || "device";
+
 function chosen() {
   unmark();
-  document.documentElement.className = sessionStorage.getItem("suits") === "four" ? "four" : "";
+  document.documentElement.className = [sessionStorage.getItem("suits") === "four" ? "four" : "", lightNow()].join(" ").trim();
   drawn();
 }
 
-function showChoices() {
-  const sheet = at("choices");
-  sheet.replaceChildren(make("h2", null, "Settings"),
-    choiceOf("A call or card is sent", "sent", isSafe() ? "twice" : "once", [["twice", "by a second tap, or the button below"], ["once", "at once"]]),
-    choiceOf("Suits", "suits", sessionStorage.getItem("suits") || "two", [["two", "in two colours"], ["four", "in four colours"]]),
-    button("Done", "", "chosen", true, () => { sheet.hidden = true; }));
-  sheet.hidden = false;
-  at("chosen").focus();
+// The menu: of a player his boards, how he sends and how cards look; of all light and dark, and to leave.
+function showMenu() {
+  const options = [choiceOf(TEXTS.lightTitle, "light", lightNow(), Object.entries(TEXTS.lights))];
+  if (document.body.className !== "director") {
+    options.unshift(button(TEXTS.myBoards, "", "menu-boards", true, () => { closeMenu(); turnLeaf({ card: true }); }),
+      choiceOf(TEXTS.sentTitle, "sent", isSafe() ? "twice" : "once", [["twice", TEXTS.sentTwice], ["once", TEXTS.sentOnce]]),
+      choiceOf(TEXTS.suitsTitle, "suits", sessionStorage.getItem("suits") || "two", [["two", TEXTS.suitsTwo], ["four", TEXTS.suitsFour]]));
+  }
+  at("options").replaceChildren(make("h2", null, TEXTS.textAndPlay), ...options);
+  at("choices").hidden = false;
+  [...at("options").querySelectorAll("button"), ...at("options").querySelectorAll("input")][0].focus();
 }
 
-at("settings").onclick = () => { if (at("choices").hidden) showChoices(); else at("choices").hidden = true; };
+function closeMenu() {
+  at("choices").hidden = true;
+}
+
+at("menu").onclick = () => { if (at("choices").hidden) showMenu(); else closeMenu(); };
+at("chosen").onclick = () => { closeMenu(); at("menu").focus(); };
+at("menu").textContent = TEXTS.menu;
+at("chosen").textContent = TEXTS.done;
 document.addEventListener("keydown", (event) => {
   if (event.key !== "Escape") return;
   at("choices").hidden = true;
@@ -1306,47 +2202,424 @@ document.addEventListener("keydown", (event) => {
 chosen();
 "##;
 
+/// The script of boards that are over.
+pub const BOARDS_SCRIPT: &str = r##""use strict";
+// Boards that are over: what was made of them, their hands, auction and play to step through, and what others did; and a pair's own
+// score card. A play is shown to the director in the same way.
+
+// What was told of a key's boards; and what stands in place of the table: nothing, a board, or the score card.
+let told = { key: null, at: 0, text: "", boards: [], open: false };
+let leaf = null;
+// Milliseconds: how long what was told lasts.
+const BOARDS_LAST = 30000;
+// The board that was at play when the page looked last.
+let atBoard = null;
+
+function readResult(words) {
+  if (words[0] === "-") return { none: true };
+  if (words[0] === "VOID") return { taken: true };
+  if (words[0] === "AVERAGE") return { average: { NS: words[1], EW: words[2] } };
+  if (words[0] === "PASS") return { passed: true, score: 0 };
+  return { bid: words[0], declarer: words[1], tricks: Number(words[2]), score: Number(words[3]) };
+}
+
+// What each line says of a board, by its first word.
+const BOARD_LINES = {
+  NAMES: (board, w) => { board.names = { N: w[0], E: w[1], S: w[2], W: w[3] }; },
+  DEAL: (board, w) => { board.deal = readDeal(w); },
+  CALLS: (board, w) => { board.calls = w; },
+  CARDS: (board, w) => { board.cards = w[0] === "-" ? [] : readPlay(w, board.calls); },
+  CLAIM: (board, w) => { board.claim = w[0] === "-" ? null : { seat: w[0], tricks: w[1] }; },
+  RESULT: (board, w) => { board.result = readResult(w); },
+  OTHER: (board, w) => { board.others.push({ table: w[0], ns: w[1], ew: w[2], result: readResult(w.slice(3)) }); },
+  WORTH: (board, w) => { board.worth = w[0]; },
+};
+
+// A board by its first line.
+function blankBoard([number, round, table, index, side]) {
+  return { number: Number(number), round, table, index, side, calls: [], cards: [], claim: null, others: [], worth: null };
+}
+
+function readBoards(reply) {
+  const found = { text: reply, boards: [], open: false };
+  for (const line of reply.split("\n")) {
+    const [word, ...words] = line.split(" ");
+    if (word === "OTHERS") found.open = words[0] === "OPEN";
+    else if (word === "BOARD") found.boards.push(blankBoard(words));
+    else if (BOARD_LINES[word]) BOARD_LINES[word](found.boards[found.boards.length - 1], words.filter((one) => one !== ""));
+  }
+  return found;
+}
+
+// The four hands of a deal's text, of which the first is the seat's that stands before it; null where nothing is dealt.
+function readDeal(words) {
+  if (words[0] === "-") return null;
+  const first = SEATS.indexOf(words[0][0]);
+  const hands = [words[0].slice(2), ...words.slice(1)];
+  return Object.fromEntries(hands.map((hand, i) => [SEATS[(first + i) % 4], readHand(hand)]));
+}
+
+const RANKS = "23456789TJQKA";
+// Whose card wins a trick.
+function winnerOf(trick, trump) {
+  const worth = (card) => (card[0] === trump ? 100 : card[0] === trick[0].card[0] ? 50 : 0) + RANKS.indexOf(card[1]);
+  return trick.reduce((best, one) => (worth(one.card) > worth(best.card) ? one : best)).seat;
+}
+
+// Each card with its seat and its trick: the words begin with the leader.
+function readPlay(words, calls) {
+  const bid = [...calls].reverse().find(isBid);
+  const trump = bid ? strainOf(bid)[0] : "";
+  const cards = [];
+  let seat = SEATS.indexOf(words[0]);
+  for (const card of words.slice(1)) {
+    cards.push({ seat: SEATS[seat], card, trick: Math.floor(cards.length / 4) });
+    const trick = cards.filter((one) => one.trick === cards[cards.length - 1].trick);
+    seat = trick.length < 4 ? (seat + 1) % 4 : SEATS.indexOf(winnerOf(trick, trump));
+    if (trick.length === 4) trick.forEach((one) => { one.winner = SEATS[seat]; });
+  }
+  return cards;
+}
+
+// Law 2: who deals a board, and who is vulnerable.
+const dealerOf = (number) => SEATS[(number - 1) % 4];
+const vulnerableOf = (number) => ["None", "NS", "EW", "All"][(number - 1 + Math.floor((number - 1) / 4)) % 4];
+
+// What a play of a board looks like to who shows an auction or a plate: as a view, and as a place.
+function viewOf(board, seat) {
+  const { number, calls, side } = board;
+  return { board: String(number), seat, dealer: dealerOf(number), vulnerable: vulnerableOf(number), calls, playing: true, turn: null, claim: null, isOwn: side !== "-" };
+}
+
+// The seat of the player of this name, of the two of his side; South for the director.
+function ownSeat(board, name) {
+  if (board.side === "-") return "S";
+  const [first, second] = board.side === "NS" ? ["N", "S"] : ["E", "W"];
+  return board.names[second] === name ? second : first;
+}
+
+// ---- results in words
+
+const signed = (score) => (score > 0 ? "+" + score : String(score).replace("-", "\u2212"));
+const ownScore = (board) => (board.side === "EW" ? -board.result.score : board.result.score);
+
+// A contract and its tricks, as players write them; or what else came of a play.
+function resultNodes(result, seat) {
+  if (result.none) return [TEXTS.noResult];
+  if (result.taken) return [TEXTS.takenOut];
+  if (result.average) return [TEXTS.average(result.average.NS, result.average.EW)];
+  if (result.passed) return [TEXTS.passedOut];
+  const by = seat === undefined ? [" " + result.declarer] : [" " + TEXTS.by(result.declarer, result.declarer === seat)];
+  return [make("span", { className: "contract" }, ...callNodes(result.bid)), ...by];
+}
+
+const isScored = (result) => result.score !== undefined;
+
+// What stands for the score of one side, or nothing.
+const scoreText = (board) => (isScored(board.result) ? signed(ownScore(board)) : board.result.average ? board.result.average[board.side] + " %" : "");
+
+// The worth so far, of matchpoints in per cent.
+function worthText(worth) {
+  if (worth === null || worth === "-") return "";
+  const [points, of] = worth.split("/");
+  if (of === undefined) return TEXTS.imps(signed(Number(points)));
+  return Number(of) === 0 ? "" : TEXTS.percent((100 * Number(points) / Number(of)).toFixed(1));
+}
+
+function bandNode(board, seat) {
+  const { result } = board;
+  const lead = board.cards.length ? board.cards[0] : null;
+  const words = result.bid ? [...resultNodes(result, seat), ", " + TEXTS.made(result.tricks - 6 - Number(result.bid[0]))] : resultNodes(result, seat);
+  const below = result.bid ? [TEXTS.tricks(result.tricks) + (lead ? " \u00b7 " : "")] : [];
+  if (lead) below.push(TEXTS.lead + " ",
+    make("span", { role: "img", aria_label: cardName(lead.card), className: SUIT_CLASSES[lead.card[0]].trim() }, ...cardNodes(lead.card).reverse()),
+    " " + TEXTS.by(lead.seat, lead.seat === seat));
+  return make("section", { id: "band", className: "banner", aria_label: TEXTS.result },
+    make("p", { className: "large" }, ...words), make("p", { className: "large" }, scoreText(board)),
+    make("p", null, ...below), make("p", null, board.worth ? TEXTS.soFar(worthText(board.worth)) : ""));
+}
+
+// ---- hands, auction and play
+
+function handLines(board, seat, gone) {
+  if (!board.deal) return [];
+  return HAND_SUITS.map((suit) => make("div", { className: "suit-line" }, suitSign(suit),
+    ...[...board.deal[seat][suit]].flatMap((rank) => [
+      make(gone.has(suit + rank) ? "s" : "span", { className: rank === "T" ? "ten" : "" }, rankText(rank)), make("wbr")]),
+    board.deal[seat][suit] === "" ? "\u2013" : ""));
+}
+
+function handBox(board, seat, own, gone, where) {
+  const view = viewOf(board, own);
+  return make("section", { className: "of-" + where, aria_label: SEAT_NAMES[seat] },
+    make("p", { className: "who" }, make("b", { className: "mark" + (isVulnerable(view, seat) ? " vul" : " safe"), aria_hidden: "true" }, seat),
+      make("span", null, ...(board.side !== "-" && seat === own ? [TEXTS.you] : nameNodes(board.names[seat])))),
+    ...handLines(board, seat, gone));
+}
+
+// The board as it lies on the table, seen from a seat.
+function boardPicture(board, own) {
+  const view = viewOf(board, own);
+  const edge = (where) => SEATS.find((seat) => placeOf(view, seat) === where);
+  const node = make("div",
+    { className: "board-picture", role: "img", aria_label: TEXTS.boardWords(board.number, SEAT_NAMES[view.dealer], vulnerableText(view.vulnerable)) });
+  for (const where of ["top", "left", "right", "bottom"]) {
+    const seat = edge(where);
+    node.append(make("span",
+      { className: where + (isVulnerable(view, seat) ? " vul" : " safe") }, seat + (seat === view.dealer ? " " + TEXTS.deals : "")));
+  }
+  node.append(make("b", null, String(board.number)));
+  return node;
+}
+
+// The trick of the latest of so many cards.
+function trickPicture(board, own, step) {
+  const view = viewOf(board, own);
+  const { trick } = board.cards[step - 1];
+  const node = make("div", { className: "trick", role: "group", aria_label: TEXTS.trick(trick + 1) });
+  for (const { seat, card, winner } of board.cards.slice(0, step).filter((one) => one.trick === trick)) {
+    const won = winner === seat && board.cards.slice(0, step).filter((one) => one.trick === trick).length === 4;
+    node.append(make("span",
+      { className: "played " + placeOf(view, seat) + SUIT_CLASSES[card[0]] + (won ? " won" : ""), role: "img", aria_label: SEAT_NAMES[seat] + ": " + cardName(card) },
+      ...cardNodes(card)));
+  }
+  return node;
+}
+
+function diagramNodes(board, own, step) {
+  const view = viewOf(board, own);
+  const gone = new Set(board.cards.slice(0, step).map((one) => one.card));
+  return [...SEATS.map((seat) => handBox(board, seat, own, gone, placeOf(view, seat))),
+    make("div", { className: "of-middle" }, step === 0 ? boardPicture(board, own) : trickPicture(board, own, step))];
+}
+
+// The four hands, and the play to step through. Its own clicks move it, and draw nothing else anew.
+function steppedNode(board, own, step, stepped) {
+  const diagram = make("div", { className: "diagram" });
+  const words = make("p", { className: "stepped", role: "status" });
+  const slider = make("input",
+    { id: "step", type: "range", min: 0, max: board.cards.length, step: 1, aria_label: TEXTS.stepThrough, oninput: () => go(Number(slider.value)) });
+  const buttons = [
+    ["first", "\u21e4", () => 0], ["back", "\u2190", (now) => now - 1], ["on", "\u2192", (now) => now + 1],
+    ["end", "\u21e5", () => board.cards.length]]
+    .map(([name, sign, to]) => make("button",
+      { type: "button", id: "step-" + name, aria_label: TEXTS.steps[name], onclick: () => go(to(Number(slider.value))) }, sign));
+  const go = (now) => {
+    diagram.replaceChildren(...diagramNodes(board, own, now));
+    words.replaceChildren(
+      make("b", null, now === 0 ? TEXTS.beforeLead : TEXTS.trick(board.cards[now - 1].trick + 1)), make("br"),
+      now === 0 ? TEXTS.stepThrough : TEXTS.cardOf(now, board.cards.length));
+    slider.value = String(now);
+    buttons.forEach((one, i) => { one.disabled = i < 2 ? now === 0 : now === board.cards.length; });
+    const table = at("tricks");
+    for (const row of table ? table.querySelectorAll("tr") : []) row.className = trickClass(board, now, row.id);
+    stepped(now);
+  };
+  const node = make("section", { className: "panel part hands", aria_label: TEXTS.hands }, diagram);
+  if (board.cards.length) node.append(make("div", { className: "stepper" }, buttons[0], buttons[1], words, buttons[2], buttons[3]), slider);
+  go(step);
+  return node;
+}
+
+// The trick of the latest of so many cards is marked.
+const trickClass = (board, step, id) => (step > 0 && id === "trick-" + board.cards[step - 1].trick ? "own" : "");
+
+function tricksTable(board, step) {
+  const count = board.cards.length ? board.cards[board.cards.length - 1].trick + 1 : 0;
+  const rows = Array.from({ length: count }, (_none, trick) => {
+    const cards = board.cards.filter((one) => one.trick === trick);
+    const cell = (one) => make("td", { aria_label: one ? cardName(one.card) : "" },
+      ...(one ? [make("span", { className: SUIT_CLASSES[one.card[0]].trim() }, ...cardNodes(one.card).reverse())] : []));
+    return make("tr",
+      { id: "trick-" + trick, className: trickClass(board, step, "trick-" + trick) }, make("td", null, String(trick + 1)),
+      make("td", null, cards[0].seat), ...[0, 1, 2, 3].map((i) => cell(cards[i])), make("th", { scope: "row" }, cards[0].winner || ""));
+  });
+  return make("table", { id: "tricks", className: "list", aria_label: TEXTS.play }, listHeads(TEXTS.trickHeads, 0), make("tbody", null, ...rows));
+}
+
+function playedNode(board, own, step) {
+  const node = make("section",
+    { className: "panel part play", aria_label: TEXTS.auctionAndPlay }, make("h2", null, TEXTS.auction),
+    auctionTable({ names: board.names }, viewOf(board, own)));
+  if (board.cards.length) node.append(make("h2", null, TEXTS.play), tricksTable(board, step));
+  if (board.claim) node.append(make("p", null, TEXTS.claimed(SEAT_NAMES[board.claim.seat], board.claim.tricks)));
+  return node;
+}
+
+// The heads of a list, of which the last few stand over numbers.
+const listHeads = (heads, numbers) => make("thead", null,
+  make("tr", null, ...heads.map((head, i) => make("th", { scope: "col", className: i >= heads.length - numbers ? "number" : "" }, head))));
+
+const numberCell = (text) => make("td", { className: "number" }, text);
+const tricksText = (result) => (result.tricks === undefined ? "" : String(result.tricks));
+
+// ---- what others did
+
+function scoresNode(board) {
+  const node = make("section", { className: "panel part scores", aria_label: TEXTS.scores });
+  if (!told.open) {
+    node.append(make("h2", null, TEXTS.scores), make("p", null, TEXTS.scoresShut));
+    return node;
+  }
+  const own = { table: board.table, result: board.result, own: true };
+  const worth = (one) => (isScored(one.result) ? one.result.score : -1e9);
+  const lines = [...board.others, own].sort((one, other) => worth(other) - worth(one));
+  const rows = lines.map((one) => make("tr", { className: one.own ? "own" : "" }, make(
+    "td", null, one.own ? one.table + " " + TEXTS.we : one.table), make("td", null, ...resultNodes(one.result)),
+    numberCell(tricksText(one.result)), numberCell(isScored(one.result) ? signed(one.result.score) : "")));
+  node.append(make("h2", null, TEXTS.tablesSoFar(lines.length)),
+    make("table", { className: "list", aria_label: TEXTS.scores }, listHeads(TEXTS.scoreHeads, 2), make("tbody", null, ...rows)));
+  if (board.worth) node.append(make("p", { className: "second" }, TEXTS.ours(board.worth)));
+  return node;
+}
+
+// ---- a board that is over, and the score card
+
+function partButtons() {
+  const parts = [["hands", TEXTS.hands], ["play", TEXTS.auctionAndPlay], ["scores", TEXTS.scores]];
+  return make("div", { id: "parts", role: "group", aria_label: TEXTS.parts }, ...parts.map(([part, label]) => {
+    const node = button(label, "", "part-" + part, true, () => { leaf.part = part; drawn(); });
+    node.setAttribute("aria-pressed", String(leaf.part === part));
+    return node;
+  }));
+}
+
+function turnLeaf(to) {
+  leaf = to;
+  shown = "";
+  unmark();
+  look();
+}
+
+const showBoard = (board) => turnLeaf({ board: board.number, round: board.round, step: 0, part: "hands" });
+
+function overNodes(place, board, next) {
+  const own = ownSeat(board, place.name);
+  const onward = button(next, "", "onward", true, () => turnLeaf(null));
+  onward.className = "send";
+  return [bandNode(board, own), partButtons(),
+    make("div", { className: "parts" },
+      steppedNode(board, own, leaf.step, (now) => { if (leaf) leaf.step = now; }), scoresNode(board), playedNode(board, own, leaf.step)),
+    make("section", { id: "dock", className: "onward", aria_label: TEXTS.goOn }, button(TEXTS.myBoards, "", "my-boards", true, () => turnLeaf({ card: true })), onward)];
+}
+
+// The score card of what this pair has played; a board opens from it.
+function cardTable(place, boards) {
+  const rows = boards.map((board) => {
+    const others = SEATS.filter((seat) => (seat === "N" || seat === "S") !== (board.side === "NS"));
+    const opens = button(String(board.number), TEXTS.openBoard(board.number),
+      "open-" + board.round + "-" + board.number, true, () => showBoard(board));
+    return make("tr", null, make("td", null, opens), make("td", { className: "who" },
+      ...nameNodes(board.names[others[0]]), " \u2013 ", ...nameNodes(board.names[others[1]])), make("td", null, ...resultNodes(board.result)),
+      numberCell(tricksText(board.result)), numberCell(scoreText(board)), numberCell(worthText(board.worth)));
+  });
+  return make("table", { id: "card", className: "list", aria_label: TEXTS.scoreCard }, listHeads(TEXTS.cardHeads, 3), make("tbody", null, ...rows));
+}
+
+// The boards of this round: what came of those that are over, and which is at play.
+function roundNode(place, view) {
+  const numbers = Array.from({ length: Number(place.table.last) - Number(place.table.first) + 1 }, (_none, i) => Number(place.table.first) + i);
+  return make("ol", { className: "round" }, ...numbers.map((number) => {
+    const over = told.boards.find((board) => board.number === number && board.round === String(place.round));
+    const now = String(number) === view.board;
+    const came = over ? worthText(over.worth) || scoreText(over) || "\u2013" : now ? TEXTS.now : "";
+    return make("li", { className: now ? "now" : "" }, make("b", null, String(number)), came);
+  }));
+}
+
+// The sum of what the boards are worth so far, as matchpoints or as IMPs.
+function worthOfAll(boards) {
+  const worths = boards.map((board) => board.worth).filter((worth) => worth && worth !== "-").map((worth) => worth.split("/").map(Number));
+  if (worths.length === 0) return null;
+  const sum = (i) => worths.reduce((all, worth) => all + (worth[i] || 0), 0);
+  if (worths[0].length === 1) return { points: signed(Number(sum(0).toFixed(1))), of: null, percent: null };
+  return { points: sum(0).toFixed(1), of: sum(1), percent: sum(1) ? (100 * sum(0) / sum(1)).toFixed(1) : null };
+}
+
+function scoreCardNodes(place) {
+  const all = worthOfAll(told.boards);
+  const figure = (large, small) => make("section", { className: "panel figure" },
+    make("p", { className: "large" }, large), make("p", { className: "second" }, small));
+  const figures = [figure(String(told.boards.length), TEXTS.boardsPlayed(told.boards.length))];
+  if (all && all.percent) figures.unshift(figure(TEXTS.percent(all.percent), TEXTS.soFar("")));
+  if (all) figures.push(figure(all.points, all.of === null ? TEXTS.impsName : TEXTS.ofPoints(all.of)));
+  const back = button(TEXTS.toTable, "", "onward", true, () => turnLeaf(null));
+  back.className = "send";
+  return [make("div", { className: "figures" }, ...figures), make("section",
+    { className: "panel wide-panel" }, make("h2", null, TEXTS.scoreCard),
+    told.boards.length ? cardTable(place, told.boards) : make("p", null, TEXTS.noBoards)),
+    make("section", { id: "dock", className: "onward", aria_label: TEXTS.goOn }, button(TEXTS.print, "", "print", true, () => window.print()), back)];
+}
+
+const boardOfLeaf = () => told.boards.find((board) => board.number === leaf.board && board.round === leaf.round);
+
+// Shows what stands in place of the table; says whether something does.
+function showLeaf(place, next) {
+  if (!leaf) return false;
+  const board = leaf.card ? null : boardOfLeaf();
+  if (!leaf.card && !board) {
+    leaf = null;
+    return false;
+  }
+  barFor(place, board ? viewOf(board, ownSeat(board, place.name)) : null, board ? board.table : null);
+  if (leaf.card) {
+    at("title").textContent = TEXTS.myBoards;
+    at("below").textContent = headText(place);
+  }
+  drawn = () => show(
+    told.text + JSON.stringify([leaf.card, leaf.board, leaf.round, leaf.part, next]), "",
+    leaf.card ? "boards" : "boards over part-" + leaf.part, () => (leaf.card ? scoreCardNodes(place) : overNodes(place, board, next)));
+  drawn();
+  return true;
+}
+
+// Asks for the boards of this key; nothing changes where no answer comes. What the director ruled since is told.
+async function loadBoards(asked) {
+  const reply = await ask("/boards", asked);
+  if (reply === null || refusal(reply)) return;
+  const old = told.key === asked ? told.boards : [];
+  told = { key: asked, at: Date.now(), ...readBoards(reply) };
+  const same = (one, other) => one.number === other.number && one.round === other.round;
+  const isRuled = (board) => old.some((one) => same(one, board) && JSON.stringify(one.result) !== JSON.stringify(board.result));
+  for (const board of told.boards.filter(isRuled)) say("notice", TEXTS.ruledOn(board.number));
+}
+
+// Looks at the boards where one was over since the page looked last, which is shown then; and else now and then.
+async function lookAtBoards(asked, place, now) {
+  const ended = atBoard !== null && atBoard.key === asked && atBoard.board !== now ? atBoard : null;
+  if (ended || told.key !== asked || Date.now() - told.at > BOARDS_LAST) await loadBoards(asked);
+  if (key !== asked) return;
+  atBoard = now === null ? null : { key: asked, board: now, round: String(place.round) };
+  const board = ended && told.boards.find((one) => String(one.number) === ended.board && one.round === ended.round);
+  if (board) leaf = { board: board.number, round: board.round, step: 0, part: "hands" };
+}
+"##;
+
 /// The director's script.
 pub const DIRECTOR_SCRIPT: &str = r##""use strict";
 // The director's page: tables, rounds, deals, rulings, endings, rankings and results. It asks by lines of the protocol, and
 // judges nothing.
 
-const DIRECTOR_SENTENCES = {
-  AlreadyDealt: "already dealt",
-  BadDeal: "these are not four hands of thirteen cards",
-  BadLine: "that cannot be read",
-  LongLine: "that cannot be read",
-  NoSuchPlay: "there is no such play",
-  NotYet: "that round has not begun",
-  RoundOpen: "a table is still at play",
-  NoContract: "there is no contract",
-  NotFinished: "the play is not over",
-  NotAnEnding: "at most six whole tricks may be left, and so many must have been played",
-  NotMatchPoints: "averages are for matchpoints alone",
-  WrongPhase: "that is not possible now",
-  Stale: "that is not the round at play",
-  Closed: "the session is closed",
-  Disk: "the server's disk has failed",
-  EpochsSpent: "the server's disk is used up",
-};
-
 const MOST_BOARDS = 36;
 const MOST_TABLES = 12;
 const MINUTE = 60000;
-const WAITED = "An answer is still waited for; nothing was sent.";
 
 // When each table's line was first seen as it is.
 const since = new Map();
 // The first board of each table's set, by round and table, where it was seen.
 const firstBoards = new Map();
 let boardsOfSet = 1;
+let boardsOfAll = MOST_BOARDS;
 // Whether lines are out.
 let ordered = false;
+// The names of pairs; the play that is looked at, as round, table and place in its set, and what was told of it.
+let pairNames = new Map();
+let opened = null;
 
 // A reply of one line in words.
 function outcome(reply) {
   const refused = refusal(reply);
-  return refused ? DIRECTOR_SENTENCES[refused] || refused : "done";
+  return refused ? TEXTS.directorRefusals[refused] || refused : TEXTS.doneWord;
 }
 
 function tell(text) {
@@ -1354,34 +2627,36 @@ function tell(text) {
 }
 
 // Asks before it acts; the question stands where it was raised, and no other beside it.
-function confirmFirst(box, question, act) {
+function confirmFirst(box, question, act, ...more) {
   const close = () => box.replaceChildren();
   tell("");
-  for (const id of ["end-question", "rule-question"]) at(id).replaceChildren();
-  box.replaceChildren(make("p", null, question),
+  for (const id of ["end-question", "rule-question", "deal-question"]) at(id).replaceChildren();
+  box.replaceChildren(make("p", null, question), ...more.map((words) => make("p", null, ...[].concat(words))),
     make("div", { className: "row" },
-      button("Yes", "Yes: " + question, "yes", true, () => { close(); act(); }), button("No", "", "no", true, close)));
-  at("yes").focus();
+      button(TEXTS.no, "", "no", true, close), button(TEXTS.yes, TEXTS.yesTo(question), "yes", true, () => { close(); act(); })));
+  at("yes").className = "send";
+  at("no").focus();
 }
 
 // Sends lines without the key, each of a keyword and words; gives the replies, or null, also while other lines are out.
 async function order(lines) {
   if (ordered) {
-    tell(WAITED);
+    tell(TEXTS.answerAwaited);
     return null;
   }
   ordered = true;
   tell("");
-  const body = lines.map((line) => line.replace(/^(\S+)\s*/, (_all, word) => (word === "SYNC" ? word : word + " " + key + " ")).trim() + "\n").join("");
+  const body = lines.map((line) => line.replace(/^(\S+)\s*/,
+    (_all, word) => (word === "SYNC" ? word : word + " " + key + " ")).trim() + "\n").join("");
   const reply = await ask("/lines", body);
   ordered = false;
-  if (reply === null) tell("No answer came. It may or may not have been done; what you see next tells.");
+  if (reply === null) tell(TEXTS.unknownDone);
   return reply;
 }
 
 async function doOne(line, what) {
   const reply = await order([line]);
-  if (reply !== null) tell(what + ": " + outcome(reply) + ".");
+  if (reply !== null) tell(TEXTS.becameOf(what, outcome(reply)));
   look();
 }
 
@@ -1404,12 +2679,10 @@ function readTables(reply) {
   };
 }
 
-const IDLE = { NotDealt: "waits for its deal", NotCurrent: "has done its boards", SitsOut: "nobody plays here" };
-
 function progressText(table) {
-  if (table.idle) return IDLE[table.idle] || table.idle;
-  const made = table.phase === "PLAY" ? table.cards + " cards" : table.calls + " calls";
-  return (table.phase === "PLAY" ? "play, " : "auction, ") + made + ", " + SEAT_NAMES[table.turn] + " in turn";
+  if (table.idle) return TEXTS.idle[table.idle] || table.idle;
+  const playing = table.phase === "PLAY";
+  return TEXTS.progress(playing, playing ? table.cards : table.calls, SEAT_NAMES[table.turn]);
 }
 
 function minutesText(table, now) {
@@ -1419,11 +2692,11 @@ function minutesText(table, now) {
 }
 
 // How a table stands, for its colour: done, at play, slow, or not dealt.
-const SLOW = 5;
+const SLOW_TABLE = 5;
 function standsAs(table, minutes) {
   if (table.idle === "NotCurrent" || table.idle === "SitsOut") return "done";
   if (table.idle) return "waits";
-  return minutes >= SLOW ? "slow" : "plays";
+  return minutes >= SLOW_TABLE ? "slow" : "plays";
 }
 
 function noteSets(state) {
@@ -1433,16 +2706,25 @@ function noteSets(state) {
   }
 }
 
+const pairText = (pair) => (pair === "0" ? "\u2013" : pairNames.has(Number(pair)) ? pair + " " + pairNames.get(Number(pair)) : pair);
+
 function tablesTable(state) {
-  const titles = ["Table", "N-S", "E-W", "Board", "What goes on", "Min."];
   const now = Date.now();
   const rows = state.tables.map((table) => {
     const minutes = minutesText(table, now);
-    return make("tr", { className: standsAs(table, Number(minutes)) },
-      ...[table.number, table.ns, table.ew, table.idle ? "" : table.board, progressText(table), minutes].map((word) => make("td", null, word)));
+    const stands = standsAs(table, Number(minutes));
+    const open = make("button",
+      { type: "button", id: "open-" + table.number, aria_label: TEXTS.openTable(table.number), onclick: () => openPlay([
+        state.round, table.number, table.idle ? 1 : placeInSet(Number(table.board))]) },
+      TEXTS.open);
+    return make("tr", { className: stands },
+      ...[table.number, pairText(table.ns), pairText(table.ew),
+        table.idle ? "" : table.board, progressText(table), table.idle ? "" : TEXTS.stillFor(Number(minutes)),
+        TEXTS.stands[stands]].map((word) => make("td", null, word)),
+      make("td", null, ...(table.idle === "SitsOut" ? [] : [open])));
   });
-  return make("table", { id: "tables", className: "tables", hidden: rows.length === 0, aria_label: "Tables" },
-    make("thead", null, make("tr", null, ...titles.map((title) => make("th", { scope: "col" }, title)))), make("tbody", null, ...rows));
+  return make("table", { id: "tables", className: "tables", hidden: rows.length === 0, aria_label: TEXTS.tables },
+    make("thead", null, make("tr", null, ...TEXTS.tableHeads.map((title) => make("th", { scope: "col" }, title)))), make("tbody", null, ...rows));
 }
 
 // The tables that are still at play, by their numbers.
@@ -1451,25 +2733,75 @@ function stillPlaying(state) {
 }
 
 function roundText(state) {
-  if (state.round > state.rounds) return "The session is closed.";
+  if (state.round > state.rounds) return TEXTS.closed;
   const open = stillPlaying(state);
-  const still = open.length === 0 ? "All tables have done their boards." : (open.length === 1 ? "Still at play: table " : "Still at play: tables ") + open.join(", ") + ".";
-  return "Round " + state.round + " of " + state.rounds + ". " + still;
+  return TEXTS.roundIs(state.round, state.rounds, open.length === 0 ? TEXTS.allDone : TEXTS.stillPlaying(open));
 }
 
 function showTables(state) {
   boardsOfSet = state.boards;
+  boardsOfAll = state.all;
   noteSets(state);
   say("status", roundText(state));
   const old = at("tables");
   const tables = tablesTable(state);
+  // What stands in the focus stays there.
+  const focus = document.activeElement && old.contains(document.activeElement) ? document.activeElement.id : "";
   if (old && !old.isEqualNode(tables)) old.replaceWith(tables);
+  if (focus && at(focus)) at(focus).focus();
   const end = at("end-round");
   if (!end) return;
-  end.disabled = state.round > state.rounds || stillPlaying(state).length > 0;
-  const label = state.round > state.rounds ? "All rounds are ended" : "End round " + state.round + (state.round === state.rounds ? ", and close the session" : "");
+  const closed = state.round > state.rounds;
+  end.disabled = closed || stillPlaying(state).length > 0;
+  const label = closed ? TEXTS.allEnded : TEXTS.endRound(state.round, state.round === state.rounds);
   if (end.textContent !== label) end.textContent = label;
-  end.onclick = () => confirmFirst(at("end-question"), label + "?", () => doOne("NEXT " + state.round, "End of round " + state.round));
+  end.onclick = () => confirmFirst(at("end-question"), TEXTS.asks(label), () => doOne("NEXT " + state.round, TEXTS.endOf(state.round)));
+}
+
+// ---- a play that is looked at
+
+const CLOSED = () => { opened = null; at("opened").replaceChildren(); };
+
+// What is told of a play: its text, or null where no answer came.
+const askPlay = (words) => ask("/boards", key + " " + words.join(" "));
+
+// Shows a play as it is now; it stays, and is shown anew as it goes on, until it is closed.
+async function openPlay(words) {
+  tell("");
+  opened = { words, text: "" };
+  at("ruling").open = true;
+  await showOpened();
+  if (at("opened").scrollIntoView) at("opened").scrollIntoView({ block: "nearest" });
+}
+
+async function showOpened() {
+  const wanted = opened;
+  if (!wanted) return;
+  const text = await askPlay(wanted.words);
+  if (opened !== wanted || text === null || text === wanted.text || !at("opened")) return;
+  wanted.text = text;
+  if (refusal(text)) {
+    tell(TEXTS.becameOf(TEXTS.playOf(...wanted.words.slice(0, 2), TEXTS.boardInPlace(wanted.words[2])), outcome(text)));
+    return CLOSED();
+  }
+  const board = readBoards(text).boards[0];
+  at("opened").replaceChildren(...openedNodes(board, wanted.words));
+  for (const [field, value] of [["round", wanted.words[0]], ["table", wanted.words[1]],
+    ["board", board.number]]) at("rule-" + field).value = String(value);
+}
+
+function openedNodes(board, words) {
+  const first = board.number - words[2] + 1;
+  const others = Array.from({ length: boardsOfSet }, (_none, i) => {
+    const node = make("button",
+      { type: "button", id: "opened-" + (first + i), onclick: () => openPlay([words[0], words[1], i + 1]) }, TEXTS.board(first + i));
+    node.setAttribute("aria-pressed", String(first + i === board.number));
+    return node;
+  });
+  return [make("div", { className: "row" },
+    make("h2", null, TEXTS.openedAt(words[1], words[0])), ...others,
+    make("button", { type: "button", id: "opened-close", onclick: CLOSED }, TEXTS.close)),
+    bandNode(board), make("div", { className: "parts" }, steppedNode(board, "S", board.cards.length, () => {}), playedNode(board, "S", board.cards.length))];
 }
 
 // ---- deals
@@ -1496,8 +2828,8 @@ function dealsIn(text) {
 function dealtText(boards, replies) {
   const found = new Map([["OK", []]]);
   boards.forEach((board, i) => found.set(replies[i], [...(found.get(replies[i]) || []), board]));
-  const name = (reply, some) => (reply === "OK" ? "Dealt: " : (some.length === 1 ? "Board " : "Boards ")) + some.join(", ") + (reply === "OK" ? "." : ": " + outcome(reply) + ".");
-  return [...found].map(([reply, some]) => (some.length ? name(reply, some) : "No board was dealt.")).join(" ");
+  const name = (reply, some) => (reply === "OK" ? TEXTS.dealt(some) : TEXTS.notDealt(some, outcome(reply)));
+  return [...found].map(([reply, some]) => (some.length ? name(reply, some) : TEXTS.nothingDealt)).join(" ");
 }
 
 async function dealAll(lines, boards) {
@@ -1514,15 +2846,21 @@ function shuffleBoards() {
   const boards = [];
   for (let board = first; board <= last && boards.length < MOST_BOARDS; board += 1) boards.push(board);
   const seed = drawSeed();
-  if (boards.length === 0) tell("There are no such boards.");
+  if (boards.length === 0) tell(TEXTS.noBoardsThere);
   else dealAll(boards.map((board) => "SHUFFLE " + board + " " + seed), boards);
 }
 
+// Says which boards a text has, and which of them the session has not, before it deals those that it has.
 function dealText(text) {
   const deals = dealsIn(text);
-  if (deals.length === 0) return tell("No deal was found in this text.");
-  if (deals.length > MOST_BOARDS) return tell("There are " + deals.length + " deals in this text, and at most " + MOST_BOARDS + " boards in a session.");
-  return dealAll(deals.map((deal) => "DEAL " + deal[0] + " " + deal[1]), deals.map((deal) => deal[0]));
+  if (deals.length === 0) return tell(TEXTS.noDeals);
+  const isOfSession = ([board]) => Number(board) >= 1 && Number(board) <= boardsOfAll;
+  const some = deals.filter(isOfSession);
+  const others = deals.filter((deal) => !isOfSession(deal)).map((deal) => deal[0]);
+  if (some.length === 0) return tell(TEXTS.notOfSession(others));
+  const boards = some.map((deal) => deal[0]);
+  return confirmFirst(at("deal-question"), TEXTS.asks(TEXTS.dealThese(boards)),
+    () => dealAll(some.map((deal) => "DEAL " + deal[0] + " " + deal[1]), boards), ...(others.length ? [TEXTS.notOfSession(others)] : []));
 }
 
 // ---- a form of a few fields
@@ -1541,20 +2879,19 @@ const numberAt = (id) => Math.trunc(Number(at(id).value));
 // Whether each number of a section is there and in its range.
 function isFilledIn(id) {
   const filled = [...at(id).querySelectorAll("input[type=number]")].every((field) => field.value !== "" && field.checkValidity());
-  if (!filled) tell("Each number has to be there, and in its range.");
+  if (!filled) tell(TEXTS.fillIn);
   return filled;
 }
 
-// The words of a play: round, table, and the board's place in its set; null where other boards were seen at that table.
+// A play: round, table, and the board's place in its set; null where other boards were seen at that table.
 function playWords(prefix) {
   const [round, table, board] = ["-round", "-table", "-board"].map((field) => numberAt(prefix + field));
   const first = firstBoards.get(round + " " + table);
   if (first !== undefined && (board < first || board >= first + boardsOfSet)) {
-    const last = first + boardsOfSet - 1;
-    tell("In round " + round + " table " + table + " has " + (first === last ? "board " + first : "boards " + first + " to " + last) + ".");
+    tell(TEXTS.tableHas(round, table, first, first + boardsOfSet - 1));
     return null;
   }
-  return round + " " + table + " " + placeInSet(board);
+  return [round, table, placeInSet(board)];
 }
 
 const placeInSet = (board) => ((board - 1) % boardsOfSet) + 1;
@@ -1562,42 +2899,97 @@ const placeInSet = (board) => ((board - 1) % boardsOfSet) + 1;
 // The play by its round, its table, and its board; where it was not seen which boards were played there, by that board's place.
 function playName(prefix) {
   const [round, table, board] = ["-round", "-table", "-board"].map((field) => numberAt(prefix + field));
-  const name = firstBoards.has(round + " " + table) ? "board " + board : "board in place " + placeInSet(board) + " of its set";
-  return "round " + round + ", table " + table + ", " + name;
+  return TEXTS.playOf(round, table, firstBoards.has(round + " " + table) ? TEXTS.boardNumber(board) : TEXTS.boardInPlace(placeInSet(board)));
 }
 
 function playFields(prefix) {
-  return make("div", { className: "row" }, numberField(prefix + "-round", "Round", 1, MOST_TABLES, 1), numberField(prefix + "-table", "Table", 1, MOST_TABLES, 1), numberField(prefix + "-board", "Board", 1, MOST_BOARDS, 1));
+  return make("div", { className: "row" },
+    numberField(prefix + "-round", TEXTS.round, 1, MOST_TABLES, 1), numberField(prefix + "-table", TEXTS.tableField, 1, MOST_TABLES, 1),
+    numberField(prefix + "-board", TEXTS.boardField, 1, MOST_BOARDS, 1));
 }
 
-// Rules on the play of the fields, once the question is answered: a keyword, and what follows the play.
-function rule(what, word, rest) {
+// ---- rulings
+
+// What a play is now, and what a ruling makes of it, as words of a question; nothing where nothing is told of it.
+function beforeAndAfter(board, after) {
+  return [
+    [TEXTS.nowIs, ...resultNodes(board.result),
+      ...(board.result.bid ? [", " + TEXTS.made(board.result.tricks - 6 - Number(board.result.bid[0]))] : []), TEXTS.thenIs, after(board),
+      "."],
+    [TEXTS.playedBy(board.names)]];
+}
+
+// Rules on the play of the fields, once the question is answered, if the play is still what it was when it was asked: a keyword,
+// what follows the play, and what the result becomes.
+async function rule(what, word, rest, after) {
   if (!isFilledIn("ruling")) return;
-  const play = playWords("rule");
+  const words = playWords("rule");
+  if (words === null) return;
   const name = what + ", " + playName("rule");
-  if (play !== null) confirmFirst(at("rule-question"), name + "?", () => doOne((word + " " + play + " " + rest).trim(), name));
+  const seen = await askPlay(words);
+  if (seen === null) return tell(TEXTS.noAnswer);
+  const board = refusal(seen) ? null : readBoards(seen).boards[0];
+  confirmFirst(at("rule-question"), TEXTS.asks(name), async () => {
+    const now = await askPlay(words);
+    if (now !== seen) return tell(now === null ? TEXTS.noAnswer : TEXTS.changedSince);
+    return doOne([word, ...words, rest].join(" ").trim(), name);
+  }, ...(board && board.names ? beforeAndAfter(board, after) : []));
+}
+
+// What a number of tricks makes of the contract of a play.
+function withTricks(board, tricks) {
+  const bid = board.result.bid || [...board.calls].reverse().find(isBid);
+  return bid ? callName(bid) + ", " + TEXTS.made(tricks - 6 - Number(bid[0])) : TEXTS.tricks(tricks);
 }
 
 function rulingNodes() {
-  const per = [["60", "60: in no way at fault"], ["50", "50: partly at fault"], ["40", "40: directly at fault"]];
-  const setTricks = () => rule("Set declarer's tricks to " + numberAt("rule-tricks"), "TRICKS", String(numberAt("rule-tricks")));
-  const average = () => rule("Award " + at("rule-ns").value + " and " + at("rule-ew").value + " per cent", "ADJUST", at("rule-ns").value + " " + at("rule-ew").value);
-  return [playFields("rule"),
-    make("div", { className: "row" }, numberField("rule-tricks", "Declarer's tricks", 0, 13, 7), button("Set the tricks", "", "rule-set", true, setTricks)),
-    make("div", { className: "row" }, choice("rule-ns", "North and South, per cent", per), choice("rule-ew", "East and West, per cent", per),
-      button("Award averages", "", "rule-average", true, average)),
-    make("div", { className: "row" }, button("Take the play out", "", "rule-void", true, () => rule("Take the play out", "VOID", "")),
-      button("Take a ruling back", "", "rule-restore", true, () => rule("Take the ruling back", "RESTORE", ""))),
-    make("div", { id: "rule-question" })];
+  const setTricks = () => { const tricks = numberAt("rule-tricks"); rule(
+    TEXTS.setTricksTo(tricks), "TRICKS", String(tricks), (board) => withTricks(board, tricks)); };
+  const average = () => { const [ns, ew] = [at("rule-ns").value, at("rule-ew").value]; rule(
+    TEXTS.award(ns, ew), "ADJUST", ns + " " + ew, () => TEXTS.average(ns, ew)); };
+  const show = () => { if (isFilledIn("ruling")) { const words = playWords("rule"); if (words) openPlay(words); } };
+  return [playFields("rule"), make("div", { className: "row" }, button(TEXTS.openPlay, "", "rule-open", true, show)),
+    make("div", { className: "row" },
+      numberField("rule-tricks", TEXTS.declarersTricks, 0, 13, 7), button(TEXTS.setTricks, "", "rule-set", true, setTricks)),
+    make("div", { className: "row" }, choice("rule-ns", TEXTS.northSouthPer, TEXTS.per), choice("rule-ew", TEXTS.eastWestPer, TEXTS.per),
+      button(TEXTS.awardAverages, "", "rule-average", true, average)),
+    make("div", { className: "row" }, button(TEXTS.takeOut, "", "rule-void", true, () => rule(TEXTS.takeOut, "VOID", "", () => TEXTS.takenOut)),
+      button(TEXTS.takeBackButton, "", "rule-restore", true, () => rule(TEXTS.takeBack, "RESTORE", "", () => TEXTS.asPlayed))),
+    make("div", { id: "rule-question" }), make("h3", null, TEXTS.rulingsStand), make("ul", { id: "ruled" })];
 }
+
+// The rulings that stand, and whether players see what other tables did.
+async function showRulings() {
+  const reply = await ask("/boards", key);
+  if (reply === null || refusal(reply) || !at("ruled") || reply === showRulings.shown) return;
+  showRulings.shown = reply;
+  const lines = reply.split("\n").map((line) => line.split(" "));
+  const ruled = lines.filter((words) => words[0] === "RULED").map(([, round, table, index, board, kind, ...words]) => {
+    const open = () => openPlay([Number(round), Number(table), Number(index)]);
+    return make("li", null, TEXTS.ruled(round, table, board, TEXTS.ruledAs[kind](words)) + " ",
+      make("button", { type: "button", aria_label: TEXTS.open + ": " + TEXTS.ruled(round, table, board, ""), onclick: open }, TEXTS.open));
+  });
+  at("ruled").replaceChildren(...(ruled.length ? ruled : [make("li", null, TEXTS.noRulings)]));
+  const open = lines.some((words) => words[0] === "OTHERS" && words[1] === "OPEN");
+  at("others").replaceChildren(make("p", null, TEXTS.othersTitle + " ", make("b", null, TEXTS.othersAre[open])),
+    make("button", { type: "button", id: "others-turn", onclick: () => turnOthers(open ? "SHUT" : "OPEN") }, open ? TEXTS.othersShut : TEXTS.othersOpen));
+}
+
+async function turnOthers(word) {
+  const reply = await ask("/boards", key + " " + word);
+  tell(reply === null ? TEXTS.unknownDone : refusal(reply) ? outcome(reply) : "");
+  await showRulings();
+}
+
+// ---- endings, rankings, results, lines
 
 async function solve() {
   if (!isFilledIn("solving")) return;
   const play = playWords("solve");
-  const reply = play === null ? null : await order(["SOLVE " + play + " " + 4 * numberAt("solve-tricks")]);
+  const reply = play === null ? null : await order(["SOLVE " + play.join(" ") + " " + 4 * numberAt("solve-tricks")]);
   if (reply === null) return;
   const words = reply.split("\n")[0].split(" ");
-  say("solved", words[0] === "OK" ? "Of the tricks left North and South can win " + words[1] + ", and East and West " + words[2] + "." : "No answer: " + outcome(reply) + ".");
+  say("solved", words[0] === "OK" ? TEXTS.solved(words[1], words[2]) : TEXTS.notSolved(outcome(reply)));
 }
 
 async function showRankings() {
@@ -1606,15 +2998,17 @@ async function showRankings() {
   const replies = [await ask("/lines", "RANK " + asked + " 1\n"), await ask("/lines", "RANK " + asked + " 2\n")];
   const text = await ask("/results", asked);
   if (key !== asked) return;
-  if (text === null || replies.includes(null)) return tell("No answer came.");
-  const time = make("p", { className: "small" }, "As of " + new Date().toLocaleTimeString() + ".");
-  if (at("rankings")) at("rankings").replaceChildren(time, ...replies.flatMap((reply, i) => (refusal(reply) ? [] : rankingNode(i + 1, reply, 0, namesIn(text)))));
+  if (text === null || replies.includes(null)) return tell(TEXTS.noAnswer);
+  pairNames = namesIn(text);
+  const time = make("p", { className: "small" }, TEXTS.asOf(new Date().toLocaleTimeString()));
+  if (at("rankings")) at("rankings").replaceChildren(time,
+    ...replies.flatMap((reply, i) => (refusal(reply) ? [] : rankingNode(i + 1, reply, 0, pairNames))));
 }
 
 async function showResults() {
   const asked = key;
   const text = await ask("/results", asked);
-  if (key === asked) say("results", text === null ? "No answer came." : text);
+  if (key === asked) say("results", text === null ? TEXTS.noAnswer : text);
 }
 
 function section(id, title, ...nodes) {
@@ -1623,38 +3017,45 @@ function section(id, title, ...nodes) {
 
 function linesNodes() {
   const box = make("textarea", { id: "box", spellcheck: false });
-  const replies = make("pre", { id: "replies", role: "log", aria_label: "Replies" });
+  const replies = make("pre", { id: "replies", role: "log", aria_label: TEXTS.replies });
   const send = async () => {
-    if (ordered) return tell(WAITED);
+    if (ordered) return tell(TEXTS.answerAwaited);
     const reply = await order(box.value.split("\n").map((line) => line.trim()).filter((line) => line !== ""));
-    replies.textContent = reply === null ? "No answer came. The lines may or may not have been taken." : reply;
+    replies.textContent = reply === null ? TEXTS.unknownLines : reply;
   };
-  return [make("label", { for: "box" }, "Lines of the protocol, without the key"), box, button("Send", "", "send", true, send), replies];
+  return [make("label", { for: "box" }, TEXTS.linesLabel), box, button(TEXTS.send, "", "send", true, send), replies];
 }
 
 function dealNodes() {
   const file = make("input", { id: "deal-file", type: "file", onchange: async () => { at("deal-text").value = await file.files[0].text(); } });
   return [
-    make("div", { className: "row" }, numberField("shuffle-first", "Shuffle boards", 1, MOST_BOARDS, 1), numberField("shuffle-last", "to", 1, MOST_BOARDS, ""), button("Shuffle", "", "shuffle", true, shuffleBoards)),
-    make("div", { className: "row" }, make("label", { for: "deal-file" }, "Or a file of deals (PBN)"), file),
-    make("label", { for: "deal-text" }, "Or their text: PBN, or lines such as 1 N:AKQJ.T98.765.432 ..."),
+    make("div", { className: "row" },
+      numberField("shuffle-first", TEXTS.shuffleFrom, 1, MOST_BOARDS, 1), numberField("shuffle-last", TEXTS.to, 1, MOST_BOARDS, ""),
+      button(TEXTS.shuffle, "", "shuffle", true, shuffleBoards)),
+    make("div", { className: "row" }, make("label", { for: "deal-file" }, TEXTS.dealFile), file),
+    make("label", { for: "deal-text" }, TEXTS.dealText),
     make("textarea", { id: "deal-text", spellcheck: false }),
-    button("Deal these", "", "deal", true, () => dealText(at("deal-text").value))];
+    button(TEXTS.deal, "", "deal", true, () => dealText(at("deal-text").value)), make("div", { id: "deal-question" })];
 }
 
 function directorNodes() {
   return [
     make("p", { id: "told", role: "status" }),
+    make("section", { id: "opened", aria_label: TEXTS.theBoard }),
     make("table", { id: "tables" }),
-    make("div", { className: "row" }, button("End the round", "", "end-round", false, () => {})),
+    make("div", { className: "row" }, button(TEXTS.endTheRound, "", "end-round", false, () => {})),
     make("div", { id: "end-question" }),
-    section("dealing", "Deal boards", ...dealNodes()),
-    section("ruling", "Rulings", ...rulingNodes()),
-    section("solving", "What can still be won", playFields("solve"),
-      make("div", { className: "row" }, numberField("solve-tricks", "After so many tricks", 7, 13, 7), button("Solve", "", "solve", true, solve)), make("p", { id: "solved", role: "status" })),
-    section("ranking", "Ranking", button("Show the ranking", "", "rank", true, showRankings), make("div", { id: "rankings" })),
-    section("publishing", "Results", make("div", { className: "row" }, button("Show the results", "", "show-results", true, showResults), button("Print", "", "print", true, () => window.print())), make("pre", { id: "results" })),
-    section("lines", "Lines", ...linesNodes())];
+    section("dealing", TEXTS.dealBoards, ...dealNodes()),
+    section("ruling", TEXTS.rulings, ...rulingNodes()),
+    section("solving", TEXTS.solving, playFields("solve"),
+      make("div", { className: "row" }, numberField("solve-tricks", TEXTS.afterTricks, 7, 13, 7), button(TEXTS.solve, "", "solve", true, solve)),
+      make("p", { id: "solved", role: "status" })),
+    section("ranking", TEXTS.standings, button(TEXTS.showRanking, "", "rank", true, showRankings), make("div", { id: "rankings" })),
+    section("publishing", TEXTS.results, make("div", { id: "others" }),
+      make("div", { className: "row" },
+        button(TEXTS.showResults, "", "show-results", true, showResults), button(TEXTS.print, "", "print", true, () => window.print())),
+      make("pre", { id: "results" })),
+    section("lines", TEXTS.lines, ...linesNodes())];
 }
 
 // Shows the director's page, built once, with its tables as they are now.
@@ -1663,18 +3064,61 @@ async function showDirector(asked, mine) {
   if (mine !== turn) return;
   if (reply === null) return unreachable();
   if (refusal(reply)) return leave();
-  at("title").textContent = "Director";
+  at("title").textContent = TEXTS.director;
   at("below").textContent = "";
   at("chip").hidden = true;
-  at("settings").hidden = true;
-  at("choices").hidden = true;
   document.body.className = "director";
   const state = readTables(reply);
   if (!at("tables")) {
     shown = "director";
+    opened = null;
+    showRulings.shown = "";
     at("main").replaceChildren(...directorNodes());
     at("shuffle-last").value = state.all;
+    pairNames = namesIn((await ask("/results", asked)) || "");
   }
+  if (mine !== turn) return;
   showTables(state);
+  await showOpened();
+  if (at("ruling").open || at("publishing").open) await showRulings();
 }
+"##;
+
+/// The page for an address at which there is nothing.
+pub const UNKNOWN_PAGE: &str = r##"<!doctype html>
+<html lang="en">
+<head>
+<meta charset="utf-8">
+<meta name="viewport" content="width=device-width, initial-scale=1">
+<meta name="color-scheme" content="light dark">
+<title>No such page</title>
+<link rel="icon" href="data:,">
+<link rel="stylesheet" href="/table.css">
+</head>
+<body>
+<main class="panel">
+<h1>No such page</h1>
+<p>The bridge tables are at <a href="/">the first page of this server</a>.</p>
+</main>
+</body>
+</html>
+"##;
+
+/// The page for a name by which the server does not go.
+pub const WRONG_HOST: &str = r##"<!doctype html>
+<html lang="en">
+<head>
+<meta charset="utf-8">
+<meta name="viewport" content="width=device-width, initial-scale=1">
+<meta name="color-scheme" content="light dark">
+<title>Another name</title>
+<link rel="icon" href="data:,">
+</head>
+<body>
+<main class="panel">
+<h1>Another name</h1>
+<p>The bridge tables are not shown under the name in this address. Type the address that the director has given out, letter by letter.</p>
+</main>
+</body>
+</html>
 "##;

@@ -8,6 +8,7 @@ use Rattle.line_text.specs.Lines.{complete_lines}
 use Rattle.line_text.specs.Streams.{Stream}
 use Rattle.page_replies.specs.Place.{place_text}
 use Rattle.page_replies.specs.Tables.{tables_text}
+use Rattle.board_replies.specs.Told.{boards_text, opened_by}
 use Rattle.table_server.specs.declared.asked.Asked.{Asked}
 use Rattle.line_replies.specs.declared.fault.ServeFault.{ServeFault}
 use Rattle.table_server.specs.Answered.{AskAll}
@@ -28,6 +29,14 @@ place_told store key = place_text store.state key
 -- over the session of a store: what is told of all tables to the director, whose key these bytes are
 abbrev pub tables_told : {D : Type 0} → StoreValue D SessionValue Action → List ℕ → List ℕ
 tables_told store key = tables_text store.state key
+
+-- over the session of a store: what is told of boards where these bytes are posted, players being told of other tables or not
+abbrev pub boards_told : {D : Type 0} → StoreValue D SessionValue Action → Bool → List ℕ → List ℕ
+boards_told store is_open key = boards_text store.state is_open key
+
+-- and whether they are told of them from then on
+abbrev pub opens_told : {D : Type 0} → StoreValue D SessionValue Action → Bool → List ℕ → Bool
+opens_told store is_open key = opened_by store.state is_open key
 
 module _ {D : Type 0} (disk : Disk D) where
   -- All complete lines of a body were served over a store, and the text is the replies to them.

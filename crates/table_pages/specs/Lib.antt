@@ -1,5 +1,7 @@
 pub mod Answered
+pub mod Refused
 pub mod Responses
 pub mod HostNames
 pub mod Site
 pub mod WrongKeys
+pub mod Opened

@@ -3,7 +3,7 @@ use Rattle.std.specs.Prelude.{◌≡◌, ℕ, ◌+◌, Bool, true, ◌&&◌, ◌
 use Rattle.std.specs.List.{starts_with}
 use Rattle.http_server.specs.declared.response.Response.{Response}
 use Rattle.web_requests.specs.declared.route.Route.{Route}
-use Rattle.web_requests.specs.declared.route.Route.TheVariants.{Page, SharedScript, TableScript, DirectorScript, Style, Lines, Place, Tables, Results, Refused}
+use Rattle.web_requests.specs.declared.route.Route.TheVariants.{Page, TextsScript, SharedScript, TableScript, BoardsScript, DirectorScript, Style, Lines, Place, Tables, Boards, Results, Refused}
 
 -- Is this the beginning of a line, and is that line the one that answers a key that nobody has?
 unfoldable pub begins_wrong_key : Bool → List ℕ → Bool
@@ -28,10 +28,13 @@ abbrev pub Counts : Route → ℕ → Response → ℕ → Type 0
 Counts Lines old response new = new ≡ with_more old (wrong_keys response.body.items)
 Counts Place old response new = new ≡ with_more old (wrong_keys response.body.items)
 Counts Tables old response new = new ≡ with_more old (wrong_keys response.body.items)
+Counts Boards old response new = new ≡ with_more old (wrong_keys response.body.items)
 Counts Results old response new = new ≡ with_more old (wrong_keys response.body.items)
 Counts Page old response new = new ≡ old
+Counts TextsScript old response new = new ≡ old
 Counts SharedScript old response new = new ≡ old
 Counts TableScript old response new = new ≡ old
+Counts BoardsScript old response new = new ≡ old
 Counts DirectorScript old response new = new ≡ old
 Counts Style old response new = new ≡ old
 Counts (Refused why) old response new = new ≡ old

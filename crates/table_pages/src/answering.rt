@@ -1,10 +1,11 @@
 //! Lines that came in one request, answered over a store.
 ghost use Rattle.std.specs.Prelude.{◌≡◌, ◌<◌, [], false, length, option_map};
 ghost use Rattle.table_server.specs.Faulted.{FailsWithDisk};
-ghost use Rattle.table_pages.specs.Answered.{AnswersBody, AnswersLines, is_settled, place_told, tables_told};
+ghost use Rattle.table_pages.specs.Answered.{AnswersBody, AnswersLines, is_settled, place_told, tables_told, boards_told, opens_told};
 ghost use Rattle.page_replies.specs.ToldResults.{results_told};
 
 use crate::line_server::LineServer;
+use board_replies::{opened_by, told_boards};
 use bridge_endings::Cache;
 use bridge_session::Session;
 use page_replies::{push_place, push_tables, told_results};
@@ -47,6 +48,10 @@ impl<D: SectorDisk + Drop> LineServer for Store<D, Session> {
 
     ghost tables = { λ store key. tables_told store key };
 
+    ghost boards = { λ store is_open key. boards_told store is_open key };
+
+    ghost opens = { λ store is_open key. opens_told store is_open key };
+
     ghost results = { λ store key text. results_told store key text };
 
     fn answer(&mut self, alloc: Global, cache: &mut Cache, body: &[u8]) -> Option<Vec<u8>> {
@@ -59,6 +64,14 @@ impl<D: SectorDisk + Drop> LineServer for Store<D, Session> {
 
     fn tables(&self, key: &[u8], text: &mut ReplyText) {
         push_tables(text, self.state(), key);
+    }
+
+    fn boards(&self, alloc: Global, is_open: bool, key: &[u8]) -> Option<Vec<u8>> {
+        told_boards(self.state(), alloc, is_open, key)
+    }
+
+    fn opens(&self, is_open: bool, key: &[u8]) -> bool {
+        opened_by(self.state(), is_open, key)
     }
 
     fn results(&self, alloc: Global, key: &[u8]) -> Option<Vec<u8>> {

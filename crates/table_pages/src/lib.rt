@@ -13,6 +13,7 @@ mod host_names;
 mod line_server;
 mod page_texts;
 mod pages;
+mod refused;
 mod showing;
 
 pub use answering::answer_lines;

@@ -22,6 +22,12 @@ pub trait LineServer: Drop {
     // what is told of all tables to the director, whose key these bytes are
     ghost tables: { Self → List ℕ → List ℕ };
 
+    // what is told of boards where these bytes are posted, players being told of other tables or not
+    ghost boards: { Self → Bool → List ℕ → List ℕ };
+
+    // and whether they are told of them from then on
+    ghost opens: { Self → Bool → List ℕ → Bool };
+
     // the text is what is told of the results to the holder of the key that these bytes are
     ghost results: { Self → List ℕ → List ℕ → Type 0 };
 
@@ -42,6 +48,15 @@ pub trait LineServer: Drop {
     fn tables(&self, key: &[u8], text: &mut ReplyText)
         requires { text.old.bytes ≡ [] }
         ensures { text.new.bytes ≡ tables self.now key.now };
+
+    /// What is told of boards where these bytes are posted, players being told of other tables or not. `None` where memory was
+    /// refused for it.
+    fn boards(&self, alloc: Global, is_open: bool, key: &[u8]) -> Option<Vec<u8>>
+        ensures { IfSome result (λ text. text.items ≡ boards self.now is_open key.now) };
+
+    /// Whether players are told of other tables once these bytes are answered.
+    fn opens(&self, is_open: bool, key: &[u8]) -> bool
+        ensures { result ≡ opens self.now is_open key.now };
 
     /// What is told of the results to the holder of the key that these bytes are. `None` where memory was refused for it.
     fn results(&self, alloc: Global, key: &[u8]) -> Option<Vec<u8>>

@@ -7,10 +7,18 @@ pub struct PageTexts {
     pub page: &'static str,
     /// Its style.
     pub style: &'static str,
+    /// All that its scripts say.
+    pub texts_script: &'static str,
     /// What its other scripts share.
     pub shared_script: &'static str,
     /// The players' script.
     pub table_script: &'static str,
+    /// The script of boards that are over.
+    pub boards_script: &'static str,
     /// The director's script.
     pub director_script: &'static str,
+    /// The page for a path at which there is nothing.
+    pub unknown_page: &'static str,
+    /// The page for a name of the host by which the server does not go.
+    pub wrong_host: &'static str,
 }

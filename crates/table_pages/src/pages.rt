@@ -1,5 +1,5 @@
 //! The pages, and the lines that they post.
-ghost use Rattle.std.specs.Prelude.{◌≡◌, ◌<◌, ◌⊎◌, ℕ, List, true, not, length, nat_lt, string_bytes, IfSome, OnOk, OnErr};
+ghost use Rattle.std.specs.Prelude.{◌≡◌, ◌<◌, ◌⊎◌, ℕ, List, true, false, not, length, nat_lt, string_bytes, OnOk, OnErr};
 ghost use Rattle.http_server.specs.Response.{IsBlank};
 ghost use Rattle.http.specs.Request.{head_of};
 ghost use Rattle.web_requests.specs.Filled.{IsText, IsUnavailable};
@@ -10,6 +10,7 @@ use crate::counting::wrong_keys;
 use crate::host_names::HostNames;
 use crate::line_server::LineServer;
 use crate::page_texts::PageTexts;
+use crate::refused::put_refused;
 use bridge_endings::Cache;
 use bytes::Bytes;
 use http::Request;
@@ -20,6 +21,8 @@ use web_loop::LastingService;
 use web_requests::{
     Kind, Refusal, Route, put_refusal, put_static, put_text, put_unavailable, route_of,
 };
+
+mod telling;
 
 /// A body of so many bytes is too long.
 const TOO_MANY_BYTES: usize = 65_536;
@@ -34,6 +37,8 @@ pub struct TablePages<T: LineServer> {
     cache: Cache,
     /// How many wrong keys were answered.
     wrong: u64,
+    /// Whether players are told of other tables.
+    is_open: bool,
     ghost ready: { T.is_ready server ≡ true },
 }
 
@@ -53,6 +58,7 @@ impl<T: LineServer> TablePages<T> {
         ensures names { result.names ≡ names }
         ensures texts { result.texts ≡ texts }
         ensures wrong { result.wrong ≡ 0 }
+        ensures shut { result.is_open ≡ false }
     {
         TablePages {
             alloc,
@@ -61,6 +67,7 @@ impl<T: LineServer> TablePages<T> {
             server,
             cache,
             wrong: 0,
+            is_open: false,
         }
     }
 
@@ -86,13 +93,24 @@ impl<T: LineServer> TablePages<T> {
         &self.server
     }
 
+    /// From now on players are told of other tables.
+    pub fn open_boards(&mut self)
+        ensures open { self.new.is_open ≡ true }
+        ensures server { self.new.server ≡ self.old.server }
+        ensures names { self.new.names ≡ self.old.names }
+        ensures texts { self.new.texts ≡ self.old.texts }
+        ensures wrong { self.new.wrong ≡ self.old.wrong }
+    {
+        self.is_open = true;
+    }
+
     /// Answers posted lines, if they are fewer than 65,536 bytes.
     fn call_lines(&mut self, body: &[u8], response: &mut Response) -> Result<(), AllocError>
         requires { IsBlank response.old }
         ensures lines { OnOk result (TellsShort T.answers (nat_lt (length body.now) 65536) self.old.server body.now response.new self.new.server) }
         ensures counted { OnOk result (self.new.wrong ≡ with_more self.old.wrong (wrong_keys response.new.body.items)) }
-        ensures names { self.new.names ≡ self.old.names }
-        ensures texts { self.new.texts ≡ self.old.texts }
+        ensures fixed { (self.new.names ≡ self.old.names) × (self.new.texts ≡ self.old.texts) }
+        ensures open { self.new.is_open ≡ self.old.is_open }
         ensures err { OnErr result (self.new ≡ self.old) }
     {
         // read so that its range is known: of an empty body no wrong key more is counted
@@ -111,8 +129,8 @@ impl<T: LineServer> TablePages<T> {
         ensures told { OnOk result (IsText Kind.Lines (T.places self.old.server key.now) response.new) }
         ensures counted { OnOk result (self.new.wrong ≡ with_more self.old.wrong (wrong_keys response.new.body.items)) }
         ensures server { self.new.server ≡ self.old.server }
-        ensures names { self.new.names ≡ self.old.names }
-        ensures texts { self.new.texts ≡ self.old.texts }
+        ensures fixed { (self.new.names ≡ self.old.names) × (self.new.texts ≡ self.old.texts) }
+        ensures open { self.new.is_open ≡ self.old.is_open }
         ensures err { OnErr result (self.new ≡ self.old) }
     {
         let mut text = ReplyText::new();
@@ -126,13 +144,32 @@ impl<T: LineServer> TablePages<T> {
         ensures told { OnOk result (IsText Kind.Lines (T.tables self.old.server key.now) response.new) }
         ensures counted { OnOk result (self.new.wrong ≡ with_more self.old.wrong (wrong_keys response.new.body.items)) }
         ensures server { self.new.server ≡ self.old.server }
-        ensures names { self.new.names ≡ self.old.names }
-        ensures texts { self.new.texts ≡ self.old.texts }
+        ensures fixed { (self.new.names ≡ self.old.names) × (self.new.texts ≡ self.old.texts) }
+        ensures open { self.new.is_open ≡ self.old.is_open }
         ensures err { OnErr result (self.new ≡ self.old) }
     {
         let mut text = ReplyText::new();
         self.server.tables(key, &mut text);
         self.put_told(response, text.as_str().as_bytes())
+    }
+
+    /// Answers what is posted to boards, and keeps whether players are told of other tables.
+    fn put_boards(&mut self, key: &[u8], response: &mut Response) -> Result<(), AllocError>
+        requires { IsBlank response.old }
+        ensures told { OnOk result (IsText Kind.Lines (T.boards self.old.server self.old.is_open key.now) response.new) }
+        ensures counted { OnOk result (self.new.wrong ≡ with_more self.old.wrong (wrong_keys response.new.body.items)) }
+        ensures server { self.new.server ≡ self.old.server }
+        ensures fixed { (self.new.names ≡ self.old.names) × (self.new.texts ≡ self.old.texts) }
+        ensures opened { OnOk result (self.new.is_open ≡ T.opens self.old.server self.old.is_open key.now) }
+        ensures err { OnErr result (self.new ≡ self.old) }
+    {
+        let Some(text) = self.boards(key) else {
+            return Err(AllocError);
+        };
+        let is_open = self.opens(key);
+        self.put_told(response, text.as_slice())?;
+        self.is_open = is_open;
+        Ok(())
     }
 
     /// Answers a key with what its holder is told of the results.
@@ -141,8 +178,8 @@ impl<T: LineServer> TablePages<T> {
         ensures told { OnOk result ((text : List ℕ) × T.results self.old.server key.now text × IsText Kind.Lines text response.new) }
         ensures counted { OnOk result (self.new.wrong ≡ with_more self.old.wrong (wrong_keys response.new.body.items)) }
         ensures server { self.new.server ≡ self.old.server }
-        ensures names { self.new.names ≡ self.old.names }
-        ensures texts { self.new.texts ≡ self.old.texts }
+        ensures fixed { (self.new.names ≡ self.old.names) × (self.new.texts ≡ self.old.texts) }
+        ensures open { self.new.is_open ≡ self.old.is_open }
         ensures err { OnErr result (self.new ≡ self.old) }
     {
         let Some(text) = self.results(key) else {
@@ -151,21 +188,14 @@ impl<T: LineServer> TablePages<T> {
         self.put_told(response, text.as_slice())
     }
 
-    /// What is told of the results to the holder of a key. `None` where memory is refused.
-    fn results(&self, key: &[u8]) -> Option<Vec<u8>>
-        ensures { IfSome result (λ text. T.results self.now.server key.now text.items) }
-    {
-        self.server.results(self.alloc, key)
-    }
-
     /// Answers posted lines. Where memory is refused once they were taken, the response says nothing.
     fn put_lines(&mut self, body: &[u8], response: &mut Response)
         requires blank { IsBlank response.old }
         requires short { length body.now < 65536 }
         ensures lines { TellsLines T.answers self.old.server body.now response.new self.new.server }
         ensures counted { self.new.wrong ≡ with_more self.old.wrong (wrong_keys response.new.body.items) }
-        ensures names { self.new.names ≡ self.old.names }
-        ensures texts { self.new.texts ≡ self.old.texts }
+        ensures fixed { (self.new.names ≡ self.old.names) × (self.new.texts ≡ self.old.texts) }
+        ensures open { self.new.is_open ≡ self.old.is_open }
     {
         // read so that its range is known: of an empty body no wrong key more is counted
         let _wrong = self.wrong;
@@ -181,8 +211,8 @@ impl<T: LineServer> TablePages<T> {
         ensures text { IsText Kind.Lines text.now response.new ⊎ IsUnavailable response.new }
         ensures counted { self.new.wrong ≡ with_more self.old.wrong (wrong_keys response.new.body.items) }
         ensures server { self.new.server ≡ self.old.server }
-        ensures names { self.new.names ≡ self.old.names }
-        ensures texts { self.new.texts ≡ self.old.texts }
+        ensures fixed { (self.new.names ≡ self.old.names) × (self.new.texts ≡ self.old.texts) }
+        ensures open { self.new.is_open ≡ self.old.is_open }
     {
         // read so that its range is known: of an empty body no wrong key more is counted
         let _wrong = self.wrong;
@@ -197,8 +227,8 @@ impl<T: LineServer> TablePages<T> {
         ensures told { OnOk result (IsText Kind.Lines text.now response.new) }
         ensures counted { OnOk result (self.new.wrong ≡ with_more self.old.wrong (wrong_keys response.new.body.items)) }
         ensures server { self.new.server ≡ self.old.server }
-        ensures names { self.new.names ≡ self.old.names }
-        ensures texts { self.new.texts ≡ self.old.texts }
+        ensures fixed { (self.new.names ≡ self.old.names) × (self.new.texts ≡ self.old.texts) }
+        ensures open { self.new.is_open ≡ self.old.is_open }
         ensures err { OnErr result (self.new ≡ self.old) }
     {
         put_text(response, Kind::Lines, text)?;
@@ -209,16 +239,18 @@ impl<T: LineServer> TablePages<T> {
 
 impl<T: LineServer> Service for TablePages<T> {
     ghost use Rattle.std.specs.Prelude.{◌≡◌, string_bytes};
-    ghost use Rattle.http.specs.Request.{head_of};
+    ghost use Rattle.http.specs.Request.{head_of, body_of};
+    ghost use Rattle.table_pages.specs.Opened.{Opens};
     ghost use Rattle.web_requests.specs.Route.{route_for};
     ghost use Rattle.table_pages.specs.Responses.{Answering};
     ghost use Rattle.table_pages.specs.Site.{site_of};
     ghost use Rattle.table_pages.specs.WrongKeys.{Counts};
 
     ghost answers = { λ old request response new.
-        Answering T.answers T.places T.tables T.results (site_of old.texts old.names) old.server request response new.server
+        Answering T.answers T.places T.tables T.boards T.results (site_of old.texts old.names) old.server request response new.server
         × (new.names ≡ old.names) × (new.texts ≡ old.texts)
-        × Counts (route_for (string_bytes old.names.host) (string_bytes old.names.alias) (head_of request)) old.wrong response new.wrong };
+        × Counts (route_for (string_bytes old.names.host) (string_bytes old.names.alias) (head_of request)) old.wrong response new.wrong
+        × Opens T.boards T.opens (route_for (string_bytes old.names.host) (string_bytes old.names.alias) (head_of request)) old.server old.is_open (body_of request) response new.is_open };
 
     fn call(
         &mut self,
@@ -227,15 +259,18 @@ impl<T: LineServer> Service for TablePages<T> {
     ) -> Result<(), AllocError> {
         match self.route(request) {
             Route::Page => put_static(response, Kind::Page, self.texts.page),
+            Route::TextsScript => put_static(response, Kind::Script, self.texts.texts_script),
             Route::SharedScript => put_static(response, Kind::Script, self.texts.shared_script),
             Route::TableScript => put_static(response, Kind::Script, self.texts.table_script),
+            Route::BoardsScript => put_static(response, Kind::Script, self.texts.boards_script),
             Route::DirectorScript => put_static(response, Kind::Script, self.texts.director_script),
             Route::Style => put_static(response, Kind::Style, self.texts.style),
             Route::Lines => self.call_lines(request.body().as_slice(), response),
             Route::Place => self.put_place(request.body().as_slice(), response),
             Route::Tables => self.put_tables(request.body().as_slice(), response),
+            Route::Boards => self.put_boards(request.body().as_slice(), response),
             Route::Results => self.put_results(request.body().as_slice(), response),
-            Route::Refused(refusal) => put_refusal(response, refusal),
+            Route::Refused(refusal) => put_refused(&self.texts, refusal, response),
         }
     }
 }

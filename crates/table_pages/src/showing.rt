@@ -12,6 +12,7 @@ use std::alloc::Global;
 use std::hash::RandomState;
 use std::io;
 use std::net::Net;
+use std::os::fd::AsRawFd;
 use std::time::{Clock, Instant};
 use web_loop::{Clients, serve_minutes};
 
@@ -50,7 +51,10 @@ pub fn show_minutes<N: Net + Clock, T: LineServer>(
     pages: &mut TablePages<T>,
     minutes: u16,
 ) -> io::Result<()>
-    ensures { LeadsTo (Answering T.answers T.places T.tables T.results (site_of pages.old.texts pages.old.names)) pages.old.server pages.new.server }
+where
+    N::Listener: AsRawFd,
+    N::Stream: AsRawFd,
+    ensures { LeadsTo (Answering T.answers T.places T.tables T.boards T.results (site_of pages.old.texts pages.old.names)) pages.old.server pages.new.server }
 {
     let mut clients = Clients::new(alloc, keys, limits(), Instant::now(rt)?);
     serve_minutes(rt, listener, &mut clients, pages, minutes)

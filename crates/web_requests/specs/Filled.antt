@@ -60,6 +60,10 @@ allow_fields TooLong = []
 abbrev pub IsRefused : Refusal → Response → Type 0
 IsRefused refusal = IsResponse (status_of refusal) (guard_fields ++ allow_fields refusal) []
 
+-- a refusal that a page explains; it is none that allows another method
+abbrev pub IsExplained : Refusal → List ℕ → Response → Type 0
+IsExplained refusal text = IsResponse (status_of refusal) (text_fields Page) text
+
 -- the answer where memory was refused: 503, and nothing more
 abbrev pub IsUnavailable : Response → Type 0
 IsUnavailable = IsResponse 503 [] []

@@ -2,7 +2,7 @@
 ghost use Rattle.std.specs.Prelude.{◌≡◌, [], ◌∷◌, ◌++◌, OnOk, IsTrue};
 ghost use Rattle.http_header.specs.FieldValue.{is_visible_text};
 ghost use Rattle.http_server.specs.Response.{IsBlank, fields_of};
-ghost use Rattle.web_requests.specs.Filled.{guard_fields, text_fields, status_of, IsText, IsRefused, IsUnavailable};
+ghost use Rattle.web_requests.specs.Filled.{guard_fields, text_fields, status_of, IsText, IsRefused, IsExplained, IsUnavailable};
 
 use crate::kind::Kind;
 use crate::route::Refusal;
@@ -89,6 +89,20 @@ pub fn put_refusal(response: &mut Response, refusal: Refusal) -> Result<(), Allo
         Refusal::OnlyPosted => add(response, ALLOW, "POST"),
         _ => Ok(()),
     }
+}
+
+/// Fills a response with a refusal that a page of the program explains, which is not copied.
+pub fn put_explained(
+    response: &mut Response,
+    refusal: Refusal,
+    text: &'static str,
+) -> Result<(), AllocError>
+    requires { IsBlank response.old }
+    ensures { OnOk result (IsExplained refusal text.now response.new) }
+{
+    response.status = status_code(refusal);
+    head_text(response, Kind::Page)?;
+    response.body.push(Bytes::from_static(text.as_bytes()))
 }
 
 /// Makes of any response one that says nothing, not even whether the request was taken: 503, without headers or a body. It

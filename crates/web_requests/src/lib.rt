@@ -11,6 +11,6 @@ mod filling;
 mod kind;
 mod route;
 
-pub use filling::{put_refusal, put_static, put_text, put_unavailable};
+pub use filling::{put_explained, put_refusal, put_static, put_text, put_unavailable};
 pub use kind::Kind;
 pub use route::{Refusal, Route, route_of};

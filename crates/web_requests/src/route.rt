@@ -12,10 +12,14 @@ use http::header::{CONTENT_TYPE, HOST};
 pub enum Route {
     /// `GET /`: the page.
     Page,
+    /// `GET /texts.js`: all that its scripts say.
+    TextsScript,
     /// `GET /shared.js`: what its other scripts share.
     SharedScript,
     /// `GET /table.js`: the players' script.
     TableScript,
+    /// `GET /boards.js`: the script of boards that are over.
+    BoardsScript,
     /// `GET /director.js`: the director's script.
     DirectorScript,
     /// `GET /table.css`: its style.
@@ -26,6 +30,8 @@ pub enum Route {
     Place,
     /// `POST /tables`: all tables are to be told to the director whose key is its body.
     Tables,
+    /// `POST /boards`: the boards that the pair of the player has finished, whose key is its body, are to be told.
+    Boards,
     /// `POST /results`: the results are to be told to the holder of the key that is its body.
     Results,
     /// Nothing that is here.
@@ -64,13 +70,16 @@ pub fn route_of(host: &str, alias: &str, request: &Request<Bytes>) -> Route
     }
     match request.uri().path() {
         "/" => reading(request, Route::Page),
+        "/texts.js" => reading(request, Route::TextsScript),
         "/shared.js" => reading(request, Route::SharedScript),
         "/table.js" => reading(request, Route::TableScript),
+        "/boards.js" => reading(request, Route::BoardsScript),
         "/director.js" => reading(request, Route::DirectorScript),
         "/table.css" => reading(request, Route::Style),
         "/lines" => posting(request, Route::Lines),
         "/place" => posting(request, Route::Place),
         "/tables" => posting(request, Route::Tables),
+        "/boards" => posting(request, Route::Boards),
         "/results" => posting(request, Route::Results),
         _ => Route::Refused(Refusal::NotFound),
     }

@@ -1,4 +1,5 @@
 //! Requests of known bytes, and their responses.
+mod boards;
 mod guesses;
 mod peer;
 mod posted;

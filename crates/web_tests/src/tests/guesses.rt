@@ -94,8 +94,9 @@ fn wrong_keys_are_counted(rt: HostRuntime) -> Result<(), Fail> {
         ("POST /place HTTP/1.1", "999", "200", 4),
         ("POST /place HTTP/1.1", "11", "200", 4),
         ("POST /tables HTTP/1.1", "999", "200", 5),
-        ("POST /results HTTP/1.1", "999", "200", 6),
-        ("GET /lines HTTP/1.1", "SEE 1\n", "405", 6),
+        ("POST /boards HTTP/1.1", "999", "200", 6),
+        ("POST /results HTTP/1.1", "999", "200", 7),
+        ("GET /lines HTTP/1.1", "SEE 1\n", "405", 7),
     ] {
         let bytes = request(
             alloc,

@@ -21,9 +21,13 @@ use web_loop::{Turn, take_turn};
 const TEXTS: PageTexts = PageTexts {
     page: "<!doctype html>",
     style: "body { margin: 0; }",
+    texts_script: "let texts = 4;",
     shared_script: "let shared = 1;",
     table_script: "let table = 2;",
+    boards_script: "let boards = 5;",
     director_script: "let director = 3;",
+    unknown_page: "<!doctype html><p>unknown",
+    wrong_host: "<!doctype html><p>wrong",
 };
 
 /// A store of a session on a disk in memory.

@@ -1,0 +1,5 @@
+mod OwnTexts
+mod KnownPlays
+mod SameBoards
+mod OverPlays
+mod Standing
