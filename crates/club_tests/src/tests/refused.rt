@@ -1,6 +1,5 @@
 //! Disks and configurations that are refused, and streams that fail.
-use super::{Broken, TEXTS, expect_eq, expect_formatted, expect_run, status_of_run};
-use club_commands::run_words_with;
+use super::{Broken, expect_eq, expect_formatted, expect_run, status_of_run};
 use club_disk::{lock, lock_to_read};
 use std::alloc::Global;
 use std::fs;
@@ -233,20 +232,21 @@ fn streams_that_fail_are_named(rt: HostRuntime) -> Result<(), Fail> {
             words,
         );
     }
+    fs::remove_file(&rt, config)?;
+    fs::remove_file(&rt, disk)?;
+    Ok(())
+}
+
+#[test]
+fn an_input_that_fails_is_named(rt: HostRuntime) -> Result<(), Fail> {
+    let (disk, config) = ("bridge_club_input.disk", "bridge_club_input.txt");
+    expect_formatted(&rt, rt.alloc(), disk, config)?;
     let rows: [&[&str]; 2] = [&["auction", "1"], &["script", disk]];
     for words in rows {
         let mut input = Broken;
         let mut output = Vec::new(rt.alloc());
         let mut errors = Vec::new(rt.alloc());
-        let status = run_words_with(
-            &rt,
-            rt.alloc(),
-            TEXTS,
-            words,
-            &mut input,
-            &mut output,
-            &mut errors,
-        );
+        let status = status_of_run(&rt, rt.alloc(), words, &mut input, &mut output, &mut errors);
         expect_eq(&rt, status, 3, words);
         let line = b"cannot read input\n".as_slice();
         expect_eq(&rt, errors.as_slice(), line, words);
