@@ -250,15 +250,27 @@ const tricksText = (result) => (result.tricks === undefined ? "" : String(result
 
 // ---- what others did
 
+// The results of all tables so far, the best of North and South first.
+function linesSoFar(board) {
+  const own = { table: board.table, result: board.result, own: true };
+  const worth = (one) => (isScored(one.result) ? one.result.score : -1e9);
+  return [...board.others, own].sort((one, other) => worth(other) - worth(one));
+}
+
+// The scores of North and South in a row, where the list of results stands on a part of its own.
+function tilesNode(board) {
+  const lines = linesSoFar(board).filter((one) => isScored(one.result));
+  const tiles = lines.map((one) => make("li", { className: one.own ? "own" : "" }, signed(one.result.score)));
+  return make("div", { className: "tiles" }, make("p", { className: "second" }, TEXTS.scoresSoFar(lines.length)), make("ol", null, ...tiles));
+}
+
 function scoresNode(board) {
   const node = make("section", { className: "panel part scores", aria_label: TEXTS.scores });
   if (!told.open) {
     node.append(make("h2", null, TEXTS.scores), make("p", null, TEXTS.scoresShut));
     return node;
   }
-  const own = { table: board.table, result: board.result, own: true };
-  const worth = (one) => (isScored(one.result) ? one.result.score : -1e9);
-  const lines = [...board.others, own].sort((one, other) => worth(other) - worth(one));
+  const lines = linesSoFar(board);
   const rows = lines.map((one) => make("tr", { className: one.own ? "own" : "" }, make(
     "td", null, one.own ? one.table + " " + TEXTS.we : one.table), make("td", null, ...resultNodes(one.result)),
     numberCell(tricksText(one.result)), numberCell(isScored(one.result) ? signed(one.result.score) : "")));
@@ -292,9 +304,10 @@ function overNodes(place, board, next) {
   const own = ownSeat(board, place.name);
   const onward = button(next, "", "onward", true, () => turnLeaf(null));
   onward.className = "send";
+  const hands = steppedNode(board, own, leaf.step, (now) => { if (leaf) leaf.step = now; });
+  if (told.open) hands.append(tilesNode(board));
   return [bandNode(board, own), partButtons(),
-    make("div", { className: "parts" },
-      steppedNode(board, own, leaf.step, (now) => { if (leaf) leaf.step = now; }), scoresNode(board), playedNode(board, own, leaf.step)),
+    make("div", { className: "parts" }, hands, scoresNode(board), playedNode(board, own, leaf.step)),
     make("section", { id: "dock", className: "onward", aria_label: TEXTS.goOn }, button(TEXTS.myBoards, "", "my-boards", true, () => turnLeaf({ card: true })), onward)];
 }
 

@@ -6,6 +6,10 @@ const MOST_BOARDS = 36;
 const MOST_TABLES = 12;
 const MINUTE = 60000;
 
+// Milliseconds: how long standings that are in sight last.
+const STANDINGS_LAST = 30000;
+let standingsAt = 0;
+
 // When each table's line was first seen as it is.
 const since = new Map();
 // The first board of each table's set, by round and table, where it was seen.
@@ -154,8 +158,9 @@ function showTables(state) {
   const end = at("end-round");
   if (!end) return;
   const closed = state.round > state.rounds;
-  end.disabled = closed || stillPlaying(state).length > 0;
-  const label = closed ? TEXTS.allEnded : TEXTS.endRound(state.round, state.round === state.rounds);
+  const open = stillPlaying(state);
+  end.disabled = closed || open.length > 0;
+  const label = closed ? TEXTS.allEnded : open.length > 0 ? TEXTS.endWaits(state.round, open) : TEXTS.endRound(state.round, state.round === state.rounds);
   if (end.textContent !== label) end.textContent = label;
   end.onclick = () => confirmFirst(at("end-question"), TEXTS.asks(label), () => doOne("NEXT " + state.round, TEXTS.endOf(state.round)));
 }
@@ -394,9 +399,14 @@ async function solve() {
   say("solved", words[0] === "OK" ? TEXTS.solved(words[1], words[2]) : TEXTS.notSolved(outcome(reply)));
 }
 
+async function askRankings() {
+  tell("");
+  await showRankings();
+}
+
 async function showRankings() {
   const asked = key;
-  tell("");
+  standingsAt = Date.now();
   const replies = [await ask("/lines", "RANK " + asked + " 1\n"), await ask("/lines", "RANK " + asked + " 2\n")];
   const text = await ask("/results", asked);
   if (key !== asked) return;
@@ -452,7 +462,7 @@ function directorNodes() {
     section("solving", TEXTS.solving, playFields("solve"),
       make("div", { className: "row" }, numberField("solve-tricks", TEXTS.afterTricks, 7, 13, 7), button(TEXTS.solve, "", "solve", true, solve)),
       make("p", { id: "solved", role: "status" })),
-    section("ranking", TEXTS.standings, button(TEXTS.showRanking, "", "rank", true, showRankings), make("div", { id: "rankings" })),
+    section("ranking", TEXTS.standings, button(TEXTS.showRanking, "", "rank", true, askRankings), make("div", { id: "rankings" })),
     section("publishing", TEXTS.results, make("div", { id: "others" }),
       make("div", { className: "row" },
         button(TEXTS.showResults, "", "show-results", true, showResults), button(TEXTS.print, "", "print", true, () => window.print())),
@@ -477,10 +487,13 @@ async function showDirector(asked, mine) {
     showRulings.shown = "";
     at("main").replaceChildren(...directorNodes());
     at("shuffle-last").value = state.all;
+    standingsAt = 0;
+    at("ranking").open = typeof matchMedia === "function" && matchMedia("(min-width: 80em)").matches;
     pairNames = namesIn((await ask("/results", asked)) || "");
   }
   if (mine !== turn) return;
   showTables(state);
   await showOpened();
   if (at("ruling").open || at("publishing").open) await showRulings();
+  if (at("ranking").open && Date.now() - standingsAt > STANDINGS_LAST) await showRankings();
 }

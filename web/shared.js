@@ -72,8 +72,9 @@ function refusal(reply) {
 
 // ---- what is shown
 
-// Shows these nodes on a page of that shape, where what they are made of is new; the focus and what is open stay.
-function show(made, status, shape, nodes) {
+// Shows these nodes on a page of that shape, where what they are made of is new; the focus and what is open stay, but where
+// the focus has a reason to move.
+function show(made, status, shape, nodes, moveFocus = () => {}) {
   say("status", status);
   at("status").className = shape.split(" ").includes("mine") ? "turn" : "";
   const mark = made + (busy && made !== LOGIN ? " busy" : "");
@@ -86,12 +87,12 @@ function show(made, status, shape, nodes) {
   main.replaceChildren(...nodes());
   for (const id of open) if (at(id)) at(id).open = true;
   movedAt = Date.now();
-  if (!focus) return;
   // What was in the focus stays there; where it is gone, the first card or call that may be chosen.
   const isChosen = (id) => /^c(ard|all)-/.test(id);
-  const kept = at(focus) && !at(focus).disabled ? at(focus)
+  const kept = !focus || (at(focus) && !at(focus).disabled) ? at(focus)
     : [...main.querySelectorAll("button")].find((node) => isChosen(node.id) && isChosen(focus) && !node.disabled);
   if (kept) kept.focus();
+  moveFocus();
 }
 
 const rankingLines = (reply) => reply.split("\n").filter((line) => /^\d/.test(line)).map((line) => line.split(" "));

@@ -223,7 +223,44 @@ function biddingBox(view) {
   }
   const box = make("section", { id: "dock", className: "box", aria_label: TEXTS.biddingBox }, ...cells);
   box.onkeydown = (event) => { arrowKey(event, 5); boxKey(event); };
+  oneStop(box);
   return box;
+}
+
+// A hand or a box is one stop for Tab: the cell that is in the focus, else the marked one, else the first that may be chosen.
+function oneStop(node) {
+  const cells = [...node.querySelectorAll("button")].filter((one) => one.id !== "confirm");
+  const free = cells.filter((one) => !one.disabled);
+  const stop = free.find((one) => one === document.activeElement) || free.find((one) => marked && marked.what === one.id) || free[0];
+  for (const one of cells) one.tabIndex = one === stop ? 0 : -1;
+}
+
+// In a sheet Tab goes round.
+function holdTab(event) {
+  if (event.key !== "Tab") return;
+  const stops = [...event.currentTarget.querySelectorAll("button"), ...event.currentTarget.querySelectorAll("input")]
+    .filter((one) => !one.disabled && (one.type !== "radio" || one.checked));
+  const [first, last] = [stops[0], stops[stops.length - 1]];
+  if (document.activeElement !== (event.shiftKey ? first : last)) return;
+  event.preventDefault();
+  (event.shiftKey ? last : first).focus();
+}
+
+// A sheet over the table: it takes the focus when it comes, holds it, and gives it back to what brought it.
+function sheet(id, label, ...nodes) {
+  const node = make("section", { id, className: "sheet", role: "dialog", aria_modal: "true", aria_label: label }, ...nodes);
+  node.onkeydown = holdTab;
+  return node;
+}
+
+// The sheet that is open, by the name of the button that brings it and the one that is in the focus first.
+const sheetNow = () => (claiming ? ["claim-open", "claim-" + claiming.tricks] : looking ? ["last", "last-close"] : null);
+let openSheet = null;
+function moveFocus() {
+  const now = sheetNow();
+  if (now && !openSheet && at(now[1])) at(now[1]).focus();
+  if (!now && openSheet && at(openSheet[0]) && document.activeElement === document.body) at(openSheet[0]).focus();
+  openSheet = now;
 }
 
 // Arrows go through what may be chosen in a hand or a box of so many columns.
@@ -236,6 +273,7 @@ function arrowKey(event, columns) {
   let to = from + step;
   while (nodes[to] && nodes[to].disabled) to += step;
   if (nodes[to]) nodes[to].focus();
+  oneStop(event.currentTarget);
 }
 
 // What keys have chosen is in the focus, and as if it were clicked.
@@ -330,6 +368,7 @@ function handNode(view, hand, label, id, mine, where) {
   const suits = where === "left" || where === "right" ? SUITS.map((suit) => [[suit, hand[suit]]]) : rowsOf(hand, view.board, id);
   const rows = suits.map((row) => row.filter(isShown)).filter((row) => row.length > 0);
   node.append(make("div", { className: "cards" }, ...rows.map((row) => make("div", { className: "line" }, ...row.map(group)))));
+  oneStop(node);
   return node;
 }
 
@@ -455,14 +494,14 @@ function claimSheet(place, view) {
   const line = "CLAIM " + key + " " + view.board + " " + view.made.claims + " " + claiming.tricks;
   const claim = button(TEXTS.claimTricks(claiming.tricks), "", "claim-button", true, (event) => { if (!isDeaf(event)) send(line); });
   claim.className = "send";
-  return make("section", { id: "claiming", className: "sheet", aria_label: TEXTS.claimTitle },
+  return sheet("claiming", TEXTS.claimTitle,
     make("h2", null, TEXTS.claimOf(left)), make("div", { className: "numbers" }, ...numbers),
     make("p", null, claimWords(place, view, view.seat, claiming.tricks) + "."), make("p", { className: "second" }, TEXTS.claimHelp),
     make("div", { className: "row" }, button(TEXTS.back, "", "claim-back", true, () => { claiming = null; drawn(); }), claim));
 }
 
 function lastSheet(view) {
-  return make("section", { id: "last-trick", className: "sheet", aria_label: TEXTS.lastTrick }, make("h2", null, TEXTS.lastTrick),
+  return sheet("last-trick", TEXTS.lastTrick, make("h2", null, TEXTS.lastTrick),
     make("div", { className: "row" }, ...lastTrickNodes(view)), button(TEXTS.close, "", "last-close", true, () => { looking = false; drawn(); }));
 }
 
@@ -681,7 +720,7 @@ function showView(placeReply, reply) {
   if (showLeaf(place, (mine ? TEXTS.nextYours : TEXTS.nextBoard)(view.board))) return;
   barFor(place, view);
   drawn = () => show(made + JSON.stringify([marked, claiming, looking, isSafe()]),
-    waiting(place, view), shapeOf(place, view) + (mine ? " mine" : ""), () => playNodes(place, view));
+    waiting(place, view), shapeOf(place, view) + (mine ? " mine" : ""), () => playNodes(place, view), moveFocus);
   drawn();
   // The newest row of a long auction is in view.
   if (at("auction")) at("auction").scrollTop = at("auction").scrollHeight;
@@ -817,13 +856,14 @@ function closeMenu() {
   at("choices").hidden = true;
 }
 
+at("choices").onkeydown = holdTab;
 at("menu").onclick = () => { if (at("choices").hidden) showMenu(); else closeMenu(); };
 at("chosen").onclick = () => { closeMenu(); at("menu").focus(); };
 at("menu").textContent = TEXTS.menu;
 at("chosen").textContent = TEXTS.done;
 document.addEventListener("keydown", (event) => {
   if (event.key !== "Escape") return;
-  at("choices").hidden = true;
+  if (!at("choices").hidden) at("chosen").onclick();
   if (marked || claiming || looking) { unmark(); drawn(); }
 });
 chosen();

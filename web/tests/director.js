@@ -84,6 +84,7 @@ run({
 
   "a round is ended once all tables are done": async () => {
     assert.ok((await opened(tables(AT_PLAY))).at("end-round").disabled);
+    assert.match((await opened(tables(AT_PLAY))).text("end-round"), /^End round 2: still at play at table/);
     const page = await opened(tables(DONE));
     assert.strictEqual(page.text("status"), "Round 2 of 7. All tables have done their boards.");
     await page.click("end-round");

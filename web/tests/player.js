@@ -306,6 +306,22 @@ run({
     assert.strictEqual(page.document.activeElement.id, "card-SA");
   },
 
+  "a hand is one stop for Tab, and a sheet holds the focus": async () => {
+    const page = await seated(place({ CONTRACT: "1H E" }), play({ TRICK: "-" }));
+    const stops = () => page.at("hand").querySelectorAll("button").filter((one) => one.tabIndex === 0).map((one) => one.id);
+    assert.strictEqual(stops().length, 1);
+    const [first, second] = page.at("hand").querySelectorAll("button").filter((one) => !one.disabled);
+    first.focus();
+    page.at("hand").onkeydown({ key: "ArrowRight", currentTarget: page.at("hand"), preventDefault() {} });
+    assert.deepStrictEqual(stops(), [second.id]);
+    await page.click("claim-open");
+    const claiming = page.at("claiming");
+    assert.ok(claiming.contains(page.document.activeElement));
+    page.at("claim-button").focus();
+    claiming.onkeydown({ key: "Tab", currentTarget: claiming, preventDefault() {} });
+    assert.strictEqual(page.document.activeElement.id, "claim-0");
+  },
+
   "whose turn it is": async () => {
     for (const [turn, contract, seen, due] of [
       ["S", "-", view(), "Your turn to call"],
@@ -490,6 +506,8 @@ run({
     assert.strictEqual(page.rows(page.at("card"))[1].pop(), "75.0 %");
     await page.click("open-1-4");
     assert.deepStrictEqual(page.rows(page.named("Scores").querySelectorAll("table")[0]).slice(1), [["6", "3NT N", "10", "+630"], ["2 (we)", "3NT S", "9", "+600"], ["5", "3NT N", "7", "\u2212200"]]);
+    const tiles = page.document.root.all().filter((one) => one.tag === "li" && one.parent.parent.className === "tiles");
+    assert.deepStrictEqual(tiles.map((one) => one.textContent + one.className), ["+630", "+600own", "\u2212200"]);
     const shut = await seated(place(), view({ PLAY: "1 2 2 5" }), "OK\n", boards(board()));
     await shut.click("menu");
     await shut.click("menu-boards");

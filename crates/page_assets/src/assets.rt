@@ -24,7 +24,7 @@ pub const PAGE: &str = r##"<!doctype html>
 </header>
 <p id="notice" role="alert"></p>
 <main id="main"><noscript>This page needs JavaScript.</noscript></main>
-<section id="choices" class="sheet" aria-label="Menu" hidden>
+<section id="choices" class="sheet" role="dialog" aria-modal="true" aria-label="Menu" hidden>
 <div id="options"></div>
 <div class="row"><button id="leave" type="button">Leave</button><button id="chosen" type="button">Done</button></div>
 </section>
@@ -581,6 +581,10 @@ td.turn { font-weight: bold !important; }
 .boards #main { display: flex; flex-direction: column; flex: 1; max-width: 84rem; padding-bottom: 0; }
 .wide-panel { max-width: none; }
 .boards .panel { width: 100%; max-width: none; margin: 0 0 .75rem; }
+.tiles ol { display: flex; flex-wrap: wrap; gap: .35rem; margin: 0; padding: 0; list-style: none; }
+.tiles p { margin: .5rem 0 .25rem; }
+.tiles li { padding: .2rem .5rem; border: 1px solid var(--edge); border-radius: .5rem; font-size: .875rem; font-variant-numeric: tabular-nums; }
+.tiles .own { color: var(--gold-ink); background: var(--gold); border-color: var(--gold); }
 .figures { display: grid; grid-template-columns: repeat(auto-fit, minmax(5.5rem, 1fr)); gap: 0 .6rem; }
 .figure p { margin: 0; }
 .figure .large { font-size: clamp(1.25rem, 5vw, 1.875rem); }
@@ -651,6 +655,7 @@ td.turn { font-weight: bold !important; }
   #parts { display: none; }
   #opened .parts { grid-template: "h p" auto / 1fr 1fr; }
   .parts { display: grid; grid-template: "h s" auto "h p" 1fr / 1fr 1fr; gap: 0 .75rem; align-items: start; }
+  .tiles { display: none; }
   .hands { grid-area: h; }
   .scores { grid-area: s; }
   .play { grid-area: p; }
@@ -1044,6 +1049,7 @@ const TEXTS = {
   scoresShut: "What other tables did is shown once the director opens it.",
   scoreHeads: ["Table", "Contract", "Tricks", "N\u2013S"],
   we: "(we)",
+  scoresSoFar: (count) => "North and South's scores at " + (count === 1 ? "this table" : count + " tables") + " so far",
   tablesSoFar: (count) => (count === 1 ? "This table alone so far" : count + " tables so far"),
   ours: (worth) => "Ours: " + worth.replace("/", " of ") + ".",
   scoreCard: "Score card",
@@ -1076,6 +1082,7 @@ const TEXTS = {
   stillPlaying: (tables) => (tables.length === 1 ? "Still at play: table " : "Still at play: tables ") + tables.join(", ") + ".",
   roundIs: (round, rounds, still) => "Round " + round + " of " + rounds + ". " + still,
   allEnded: "All rounds are ended",
+  endWaits: (round, tables) => "End round " + round + ": still at play at " + (tables.length === 1 ? "table " : "tables ") + tables.join(", "),
   endRound: (round, last) => "End round " + round + (last ? ", and close the session" : ""),
   endOf: (round) => "End of round " + round,
   endTheRound: "End the round",
@@ -1129,7 +1136,7 @@ const TEXTS = {
   solved: (ns, ew) => "Of the tricks left North and South can win " + ns + ", and East and West " + ew + ".",
   notSolved: (why) => "No answer: " + why + ".",
   standings: "Standings",
-  showRanking: "Show the ranking",
+  showRanking: "Show it as it is now",
   asOf: (time) => "As of " + time + ".",
   othersTitle: "Players see what other tables did, of boards that they have played:",
   othersOpen: "Show it to them",
@@ -1220,8 +1227,9 @@ function refusal(reply) {
 
 // ---- what is shown
 
-// Shows these nodes on a page of that shape, where what they are made of is new; the focus and what is open stay.
-function show(made, status, shape, nodes) {
+// Shows these nodes on a page of that shape, where what they are made of is new; the focus and what is open stay, but where
+// the focus has a reason to move.
+function show(made, status, shape, nodes, moveFocus = () => {}) {
   say("status", status);
   at("status").className = shape.split(" ").includes("mine") ? "turn" : "";
   const mark = made + (busy && made !== LOGIN ? " busy" : "");
@@ -1234,12 +1242,12 @@ function show(made, status, shape, nodes) {
   main.replaceChildren(...nodes());
   for (const id of open) if (at(id)) at(id).open = true;
   movedAt = Date.now();
-  if (!focus) return;
   // What was in the focus stays there; where it is gone, the first card or call that may be chosen.
   const isChosen = (id) => /^c(ard|all)-/.test(id);
-  const kept = at(focus) && !at(focus).disabled ? at(focus)
+  const kept = !focus || (at(focus) && !at(focus).disabled) ? at(focus)
     : [...main.querySelectorAll("button")].find((node) => isChosen(node.id) && isChosen(focus) && !node.disabled);
   if (kept) kept.focus();
+  moveFocus();
 }
 
 const rankingLines = (reply) => reply.split("\n").filter((line) => /^\d/.test(line)).map((line) => line.split(" "));
@@ -1596,7 +1604,44 @@ function biddingBox(view) {
   }
   const box = make("section", { id: "dock", className: "box", aria_label: TEXTS.biddingBox }, ...cells);
   box.onkeydown = (event) => { arrowKey(event, 5); boxKey(event); };
+  oneStop(box);
   return box;
+}
+
+// A hand or a box is one stop for Tab: the cell that is in the focus, else the marked one, else the first that may be chosen.
+function oneStop(node) {
+  const cells = [...node.querySelectorAll("button")].filter((one) => one.id !== "confirm");
+  const free = cells.filter((one) => !one.disabled);
+  const stop = free.find((one) => one === document.activeElement) || free.find((one) => marked && marked.what === one.id) || free[0];
+  for (const one of cells) one.tabIndex = one === stop ? 0 : -1;
+}
+
+// In a sheet Tab goes round.
+function holdTab(event) {
+  if (event.key !== "Tab") return;
+  const stops = [...event.currentTarget.querySelectorAll("button"), ...event.currentTarget.querySelectorAll("input")]
+    .filter((one) => !one.disabled && (one.type !== "radio" || one.checked));
+  const [first, last] = [stops[0], stops[stops.length - 1]];
+  if (document.activeElement !== (event.shiftKey ? first : last)) return;
+  event.preventDefault();
+  (event.shiftKey ? last : first).focus();
+}
+
+// A sheet over the table: it takes the focus when it comes, holds it, and gives it back to what brought it.
+function sheet(id, label, ...nodes) {
+  const node = make("section", { id, className: "sheet", role: "dialog", aria_modal: "true", aria_label: label }, ...nodes);
+  node.onkeydown = holdTab;
+  return node;
+}
+
+// The sheet that is open, by the name of the button that brings it and the one that is in the focus first.
+const sheetNow = () => (claiming ? ["claim-open", "claim-" + claiming.tricks] : looking ? ["last", "last-close"] : null);
+let openSheet = null;
+function moveFocus() {
+  const now = sheetNow();
+  if (now && !openSheet && at(now[1])) at(now[1]).focus();
+  if (!now && openSheet && at(openSheet[0]) && document.activeElement === document.body) at(openSheet[0]).focus();
+  openSheet = now;
 }
 
 // Arrows go through what may be chosen in a hand or a box of so many columns.
@@ -1609,6 +1654,7 @@ function arrowKey(event, columns) {
   let to = from + step;
   while (nodes[to] && nodes[to].disabled) to += step;
   if (nodes[to]) nodes[to].focus();
+  oneStop(event.currentTarget);
 }
 
 // What keys have chosen is in the focus, and as if it were clicked.
@@ -1703,6 +1749,7 @@ function handNode(view, hand, label, id, mine, where) {
   const suits = where === "left" || where === "right" ? SUITS.map((suit) => [[suit, hand[suit]]]) : rowsOf(hand, view.board, id);
   const rows = suits.map((row) => row.filter(isShown)).filter((row) => row.length > 0);
   node.append(make("div", { className: "cards" }, ...rows.map((row) => make("div", { className: "line" }, ...row.map(group)))));
+  oneStop(node);
   return node;
 }
 
@@ -1828,14 +1875,14 @@ function claimSheet(place, view) {
   const line = "CLAIM " + key + " " + view.board + " " + view.made.claims + " " + claiming.tricks;
   const claim = button(TEXTS.claimTricks(claiming.tricks), "", "claim-button", true, (event) => { if (!isDeaf(event)) send(line); });
   claim.className = "send";
-  return make("section", { id: "claiming", className: "sheet", aria_label: TEXTS.claimTitle },
+  return sheet("claiming", TEXTS.claimTitle,
     make("h2", null, TEXTS.claimOf(left)), make("div", { className: "numbers" }, ...numbers),
     make("p", null, claimWords(place, view, view.seat, claiming.tricks) + "."), make("p", { className: "second" }, TEXTS.claimHelp),
     make("div", { className: "row" }, button(TEXTS.back, "", "claim-back", true, () => { claiming = null; drawn(); }), claim));
 }
 
 function lastSheet(view) {
-  return make("section", { id: "last-trick", className: "sheet", aria_label: TEXTS.lastTrick }, make("h2", null, TEXTS.lastTrick),
+  return sheet("last-trick", TEXTS.lastTrick, make("h2", null, TEXTS.lastTrick),
     make("div", { className: "row" }, ...lastTrickNodes(view)), button(TEXTS.close, "", "last-close", true, () => { looking = false; drawn(); }));
 }
 
@@ -2054,7 +2101,7 @@ function showView(placeReply, reply) {
   if (showLeaf(place, (mine ? TEXTS.nextYours : TEXTS.nextBoard)(view.board))) return;
   barFor(place, view);
   drawn = () => show(made + JSON.stringify([marked, claiming, looking, isSafe()]),
-    waiting(place, view), shapeOf(place, view) + (mine ? " mine" : ""), () => playNodes(place, view));
+    waiting(place, view), shapeOf(place, view) + (mine ? " mine" : ""), () => playNodes(place, view), moveFocus);
   drawn();
   // The newest row of a long auction is in view.
   if (at("auction")) at("auction").scrollTop = at("auction").scrollHeight;
@@ -2190,13 +2237,14 @@ function closeMenu() {
   at("choices").hidden = true;
 }
 
+at("choices").onkeydown = holdTab;
 at("menu").onclick = () => { if (at("choices").hidden) showMenu(); else closeMenu(); };
 at("chosen").onclick = () => { closeMenu(); at("menu").focus(); };
 at("menu").textContent = TEXTS.menu;
 at("chosen").textContent = TEXTS.done;
 document.addEventListener("keydown", (event) => {
   if (event.key !== "Escape") return;
-  at("choices").hidden = true;
+  if (!at("choices").hidden) at("chosen").onclick();
   if (marked || claiming || looking) { unmark(); drawn(); }
 });
 chosen();
@@ -2455,15 +2503,27 @@ const tricksText = (result) => (result.tricks === undefined ? "" : String(result
 
 // ---- what others did
 
+// The results of all tables so far, the best of North and South first.
+function linesSoFar(board) {
+  const own = { table: board.table, result: board.result, own: true };
+  const worth = (one) => (isScored(one.result) ? one.result.score : -1e9);
+  return [...board.others, own].sort((one, other) => worth(other) - worth(one));
+}
+
+// The scores of North and South in a row, where the list of results stands on a part of its own.
+function tilesNode(board) {
+  const lines = linesSoFar(board).filter((one) => isScored(one.result));
+  const tiles = lines.map((one) => make("li", { className: one.own ? "own" : "" }, signed(one.result.score)));
+  return make("div", { className: "tiles" }, make("p", { className: "second" }, TEXTS.scoresSoFar(lines.length)), make("ol", null, ...tiles));
+}
+
 function scoresNode(board) {
   const node = make("section", { className: "panel part scores", aria_label: TEXTS.scores });
   if (!told.open) {
     node.append(make("h2", null, TEXTS.scores), make("p", null, TEXTS.scoresShut));
     return node;
   }
-  const own = { table: board.table, result: board.result, own: true };
-  const worth = (one) => (isScored(one.result) ? one.result.score : -1e9);
-  const lines = [...board.others, own].sort((one, other) => worth(other) - worth(one));
+  const lines = linesSoFar(board);
   const rows = lines.map((one) => make("tr", { className: one.own ? "own" : "" }, make(
     "td", null, one.own ? one.table + " " + TEXTS.we : one.table), make("td", null, ...resultNodes(one.result)),
     numberCell(tricksText(one.result)), numberCell(isScored(one.result) ? signed(one.result.score) : "")));
@@ -2497,9 +2557,10 @@ function overNodes(place, board, next) {
   const own = ownSeat(board, place.name);
   const onward = button(next, "", "onward", true, () => turnLeaf(null));
   onward.className = "send";
+  const hands = steppedNode(board, own, leaf.step, (now) => { if (leaf) leaf.step = now; });
+  if (told.open) hands.append(tilesNode(board));
   return [bandNode(board, own), partButtons(),
-    make("div", { className: "parts" },
-      steppedNode(board, own, leaf.step, (now) => { if (leaf) leaf.step = now; }), scoresNode(board), playedNode(board, own, leaf.step)),
+    make("div", { className: "parts" }, hands, scoresNode(board), playedNode(board, own, leaf.step)),
     make("section", { id: "dock", className: "onward", aria_label: TEXTS.goOn }, button(TEXTS.myBoards, "", "my-boards", true, () => turnLeaf({ card: true })), onward)];
 }
 
@@ -2603,6 +2664,10 @@ pub const DIRECTOR_SCRIPT: &str = r##""use strict";
 const MOST_BOARDS = 36;
 const MOST_TABLES = 12;
 const MINUTE = 60000;
+
+// Milliseconds: how long standings that are in sight last.
+const STANDINGS_LAST = 30000;
+let standingsAt = 0;
 
 // When each table's line was first seen as it is.
 const since = new Map();
@@ -2752,8 +2817,9 @@ function showTables(state) {
   const end = at("end-round");
   if (!end) return;
   const closed = state.round > state.rounds;
-  end.disabled = closed || stillPlaying(state).length > 0;
-  const label = closed ? TEXTS.allEnded : TEXTS.endRound(state.round, state.round === state.rounds);
+  const open = stillPlaying(state);
+  end.disabled = closed || open.length > 0;
+  const label = closed ? TEXTS.allEnded : open.length > 0 ? TEXTS.endWaits(state.round, open) : TEXTS.endRound(state.round, state.round === state.rounds);
   if (end.textContent !== label) end.textContent = label;
   end.onclick = () => confirmFirst(at("end-question"), TEXTS.asks(label), () => doOne("NEXT " + state.round, TEXTS.endOf(state.round)));
 }
@@ -2992,9 +3058,14 @@ async function solve() {
   say("solved", words[0] === "OK" ? TEXTS.solved(words[1], words[2]) : TEXTS.notSolved(outcome(reply)));
 }
 
+async function askRankings() {
+  tell("");
+  await showRankings();
+}
+
 async function showRankings() {
   const asked = key;
-  tell("");
+  standingsAt = Date.now();
   const replies = [await ask("/lines", "RANK " + asked + " 1\n"), await ask("/lines", "RANK " + asked + " 2\n")];
   const text = await ask("/results", asked);
   if (key !== asked) return;
@@ -3050,7 +3121,7 @@ function directorNodes() {
     section("solving", TEXTS.solving, playFields("solve"),
       make("div", { className: "row" }, numberField("solve-tricks", TEXTS.afterTricks, 7, 13, 7), button(TEXTS.solve, "", "solve", true, solve)),
       make("p", { id: "solved", role: "status" })),
-    section("ranking", TEXTS.standings, button(TEXTS.showRanking, "", "rank", true, showRankings), make("div", { id: "rankings" })),
+    section("ranking", TEXTS.standings, button(TEXTS.showRanking, "", "rank", true, askRankings), make("div", { id: "rankings" })),
     section("publishing", TEXTS.results, make("div", { id: "others" }),
       make("div", { className: "row" },
         button(TEXTS.showResults, "", "show-results", true, showResults), button(TEXTS.print, "", "print", true, () => window.print())),
@@ -3075,12 +3146,15 @@ async function showDirector(asked, mine) {
     showRulings.shown = "";
     at("main").replaceChildren(...directorNodes());
     at("shuffle-last").value = state.all;
+    standingsAt = 0;
+    at("ranking").open = typeof matchMedia === "function" && matchMedia("(min-width: 80em)").matches;
     pairNames = namesIn((await ask("/results", asked)) || "");
   }
   if (mine !== turn) return;
   showTables(state);
   await showOpened();
   if (at("ruling").open || at("publishing").open) await showRulings();
+  if (at("ranking").open && Date.now() - standingsAt > STANDINGS_LAST) await showRankings();
 }
 "##;
 
