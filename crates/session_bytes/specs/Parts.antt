@@ -1,6 +1,6 @@
 -- The parts of a session as they stand on a disk of either format: lists of bytes. Numbers of more bytes than one have the
 -- highest first. The formats differ in the ruling alone.
-use Rattle.std.specs.Prelude.{ℕ, ◌+◌, Bool, true, false, if◌then◌else◌, List, [], ◌∷◌, ◌++◌, map, flat_map, length, slice_get, slice_index, slice_index_or, Option, Some, None, unwrap_or, IfSome, All}
+use Rattle.std.specs.Prelude.{◌≡◌, ◌≢◌, ℕ, ◌+◌, Bool, true, false, if◌then◌else◌, List, [], ◌∷◌, ◌++◌, map, flat_map, length, slice_get, slice_index, slice_index_or, Option, Some, None, unwrap_or, IfSome, All}
 use Rattle.std.specs.Int.{w16, w32, w64, to_be_bytes}
 use Rattle.std.specs.List.{range_with_len}
 use Rattle.std.specs.Option.{option_map_or}
@@ -19,6 +19,7 @@ use Rattle.session_rules.specs.declared.ruling.Ruling.TheVariants as ruling
 use Rattle.session_rules.specs.Average.{percent_of}
 use Rattle.session_rules.specs.Record.{PlainRecord, empty_record, contract_in}
 use Rattle.session_rules.specs.State.{SessionValue}
+use Rattle.session_rules.specs.StateRange.{IsSession}
 use Rattle.session_store.specs.declared.disk_format.DiskFormat.{DiskFormat}
 use Rattle.session_store.specs.declared.disk_format.DiskFormat.TheVariants.{One, Two}
 
@@ -152,3 +153,8 @@ pair_parts format s = map pair_part s.configuration.pairs ++ board_parts format 
 -- plays.
 abbrev pub parts_of : DiskFormat → SessionValue → List (List ℕ)
 parts_of format s = configuration_part s.configuration s.round ∷ movement_part s.configuration.movement.rows ∷ pair_parts format s
+
+-- the parts of the boards and plays are those of no session of the configuration in that round
+abbrev pub AreOfNoSession : DiskFormat → ConfigValue → ℕ → List (List ℕ) → Type 0
+AreOfNoSession format configuration round parts =
+    (s : SessionValue) → IsSession s → HasRulings format s → s.configuration ≡ configuration → s.round ≡ round → board_parts format s ≢ parts

@@ -238,6 +238,11 @@ pub record AreRecords (format : DiskFormat) (scoring : Scoring) (deals : Deals) 
   pub in_range : All IsRecordInRange records
   pub of_format : All (HasRecord format) records
 
+-- the parts are those of no such records
+abbrev pub AreOfNoRecords : DiskFormat → Scoring → Deals → ℕ → ℕ → List ℕ → List (List ℕ) → Type 0
+AreOfNoRecords format scoring deals now round boards parts =
+    (records : List PlainRecord) → AreRecords format scoring deals now round boards records → map (record_part format) records ≢ parts
+
 -- the records of the boards of a row
 abbrev pub IsRowOf : DiskFormat → Scoring → Deals → ℕ → ℕ → Row → List PlainRecord → Type 0
 IsRowOf format scoring deals now boards row records = AreRecords format scoring deals now row.round (row_boards boards row) records

@@ -6,9 +6,8 @@ ghost use Rattle.bridge_table.specs.Kept.{plain_of, board_kept, IsTiedIn};
 ghost use Rattle.session_bytes.specs.Parts.{deal_part, row_parts};
 ghost use Rattle.session_rules.specs.StateRange.{AreHandsOrNone};
 ghost use Rattle.session_rules.specs.Valid.{IsDealOrNone};
-ghost use Rattle.session_bytes.specs.Reading.{items_of, part_kept, plains_of, AreDeals, AreRecords, IsRowOf, AreRows, empty_length, is_empty_part, AreOfNoRows};
+ghost use Rattle.session_bytes.specs.Reading.{items_of, part_kept, plains_of, AreDeals, AreRecords, IsRowOf, AreRows, empty_length, is_empty_part, AreOfNoRecords, AreOfNoRows};
 ghost use Rattle.std.specs.List.{list_all};
-ghost use Rattle.session_bytes.specs.Parts.{record_part};
 
 use crate::deal_read::read_deal_part;
 use crate::record_read::read_record;
@@ -80,7 +79,7 @@ fn read_records(
     ensures written { OnSome result (map (part_kept format) table.new ≡ map items_of parts.now) }
     ensures records { OnSome result (AreRecords format scoring deals.now now round (map board_kept table.old) (map plain_of table.new)) }
     ensures tied { OnSome result (All (IsTiedIn deals.now) table.new) }
-    ensures other { IfNone result ((records : List PlainRecord) → AreRecords format scoring deals.now now round (map board_kept table.old) records → map (record_part format) records ≢ map items_of parts.now) }
+    ensures other { IfNone result (AreOfNoRecords format scoring deals.now now round (map board_kept table.old) (map items_of parts.now)) }
 {
     for (index, part) in parts.iter().enumerate() {
         let board = table[index].board;

@@ -10,7 +10,7 @@ use Rattle.session_store.specs.declared.fault.StoreFault.{StoreFault}
 use Rattle.session_store.specs.declared.fault.StoreFault.TheVariants.{NoMemory}
 use Rattle.session_store.specs.Form.{entry_in, place}
 use Rattle.session_store.specs.Stands.{header_at, after_header}
-use Rattle.session_store.specs.Opening.{IsCause}
+use Rattle.session_store.specs.Opening.{Causes}
 
 -- of two headers the one with the lower epoch
 unfoldable pub older : Option Header → Option Header → Option Header
@@ -50,6 +50,5 @@ module _ {D S A R : Type 0} (kept : Keeping S A R) (disk : Disk D) (header : Ima
 
   -- why nothing was seen; `NoMemory` comes of an honest disk only where it has that header
   pub record IsUnseen (old new : D) (fault : StoreFault) : Type 0 where
-    pub cause : IsCause (disk.honest old) (disk.faults old) (disk.faults new)
-        (after_header kept (disk.reads old) (header (disk.reads old))) fault
+    pub cause : Causes disk old new (after_header kept (disk.reads old) (header (disk.reads old))) fault
     pub memory : fault ≡ NoMemory → disk.honest old → (h : Header) × (header (disk.reads old) ≡ Some h)

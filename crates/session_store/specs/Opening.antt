@@ -23,6 +23,10 @@ IsCause honest before now found fault =
     ⊎ ((now ≡ before)
     × ((fault ≡ NoMemory) ⊎ ((fault ≢ DiskFailed) × (fault ≢ TooSmall) × (honest → found ≡ Err fault))))
 
+-- the same of a call that left this disk of that one
+abbrev pub Causes : {D X : Type 0} → Disk D → D → D → Result X StoreFault → StoreFault → Type 0
+Causes disk old new found fault = IsCause (disk.honest old) (disk.faults old) (disk.faults new) found fault
+
 -- the header that counts is of an epoch before the last, so that its parts are read
 abbrev pub HasNext : Image → Type 0
 HasNext image = (h : Header) × (header_in image ≡ Some h) × (h.epoch ≢ 2 ^ 64 - 1)
@@ -63,7 +67,7 @@ module _ {D S A R : Type 0} (kept : Keeping S A R) (disk : Disk D) where
 
   -- why it was not read; `NoMemory` comes of an honest disk only where it has a header, of an epoch that is not the last
   pub record IsUnread (old new : D) (fault : StoreFault) : Type 0 where
-    pub cause : IsCause (disk.honest old) (disk.faults old) (disk.faults new) (reading kept (disk.reads old)) fault
+    pub cause : Causes disk old new (reading kept (disk.reads old)) fault
     pub memory : fault ≡ NoMemory → disk.honest old → HasNext (disk.reads old)
 
   -- the store of this state with nothing pending, at the beginning of an epoch

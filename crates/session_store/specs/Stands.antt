@@ -77,10 +77,14 @@ module _ {S A R : Type 0} (kept : Keeping S A R) where
   after_parts image h (Err fault) = Err fault
   after_parts image h (Ok parts) = after_state image h (kept.state_of h.format parts)
 
+  -- the state that a header's parts and its epoch's records lead to
+  abbrev pub after_snapshot : Image → Header → Result S StoreFault
+  after_snapshot image h = after_parts image h (parts_from h.format image h.epoch 0 h.parts)
+
   -- after the header, if there is one
   unfoldable pub after_header : Image → Option Header → Result S StoreFault
   after_header image None = Err NotFormatted
-  after_header image (Some h) = after_parts image h (parts_from h.format image h.epoch 0 h.parts)
+  after_header image (Some h) = after_snapshot image h
 
   -- the state that an image stands for, or why it stands for none
   unfoldable pub recovered : Image → Result S StoreFault

@@ -1,11 +1,10 @@
 //! Reading the parts of a snapshot.
-ghost use Rattle.std.specs.Prelude.{◌≡◌, ◌⊎◌, ◌<◌, ◌≤◌, ◌+◌, [], Err, IfErr, IfOk, None, Ok, OnErr, OnOk, Some, map, vec_capacity};
-ghost use Rattle.sector_disk.specs.Disk.{Rose};
+ghost use Rattle.std.specs.Prelude.{◌≡◌, ◌<◌, ◌≤◌, ◌+◌, [], IfErr, IfOk, Ok, OnErr, OnOk, Some, map, vec_capacity};
 ghost use Rattle.sector_disk.specs.Runs.{Quiet};
 ghost use Rattle.session_store.specs.Form.{part_mark, payload_in, place};
 ghost use Rattle.session_store.specs.Layout.{part_limit, sector_count};
-ghost use Rattle.session_store.specs.Opening.{IsCause};
-ghost use Rattle.session_store.specs.ReadFaults.{store_fault};
+ghost use Rattle.session_store.specs.Opening.{Causes};
+ghost use Rattle.session_store.specs.ReadFaults.{IsPartUnread, store_fault};
 ghost use Rattle.session_store.specs.Stands.{parts_from};
 
 use crate::fault::ReadFault;
@@ -28,10 +27,7 @@ fn read_part<D: SectorDisk>(
     ensures no_fault { OnOk result (D.disk.faults disk.new ≡ D.disk.faults disk.old) }
     ensures part { D.disk.honest disk.old → IfOk result (λ part.
         payload_in (part_mark format) epoch i (D.disk.reads disk.old (place epoch + 1 + i)) ≡ Some part.items) }
-    ensures fault { IfErr result (λ fault.
-        ((fault ≡ ReadFault.Disk) × Rose (D.disk.faults disk.old) (D.disk.faults disk.new))
-        ⊎ ((fault ≡ ReadFault.Damaged (place epoch + 1 + i)) × (D.disk.faults disk.new ≡ D.disk.faults disk.old)
-        × (D.disk.honest disk.old → payload_in (part_mark format) epoch i (D.disk.reads disk.old (place epoch + 1 + i)) ≡ None))) }
+    ensures fault { IfErr result (IsPartUnread D.disk format epoch i disk.old disk.new) }
 {
     let at = place_of(epoch) + 1 + i;
     let mut bytes = [0; SECTOR_BYTES];
@@ -60,7 +56,7 @@ pub(crate) fn read_parts<D: SectorDisk>(
     ensures no_fault { OnOk result (D.disk.faults disk.new ≡ D.disk.faults disk.old) }
     ensures parts { D.disk.honest disk.old → IfOk result (λ parts.
         parts_from header.format (D.disk.reads disk.old) header.epoch 0 header.parts ≡ Ok (map (λ part. part.items) parts.items)) }
-    ensures fault { IfErr result (λ fault. IsCause (D.disk.honest disk.old) (D.disk.faults disk.old) (D.disk.faults disk.new)
+    ensures fault { IfErr result (λ fault. Causes D.disk disk.old disk.new
         (parts_from header.format (D.disk.reads disk.old) header.epoch 0 header.parts) (store_fault fault)) }
 {
     let mut parts = room;

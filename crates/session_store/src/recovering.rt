@@ -4,10 +4,10 @@ ghost use Rattle.sector_disk.specs.Runs.{Quiet};
 ghost use Rattle.session_store.specs.Form.{place};
 ghost use Rattle.session_store.specs.Layout.{part_limit, sector_count};
 ghost use Rattle.session_store.specs.Looking.{CountsRecords};
-ghost use Rattle.session_store.specs.Opening.{Begins, IsCause, IsRead, IsUnread};
+ghost use Rattle.session_store.specs.Opening.{Begins, Causes, IsRead, IsUnread};
 ghost use Rattle.session_store.specs.ReadFaults.{store_fault};
 ghost use Rattle.session_store.specs.Snapshot.{WritesSnapshot};
-ghost use Rattle.session_store.specs.Stands.{after_parts, parts_from};
+ghost use Rattle.session_store.specs.Stands.{after_snapshot};
 
 use crate::fault::ReadFault;
 use crate::headers::find_header;
@@ -41,14 +41,11 @@ pub(crate) fn recover_from<D: SectorDisk, K: Kept>(
     requires few { header.parts ≤ part_limit }
     ensures quiet { Quiet D.disk disk.old disk.new }
     ensures no_fault { OnOk result (D.disk.faults disk.new ≡ D.disk.faults disk.old) }
-    ensures found { D.disk.honest disk.old → IfOk result (λ found. after_parts K.kept (D.disk.reads disk.old) header
-        (parts_from header.format (D.disk.reads disk.old) header.epoch 0 header.parts) ≡ Ok found.state) }
+    ensures found { D.disk.honest disk.old → IfOk result (λ found. after_snapshot K.kept (D.disk.reads disk.old) header ≡ Ok found.state) }
     ensures epoch { IfOk result (λ found. (found.epoch ≡ header.epoch) × (found.base ≡ found.state)) }
     ensures counted { D.disk.honest disk.old → IfOk result (λ found.
         CountsRecords K.kept header.format (D.disk.reads disk.old) header.epoch found.records) }
-    ensures fault { IfErr result (λ fault. IsCause (D.disk.honest disk.old) (D.disk.faults disk.old) (D.disk.faults disk.new)
-        (after_parts K.kept (D.disk.reads disk.old) header
-        (parts_from header.format (D.disk.reads disk.old) header.epoch 0 header.parts)) (store_fault fault)) }
+    ensures fault { IfErr result (λ fault. Causes D.disk disk.old disk.new (after_snapshot K.kept (D.disk.reads disk.old) header) (store_fault fault)) }
 {
     let room = room_for_parts(alloc, header.parts)?;
     let parts = read_parts(disk, header, room)?;

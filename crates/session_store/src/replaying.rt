@@ -5,7 +5,7 @@ ghost use Rattle.sector_disk.specs.Runs.{Quiet};
 ghost use Rattle.session_store.specs.Form.{entry_in};
 ghost use Rattle.session_store.specs.Layout.{journal_place, record_limit, sector_count};
 ghost use Rattle.session_store.specs.Looking.{CountsRecords};
-ghost use Rattle.session_store.specs.Opening.{IsCause};
+ghost use Rattle.session_store.specs.Opening.{Causes};
 ghost use Rattle.session_store.specs.ReadFaults.{store_fault};
 ghost use Rattle.session_store.specs.Stands.{replay};
 
@@ -66,7 +66,7 @@ pub(crate) fn replay_records<D: SectorDisk, K: Kept>(
     ensures same { OnOk result (base.new ≡ state.new) }
     ensures counted { D.disk.honest disk.old → IfOk result (λ count.
         CountsRecords K.kept format (D.disk.reads disk.old) epoch count) }
-    ensures fault { IfErr result (λ fault. IsCause (D.disk.honest disk.old) (D.disk.faults disk.old) (D.disk.faults disk.new)
+    ensures fault { IfErr result (λ fault. Causes D.disk disk.old disk.new
         (replay K.kept format record_limit (D.disk.reads disk.old) epoch 0 state.old) (store_fault fault)) }
 {
     for number in 0..RECORDS {

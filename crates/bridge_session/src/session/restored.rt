@@ -3,7 +3,7 @@ ghost use Rattle.std.specs.Prelude.{◌≡◌, ◌≢◌, ◌↔◌, ◌*◌, le
 ghost use Rattle.session_rules.specs.State.{SessionValue};
 ghost use Rattle.session_rules.specs.StateRange.{IsSession};
 ghost use Rattle.session_bytes.specs.Head.{IsRound, board_part_count, HasHead};
-ghost use Rattle.session_bytes.specs.Parts.{HasRulings, parts_of, board_parts};
+ghost use Rattle.session_bytes.specs.Parts.{AreOfNoSession, HasRulings, parts_of, board_parts};
 ghost use Rattle.bridge_session.specs.KeptSession.{new_table};
 
 use super::Session;
@@ -40,7 +40,7 @@ fn read_boards(
     ensures parts { IfSome result (λ s. board_parts format s ≡ map (λ part. part.items) parts.now) }
     ensures session { IfSome result IsSession }
     ensures rulings { IfSome result (HasRulings format) }
-    ensures other { IfNone result ((s : SessionValue) → IsSession s → HasRulings format s → s.configuration ≡ head.config → s.round ≡ head.round → board_parts format s ≢ map (λ part. part.items) parts.now) }
+    ensures other { IfNone result (AreOfNoSession format head.config head.round (map (λ part. part.items) parts.now)) }
 {
     let mut deals = room.deals;
     let mut tables = room.tables;
