@@ -1,12 +1,12 @@
 -- What is known of a play.
-use Rattle.std.specs.Prelude.{ℕ, List, Option}
+use Rattle.std.specs.Prelude.{ℕ, Bool, List, Option}
 use Rattle.std.specs.Option.{option_copied, option_map}
 use Rattle.bridge_auction.specs.declared.call.Call.{Call}
 use Rattle.bridge_movement.specs.declared.row.Row.{Row}
 use Rattle.bridge_play.specs.Play.{PlayValue}
 use Rattle.session_rules.specs.declared.outcome.Outcome.{Outcome}
 use Rattle.session_rules.specs.Outcome.{outcome_of}
-use Rattle.session_rules.specs.Record.{PlainRecord, play_of}
+use Rattle.session_rules.specs.Record.{PlainRecord, course_of, is_done, play_of}
 use Rattle.session_rules.specs.State.{SessionValue, Deals, deal_on, hands_on, record_of}
 use Rattle.board_replies.specs.declared.known_play.KnownPlay.{KnownPlay as KnownType}
 
@@ -28,6 +28,10 @@ known_in deals plain = record {
   play = play_of (hands_on deals plain.board) plain;
   outcome = outcome_of plain;
 }
+
+-- whether the play is finished: over, or passed out
+abbrev pub is_known_finished : KnownPlay → Bool
+is_known_finished known = is_done known.calls (option_map course_of known.play)
 
 -- what is known of the play of the board at an index of a row's set, if there is such a play
 abbrev pub known_at : SessionValue → Row → ℕ → Option KnownPlay

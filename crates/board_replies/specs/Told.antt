@@ -1,6 +1,9 @@
 -- What is told of boards: to a player those that his pair has finished, to the director one play, or the rulings.
 use Rattle.std.specs.Prelude.{ℕ, Bool, true, false, ◌==◌, if◌then◌else◌, List, [], ◌∷◌, ◌++◌, codes, flat_map, Option, None, Some, Result, Ok, Err}
+use Rattle.std.specs.Option.{option_to_list}
 use Rattle.std.specs.Result.{is_ok}
+use Rattle.bridge_cards.specs.declared.seat.Side.{Side}
+use Rattle.bridge_movement.specs.declared.row.Row.{Row}
 use Rattle.line_text.specs.Lines.{lines_text}
 use Rattle.session_rules.specs.declared.refused.Refused.{Refused as SessionRefused}
 use Rattle.session_rules.specs.declared.seating.Player.{Player}
@@ -13,7 +16,8 @@ use Rattle.board_replies.specs.declared.asked.Asked.TheVariants.{Whole, OnePlay,
 use Rattle.board_replies.specs.Asked.{asked_of}
 use Rattle.board_replies.specs.Beside.{beside}
 use Rattle.board_replies.specs.Director.{one_by}
-use Rattle.board_replies.specs.OwnPlays.{OwnPlay, own_plays}
+use Rattle.board_replies.specs.KnownPlay.{KnownPlay}
+use Rattle.board_replies.specs.OwnPlays.{OwnPlay, own_play_by, own_plays}
 use Rattle.board_replies.specs.PlayLines.{play_lines}
 use Rattle.board_replies.specs.Rulings.{ruled_lines}
 
@@ -34,6 +38,10 @@ own_lines s is_open own =
 -- the lines of plays as a text
 abbrev pub own_text : SessionValue → Bool → List OwnPlay → List ℕ
 own_text s is_open plays = lines_text (flat_map (own_lines s is_open) plays)
+
+-- the lines of a play of which so much is known, if it is over
+abbrev pub known_text : SessionValue → Bool → Row → Side → ℕ → KnownPlay → List ℕ
+known_text s is_open row side index known = own_text s is_open (option_to_list (own_play_by s.round row side index known))
 
 -- what is told of the plays that a pair has finished
 abbrev pub told_lines : SessionValue → Bool → List OwnPlay → List (List ℕ)

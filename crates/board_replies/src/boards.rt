@@ -131,7 +131,8 @@ fn push_boards(
 
 /// What is answered to these bytes, where players are told of other tables or not.
 ///
-/// To a player's key: `OK`, whether he is told of other tables, of each play that his pair has finished, or that was ruled out,
+/// To a player's key: `OK`, whether he is told of other tables, of each play of his pair that is over (finished, or void or
+/// adjusted in a round that has ended),
 /// the board, the names, the hands, the calls, the cards, the claim and what came of it, by round and by the index in the set,
 /// each with the other tables that have finished the board and what it is worth, if he is told of them, and a full stop. To the
 /// director's key: the rulings that change what came of a play. To his key and the round, the table and the index of a play:

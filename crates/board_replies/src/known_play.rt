@@ -5,7 +5,7 @@ ghost use Rattle.bridge_movement.specs.Boards.{boards_before};
 ghost use Rattle.session_rules.specs.Numbers.{IsRoundNumber, IsTableNumber, IsBoardIndex};
 ghost use Rattle.session_rules.specs.Outcome.{HasFewTricks};
 ghost use Rattle.session_rules.specs.StateRange.{IsSession};
-ghost use Rattle.board_replies.specs.KnownPlay.{known_at, seen_play};
+ghost use Rattle.board_replies.specs.KnownPlay.{is_known_finished, known_at, seen_play};
 
 use bridge_auction::Auction;
 use bridge_cards::{BoardNumber, Deal};
@@ -27,6 +27,16 @@ pub(crate) struct KnownPlay<'a> {
     pub play: Option<&'a Play>,
     /// What came of it.
     pub outcome: Outcome,
+}
+
+/// Whether the play is finished: over, or passed out.
+pub(crate) fn is_finished(known: &KnownPlay<'_>) -> bool
+    ensures { result ≡ is_known_finished (seen_play known.now) }
+{
+    match known.play {
+        Some(play) => play.is_over(),
+        None => known.auction.is_ended(),
+    }
 }
 
 /// The board at an index of a set, from 1, where each set has so many boards.

@@ -1,4 +1,4 @@
-//! The plays that a pair has finished.
+//! The plays of a pair that are over.
 ghost use Rattle.std.specs.Prelude.{◌≡◌, ◌++◌, OnOk, Contains};
 ghost use Rattle.std.specs.Option.{option_to_list};
 ghost use Rattle.bridge_results.specs.Plays.{has_outcome};
@@ -7,11 +7,11 @@ ghost use Rattle.session_rules.specs.Numbers.{IsBoardIndex};
 ghost use Rattle.session_rules.specs.Outcome.{HasFewTricks};
 ghost use Rattle.session_rules.specs.StateRange.{IsSession};
 ghost use Rattle.board_replies.specs.KnownPlay.{seen_play};
-ghost use Rattle.board_replies.specs.OwnPlays.{own_play_by, own_play_at, own_plays_at, own_plays_in, own_plays};
-ghost use Rattle.board_replies.specs.Told.{own_text};
+ghost use Rattle.board_replies.specs.OwnPlays.{is_over_in, own_play_at, own_plays_at, own_plays_in, own_plays};
+ghost use Rattle.board_replies.specs.Told.{known_text, own_text};
 
 use crate::beside::push_beside;
-use crate::known_play::{KnownPlay, known_at};
+use crate::known_play::{KnownPlay, is_finished, known_at};
 use crate::play_lines::push_play;
 use bridge_cards::Side;
 use bridge_movement::Row;
@@ -25,6 +25,13 @@ fn has_outcome(outcome: Outcome) -> bool
     ensures { result ≡ has_outcome outcome }
 {
     !matches!(outcome, Outcome::Unfinished)
+}
+
+/// Whether the play of a row is over in a round: it is finished, or ruled out and its round has ended.
+fn is_over_in(round: u8, row: Row, known: &KnownPlay<'_>) -> bool
+    ensures { result ≡ is_over_in round row (seen_play known.now) }
+{
+    has_outcome(known.outcome) && (is_finished(known) || row.round < round)
 }
 
 /// The side on which a pair sits in a row.
@@ -51,7 +58,7 @@ pub(crate) struct Telling<'a> {
     pub is_open: bool,
 }
 
-/// Adds the lines of the play of which so much is known, and of other tables on its board, if something came of it.
+/// Adds the lines of the play of which so much is known, and of other tables on its board, if it is over.
 fn push_known(
     text: &mut Vec<u8>,
     told: &Telling<'_>,
@@ -62,9 +69,9 @@ fn push_known(
 ) -> Result<(), AllocError>
     requires tricks { HasFewTricks known.now.outcome }
     requires results { told.now.results.now ≡ told.now.session.now }
-    ensures { OnOk result (text.new.items ≡ text.old.items ++ own_text told.now.session.now told.now.is_open (option_to_list (own_play_by row side index (seen_play known.now)))) }
+    ensures { OnOk result (text.new.items ≡ text.old.items ++ known_text told.now.session.now told.now.is_open row side index (seen_play known.now)) }
 {
-    if !has_outcome(known.outcome) {
+    if !is_over_in(told.session.round(), row, known) {
         return Ok(());
     }
     push_play(
@@ -86,7 +93,7 @@ fn push_known(
     )
 }
 
-/// Adds the lines of the play of the board at an index of a row's set, if something came of it.
+/// Adds the lines of the play of the board at an index of a row's set, if it is over.
 fn push_own_play_at(
     text: &mut Vec<u8>,
     told: &Telling<'_>,
@@ -141,7 +148,7 @@ fn push_own_plays_in(
     }
 }
 
-/// Adds the lines of the plays that a pair has finished, by round and by the index in the set.
+/// Adds the lines of a pair's plays that are over, by round and by the index in the set.
 pub(crate) fn push_own_plays(
     text: &mut Vec<u8>,
     told: &Telling<'_>,

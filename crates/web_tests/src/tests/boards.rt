@@ -86,6 +86,10 @@ const ROWS: &[(&str, &str, &str)] = &[
     ("POST /boards HTTP/1.1", "key", "ERR 30 BadLine\n"),
     ("POST /lines HTTP/1.1", SEVEN_TRICKS, "OK\n"),
     ("POST /boards HTTP/1.1", "11", NONE),
+    // What the director takes out he can give back, until the round ends.
+    ("POST /lines HTTP/1.1", "VOID 100 1 1 1\n", "OK\n"),
+    ("POST /boards HTTP/1.1", "11", NONE),
+    ("POST /lines HTTP/1.1", "RESTORE 100 1 1 1\n", "OK\n"),
     ("POST /boards HTTP/1.1", "42", PASSED),
     ("POST /lines HTTP/1.1", "CLAIM 11 1 0 6\n", "OK\n"),
     ("POST /boards HTTP/1.1", "31", NONE),
