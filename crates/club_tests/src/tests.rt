@@ -124,7 +124,7 @@ fn words_of(alloc: Global, text: &str) -> Result<Vec<&str>, AllocError> {
 
 /// Each command with its words. Numbers are taken from the least to the most, a sign and zeros before them too, and the
 /// options before, between and behind the other words.
-const COMMANDS: [&str; 22] = [
+const COMMANDS: [&str; 23] = [
     "auction 1",
     "auction 36",
     "auction +7",
@@ -139,6 +139,7 @@ const COMMANDS: [&str; 22] = [
     "web --address 192.168.4.1 club.disk 4000 60",
     "web club.disk 4000 --name club.test 60",
     "web club.disk 4000 60 --name=b --address=a",
+    "web --open-boards club.disk 4000 60",
     "rank club.disk",
     "pbn club.disk",
     "results club.disk",

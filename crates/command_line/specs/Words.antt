@@ -72,9 +72,17 @@ name_rule = option_rule (codes "name")
 abbrev pub plain_web_app : App
 plain_web_app = with_rule (with_rule (disk_app (codes "web")) port_rule) minutes_rule
 
--- with those options or without
+-- a flag of that name
+abbrev pub flag_rule : Text → Rule
+flag_rule name = record (new_rule name) { long = Some name; action = Some SetTrue }
+
+-- the flag `--open-boards`
+abbrev pub open_boards_rule : Rule
+open_boards_rule = flag_rule (codes "open-boards")
+
+-- with those options and that flag or without
 abbrev pub web_app : App
-web_app = with_rule (with_rule plain_web_app address_rule) name_rule
+web_app = with_rule (with_rule (with_rule plain_web_app address_rule) name_rule) open_boards_rule
 
 -- the command `rank DISK`
 abbrev pub rank_app : App
@@ -86,7 +94,7 @@ pbn_app = disk_app (codes "pbn")
 
 -- the flag `--html`
 abbrev pub html_rule : Rule
-html_rule = record (new_rule (codes "html")) { long = Some (codes "html"); action = Some SetTrue }
+html_rule = flag_rule (codes "html")
 
 -- the command `results DISK`, with that flag or without
 abbrev pub results_app : App
@@ -145,10 +153,11 @@ HasFlag rows id flag = (one_of id rows ≡ Some (codes "true") → flag ≡ true
 abbrev pub HasOption : List Row → Text → Option (Bor Text) → Type 0
 HasOption rows id text = first_of id rows ≡ option_map (λ t. t.now) text
 
--- the port, and the options that are given
+-- the port, the options that are given, and the flag
 abbrev pub HasHost : List Row → WebHost → Type 0
 HasHost rows host = HasNumber 16 rows (codes "PORT") host.port
     × HasOption rows (codes "address") host.address × HasOption rows (codes "name") host.name
+    × HasFlag rows (codes "open-boards") host.open_boards
 
 -- the arguments are those of a command
 abbrev pub HasWords : List Row → Command → Type 0

@@ -1,7 +1,7 @@
 //! The arguments of the commands, as they are declared to clap.
 ghost use Rattle.std.specs.Prelude.{◌≡◌, false};
 ghost use Rattle.clap.specs.Words.{rule_of};
-ghost use Rattle.command_line.specs.Words.{board_rule, disk_rule, config_rule, port_rule, count_rule, minutes_rule, address_rule, name_rule, html_rule};
+ghost use Rattle.command_line.specs.Words.{board_rule, disk_rule, config_rule, port_rule, count_rule, minutes_rule, address_rule, name_rule, open_boards_rule, html_rule};
 
 use clap::builder::ValueParser;
 use clap::{Arg, ArgAction};
@@ -93,6 +93,19 @@ pub fn name_argument<'a>(alloc: Global) -> Arg<'a>
         .value_name("HOST")
         .help("The host's name as browsers write it, the address if none is given")
         .value_parser(ValueParser::NonEmptyString)
+}
+
+/// The flag `--open-boards`.
+pub fn open_boards_argument<'a>(alloc: Global) -> Arg<'a>
+    ensures rule { rule_of result ≡ open_boards_rule }
+    ensures local { result.global ≡ false }
+{
+    Arg::new(alloc, "open-boards")
+        .long("open-boards")
+        .help(
+            "Players see what other tables did on the boards that they have finished, from the start",
+        )
+        .action(ArgAction::SetTrue)
 }
 
 /// The argument BOARD.

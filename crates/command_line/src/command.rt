@@ -28,8 +28,8 @@ pub enum Command<'a> {
         /// COUNT, from 1 to 1000.
         count: u16,
     },
-    /// `web DISK PORT MINUTES [--address IP] [--name HOST]`: pages for browsers, for so many minutes, over the session that
-    /// a disk holds.
+    /// `web DISK PORT MINUTES [--address IP] [--name HOST] [--open-boards]`: pages for browsers, for so many minutes, over the
+    /// session that a disk holds.
     Web {
         /// DISK, the name of the disk's file.
         disk: &'a str,
@@ -69,7 +69,7 @@ pub enum Command<'a> {
     Version,
 }
 
-/// Where the pages of `web` are shown, and by which name.
+/// Where the pages of `web` are shown, by which name, and how they begin.
 #[derive(Clone, Copy, Debug, PartialEq, Eq)]
 pub struct WebHost<'a> {
     /// The port to listen at.
@@ -78,6 +78,8 @@ pub struct WebHost<'a> {
     pub address: Option<&'a str>,
     /// The host's name as browsers write it, in place of the address. It may be no name.
     pub name: Option<&'a str>,
+    /// Whether players are told of other tables from the start.
+    pub open_boards: bool,
 }
 
 /// Why the words ask for no command.

@@ -6,7 +6,7 @@ ghost use Rattle.command_line.specs.Words.{auction_app, format_app, script_app, 
 
 use crate::arguments::{
     address_argument, board_argument, config_argument, count_argument, disk_argument,
-    html_argument, minutes_argument, name_argument, port_argument,
+    html_argument, minutes_argument, name_argument, open_boards_argument, port_argument,
 };
 use std::alloc::{AllocError, Global};
 
@@ -82,14 +82,15 @@ fn serve_command<'a>(alloc: Global) -> Result<clap::Command<'a>, AllocError>
         .arg(count_argument(alloc))
 }
 
-/// The command `web DISK PORT MINUTES`, with an address, a name, both or neither.
+/// The command `web DISK PORT MINUTES`, with an address or none, a name or none, and with the boards open or not.
 fn web_command<'a>(alloc: Global) -> Result<clap::Command<'a>, AllocError>
     ensures shape { IfOk result (λ command. shape_of command ≡ web_app.top) }
     ensures local { IfOk result (λ command. (fields_of command).has_globals ≡ false) }
 {
     plain_web_command(alloc)?
         .arg(address_argument(alloc))?
-        .arg(name_argument(alloc))
+        .arg(name_argument(alloc))?
+        .arg(open_boards_argument(alloc))
 }
 
 /// The command `web DISK PORT MINUTES`.

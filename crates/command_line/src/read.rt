@@ -104,17 +104,19 @@ fn web_of<'a>(found: &ArgMatches<'a>) -> Option<Command<'a>>
     })
 }
 
-/// Where pages are shown, and by which name.
+/// Where pages are shown, by which name, and how they begin.
 fn host_of<'a>(found: &ArgMatches<'a>) -> Option<WebHost<'a>>
     ensures { IfSome result (HasHost (rows_of (found_of found.now))) }
 {
     let port = number_of(found, "PORT")?;
     let address = option_of(found, "address");
     let name = option_of(found, "name");
+    let open_boards = has_flag(found, "open-boards");
     Some(WebHost {
         port,
         address,
         name,
+        open_boards,
     })
 }
 
