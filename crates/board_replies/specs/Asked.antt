@@ -1,8 +1,10 @@
 -- What a body asks for.
 use Rattle.std.specs.Prelude.{ℕ, Bool, true, false, if◌then◌else◌, List, [], ◌∷◌, bytes_eq, codes, Option, Some, None, option_and_then}
-use Rattle.std.specs.Option.{option_map}
+use Rattle.std.specs.Option.{option_map, option_map_or}
+use Rattle.bridge_config.specs.ConfigValue.{ConfigValue}
 use Rattle.bridge_config.specs.declared.fields.Key.{Key}
 use Rattle.session_rules.specs.declared.action.PlayId.{PlayId}
+use Rattle.session_rules.specs.State.{is_nobodys}
 use Rattle.line_text.specs.Words.{spaced_words}
 use Rattle.line_replies.specs.KeyWord.{number_of_word, key_of_word}
 use Rattle.board_replies.specs.declared.asked.Asked.{Asked}
@@ -49,3 +51,7 @@ abbrev pub key_in : Asked → ℕ
 key_in (Whole key) = key.0
 key_in (OnePlay key play) = key.0
 key_in (Switch key to_open) = key.0
+
+-- whether these bytes ask by a key that is nobody's
+abbrev pub has_wrong_key : ConfigValue → List ℕ → Bool
+has_wrong_key configuration bytes = option_map_or (λ (asked : Asked). is_nobodys configuration (key_in asked)) (asked_of bytes) false

@@ -2,9 +2,11 @@
 ghost use Rattle.std.specs.Prelude.{◌≡◌, option_and_then};
 ghost use Rattle.line_text.specs.Words.{spaced_words};
 ghost use Rattle.line_replies.specs.KeyWord.{number_of_word, key_of_word};
-ghost use Rattle.board_replies.specs.Asked.{twelve_of_word, play_by_words, play_of_words, switch_of_word, asked_after, asked_of};
+ghost use Rattle.board_replies.specs.Asked.{twelve_of_word, play_by_words, play_of_words, switch_of_word, asked_after, asked_of, key_in, has_wrong_key};
 
 use bridge_config::Key;
+use bridge_session::Session;
+use bridge_table::is_nobodys;
 use line_replies::{read_key, read_number};
 use line_text::{first_word, only_word};
 use session_rules::{BoardIndex, PlayId, RoundNumber, TableNumber};
@@ -18,6 +20,27 @@ pub enum Asked {
     OnePlay(Key, PlayId),
     /// That players be told of other tables, or not.
     Switch(Key, bool),
+}
+
+impl Asked {
+    /// The key by which something is asked.
+    fn key(self) -> Key
+        ensures { result.0 ≡ key_in self }
+    {
+        match self {
+            Asked::Whole(key) | Asked::OnePlay(key, _) | Asked::Switch(key, _) => key,
+        }
+    }
+}
+
+/// Whether these bytes ask by a key that is nobody's in this session.
+pub fn has_wrong_key(session: &Session, bytes: &[u8]) -> bool
+    ensures { result ≡ has_wrong_key session.now.configuration bytes.now }
+{
+    match read_asked(bytes) {
+        Some(asked) => is_nobodys(session.config(), asked.key()),
+        None => false,
+    }
 }
 
 /// A round, 1 to 12.

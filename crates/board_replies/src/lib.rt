@@ -18,7 +18,7 @@ mod result_line;
 mod rulings;
 mod text;
 
-pub use asked::Asked;
+pub use asked::{Asked, has_wrong_key};
 pub use boards::{opened_by, told_boards};
 pub use laws::{
     boards_are_told_of_finished_plays, only_finished_plays_are_told,

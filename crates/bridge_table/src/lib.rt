@@ -11,7 +11,7 @@ pub mod view;
 
 pub use record::Record;
 pub use seating::{
-    acting_player, check_asker, check_director, is_closed, is_of_set, row_of, seat_by,
+    acting_player, check_asker, check_director, is_closed, is_nobodys, is_of_set, row_of, seat_by,
 };
 pub use stage::stage_among;
 pub use table::{act_among, deal_on, has_open, record_at, rule_among};

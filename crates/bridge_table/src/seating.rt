@@ -3,7 +3,7 @@ ghost use Rattle.std.specs.Prelude.{◌≡◌, ◌==◌, ◌<◌, ◌≤◌, sli
 ghost use Rattle.bridge_config.specs.ConfigValue.{pair_of};
 ghost use Rattle.bridge_config.specs.declared.fields.PairFields.{PairFields as PairType};
 ghost use Rattle.bridge_movement.specs.Shape.{row_count, index_of_row};
-ghost use Rattle.session_rules.specs.State.{has_key, player_in, player_of, acting_player, director_answer, seat_on, is_closed, seating_of, is_of_set, ranking_asker, is_row_within};
+ghost use Rattle.session_rules.specs.State.{has_key, player_in, player_of, is_nobodys, acting_player, director_answer, seat_on, is_closed, seating_of, is_of_set, ranking_asker, is_row_within};
 ghost use Rattle.session_rules.specs.Numbers.{IsTableNumber};
 
 use bridge_cards::{BoardNumber, Seat, Side};
@@ -45,6 +45,16 @@ fn player_by(config: &Config, key: Key) -> Option<Player>
     ensures { result ≡ player_of config.now key.0 }
 {
     player_in(config.fields().pairs.as_slice(), key)
+}
+
+/// Whether a key is nobody's: neither the director's nor a player's.
+pub fn is_nobodys(config: &Config, key: Key) -> bool
+    ensures { result ≡ is_nobodys config.now key.0 }
+{
+    if key == config.fields().director {
+        return false;
+    }
+    player_by(config, key).is_none()
 }
 
 /// The player who may act by the key: `NoKey` where it is nobody's, `NotAllowed` where it is the director's.

@@ -7,11 +7,8 @@ use Rattle.session_rules.specs.State.{opening}
 use Rattle.evening_plan.specs.Evening.{evening_of}
 use Rattle.evening_plan.specs.PlanText.{plan_text}
 use Rattle.evening_plan.specs.FaultText.{fault_text}
+use Rattle.club_commands.specs.declared.config_file.TheConstants.{FILE_BYTES}
 use Rattle.club_commands.specs.Ended.{Ended, Writes, WritesAndStops}
-
--- so many bytes of a configuration's file are read at most: one more than a configuration may have
-abbrev pub most_read : ℕ
-most_read = 16385
 
 -- one read more: the reader gave some bytes, which follow the text, or it is at its end
 pub record ReadsOn (reader : Stream) (old new : List ℕ) (some : Bool) : Type 0 where
@@ -24,8 +21,8 @@ pub record ReadsOn (reader : Stream) (old new : List ℕ) (some : Bool) : Type 0
 -- the reader gave this text, and all that it has, unless that is more than is read
 pub record IsTextRead (reader : Stream) (text : List ℕ) : Type 0 where
   pub given : Gives reader text
-  pub few : length text ≤ most_read
-  pub whole : length text < most_read → IsAtEnd reader.new
+  pub few : length text ≤ FILE_BYTES
+  pub whole : length text < FILE_BYTES → IsAtEnd reader.new
 
 -- the text spells a configuration, of which the one holds; or the other holds of its first fault
 abbrev pub OfText : (ConfigValue → Type 0) → (ConfigFault → Type 0) → List ℕ → Type 0
@@ -42,7 +39,7 @@ OfFound {F = F} remaining P found = MatchResult found (λ file. (after : F) × O
 
 -- the same of some text, of at most the bytes that are read: that it is the text of a file no contract can say
 abbrev pub OfFile : (Option (List ℕ) → Type 0) → Type 0
-OfFile P = P None ⊎ ((text : List ℕ) × (length text ≤ most_read) × P (Some text))
+OfFile P = P None ⊎ ((text : List ℕ) × (length text ≤ FILE_BYTES) × P (Some text))
 
 -- a text begins a session by the configuration that it spells, unless memory is refused; or its first fault is that of the run
 abbrev pub Begins : Result SessionValue RunFault → Option (List ℕ) → Type 0

@@ -1,7 +1,6 @@
 -- How a command ends: what stands on its output then, and the line on standard error and the exit status that a fault has.
 use Rattle.std.specs.Prelude.{◌≡◌, ◌⊎◌, ◌++◌, ℕ, true, false, List, codes, Result, Err, IfErr, IsErrAnd}
-use Rattle.club_commands.specs.Basis.{Stream, Takes, TakesPrefix, Written, IsUntouched, Disk, Rose, StoreOn, decimal}
-use Rattle.club_commands.specs.Basis.{ConfigFault, StoreFault, TooSmall, DiskFault, NotFormatted, Damaged, EpochsSpent, NoMemory, ServeFault, Read, Write, RunFault, StreamFault, System, Config, Store}
+use Rattle.club_commands.specs.Basis.{Stream, Takes, TakesPrefix, Written, IsUntouched, Disk, Rose, StoreOn, decimal, ConfigFault, StoreFault, TooSmall, DiskFault, NotFormatted, Damaged, EpochsSpent, NoMemory, ServeFault, Read, Write, RunFault, StreamFault, System, Config, Store}
 use Rattle.bridge_config.specs.Refused.{refusal_name}
 
 -- how a command ended

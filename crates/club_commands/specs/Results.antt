@@ -28,8 +28,7 @@ IsFieldText s field text = MatchBool (has_field s.configuration.movement.shape f
 -- the first field, and the second where there is one
 abbrev pub IsRankingText : SessionValue → List ℕ → Type 0
 IsRankingText s text =
-    (first : List ℕ) × (second : List ℕ) × IsFieldText s First first × IsFieldText s Second second
-    × (text ≡ first ++ second)
+    (first : List ℕ) × (second : List ℕ) × IsFieldText s First first × IsFieldText s Second second × (text ≡ first ++ second)
 
 -- the format that `--html` asks for, and that without it
 abbrev pub page_format : Bool → Format

@@ -22,7 +22,7 @@ use std::hash::RandomState;
 use std::io::{self, Write};
 use std::net::{Net, TcpListener, TcpStream};
 use std::time::Clock;
-use table_pages::{PageTexts, TablePages, show_minutes};
+use table_pages::{HostNames, PageTexts, TablePages, show_minutes};
 
 /// How the showing of pages ended, by whether the store has failed and by what the clock answered, which are handed in, since
 /// only so a clause can say what comes of them.
@@ -97,6 +97,29 @@ fn listen_and_show<N: Host, W: Write>(
     show_heard(rt, alloc, listen_at(rt, host), minutes, line, pages, output)
 }
 
+/// The pages of these texts over a store, where players are told of other tables or not.
+fn pages_over(
+    alloc: Global,
+    names: HostNames,
+    texts: PageTexts,
+    store: ClubStore,
+    cache: Cache,
+    open_boards: bool,
+) -> TablePages<ClubStore>
+    requires works { store.failed ≡ false }
+    requires none_pending { store.pending ≡ [] }
+    ensures server { result.server ≡ store }
+    ensures names { result.names ≡ names }
+    ensures texts { result.texts ≡ texts }
+    ensures open { result.is_open ≡ open_boards }
+{
+    let mut pages = TablePages::new(alloc, names, texts, store, cache);
+    if open_boards {
+        pages.open_boards();
+    }
+    pages
+}
+
 /// Shows pages for so many minutes over a store, and hands its disk out.
 pub fn show_over<N: Host, W: Write>(
     rt: &N,
@@ -118,7 +141,7 @@ pub fn show_over<N: Host, W: Write>(
     let Ok(line) = listening_line(alloc, names.host()) else {
         return with_disk(store, Err(RunFault::Store(StoreFault::NoMemory)));
     };
-    let mut pages = TablePages::new(alloc, names, texts, store, cache);
+    let mut pages = pages_over(alloc, names, texts, store, cache, host.open_boards);
     let ended = listen_and_show(rt, alloc, host, minutes, line.as_str(), &mut pages, output);
     with_disk(pages.into_server(), ended)
 }

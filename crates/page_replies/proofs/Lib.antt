@@ -1,3 +1,4 @@
 pub mod SamePlace
 mod ToldViews
 mod MoreTables
+mod WrongKeys

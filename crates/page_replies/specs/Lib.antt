@@ -2,3 +2,4 @@
 pub mod Place
 pub mod Tables
 pub mod ToldResults
+pub mod WrongKey

@@ -12,7 +12,9 @@ mod place;
 mod progress;
 mod results;
 mod tables;
+mod wrong_key;
 
 pub use place::{places_show_no_hidden_card, push_place};
 pub use results::told_results;
 pub use tables::push_tables;
+pub use wrong_key::{is_wrong_key, wrong_keys_are_told};

@@ -32,7 +32,7 @@ acted_round : (s : SessionValue) (deed : Deed) (sits : Result Seating Refused) �
 acted_round s deed (Err refused) = refl
 acted_round s deed (Ok seating) = refl
 
-configuration_stays : (a : Act) (s : SessionValue) → (changed_by s a).configuration ≡ s.configuration
+pub configuration_stays : (a : Act) (s : SessionValue) → (changed_by s a).configuration ≡ s.configuration
 configuration_stays (act.Player key board at deed) s = acted_configuration s deed (seating_of s.configuration s.round key.0)
 configuration_stays (act.Deal key board hands) s = refl
 configuration_stays (act.RoundEnd key round) s = refl

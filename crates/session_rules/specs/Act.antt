@@ -25,6 +25,13 @@ act_of (Void key play) = act.Ruling key play correction.Void
 act_of (Adjust key play ns ew) = act.Ruling key play (correction.Adjust ns ew)
 act_of (Restore key play) = act.Ruling key play correction.Restore
 
+-- the key by which somebody acts
+abbrev pub key_of : Act → Key
+key_of (act.Player key board at deed) = key
+key_of (act.Deal key board hands) = key
+key_of (act.RoundEnd key round) = key
+key_of (act.Ruling key play correction) = key
+
 -- the action by which a player does that
 abbrev pub of_player : Key → ℕ → ℕ → Deed → Action
 of_player key board at (deed.Call call) = Call key board at call

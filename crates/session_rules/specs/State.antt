@@ -1,5 +1,5 @@
 -- What contracts see of a session, who acts in it, and where.
-use Rattle.std.specs.Prelude.{ℕ, ◌+◌, ◌-◌, ◌*◌, nat_lt, nat_le, Bool, true, false, ◌==◌, ◌&&◌, ◌||◌, if◌then◌else◌, is_some, map, replicate, List, [], slice_get, slice_set, slice_index, position, unwrap_or, ok_or, Option, None, Result, Ok, Err}
+use Rattle.std.specs.Prelude.{ℕ, ◌+◌, ◌-◌, ◌*◌, nat_lt, nat_le, Bool, true, false, ◌==◌, ◌&&◌, ◌||◌, if◌then◌else◌, is_some, is_none, map, replicate, List, [], slice_get, slice_set, slice_index, position, unwrap_or, ok_or, Option, None, Result, Ok, Err}
 use Rattle.std.specs.List.{position_or_len, range_with_len}
 use Rattle.std.specs.Option.{option_map, option_map_or}
 use Rattle.bridge_cards.specs.declared.seat.Seat.{Seat}
@@ -88,6 +88,10 @@ player_in pairs key =
 -- the player whose key it is
 abbrev pub player_of : ConfigValue → ℕ → Option Player
 player_of configuration key = player_in configuration.pairs key
+
+-- whether a key is nobody's: neither the director's nor a player's
+abbrev pub is_nobodys : ConfigValue → ℕ → Bool
+is_nobodys configuration key = if key == configuration.director then false else is_none (player_of configuration key)
 
 -- the player who may act by the key
 abbrev pub acting_player : ConfigValue → ℕ → Result Player Refused

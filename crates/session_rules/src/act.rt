@@ -1,7 +1,7 @@
 //! Who does what by an action.
 ghost use Rattle.std.specs.Prelude.{◌≡◌};
 ghost use Rattle.session_rules.specs.declared.act.Act.TheVariants as act;
-ghost use Rattle.session_rules.specs.Act.{act_of, of_player, of_ruling};
+ghost use Rattle.session_rules.specs.Act.{act_of, key_of, of_player, of_ruling};
 
 use crate::action::{Action, PlayId};
 use crate::correction::Correction;
@@ -37,6 +37,20 @@ pub enum Act {
         play: PlayId,
         correction: Correction,
     },
+}
+
+impl Act {
+    /// The key by which somebody acts.
+    pub fn key(self) -> Key
+        ensures { result ≡ key_of self }
+    {
+        match self {
+            Act::Player { key, .. } => key,
+            Act::Deal { key, .. } => key,
+            Act::RoundEnd { key, .. } => key,
+            Act::Ruling { key, .. } => key,
+        }
+    }
 }
 
 impl Action {

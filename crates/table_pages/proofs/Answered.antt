@@ -15,8 +15,9 @@ use Rattle.table_server.specs.Served.{IsServed}
 use Rattle.line_replies.specs.declared.fault.ServeFault.{ServeFault}
 use Rattle.table_server.specs.declared.served.Served.{Served}
 use Rattle.line_replies.specs.Limit.{limit_notice}
-use Rattle.table_server.specs.ServedStreams.{HasServed, StopsServing}
-use Rattle.table_pages.specs.Answered.{IsAnswered, IsCutOff, is_settled}
+use Rattle.table_server.specs.declared.served.ServedKeys.{ServedKeys}
+use Rattle.table_server.specs.ServedStreams.{HasCounted, HasServed, StopsServing}
+use Rattle.table_pages.specs.Answered.{CountsKeys, IsAnswered, IsCutOff, is_settled}
 
 -- a settled store that works has nothing pending
 pub settled_to : {A : Type 0} (failed : Bool) (pending : List A) → is_settled failed pending ≡ true → failed ≡ false → pending ≡ []
@@ -52,3 +53,11 @@ pub is_cut_off : {D : Type 0} (disk : Disk D) (start store : StoreValue D Sessio
     → StopsServing disk start store reader writer fault → reader.old ≡ Some body → writer.old ≡ Some [] → IsCutOff disk start body store
 is_cut_off disk start store body reader writer fault stops whole empty =
     record { reader = reader; whole = whole; writer = writer; empty = empty; fault = fault; stops = stops }
+
+-- the keys of the lines of a whole body were counted
+pub counts_keys : {D : Type 0} (disk : Disk D) (start store : StoreValue D SessionValue Action) (body : List ℕ) (reader writer : Stream) (lines : ServedKeys)
+    → length body < 65536 → HasCounted disk start store reader writer lines → reader.old ≡ Some body → CountsKeys start body lines.wrong_keys
+counts_keys disk start store body reader writer lines few x whole =
+    let begun = subst (λ (r : Option (List ℕ)). IfSome r (λ input. x.has.bytes ≡ take 65536 input)) whole x.has.whole in
+    let same : x.has.bytes ≡ body = begun ∙ take_all 65536 body (omega arith) in
+    (x.has.asked, subst (λ (b : List ℕ). AskAll (complete_lines b) x.has.asked) same x.has.asks, x.counted)

@@ -8,6 +8,8 @@ use Rattle.line_text.specs.Lines.{complete_lines}
 use Rattle.line_text.specs.Streams.{Stream}
 use Rattle.page_replies.specs.Place.{place_text}
 use Rattle.page_replies.specs.Tables.{tables_text}
+use Rattle.page_replies.specs.WrongKey.{is_wrong_key}
+use Rattle.board_replies.specs.Asked.{has_wrong_key}
 use Rattle.board_replies.specs.Told.{boards_text, opened_by}
 use Rattle.table_server.specs.declared.asked.Asked.{Asked}
 use Rattle.line_replies.specs.declared.fault.ServeFault.{ServeFault}
@@ -15,6 +17,7 @@ use Rattle.table_server.specs.Answered.{AskAll}
 use Rattle.table_server.specs.Faulted.{FailsWithDisk}
 use Rattle.table_server.specs.Served.{IsServed}
 use Rattle.table_server.specs.ServedStreams.{StopsServing}
+use Rattle.table_server.specs.WrongKeys.{wrong_keys}
 
 -- nothing is pending, or the store has failed
 abbrev pub is_settled : {A : Type 0} → Bool → List A → Bool
@@ -37,6 +40,19 @@ boards_told store is_open key = boards_text store.state is_open key
 -- and whether they are told of them from then on
 abbrev pub opens_told : {D : Type 0} → StoreValue D SessionValue Action → Bool → List ℕ → Bool
 opens_told store is_open key = opened_by store.state is_open key
+
+-- over the session of a store: so many of the complete lines of these bytes have a key that is nobody's
+abbrev pub CountsKeys : {D : Type 0} → StoreValue D SessionValue Action → List ℕ → ℕ → Type 0
+CountsKeys store body count =
+    (asked : List Asked) × AskAll (complete_lines body) asked × (count ≡ wrong_keys store.state.configuration asked)
+
+-- whether these bytes are one
+abbrev pub wrong_key_told : {D : Type 0} → StoreValue D SessionValue Action → List ℕ → Bool
+wrong_key_told store key = is_wrong_key store.state.configuration key
+
+-- and whether boards are asked for by one
+abbrev pub wrong_key_at_boards : {D : Type 0} → StoreValue D SessionValue Action → List ℕ → Bool
+wrong_key_at_boards store bytes = has_wrong_key store.state.configuration bytes
 
 module _ {D : Type 0} (disk : Disk D) where
   -- All complete lines of a body were served over a store, and the text is the replies to them.

@@ -1,20 +1,20 @@
 //! Lines that came in one request, answered over a store.
-ghost use Rattle.std.specs.Prelude.{◌≡◌, ◌<◌, [], false, length, option_map};
+ghost use Rattle.std.specs.Prelude.{◌≡◌, ◌<◌, [], false, length, option_map, IfSome};
 ghost use Rattle.table_server.specs.Faulted.{FailsWithDisk};
-ghost use Rattle.table_pages.specs.Answered.{AnswersBody, AnswersLines, is_settled, place_told, tables_told, boards_told, opens_told};
+ghost use Rattle.table_pages.specs.Answered.{AnswersBody, AnswersLines, CountsKeys, is_settled, wrong_key_told, wrong_key_at_boards, place_told, tables_told, boards_told, opens_told};
 ghost use Rattle.page_replies.specs.ToldResults.{results_told};
 
-use crate::line_server::LineServer;
-use board_replies::{opened_by, told_boards};
+use crate::line_server::{LineServer, Replies};
+use board_replies::{has_wrong_key, opened_by, told_boards};
 use bridge_endings::Cache;
 use bridge_session::Session;
-use page_replies::{push_place, push_tables, told_results};
+use page_replies::{is_wrong_key, push_place, push_tables, told_results};
 use sector_disk::SectorDisk;
 use session_store::Store;
 use std::alloc::Global;
-use table_server::{ReplyText, serve};
+use table_server::{ReplyText, serve_counting};
 
-/// Answers the lines of a body of fewer than 65,536 bytes by what `serve` writes for them: what was accepted is confirmed
+/// Answers the lines of a body of fewer than 65,536 bytes by what `serve` writes for them, and counts their wrong keys: what was accepted is confirmed
 /// on the disk before its reply stands in the text, and nothing is left pending in a store that works. `None` where memory
 /// was refused for the text.
 pub fn answer_lines<D: SectorDisk + Drop>(
@@ -22,17 +22,21 @@ pub fn answer_lines<D: SectorDisk + Drop>(
     alloc: Global,
     cache: &mut Cache,
     body: &[u8],
-) -> Option<Vec<u8>>
+) -> Option<Replies>
     requires settled { store.old.failed ≡ false → store.old.pending ≡ [] }
     requires short { length body.now < 65536 }
-    ensures answered { AnswersBody D.disk store.old body.now (option_map (λ text. text.items) result) store.new }
+    ensures answered { AnswersBody D.disk store.old body.now (option_map (λ replies. replies.text.items) result) store.new }
+    ensures counted { IfSome result (λ replies. CountsKeys store.old body.now replies.wrong_keys) }
     ensures settled { store.new.failed ≡ false → store.new.pending ≡ [] }
     ensures faults { FailsWithDisk D.disk store.old store.new }
 {
     let mut unread = body;
     let mut text = Vec::new(alloc);
-    match serve(store, Some(cache), &mut unread, &mut text) {
-        Ok(_) => Some(text),
+    match serve_counting(store, Some(cache), &mut unread, &mut text) {
+        Ok(lines) => Some(Replies {
+            text,
+            wrong_keys: lines.wrong_keys,
+        }),
         Err(_) => None,
     }
 }
@@ -44,6 +48,12 @@ impl<D: SectorDisk + Drop> LineServer for Store<D, Session> {
 
     ghost answers = { λ old body text new. AnswersLines D.disk old body text new };
 
+    ghost counts = { λ store body count. CountsKeys store body count };
+
+    ghost wrong_key = { λ store key. wrong_key_told store key };
+
+    ghost wrong_at_boards = { λ store bytes. wrong_key_at_boards store bytes };
+
     ghost places = { λ store key. place_told store key };
 
     ghost tables = { λ store key. tables_told store key };
@@ -54,8 +64,16 @@ impl<D: SectorDisk + Drop> LineServer for Store<D, Session> {
 
     ghost results = { λ store key text. results_told store key text };
 
-    fn answer(&mut self, alloc: Global, cache: &mut Cache, body: &[u8]) -> Option<Vec<u8>> {
+    fn answer(&mut self, alloc: Global, cache: &mut Cache, body: &[u8]) -> Option<Replies> {
         answer_lines(self, alloc, cache, body)
+    }
+
+    fn has_wrong_key(&self, key: &[u8]) -> bool {
+        is_wrong_key(self.state(), key)
+    }
+
+    fn has_wrong_key_at_boards(&self, bytes: &[u8]) -> bool {
+        has_wrong_key(self.state(), bytes)
     }
 
     fn place(&self, key: &[u8], text: &mut ReplyText) {

@@ -8,7 +8,6 @@
 #![tactic(auto)]
 
 mod answering;
-mod counting;
 mod host_names;
 mod line_server;
 mod page_texts;
@@ -17,9 +16,8 @@ mod refused;
 mod showing;
 
 pub use answering::answer_lines;
-pub use counting::wrong_keys;
 pub use host_names::HostNames;
-pub use line_server::LineServer;
+pub use line_server::{LineServer, Replies};
 pub use page_texts::PageTexts;
 pub use pages::TablePages;
 pub use showing::{limits, show_minutes};

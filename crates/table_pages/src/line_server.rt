@@ -5,6 +5,15 @@ use bridge_endings::Cache;
 use std::alloc::Global;
 use table_server::ReplyText;
 
+/// The replies to posted lines, and how many of the lines had a key that is nobody's.
+#[derive(Drop)]
+pub struct Replies {
+    /// The replies, one after another.
+    pub text: Vec<u8>,
+    /// How many lines had a key that is nobody's.
+    pub wrong_keys: u64,
+}
+
 /// What answers the lines of the protocol, as a store of a session does.
 pub trait LineServer: Drop {
     // it can take lines, as it can between two requests
@@ -15,6 +24,15 @@ pub trait LineServer: Drop {
 
     // from the first state, these bytes were answered by the text, or memory for the text was refused, and left the second state
     ghost answers: { Self → List ℕ → Option (List ℕ) → Self → Type 0 };
+
+    // so many of the lines of these bytes have a key that is nobody's
+    ghost counts: { Self → List ℕ → ℕ → Type 0 };
+
+    // whether these bytes are a key that is nobody's
+    ghost wrong_key: { Self → List ℕ → Bool };
+
+    // whether boards are asked for by one
+    ghost wrong_at_boards: { Self → List ℕ → Bool };
 
     // what is told to the player whose key these bytes are
     ghost places: { Self → List ℕ → List ℕ };
@@ -33,11 +51,20 @@ pub trait LineServer: Drop {
 
     /// Answers the lines of a body of fewer than 65,536 bytes. `None` where memory was refused for the text; lines may have
     /// been taken then.
-    fn answer(&mut self, alloc: Global, cache: &mut Cache, body: &[u8]) -> Option<Vec<u8>>
+    fn answer(&mut self, alloc: Global, cache: &mut Cache, body: &[u8]) -> Option<Replies>
         requires ready { is_ready self.old ≡ true }
         requires short { length body.now < 65536 }
-        ensures answers { answers self.old body.now (option_map (λ text. text.items) result) self.new }
+        ensures answers { answers self.old body.now (option_map (λ replies. replies.text.items) result) self.new }
+        ensures counts { IfSome result (λ replies. counts self.old body.now replies.wrong_keys) }
         ensures ready { is_ready self.new ≡ true };
+
+    /// Whether these bytes are a key that is nobody's.
+    fn has_wrong_key(&self, key: &[u8]) -> bool
+        ensures { result ≡ wrong_key self.now key.now };
+
+    /// Whether boards are asked for by a key that is nobody's.
+    fn has_wrong_key_at_boards(&self, bytes: &[u8]) -> bool
+        ensures { result ≡ wrong_at_boards self.now bytes.now };
 
     /// Adds what is told to the player whose key these bytes are, of his place.
     fn place(&self, key: &[u8], text: &mut ReplyText)

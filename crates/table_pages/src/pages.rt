@@ -4,11 +4,10 @@ ghost use Rattle.http_server.specs.Response.{IsBlank};
 ghost use Rattle.http.specs.Request.{head_of};
 ghost use Rattle.web_requests.specs.Filled.{IsText, IsUnavailable};
 ghost use Rattle.web_requests.specs.Route.{route_for};
-ghost use Rattle.table_pages.specs.WrongKeys.{wrong_keys, with_more};
+ghost use Rattle.table_pages.specs.WrongKeys.{with_key, with_more, CountsLines};
 
-use crate::counting::wrong_keys;
 use crate::host_names::HostNames;
-use crate::line_server::LineServer;
+use crate::line_server::{LineServer, Replies};
 use crate::page_texts::PageTexts;
 use crate::refused::put_refused;
 use bridge_endings::Cache;
@@ -108,13 +107,11 @@ impl<T: LineServer> TablePages<T> {
     fn call_lines(&mut self, body: &[u8], response: &mut Response) -> Result<(), AllocError>
         requires { IsBlank response.old }
         ensures lines { OnOk result (TellsShort T.answers (nat_lt (length body.now) 65536) self.old.server body.now response.new self.new.server) }
-        ensures counted { OnOk result (self.new.wrong ≡ with_more self.old.wrong (wrong_keys response.new.body.items)) }
+        ensures counted { OnOk result (CountsLines (T.counts self.old.server body.now) self.old.wrong response.new self.new.wrong) }
         ensures fixed { (self.new.names ≡ self.old.names) × (self.new.texts ≡ self.old.texts) }
         ensures open { self.new.is_open ≡ self.old.is_open }
         ensures err { OnErr result (self.new ≡ self.old) }
     {
-        // read so that its range is known: of an empty body no wrong key more is counted
-        let _wrong = self.wrong;
         if body.len() < TOO_MANY_BYTES {
             self.put_lines(body, response);
             Ok(())
@@ -127,7 +124,7 @@ impl<T: LineServer> TablePages<T> {
     fn put_place(&mut self, key: &[u8], response: &mut Response) -> Result<(), AllocError>
         requires { IsBlank response.old }
         ensures told { OnOk result (IsText Kind.Lines (T.places self.old.server key.now) response.new) }
-        ensures counted { OnOk result (self.new.wrong ≡ with_more self.old.wrong (wrong_keys response.new.body.items)) }
+        ensures counted { OnOk result (self.new.wrong ≡ with_key self.old.wrong (T.wrong_key self.old.server key.now)) }
         ensures server { self.new.server ≡ self.old.server }
         ensures fixed { (self.new.names ≡ self.old.names) × (self.new.texts ≡ self.old.texts) }
         ensures open { self.new.is_open ≡ self.old.is_open }
@@ -135,14 +132,15 @@ impl<T: LineServer> TablePages<T> {
     {
         let mut text = ReplyText::new();
         self.server.place(key, &mut text);
-        self.put_told(response, text.as_str().as_bytes())
+        let wrong = self.server.has_wrong_key(key);
+        self.put_told(response, text.as_str().as_bytes(), u64::from(wrong))
     }
 
     /// Answers the director's key with what is told of all tables.
     fn put_tables(&mut self, key: &[u8], response: &mut Response) -> Result<(), AllocError>
         requires { IsBlank response.old }
         ensures told { OnOk result (IsText Kind.Lines (T.tables self.old.server key.now) response.new) }
-        ensures counted { OnOk result (self.new.wrong ≡ with_more self.old.wrong (wrong_keys response.new.body.items)) }
+        ensures counted { OnOk result (self.new.wrong ≡ with_key self.old.wrong (T.wrong_key self.old.server key.now)) }
         ensures server { self.new.server ≡ self.old.server }
         ensures fixed { (self.new.names ≡ self.old.names) × (self.new.texts ≡ self.old.texts) }
         ensures open { self.new.is_open ≡ self.old.is_open }
@@ -150,14 +148,15 @@ impl<T: LineServer> TablePages<T> {
     {
         let mut text = ReplyText::new();
         self.server.tables(key, &mut text);
-        self.put_told(response, text.as_str().as_bytes())
+        let wrong = self.server.has_wrong_key(key);
+        self.put_told(response, text.as_str().as_bytes(), u64::from(wrong))
     }
 
     /// Answers what is posted to boards, and keeps whether players are told of other tables.
     fn put_boards(&mut self, key: &[u8], response: &mut Response) -> Result<(), AllocError>
         requires { IsBlank response.old }
         ensures told { OnOk result (IsText Kind.Lines (T.boards self.old.server self.old.is_open key.now) response.new) }
-        ensures counted { OnOk result (self.new.wrong ≡ with_more self.old.wrong (wrong_keys response.new.body.items)) }
+        ensures counted { OnOk result (self.new.wrong ≡ with_key self.old.wrong (T.wrong_at_boards self.old.server key.now)) }
         ensures server { self.new.server ≡ self.old.server }
         ensures fixed { (self.new.names ≡ self.old.names) × (self.new.texts ≡ self.old.texts) }
         ensures opened { OnOk result (self.new.is_open ≡ T.opens self.old.server self.old.is_open key.now) }
@@ -167,7 +166,8 @@ impl<T: LineServer> TablePages<T> {
             return Err(AllocError);
         };
         let is_open = self.opens(key);
-        self.put_told(response, text.as_slice())?;
+        let wrong = self.server.has_wrong_key_at_boards(key);
+        self.put_told(response, text.as_slice(), u64::from(wrong))?;
         self.is_open = is_open;
         Ok(())
     }
@@ -176,7 +176,7 @@ impl<T: LineServer> TablePages<T> {
     fn put_results(&mut self, key: &[u8], response: &mut Response) -> Result<(), AllocError>
         requires { IsBlank response.old }
         ensures told { OnOk result ((text : List ℕ) × T.results self.old.server key.now text × IsText Kind.Lines text response.new) }
-        ensures counted { OnOk result (self.new.wrong ≡ with_more self.old.wrong (wrong_keys response.new.body.items)) }
+        ensures counted { OnOk result (self.new.wrong ≡ with_key self.old.wrong (T.wrong_key self.old.server key.now)) }
         ensures server { self.new.server ≡ self.old.server }
         ensures fixed { (self.new.names ≡ self.old.names) × (self.new.texts ≡ self.old.texts) }
         ensures open { self.new.is_open ≡ self.old.is_open }
@@ -185,7 +185,8 @@ impl<T: LineServer> TablePages<T> {
         let Some(text) = self.results(key) else {
             return Err(AllocError);
         };
-        self.put_told(response, text.as_slice())
+        let wrong = self.server.has_wrong_key(key);
+        self.put_told(response, text.as_slice(), u64::from(wrong))
     }
 
     /// Answers posted lines. Where memory is refused once they were taken, the response says nothing.
@@ -193,46 +194,48 @@ impl<T: LineServer> TablePages<T> {
         requires blank { IsBlank response.old }
         requires short { length body.now < 65536 }
         ensures lines { TellsLines T.answers self.old.server body.now response.new self.new.server }
-        ensures counted { self.new.wrong ≡ with_more self.old.wrong (wrong_keys response.new.body.items) }
+        ensures counted { CountsLines (T.counts self.old.server body.now) self.old.wrong response.new self.new.wrong }
         ensures fixed { (self.new.names ≡ self.old.names) × (self.new.texts ≡ self.old.texts) }
         ensures open { self.new.is_open ≡ self.old.is_open }
     {
-        // read so that its range is known: of an empty body no wrong key more is counted
-        let _wrong = self.wrong;
         match self.server.answer(self.alloc, &mut self.cache, body) {
-            Some(text) => self.put_replies(response, text.as_slice()),
+            Some(replies) => self.put_replies(response, &replies),
             None => put_unavailable(response),
         }
     }
 
     /// Fills a response with replies, or where memory is refused with nothing.
-    fn put_replies(&mut self, response: &mut Response, text: &[u8])
+    fn put_replies(&mut self, response: &mut Response, replies: &Replies)
         requires { IsBlank response.old }
-        ensures text { IsText Kind.Lines text.now response.new ⊎ IsUnavailable response.new }
-        ensures counted { self.new.wrong ≡ with_more self.old.wrong (wrong_keys response.new.body.items) }
+        ensures text { IsText Kind.Lines replies.now.text.items response.new ⊎ IsUnavailable response.new }
+        ensures counted { CountsLines (λ count. count ≡ replies.now.wrong_keys) self.old.wrong response.new self.new.wrong }
         ensures server { self.new.server ≡ self.old.server }
         ensures fixed { (self.new.names ≡ self.old.names) × (self.new.texts ≡ self.old.texts) }
         ensures open { self.new.is_open ≡ self.old.is_open }
     {
-        // read so that its range is known: of an empty body no wrong key more is counted
-        let _wrong = self.wrong;
-        if self.put_told(response, text).is_err() {
+        let told = self.put_told(response, replies.text.as_slice(), replies.wrong_keys);
+        if told.is_err() {
             put_unavailable(response);
         }
     }
 
-    /// Fills a response with what is told, and counts the wrong keys in it.
-    fn put_told(&mut self, response: &mut Response, text: &[u8]) -> Result<(), AllocError>
+    /// Fills a response with what is told, and counts so many wrong keys.
+    fn put_told(
+        &mut self,
+        response: &mut Response,
+        text: &[u8],
+        wrong_keys: u64,
+    ) -> Result<(), AllocError>
         requires { IsBlank response.old }
         ensures told { OnOk result (IsText Kind.Lines text.now response.new) }
-        ensures counted { OnOk result (self.new.wrong ≡ with_more self.old.wrong (wrong_keys response.new.body.items)) }
+        ensures counted { OnOk result (self.new.wrong ≡ with_more self.old.wrong wrong_keys) }
         ensures server { self.new.server ≡ self.old.server }
         ensures fixed { (self.new.names ≡ self.old.names) × (self.new.texts ≡ self.old.texts) }
         ensures open { self.new.is_open ≡ self.old.is_open }
         ensures err { OnErr result (self.new ≡ self.old) }
     {
         put_text(response, Kind::Lines, text)?;
-        self.wrong = self.wrong.saturating_add(wrong_keys(text));
+        self.wrong = self.wrong.saturating_add(wrong_keys);
         Ok(())
     }
 }
@@ -249,7 +252,8 @@ impl<T: LineServer> Service for TablePages<T> {
     ghost answers = { λ old request response new.
         Answering T.answers T.places T.tables T.boards T.results (site_of old.texts old.names) old.server request response new.server
         × (new.names ≡ old.names) × (new.texts ≡ old.texts)
-        × Counts (route_for (string_bytes old.names.host) (string_bytes old.names.alias) (head_of request)) old.wrong response new.wrong
+        × Counts T.counts T.wrong_key T.wrong_at_boards (route_for (string_bytes old.names.host) (string_bytes old.names.alias) (head_of request))
+        old.server (body_of request) old.wrong response new.wrong
         × Opens T.boards T.opens (route_for (string_bytes old.names.host) (string_bytes old.names.alias) (head_of request)) old.server old.is_open (body_of request) response new.is_open };
 
     fn call(

@@ -12,16 +12,6 @@ use Rattle.table_server.specs.declared.served.Served.{Served}
 use Rattle.table_server.specs.Accepting.{Sides, HasServedOne, StopsAccepting}
 use Rattle.table_server.specs.ServedStreams.{HasServed, StopsServing, EndsServing}
 
-module _ {D : Type 0} (disk : Disk D) where
-  -- nothing is pending once lines were served, where the store works
-  pub served_ready : (start store : StoreValue D SessionValue Action) (reader writer : Stream) (result : Result Served ServeFault)
-      → EndsServing disk start store reader writer result → store.failed ≡ false → store.pending ≡ []
-  served_ready start store reader writer (Ok result) s works = (s.served.works works).1
-  served_ready start store reader writer (Err Read) s works = (s.served.works works).1
-  served_ready start store reader writer (Err Write) (inl s) works = (s.cut.stopped.served.works works).1
-  served_ready start store reader writer (Err Write) (inr s) works = (s.served.works works).1
-  served_ready start store reader writer (Err Accept) s works = absurd s
-
 module _ {D : Type 0} (disk : Disk D) {S : Type 0} (remaining contents : S → Option (List ℕ)) where
   -- the lines of a connection were served, where those of its sides were
   pub one_served : (start store : StoreValue D SessionValue Action) (sides : Sides S) (result : Result Served ServeFault)

@@ -21,6 +21,7 @@ use Rattle.table_server.specs.Asked.{Asks, AsksBy}
 use Rattle.table_server.specs.Hearing.{Hears, Hearing, HearsOn, IsCutShort}
 use Rattle.line_replies.specs.LineFeed.{kept_lines}
 use Rattle.table_server.specs.Serving.{Serves}
+use Rattle.table_server.specs.WrongKeys.{wrong_keys}
 use Rattle.table_server.proofs.ServesLemmas.{stopped_after}
 
 -- what is kept of a line asks for what the line does
@@ -102,8 +103,9 @@ module _ {D : Type 0} (disk : Disk D) where
       → (h : Hearing disk start bytes store old written) → Hears (bytes ++ byte ∷ []) (h.asked ++ one ∷ []) service.feed
       → Serves disk start (h.asked ++ one ∷ []) new service.held written writer result
       → service.held.served.lines ≡ old.held.served.lines + 1
+      → service.wrong_keys ≡ wrong_keys start.state.configuration (h.asked ++ one ∷ [])
       → HearsOn disk start (bytes ++ byte ∷ []) new service written writer result
-  heard_line start store new bytes old service byte one written writer (Ok u) h hears serves lines = (
+  heard_line start store new bytes old service byte one written writer (Ok u) h hears serves lines counted = (
     serves.0,
     serves.1,
     record {
@@ -111,9 +113,10 @@ module _ {D : Type 0} (disk : Disk D) where
       hears = hears;
       serving = serves.2;
       lines = lines ∙ ap (λ n. n + 1) h.lines ∙ sym (length-append h.asked (one ∷ []));
+      counted = counted;
     },
   )
-  heard_line start store new bytes old service byte one written writer (Err fault) h hears serves lines = (
+  heard_line start store new bytes old service byte one written writer (Err fault) h hears serves lines counted = (
     serves.0,
     record {
       heard = bytes ++ byte ∷ [];
@@ -128,8 +131,9 @@ module _ {D : Type 0} (disk : Disk D) where
   -- no line was complete
   pub heard_begun : (start store : StoreValue D SessionValue Action) (bytes : List ℕ) (old service : LineService) (byte : ℕ) (written : List ℕ) (before : Option (List ℕ))
       → (h : Hearing disk start bytes store old written) → Hears (bytes ++ byte ∷ []) h.asked service.feed → service.held ≡ old.held
+      → service.wrong_keys ≡ old.wrong_keys
       → HearsOn disk start (bytes ++ byte ∷ []) store service written (between before before) (Ok tt)
-  heard_begun start store bytes old service byte written before h hears same = (
+  heard_begun start store bytes old service byte written before h hears same keys = (
     [],
     Appends-nil before,
     record {
@@ -137,6 +141,7 @@ module _ {D : Type 0} (disk : Disk D) where
       hears = hears;
       serving = rw (append-nil written, same) h.serving;
       lines = rw same h.lines;
+      counted = rw keys h.counted;
     },
   )
 

@@ -8,6 +8,7 @@ pub mod TakingLemmas
 pub mod CountLemmas
 pub mod ServesLemmas
 pub mod HearingLemmas
+pub mod KeyLemmas
 pub mod StreamLemmas
 pub mod FailureLemmas
 pub mod AcceptingLemmas

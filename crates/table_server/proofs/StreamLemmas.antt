@@ -1,5 +1,5 @@
 -- What was served of a reader's bytes, piece by piece.
-use Rattle.std.proofs.Common.{◌≡◌, ℕ, zero, suc, ◌+◌, ◌<◌, ◌≤◌, ◌∙◌, true, false, List, [], ◌++◌, length, take, Option, Some, None, Result, Ok, Err, inl, refl, sym, ap, subst, arith, length-append, append-nil}
+use Rattle.std.proofs.Common.{◌≡◌, ℕ, zero, suc, ◌+◌, ◌<◌, ◌≤◌, ◌∙◌, true, false, List, [], ◌++◌, length, take, Option, Some, None, Result, Ok, Err, inl, inr, refl, sym, ap, subst, arith, length-append, append-nil}
 use Rattle.std.specs.Prelude.{nat_le, IfSome, IfOk, IfErr}
 use Rattle.std.proofs.lemmas.Bool.{le-leb, lt-leb}
 use Rattle.std.proofs.lemmas.List.{take_at, take_all}
@@ -15,7 +15,9 @@ use Rattle.table_server.specs.declared.line_service.LineService.{LineService}
 use Rattle.table_server.specs.declared.served.Served.{Served}
 use Rattle.table_server.specs.Hearing.{Hearing, HearsOn}
 use Rattle.line_replies.specs.Limit.{byte_limit, limit_notice}
-use Rattle.table_server.specs.ServedStreams.{HasRead, HasServed, StopsReading, StopsReplying, StopsNoticing, StopsServing, EndsServing}
+use Rattle.table_server.specs.declared.served.ServedKeys.{ServedKeys}
+use Rattle.line_replies.specs.declared.fault.ServeFault.TheVariants.{Read, Write, Accept}
+use Rattle.table_server.specs.ServedStreams.{HasRead, HasServed, HasCounted, StopsReading, StopsReplying, StopsNoticing, StopsServing, EndsCounting}
 use Rattle.table_server.specs.Serving.{Ends}
 use Rattle.table_server.proofs.HearingLemmas.{hears_after, hears_asks}
 use Rattle.table_server.proofs.ServesLemmas.{stopped_after}
@@ -192,14 +194,23 @@ module _ {D : Type 0} (disk : Disk D) where
     hearing = r.hearing;
   }
 
+  -- nothing is pending once lines were served, where the store works
+  pub counted_ready : (start store : StoreValue D SessionValue Action) (reader writer : Stream) (result : Result ServedKeys ServeFault)
+      → EndsCounting disk start store reader writer result → store.failed ≡ false → store.pending ≡ []
+  counted_ready start store reader writer (Ok result) s works = (s.has.served.works works).1
+  counted_ready start store reader writer (Err Read) s works = (s.served.works works).1
+  counted_ready start store reader writer (Err Write) (inl s) works = (s.cut.stopped.served.works works).1
+  counted_ready start store reader writer (Err Write) (inr s) works = (s.served.works works).1
+  counted_ready start store reader writer (Err Accept) s works = absurd s
+
   -- what was served, where the end answers Ok
-  pub ends_ok : (start store : StoreValue D SessionValue Action) (reader writer : Stream) (result : Result Served ServeFault) → EndsServing disk start store reader writer result
-      → IfOk result (HasServed disk start store reader writer)
+  pub ends_ok : (start store : StoreValue D SessionValue Action) (reader writer : Stream) (result : Result ServedKeys ServeFault) → EndsCounting disk start store reader writer result
+      → IfOk result (HasCounted disk start store reader writer)
   ends_ok start store reader writer (Ok it) e = e
   ends_ok start store reader writer (Err fault) e = tt
 
   -- and where it does not
-  pub ends_err : (start store : StoreValue D SessionValue Action) (reader writer : Stream) (result : Result Served ServeFault) → EndsServing disk start store reader writer result
+  pub ends_err : (start store : StoreValue D SessionValue Action) (reader writer : Stream) (result : Result ServedKeys ServeFault) → EndsCounting disk start store reader writer result
       → IfErr result (StopsServing disk start store reader writer)
   ends_err start store reader writer (Ok it) e = tt
   ends_err start store reader writer (Err fault) e = e

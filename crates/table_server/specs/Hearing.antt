@@ -14,6 +14,7 @@ use Rattle.table_server.specs.declared.line_service.LineService.{LineService}
 use Rattle.table_server.specs.Answered.{AskAll}
 use Rattle.line_replies.specs.LineFeed.{kept_lines}
 use Rattle.table_server.specs.Serving.{Serving, IsStopped}
+use Rattle.table_server.specs.WrongKeys.{wrong_keys}
 
 -- The complete lines of these bytes ask for these, and this line has begun.
 pub record Hears (bytes : List ℕ) (asked : List Asked) (begun : List ℕ) : Type 0 where
@@ -28,6 +29,7 @@ module _ {D : Type 0} (disk : Disk D) where
     pub hears : Hears bytes asked service.feed
     pub serving : Serving disk start asked store service.held written
     pub lines : service.held.served.lines ≡ length asked
+    pub counted : service.wrong_keys ≡ wrong_keys start.state.configuration asked
 
   -- A write failed among the lines of these bytes.
   pub record IsCutShort (start : StoreValue D SessionValue Action) (bytes : List ℕ) (store : StoreValue D SessionValue Action) (written : List ℕ) (writer : Stream) : Type 0 where

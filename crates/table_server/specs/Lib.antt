@@ -7,6 +7,7 @@ pub mod Told
 pub mod Answered
 pub mod Course
 pub mod Served
+pub mod WrongKeys
 pub mod Serving
 pub mod Faulted
 pub mod Hearing

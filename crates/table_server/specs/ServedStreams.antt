@@ -12,12 +12,14 @@ use Rattle.line_replies.specs.declared.fault.ServeFault.{ServeFault}
 use Rattle.line_replies.specs.declared.fault.ServeFault.TheVariants.{Read, Write, Accept}
 use Rattle.table_server.specs.declared.line_service.LineService.{LineService}
 use Rattle.table_server.specs.declared.served.Served.{Served}
+use Rattle.table_server.specs.declared.served.ServedKeys.{ServedKeys}
 use Rattle.table_server.specs.declared.line_serving.Ended.{Ended}
 use Rattle.table_server.specs.declared.line_serving.Ended.TheVariants.{AtEnd, AtLimit, AtFault}
 use Rattle.table_server.specs.Answered.{AskAll}
 use Rattle.table_server.specs.Hearing.{Hearing, IsCutShort}
 use Rattle.line_replies.specs.Limit.{byte_limit, limit_notice}
 use Rattle.table_server.specs.Served.{IsServed}
+use Rattle.table_server.specs.WrongKeys.{wrong_keys}
 
 -- how far below the limit of bytes, and at what of the reader, reading ended
 abbrev pub IsEnd : Ended → ℕ → Option (List ℕ) → Type 0
@@ -49,6 +51,11 @@ module _ {D : Type 0} (disk : Disk D) where
     pub served : IsServed disk start asked store text result.accepted
     pub lines : result.lines ≡ length asked
     pub failed : result.failed ≡ store.failed
+
+  -- The same, and so many of the lines had a key that is nobody's.
+  pub record HasCounted (start store : StoreValue D SessionValue Action) (reader writer : Stream) (result : ServedKeys) : Type 0 where
+    pub has : HasServed start store reader writer result.served
+    pub counted : result.wrong_keys ≡ wrong_keys start.state.configuration has.asked
 
   -- A read failed: the replies to the complete lines before it are written.
   pub record StopsReading (start store : StoreValue D SessionValue Action) (reader writer : Stream) : Type 0 where
@@ -95,6 +102,11 @@ module _ {D : Type 0} (disk : Disk D) where
   EndsServing start store reader writer (Ok result) = HasServed start store reader writer result
   EndsServing start store reader writer (Err fault) = StopsServing start store reader writer fault
 
+  -- the same, with the keys counted
+  abbrev pub EndsCounting : StoreValue D SessionValue Action → StoreValue D SessionValue Action → Stream → Stream → Result ServedKeys ServeFault → Type 0
+  EndsCounting start store reader writer (Ok result) = HasCounted start store reader writer result
+  EndsCounting start store reader writer (Err fault) = StopsServing start store reader writer fault
+
   -- how reading ended that began before the first byte,
   abbrev pub ReadsTo : StoreValue D SessionValue Action → LineService → StoreValue D SessionValue Action → LineService → Stream → Stream → Ended → Type 0
   ReadsTo old before new service reader writer ended = (start : StoreValue D SessionValue Action) → Hearing disk start [] old before []
@@ -106,7 +118,7 @@ module _ {D : Type 0} (disk : Disk D) where
       → (fault ≡ Write) × StopsReplying start new reader writer
 
   -- and what is written once it has ended so, by a writer that had and has these bytes
-  abbrev pub EndsReading : Ended → StoreValue D SessionValue Action → LineService → StoreValue D SessionValue Action → Option (List ℕ) → Option (List ℕ) → Result Served ServeFault → Type 0
+  abbrev pub EndsReading : Ended → StoreValue D SessionValue Action → LineService → StoreValue D SessionValue Action → Option (List ℕ) → Option (List ℕ) → Result ServedKeys ServeFault → Type 0
   EndsReading ended old service new had has result =
       (start : StoreValue D SessionValue Action) (reader : Stream) (before : Option (List ℕ)) (left : ℕ) → IsEnd ended left reader.new
-      → HasRead start old service reader (between before had) left → EndsServing start new reader (between before has) result
+      → HasRead start old service reader (between before had) left → EndsCounting start new reader (between before has) result

@@ -1,8 +1,13 @@
 //! What the lines of the protocol ask for.
+ghost use Rattle.table_server.specs.LineCommand.{AsksForDeal, AsksFor};
+
+use crate::asked::Asked::{Change, Told};
+use crate::asked::{Asked, Question};
 use bridge_auction::Call;
-use bridge_cards::{BoardNumber, Card, CardSet};
+use bridge_cards::{BoardNumber, Card, CardSet, deal_board};
 use bridge_config::Key;
-use bridge_session::{Average, Field, MadeCount, PlayId, RoundNumber, TrickCount};
+use bridge_session::{Action, Average, Field, MadeCount, PlayId, RoundNumber, TrickCount};
+use session_rules::Deed;
 use thiserror::Error;
 
 /// A line states no command.
@@ -151,4 +156,54 @@ pub enum Command {
         /// The key of who acts or asks.
         key: Key,
     },
+}
+
+/// Asks for the deal of a board by the shuffle of a seed.
+fn shuffled(key: Key, board: BoardNumber, seed: &[u8; 32]) -> Asked
+    ensures { AsksForDeal key board seed.now result }
+{
+    let hands = deal_board(seed, board).hands();
+    Change(Action::Deal { key, board, hands })
+}
+
+impl Command {
+    /// What the command asks for. `SHUFFLE` asks for the deal of its board by the shuffle of its seed.
+    pub fn asks(self) -> Asked
+        ensures { AsksFor self result }
+    {
+        match self {
+            Command::Deal { key, board, hands } => Change(Action::Deal { key, board, hands }),
+            Command::Shuffle { key, board, seed } => shuffled(key, board, &seed),
+            Command::Call {
+                key,
+                board,
+                at,
+                call,
+            } => Change(Action::of_player(key, board, at, Deed::Call(call))),
+            Command::Card {
+                key,
+                board,
+                at,
+                card,
+            } => Change(Action::of_player(key, board, at, Deed::Card(card))),
+            Command::Claim {
+                key,
+                board,
+                at,
+                tricks,
+            } => Change(Action::of_player(key, board, at, Deed::Claim(tricks))),
+            Command::Agree { key, board, at } => Change(Action::Agree { key, board, at }),
+            Command::Refuse { key, board, at } => Change(Action::Refuse { key, board, at }),
+            Command::Next { key, round } => Change(Action::NextRound { key, round }),
+            Command::Tricks { key, play, tricks } => Change(Action::Tricks { key, play, tricks }),
+            Command::Void { key, play } => Change(Action::Void { key, play }),
+            Command::Adjust { key, play, ns, ew } => Change(Action::Adjust { key, play, ns, ew }),
+            Command::Restore { key, play } => Change(Action::Restore { key, play }),
+            Command::Sync => Told(Question::Sync),
+            Command::See { key } => Told(Question::See { key }),
+            Command::Rank { key, field } => Told(Question::Rank { key, field }),
+            Command::Solve { key, play, cards } => Told(Question::Solve { key, play, cards }),
+            Command::Pbn { key } => Told(Question::Pbn { key }),
+        }
+    }
 }

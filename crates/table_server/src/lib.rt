@@ -25,6 +25,7 @@ mod question_lines;
 mod question_reply;
 mod served;
 mod taking;
+mod wrong_keys;
 
 pub use accepting::accept_and_serve;
 pub use asked::{Asked, Question, asked_by};
@@ -35,8 +36,8 @@ pub use line_replies::{
     MOST_BYTES, ReplyText, ServeFault, ShortReply, push_pairs, push_ranking, push_solved,
     push_view, read_key,
 };
-pub use line_serving::serve;
+pub use line_serving::{serve, serve_counting};
 pub use one_answer::{a_question_has_one_answer, lines_have_one_text_of_replies};
 pub use pbn_reply::write_pbn_reply;
 pub use power_cut::a_power_cut_keeps_what_is_answered;
-pub use served::Served;
+pub use served::{Served, ServedKeys};

@@ -7,6 +7,7 @@ ghost use Rattle.table_server.specs.Serving.{Fits};
 
 use crate::asked::asked_by;
 use crate::held_replies::HeldReplies;
+use crate::wrong_keys::has_wrong_key;
 use bridge_endings::Cache;
 use bridge_session::Session;
 use line_replies::{LineFeed, MOST_BYTES, ServeFault};
@@ -14,13 +15,15 @@ use sector_disk::SectorDisk;
 use session_store::Store;
 use std::io::Write;
 
-/// The line that has begun, and the replies that are held.
+/// The line that has begun, the replies that are held, and how many lines had a key that is nobody's.
 #[derive(Drop)]
 pub struct LineService {
     /// The line that has begun.
     pub(crate) feed: LineFeed,
     /// The replies that are held.
     pub(crate) held: HeldReplies,
+    /// How many lines had a key that is nobody's.
+    pub(crate) wrong_keys: u64,
 }
 
 impl LineService {
@@ -35,6 +38,7 @@ impl LineService {
         LineService {
             feed: LineFeed::new(),
             held: HeldReplies::begin(store),
+            wrong_keys: 0,
         }
     }
 
@@ -55,9 +59,12 @@ impl LineService {
     {
         match self.feed.take_byte(byte) {
             None => Ok(()),
-            Some(line) => self
-                .held
-                .answer(asked_by(line.as_slice()), store, cache, writer),
+            Some(line) => {
+                let asked = asked_by(line.as_slice());
+                let more = u64::from(has_wrong_key(store.state(), &asked));
+                self.wrong_keys = self.wrong_keys.saturating_add(more);
+                self.held.answer(asked, store, cache, writer)
+            }
         }
     }
 

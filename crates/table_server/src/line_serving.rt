@@ -1,12 +1,12 @@
 //! Serving the lines of a reader.
 ghost use Rattle.std.specs.Prelude.{◌≡◌, [], false, IfOk, IfErr};
 ghost use Rattle.line_text.specs.Streams.{stream};
-ghost use Rattle.table_server.specs.ServedStreams.{ReadsTo, StopsReads, EndsReading, HasServed, StopsServing};
+ghost use Rattle.table_server.specs.ServedStreams.{ReadsTo, StopsReads, EndsReading, HasCounted, HasServed, StopsServing};
 ghost use Rattle.table_server.specs.Faulted.{FailsWithDisk};
 ghost use Rattle.table_server.specs.Serving.{Fits};
 
 use crate::line_service::LineService;
-use crate::served::Served;
+use crate::served::{Served, ServedKeys};
 use bridge_endings::Cache;
 use bridge_session::Session;
 use line_replies::{MOST_BYTES, ServeFault, limit_notice, read_piece, write_whole};
@@ -68,17 +68,18 @@ fn end_lines<D: SectorDisk + Drop, W: Write>(
     ended: Ended,
     store: &mut Store<D, Session>,
     writer: &mut W,
-) -> Result<Served, ServeFault>
+) -> Result<ServedKeys, ServeFault>
     requires { Fits service.old.held }
     ensures ends { EndsReading D.disk ended store.old service.old store.new (W.contents writer.old) (W.contents writer.new) result }
     ensures faults { FailsWithDisk D.disk store.old store.new }
 {
+    let wrong_keys = service.wrong_keys;
     match service.held.finish(store, writer) {
         Err(fault) => Err(fault),
         Ok(served) => match ended {
-            Ended::AtEnd => Ok(served),
+            Ended::AtEnd => Ok(ServedKeys { served, wrong_keys }),
             Ended::AtLimit => match write_whole(writer, limit_notice(true)) {
-                Ok(()) => Ok(served),
+                Ok(()) => Ok(ServedKeys { served, wrong_keys }),
                 Err(fault) => Err(fault),
             },
             Ended::AtFault => Err(ServeFault::Read),
@@ -104,6 +105,25 @@ pub fn serve<D: SectorDisk + Drop, R: Read, W: Write>(
 ) -> Result<Served, ServeFault>
     requires { store.old.failed ≡ false → store.old.pending ≡ [] }
     ensures ok { IfOk result (HasServed D.disk store.old store.new
+        (stream R.remaining reader.old reader.new) (stream W.contents writer.old writer.new)) }
+    ensures fault { IfErr result (StopsServing D.disk store.old store.new
+        (stream R.remaining reader.old reader.new) (stream W.contents writer.old writer.new)) }
+    ensures ready { store.new.failed ≡ false → store.new.pending ≡ [] }
+    ensures faults { FailsWithDisk D.disk store.old store.new }
+{
+    let lines = serve_counting(store, cache, reader, writer)?;
+    Ok(lines.served)
+}
+
+/// The same, and counts the lines that had a key that is nobody's.
+pub fn serve_counting<D: SectorDisk + Drop, R: Read, W: Write>(
+    store: &mut Store<D, Session>,
+    cache: Option<&mut Cache>,
+    reader: &mut R,
+    writer: &mut W,
+) -> Result<ServedKeys, ServeFault>
+    requires { store.old.failed ≡ false → store.old.pending ≡ [] }
+    ensures ok { IfOk result (HasCounted D.disk store.old store.new
         (stream R.remaining reader.old reader.new) (stream W.contents writer.old writer.new)) }
     ensures fault { IfErr result (StopsServing D.disk store.old store.new
         (stream R.remaining reader.old reader.new) (stream W.contents writer.old writer.new)) }

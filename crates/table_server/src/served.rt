@@ -9,3 +9,12 @@ pub struct Served {
     /// Whether the store has failed.
     pub failed: bool,
 }
+
+/// What was served, and how many of the complete lines had a key that is nobody's.
+#[derive(Clone, Copy, Debug, PartialEq, Eq)]
+pub struct ServedKeys {
+    /// What was served.
+    pub served: Served,
+    /// How many lines had a key that is nobody's.
+    pub wrong_keys: u64,
+}

@@ -1,8 +1,0 @@
-use Rattle.std.proofs.Common.{arith}
-use Rattle.web_requests.specs.declared.route.Refusal.TheVariants.{TooLong}
-use Rattle.table_pages.proofs.Counted.{none_counted_of}
-use Rattle.table_pages.proofs.pages.TablePages.call_lines.Goals as goal
-
-pub returns-else-body-lt-TOO_MANY_BYTES-clause-counted : goal.returns-else-body-lt-TOO_MANY_BYTES-clause-counted
-returns-else-body-lt-TOO_MANY_BYTES-clause-counted g c =
-    none_counted_of TooLong c.put_refusal.result c.args.self.now.wrong c.put_refusal.new.response (omega arith) c.put_refusal.ensures

@@ -1,0 +1,160 @@
+"use strict";
+// What stands beside the session: the director's notice, the round's clock, calls for the director, and what was said with a
+// claim. The server keeps it for as long as it runs.
+
+// Milliseconds between two looks, of players and of the director; and how many seconds left of the clock are said.
+const DESK_LOOK = 2000;
+const DIRECTORS_LOOK = 1000;
+const CLOCK_SAID = [300, 60];
+const SECOND = 1000;
+
+const nothingStands = () => ({ notice: "", clock: null, calls: [], said: "", at: 0 });
+let desk = nothingStands();
+let deskTimer = 0;
+let clockTimer = 0;
+// What is on the page of it; and the reason that is chosen while the director is being called, or null.
+let deskShown = "";
+let reason = null;
+
+// A line from so many words on.
+const wordsFrom = (line, count) => line.split(" ").slice(count).join(" ");
+
+const DESK_LINES = {
+  NOTICE: (found, line) => { found.notice = wordsFrom(line, 1); },
+  CLOCK: (found, line) => { found.clock = Number(wordsFrom(line, 1)); },
+  CALL: (found, line) => {
+    const [, table, seconds, pair, name] = line.split(" ");
+    found.calls.push({ table, minutes: Math.floor(Number(seconds) / 60), pair, name, text: wordsFrom(line, 5) });
+  },
+  STATEMENT: (found, line) => { found.said = wordsFrom(line, 1); },
+};
+
+function readDesk(reply) {
+  const found = nothingStands();
+  found.at = Date.now();
+  for (const line of reply.split("\n")) {
+    const put = DESK_LINES[line.split(" ")[0]];
+    if (put) put(found, line);
+  }
+  return found;
+}
+
+const isDirector = () => document.body.className === "director";
+
+// Looks at the desk, or asks something of it and shows what stands then.
+async function askDesk(order) {
+  const asked = key;
+  clearTimeout(deskTimer);
+  if (asked === null) return;
+  const reply = await ask("/desk", order ? asked + " " + order : asked);
+  if (key !== asked) return;
+  if (reply !== null && !refusal(reply)) {
+    desk = readDesk(reply);
+    showDesk();
+  } else if (order) {
+    const why = reply === null ? TEXTS.unknownDone : TEXTS.refusals[refusal(reply)] || reply;
+    if (isDirector()) tell(why);
+    else say("notice", why);
+  }
+  clearTimeout(deskTimer);
+  deskTimer = setTimeout(askDesk, document.hidden ? HIDDEN_LOOK : isDirector() ? DIRECTORS_LOOK : DESK_LOOK);
+}
+
+// A player or the director has sat down, and has left.
+function openDesk() {
+  if (deskTimer === 0) deskTimer = setTimeout(askDesk, 0);
+  at("bell").hidden = isDirector();
+}
+
+function leaveDesk() {
+  clearTimeout(deskTimer);
+  clearTimeout(clockTimer);
+  deskTimer = 0;
+  desk = nothingStands();
+  closeCall();
+  showDesk();
+  at("bell").hidden = true;
+}
+
+// ---- the round's clock, which goes on between two looks
+
+const secondsLeft = () => Math.max(0, desk.clock - Math.floor((Date.now() - desk.at) / SECOND));
+const clockText = (seconds) => Math.floor(seconds / 60) + ":" + String(seconds % 60).padStart(2, "0");
+
+function showClock() {
+  clearTimeout(clockTimer);
+  at("clock").hidden = desk.clock === null;
+  if (desk.clock === null) return;
+  const left = secondsLeft();
+  if (CLOCK_SAID.includes(left)) say("heard", TEXTS.minutesLeft(left / 60));
+  at("clock").className = left === 0 ? "over" : "";
+  at("clock").replaceChildren(make("b", null, clockText(left)), make("span", null, TEXTS.clockLeft));
+  clockTimer = setTimeout(showClock, SECOND);
+}
+
+// ---- what stands above the page
+
+const whoCalls = ({ pair, name }) => TEXTS.ofPair(name, pair);
+
+function callNodesOf(call) {
+  if (!isDirector()) return [make("p", null, make("b", null, TEXTS.directorCalled), " ", call.text ? call.text + ". " : "", TEXTS.waitForDirector)];
+  const open = () => { const state = lastTables && lastTables.tables.find((one) => one.number === call.table); if (state) openTable(state); };
+  return [make("div", { className: "row" }, make("p", null, make("b", null, TEXTS.tableCalls(call.table)), " ", call.text ? call.text + ". " : "",
+    whoCalls(call) + ", " + TEXTS.minutesAgo(call.minutes) + "."),
+  make("button", { type: "button", id: "answered-" + call.table, onclick: () => askDesk("ANSWERED " + call.table) }, TEXTS.answered),
+  make("button", { type: "button", id: "go-" + call.table, className: "send", onclick: open }, TEXTS.openTable(call.table)))];
+}
+
+// Shows what stands, where it has changed; the focus stays.
+function showDesk() {
+  showClock();
+  const made = JSON.stringify([desk.notice, desk.calls, desk.said, isDirector()]);
+  if (made === deskShown) return;
+  deskShown = made;
+  const focus = document.activeElement ? document.activeElement.id : "";
+  const notice = desk.notice ? [make("p", null, make("b", null, TEXTS.noticeOf), " ", desk.notice)] : [];
+  at("desk").replaceChildren(...notice, ...desk.calls.flatMap(callNodesOf));
+  if (focus && at(focus)) at(focus).focus();
+  drawn();
+}
+
+// ---- a call for the director
+
+function showCall() {
+  const choice = (words) => {
+    const node = button(words, "", "", true, () => { reason = reason === words ? "" : words; showCall(); });
+    node.setAttribute("aria-pressed", String(reason === words));
+    return node;
+  };
+  if (reason === null) reason = "";
+  const send = button(TEXTS.callDirector, "", "call-director", true, () => { const order = reason ? "CALL " + reason : "CALL"; closeCall(); askDesk(order); });
+  send.className = "send";
+  at("calling").replaceChildren(make("h2", null, TEXTS.callTitle), make("p", { className: "second" }, TEXTS.callHelp),
+    make("div", { className: "reasons" }, ...TEXTS.reasons.map(choice)), make("div", { className: "row" }, button(TEXTS.back, "", "call-back", true, closeCall), send));
+  at("calling").hidden = false;
+  send.focus();
+}
+
+function closeCall() {
+  if (reason !== null && !at("bell").hidden) at("bell").focus();
+  reason = null;
+  at("calling").hidden = true;
+}
+
+at("bell").onclick = () => { if (reason === null) showCall(); else closeCall(); };
+at("bell").textContent = TEXTS.bell;
+at("bell").setAttribute("aria-label", TEXTS.callDirector);
+at("calling").onkeydown = holdTab;
+
+// ---- the director tells all tables, and sets the clock
+
+function tellingNodes() {
+  const field = make("input", { id: "tell-text", type: "text", maxLength: 200 });
+  const telling = () => { const words = field.value.trim(); if (words) askDesk("NOTICE " + words); };
+  const start = () => { if (isFilledIn("telling")) askDesk("CLOCK " + numberAt("clock-minutes")); };
+  const more = () => { if (desk.clock !== null) askDesk("CLOCK " + (Math.ceil(secondsLeft() / 60) + 2)); };
+  return [make("label", { for: "tell-text" }, TEXTS.tellText), make("div", { className: "row" }, field, button(TEXTS.tellAll, "", "tell-all", true, telling),
+    button(TEXTS.takeDown, "", "take-down", true, () => askDesk("NOTICE"))),
+  make("div", { className: "row" }, numberField("clock-minutes", TEXTS.clockMinutes, 1, 240, 20), button(TEXTS.clockStart, "", "clock-start", true, start),
+    button(TEXTS.clockMore, "", "clock-more", true, more), button(TEXTS.clockStop, "", "clock-stop", true, () => askDesk("CLOCK")))];
+}
