@@ -5,4 +5,6 @@ pub mod Refused
 pub mod MovementValue
 pub mod Seating
 pub mod Mitchell
+pub mod Howell
+pub mod HalfTable
 pub mod Boards

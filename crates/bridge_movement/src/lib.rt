@@ -9,6 +9,7 @@
 
 mod boards;
 mod checks;
+mod howell;
 mod mitchell;
 pub mod movement;
 pub mod place;

@@ -6,13 +6,14 @@ ghost use Rattle.bridge_movement.specs.Refused.{IsRefusal};
 ghost use Rattle.bridge_movement.specs.Seating.{PlaysAt, PlaysOnlyAt, SitsOut, IsPlaceWithin, place_of};
 ghost use Rattle.bridge_movement.specs.Row.{MeetAgain};
 ghost use Rattle.bridge_movement.specs.Mitchell.{mitchell_shape, FollowsMitchell};
+ghost use Rattle.bridge_movement.specs.Howell.{howell_shape, FollowsHowell, IsHowell};
 
 use crate::checks::{first_fault, first_misplaced};
-use crate::mitchell;
 use crate::place::{Place, place_in};
 use crate::refused::MovementRefused;
 use crate::row::Row;
 use crate::shape::{MOST_ROWS, Shape};
+use crate::{howell, mitchell};
 use arrayvec::ArrayVec;
 use std::marker::Model;
 
@@ -64,6 +65,26 @@ impl Movement {
         let mut rows = ArrayVec::new();
         for index in 0..shape.rounds * tables {
             rows.push(mitchell::row_of(tables, index / tables, index % tables));
+        }
+        Movement { shape, rows }
+    }
+
+    /// The Howell movement of 2 to 6 tables, a round for each opponent of a pair. The last pair stays, all others go on to
+    /// where the next higher pair was, pair 1 following the last of them, and the sets go on likewise. Each pair meets
+    /// each other one once and plays each set once. At two and at three tables, all tables play one set in a round; from
+    /// four on, each has its own.
+    pub fn howell(tables: u8) -> Movement
+        requires least { 2 ≤ tables }
+        requires most { tables ≤ 6 }
+        ensures shape { result.shape ≡ howell_shape tables }
+        ensures rows { FollowsHowell tables result.rows }
+        ensures fair { IsMovement result.shape result.rows }
+        ensures howell { IsHowell result.shape result.rows }
+    {
+        let shape = howell::shape_of(tables);
+        let mut rows = ArrayVec::new();
+        for index in 0..shape.rounds * tables {
+            rows.push(howell::row_of(tables, index / tables, index % tables));
         }
         Movement { shape, rows }
     }
