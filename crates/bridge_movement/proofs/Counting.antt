@@ -1,5 +1,5 @@
 -- What holds of each number below another, and of one of them, by a test that is run.
-use Rattle.std.proofs.Common.{ℕ, ◌≡◌, ◌<◌, ◌⊎◌, Bool, true, false, ◌&&◌, ◌||◌, zero, suc, arith, refl, sym, ◌∙◌, true≢false, inl, inr}
+use Rattle.std.proofs.Common.{ℕ, ◌≡◌, ◌<◌, ◌⊎◌, Bool, true, false, ◌&&◌, ◌||◌, zero, suc, arith, refl, sym, true≢false, inl, inr}
 use Rattle.std.proofs.Common.{subst}
 
 -- the test holds of each number below n

@@ -1,16 +1,15 @@
 -- The Howell movement is fair, and is what a Howell is.
-use Rattle.std.proofs.Common.{ℕ, ◌≡◌, ◌≢◌, ◌+◌, ◌*◌, ◌-◌, ◌/◌, ◌%◌, ◌<◌, ◌≤◌, ◌⊎◌, inl, inr, Bool, true, not, ◌&&◌, ◌||◌, ◌==◌, List, [], ◌∷◌, ◌++◌, length, slice_index_or, subst, sym, ap, ◌∙◌, arith}
+use Rattle.std.proofs.Common.{ℕ, ◌≡◌, ◌≢◌, ◌+◌, ◌*◌, ◌-◌, ◌<◌, ◌≤◌, Bool, true, not, ◌&&◌, ◌||◌, ◌==◌, List, [], ◌∷◌, ◌++◌, length, slice_index_or, subst, sym, ap, arith}
 use Rattle.std.specs.Prelude.{All, AllPairs, Any, nat_le}
 use Rattle.std.proofs.lemmas.Bool.Decides.{nat_tests}
 use Rattle.std.proofs.lemmas.Grind.{common_steps}
 use Rattle.bridge_movement.specs.declared.row.Row.{Row}
-use Rattle.bridge_movement.specs.declared.shape.Shape.{Shape}
 use Rattle.bridge_movement.specs.Fair.{IsComplete, IsFair, IsMovement, HasPairsWithin, HasTwoPairs, HasSetWithin}
 use Rattle.bridge_movement.specs.Howell.{howell_shape, howell_row_at, FollowsHowell, IsHowell, Meet, PlaysSet, ShareASet}
-use Rattle.bridge_movement.specs.Row.{IsLive, SitsIn, ShareAPair, SeatPairTwice, PlaySetAgain, MeetAgain}
+use Rattle.bridge_movement.specs.Row.{SeatPairTwice, PlaySetAgain, MeetAgain}
 use Rattle.bridge_movement.specs.Shape.{IsShape, IsBetween}
-use Rattle.bridge_movement.proofs.Counting.{both_parts, either_part, every, every_tells, some, some_tells}
-use Rattle.bridge_movement.proofs.HowellRows.{rows_of, is_within, is_apart, do_meet, does_play, all_meet, all_play, have_own_sets, are_apart, IsTried, tried}
+use Rattle.bridge_movement.proofs.Counting.{both_parts, every_tells, some, some_tells}
+use Rattle.bridge_movement.proofs.HowellRows.{rows_of, is_within, is_apart, do_meet, does_play, have_own_sets, IsTried, tried}
 
 -- what a row is that is within the shape
 pub record IsWithin (tables : ℕ) (row : Row) : Type 0 where

@@ -6,3 +6,4 @@ pub mod Seats
 pub mod Counting
 pub mod HowellRows
 pub mod HowellFair
+pub mod WithoutLast

@@ -1,5 +1,5 @@
 -- A movement in which the last pair is lacking.
-use Rattle.std.specs.Prelude.{ℕ, ◌≡◌, ◌≢◌, ◌-◌, ◌==◌, min, if◌then◌else◌, List, map, AllPairs}
+use Rattle.std.specs.Prelude.{ℕ, ◌≢◌, ◌-◌, ◌==◌, min, if◌then◌else◌, List, AllPairs}
 use Rattle.bridge_movement.specs.declared.row.Row.{Row}
 use Rattle.bridge_movement.specs.declared.shape.Shape.{Shape}
 use Rattle.bridge_movement.specs.Row.{IsLive, SitsIn}

@@ -7,4 +7,5 @@ pub mod Seating
 pub mod Mitchell
 pub mod Howell
 pub mod HalfTable
+pub mod Named
 pub mod Boards

@@ -9,9 +9,11 @@
 
 mod boards;
 mod checks;
+mod half_table;
 mod howell;
 mod mitchell;
 pub mod movement;
+pub mod named;
 pub mod place;
 pub mod refused;
 pub mod row;
@@ -19,6 +21,7 @@ pub mod shape;
 
 pub use boards::{boards_before, last_board};
 pub use movement::Movement;
+pub use named::NamedMovement;
 pub use place::Place;
 pub use refused::MovementRefused;
 pub use row::Row;

@@ -1,11 +1,13 @@
 //! Movements: who meets whom, where, with which boards.
-ghost use Rattle.std.specs.Prelude.{◌≡◌, ◌↔◌, ◌+◌, ◌-◌, ◌*◌, ◌<◌, ◌≤◌, ℕ, length, slice_index_or, slice_get, IsOk, IfOk, IfErr, IfSome, IfNone, Some, AllPairs, Contains};
+ghost use Rattle.std.specs.Prelude.{◌≡◌, ◌↔◌, ◌+◌, ◌-◌, ◌*◌, ◌<◌, ◌≤◌, ℕ, length, slice_index_or, slice_get, IsOk, IfOk, IfErr, IfSome, IfNone, Some, All, AllPairs, Contains};
 ghost use Rattle.bridge_movement.specs.Shape.{IsBetween, IsShape, index_of_row};
 ghost use Rattle.bridge_movement.specs.Fair.{IsMovement, HasPairsWithin, HasSetWithin};
 ghost use Rattle.bridge_movement.specs.Refused.{IsRefusal};
 ghost use Rattle.bridge_movement.specs.Seating.{PlaysAt, PlaysOnlyAt, SitsOut, IsPlaceWithin, place_of};
-ghost use Rattle.bridge_movement.specs.Row.{MeetAgain};
+ghost use Rattle.bridge_movement.specs.Row.{IsLive, MeetAgain};
 ghost use Rattle.bridge_movement.specs.Mitchell.{mitchell_shape, FollowsMitchell};
+ghost use Rattle.bridge_movement.specs.HalfTable.{SitsOutOnce};
+ghost use Rattle.bridge_movement.specs.Named.{without_last};
 ghost use Rattle.bridge_movement.specs.Howell.{howell_shape, FollowsHowell, IsHowell};
 
 use crate::checks::{first_fault, first_misplaced};
@@ -13,7 +15,7 @@ use crate::place::{Place, place_in};
 use crate::refused::MovementRefused;
 use crate::row::Row;
 use crate::shape::{MOST_ROWS, Shape};
-use crate::{howell, mitchell};
+use crate::{half_table, howell, mitchell};
 use arrayvec::ArrayVec;
 use std::marker::Model;
 
@@ -85,6 +87,22 @@ impl Movement {
         let mut rows = ArrayVec::new();
         for index in 0..shape.rounds * tables {
             rows.push(howell::row_of(tables, index / tables, index % tables));
+        }
+        Movement { shape, rows }
+    }
+
+    /// The movement in which the last pair is lacking: who would meet it sits out.
+    pub fn without_last(&self) -> Movement
+        requires { 3 ≤ self.now.shape.pairs }
+        ensures movement { result ≡ without_last self.now }
+        ensures fair { IsMovement result.shape result.rows }
+        ensures sits_out_once { All IsLive self.now.rows → AllPairs (λ a b. ¬ MeetAgain a b) self.now.rows
+            → SitsOutOnce result.rows }
+    {
+        let shape = half_table::shape_without_last(self.shape);
+        let mut rows = ArrayVec::new();
+        for row in self.rows.iter() {
+            rows.push(half_table::row_without(self.shape.pairs, *row));
         }
         Movement { shape, rows }
     }

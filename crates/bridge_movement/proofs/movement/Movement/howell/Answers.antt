@@ -1,4 +1,4 @@
-use Rattle.std.proofs.Common.{◌≡◌, ◌*◌, ◌-◌, length, ap, subst, sym, arith}
+use Rattle.std.proofs.Common.{◌≡◌, ◌*◌, length, ap, subst, sym, arith}
 use Rattle.bridge_movement.specs.Fair.{IsMovement}
 use Rattle.bridge_movement.specs.Howell.{howell_row_at, IsHowell}
 use Rattle.bridge_movement.specs.Shape.{IsShape}
