@@ -1,0 +1,6 @@
+pub mod Lines
+pub mod TwoPlayers
+pub mod Spelled
+pub mod NameBytes
+pub mod ConfigLines
+pub mod ConfigSpelled
