@@ -4,3 +4,4 @@ pub mod Spelled
 pub mod NameBytes
 pub mod ConfigLines
 pub mod ConfigSpelled
+pub mod DrawnKeys

@@ -1,1 +1,3 @@
 pub mod ConfigText
+pub mod Keys
+pub mod AsciiName

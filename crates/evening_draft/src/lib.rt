@@ -8,10 +8,14 @@
 //! ```
 #![tactic(auto)]
 
+mod ascii;
 mod form;
+mod keys;
 mod line;
 mod rows;
 mod text;
 
+pub use ascii::ascii_name;
 pub use form::{MovementForm, form_of};
+pub use keys::draw_keys;
 pub use text::write_config;
