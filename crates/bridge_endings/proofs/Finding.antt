@@ -1,7 +1,7 @@
 -- What a table tells: of cards left that agree in those that counted, and what an answer adds to it.
-use Rattle.std.proofs.Common.{◌≡◌, ℕ, ◌*◌, ◌<◌, ◌≤◌, Bool, true, false, ◌&&◌, nat_le, count_by, List, [], ◌∷◌, Option, refl, sym, ap, ◌∙◌, arith, All, replicate, subst, length}
-use Rattle.std.proofs.lemmas.List.{length-replicate}
-use Rattle.std.proofs.lemmas.List.Elements.{All-replicate}
+use Rattle.std.proofs.Common.{◌≡◌, ℕ, ◌*◌, ◌<◌, ◌≤◌, Bool, true, false, ◌&&◌, nat_le, count_by, List, [], ◌∷◌, Option, refl, sym, ap, ◌∙◌, arith, All, replicate, subst, length, slice_set, slice_index_or}
+use Rattle.std.proofs.lemmas.List.{length-replicate, length-set}
+use Rattle.std.proofs.lemmas.List.Elements.{All-replicate, All-set, All-get_or}
 use Rattle.std.proofs.Math.Path.{fun_ext}
 use Rattle.std.proofs.lemmas.Bool.{le-leb, lt-leb}
 use Rattle.bridge_cards.specs.declared.suit.Suit.{Suit}
@@ -14,6 +14,7 @@ use Rattle.bridge_cards.proofs.SuitHeld.{is_of_suit-card_suit}
 use Rattle.bridge_endings.specs.declared.answer.Answer.{Answer}
 use Rattle.bridge_endings.specs.declared.bounds.Bounds.{Bounds}
 use Rattle.bridge_endings.specs.declared.found.Found.{Found}
+use Rattle.bridge_endings.specs.declared.table.Entry.{Entry}
 use Rattle.bridge_endings.specs.Between.{IsBounded}
 use Rattle.bridge_endings.specs.Worth.{dealt, worth_with}
 use Rattle.bridge_endings.specs.Left.{suit_length, AreAsLong, HoldAlike}
@@ -94,9 +95,20 @@ nothing_found found is = record {
       record { least = omega (arith, is.least); most = omega (arith, few, is.tricks, is.most) };
 }
 
--- a table in which nothing is found yet
-pub nothing_table : (count : ℕ) → 0 < count → (found : Found) → IsNothing found → (table : List Found) → table ≡ replicate count found → IsTable table
-nothing_table count some found is table all = record {
-  some = subst (λ xs. 0 < length xs) (sym all) (subst (λ n. 0 < n) (sym (length-replicate count found)) some);
-  found = subst (All IsFound) (sym all) (All-replicate IsFound count found (nothing_found found is));
+-- a table in which each entry is that one
+pub nothing_table : (count : ℕ) → 0 < count → (entry : Entry) → IsFound entry.found → (table : List Entry) → table ≡ replicate count entry → IsTable table
+nothing_table count some entry is table all = record {
+  some = subst (λ xs. 0 < length xs) (sym all) (subst (λ n. 0 < n) (sym (length-replicate count entry)) some);
+  found = subst (All (λ e. IsFound e.found)) (sym all) (All-replicate (λ e. IsFound e.found) count entry is);
 }
+
+-- a table with another entry in which what was found is true
+pub table_set : (table : List Entry) (place : ℕ) (entry : Entry) → IsTable table → IsFound entry.found → IsTable (slice_set table place entry)
+table_set table place entry is found = record {
+  some = omega (arith, is.some, length-set table place entry);
+  found = All-set (λ e. IsFound e.found) table place entry found is.found;
+}
+
+-- what was found is true in the entry at a place
+pub table_at : (table : List Entry) (place : ℕ) (otherwise : Entry) → IsTable table → place < length table → IsFound (slice_index_or table place otherwise).found
+table_at table place otherwise is within = All-get_or (λ e. IsFound e.found) table place otherwise within is.found

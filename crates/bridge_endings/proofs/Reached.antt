@@ -72,8 +72,8 @@ module _ (trump : Option Suit) (tricks need : ℕ) (held : Seat → ℕ → Bool
   }
 
   -- a card gives the answer that the side in turn wants
-  pub found : (card : ℕ) (sought : Bool) (answer : Answer) → has_card legal card ≡ true → sought ≡ is_sought side → IsAnswer trump then need answer (after_playing card held) leader (trick ++ card ∷ []) → answer.yes ≡ sought → IsAnswer trump (4 * tricks - length trick) need answer held leader trick
-  found card sought answer has is after same = record {
+  pub found : (card : ℕ) (sought : Bool) (answer : Answer) (best : ℕ) → has_card legal card ≡ true → sought ≡ is_sought side → IsAnswer trump then need answer (after_playing card held) leader (trick ++ card ∷ []) → answer.yes ≡ sought → IsAnswer trump (4 * tricks - length trick) need (record { yes = answer.yes; counts = answer.counts; best = best }) held leader trick
+  found card sought answer best has is after same = record {
     upward = after.upward;
     settled = rw (same ∙ is) (with_one (has_card answer.counts) (is_sought side)
         (settles_found trump then need held out leader trick part (has_card answer.counts) card (sym (may card) ∙ has)
@@ -81,8 +81,8 @@ module _ (trump : Option Suit) (tricks need : ℕ) (held : Seat → ℕ → Bool
   }
 
   -- none does
-  pub none_found : (against : Bool) (rest counts : ℕ) → (card : ℕ) × IsTrue (has_card legal card) → IsAnswered trump then need held leader trick legal rest counts against → rest ≡ 0 → IsAnswer trump (4 * tricks - length trick) need (record { yes = against; counts = counts }) held leader trick
-  none_found against rest counts some is empty = record {
+  pub none_found : (against : Bool) (rest counts best : ℕ) → (card : ℕ) × IsTrue (has_card legal card) → IsAnswered trump then need held leader trick legal rest counts against → rest ≡ 0 → IsAnswer trump (4 * tricks - length trick) need (record { yes = against; counts = counts; best = best }) held leader trick
+  none_found against rest counts best some is empty = record {
     upward = is.upward;
     settled = with_one (has_card counts) against
         (settles_all trump then need held out leader trick part (has_card counts) against some.0 (sym (may some.0) ∙ some.1)
@@ -112,13 +112,13 @@ module _ (trump : Option Suit) (hands : List ℕ) (left rest : ℕ) (leader : Se
       (subst (λ cards. IsAnswer trump (4 * tricks - length longer) need answer (left_to hands rest) leads cards) is told)))
 
   -- it is, and its winner leads
-  pub after_whole : (leads winner : Seat) (longer : List ℕ) (less : ℕ) (answer : Answer) (rank both : ℕ) → longer ≡ trick ++ card ∷ [] → leads ≡ leader → length longer ≡ 4 → 0 < tricks
+  pub after_whole : (leads winner : Seat) (longer : List ℕ) (less : ℕ) (answer : Answer) (rank both best : ℕ) → longer ≡ trick ++ card ∷ [] → leads ≡ leader → length longer ≡ 4 → 0 < tricks
       → winner ≡ next_leader trump leads longer → less ≡ need - trick_for (side_of winner)
       → IsAnswer trump (4 * (tricks - 1)) less answer (left_to hands rest) winner []
       → IsRanked trump (has_card rank) longer → IsUpward (has_card rank)
       → ((c : ℕ) → has_card both c ≡ (has_card answer.counts c || has_card rank c))
-      → IsAnswer trump cards_then need (record { yes = answer.yes; counts = both }) held_then leader (trick ++ card ∷ [])
-  after_whole leads winner longer less answer rank both is lead whole some wins need_is told ranked up union =
+      → IsAnswer trump cards_then need (record { yes = answer.yes; counts = both; best = best }) held_then leader (trick ++ card ∷ [])
+  after_whole leads winner longer less answer rank both best is lead whole some wins need_is told ranked up union =
       let long : length longer ≡ length trick + 1 = ap length is ∙ length-append trick (card ∷ []) in
       let fuel : 4 * (tricks - 1) ≡ cards_then = omega arith in
       let played : List ℕ = trick ++ card ∷ [] in
@@ -144,10 +144,10 @@ above_too card a b suit less does = grind (arith, nat_tests)
 itself : (card : ℕ) → (same_suit card card && nat_le card card) ≡ true
 itself card = grind (arith, nat_tests)
 
-pub sure_answer : (hands : List ℕ) (left : ℕ) → IsDealtOut (left_to hands left) → (trump : Option Suit) (leader : Seat) (card counts : ℕ) → ((led : ℕ) × IsSure trump (left_to hands left) leader card led)
+pub sure_answer : (hands : List ℕ) (left : ℕ) → IsDealtOut (left_to hands left) → (trump : Option Suit) (leader : Seat) (card counts best : ℕ) → ((led : ℕ) × IsSure trump (left_to hands left) leader card led)
     → ((other : ℕ) → has_card counts other ≡ (same_suit card other && nat_le card other)) → (tricks need : ℕ) → 0 < tricks → need ≡ settled_by_one (side_of leader) tricks → (sought : Bool) → sought ≡ is_sought (side_of leader)
-    → IsAnswer trump (4 * tricks) need (record { yes = sought; counts = counts }) (left_to hands left) leader []
-sure_answer hands left out trump leader card counts sure upwards tricks need some is sought wanted =
+    → IsAnswer trump (4 * tricks) need (record { yes = sought; counts = counts; best = best }) (left_to hands left) leader []
+sure_answer hands left out trump leader card counts best sure upwards tricks need some is sought wanted =
     let up : IsUpward (has_card counts) = λ a b suit less does. upwards b ∙ above_too card a b suit less (sym (upwards a) ∙ does) in
     record {
       upward = up;
@@ -167,13 +167,13 @@ raised_dealt hands raised_hands left all out is whole =
     subst IsDealtOut (sym (whole ∙ fun_ext {B = λ _. ℕ → Bool} (λ seat. fun_ext {B = λ _. Bool} (λ place. is seat place)))) (raised_out (left_to hands left) out)
 
 -- an answer of hands raised is one of the hands, where what counts is brought back
-pub raised_answer : (trump : Option Suit) (tricks need : ℕ) (hands raised_hands : List ℕ) (left counts : ℕ) (leader : Seat) (answer : Answer) → IsDealtOut (left_to hands left)
+pub raised_answer : (trump : Option Suit) (tricks need : ℕ) (hands raised_hands : List ℕ) (left counts best : ℕ) (leader : Seat) (answer : Answer) → IsDealtOut (left_to hands left)
     → ((seat : Seat) (place : ℕ) → dealt raised_hands seat place ≡ raised (left_to hands left) seat place)
     → IsUpward (has_card counts)
     → ((card : ℕ) → is_held (left_to hands left) card ≡ true → has_card answer.counts (raised_place (is_held (left_to hands left)) card) ≡ true → has_card counts card ≡ true)
     → IsAnswer trump (4 * tricks) need answer (dealt raised_hands) leader []
-    → IsAnswer trump (4 * tricks) need (record { yes = answer.yes; counts = counts }) (left_to hands left) leader []
-raised_answer trump tricks need hands raised_hands left counts leader answer out is up covers told = record {
+    → IsAnswer trump (4 * tricks) need (record { yes = answer.yes; counts = counts; best = best }) (left_to hands left) leader []
+raised_answer trump tricks need hands raised_hands left counts best leader answer out is up covers told = record {
   upward = up;
   settled = settles_raised trump (4 * tricks) need (has_card counts) (has_card answer.counts) up told.upward answer.yes (left_to hands left) out leader covers
       (subst (λ held. Settles trump (4 * tricks) need (has_card answer.counts) answer.yes held leader []) (fun_ext {B = λ _. ℕ → Bool} (λ seat. fun_ext {B = λ _. Bool} (λ place. is seat place))) told.settled);

@@ -6,7 +6,7 @@ use Rattle.bridge_cards.specs.declared.seat.Side.{Side}
 use Rattle.bridge_cards.specs.declared.seat.Side.TheVariants.{NorthSouth, EastWest}
 use Rattle.bridge_cards.specs.Seat.{clockwise_from, side_of}
 use Rattle.bridge_cards.specs.Deal.{IsDeal}
-use Rattle.bridge_endings.specs.declared.found.Found.{Found}
+use Rattle.bridge_endings.specs.declared.table.Entry.{Entry}
 use Rattle.bridge_endings.specs.Worth.{dealt, worth_with}
 use Rattle.bridge_endings.specs.SearchValue.{IsTable}
 
@@ -20,6 +20,6 @@ abbrev pub declarer_tricks : Option Suit → List ℕ → Seat → ℕ
 declarer_tricks trump hands declarer = tricks_of (side_of declarer) (worth_with trump (4 * 13) (dealt hands) (clockwise_from declarer 1) [])
 
 -- what a solver keeps: the hands of a deal, and a table
-pub record IsDealKept (hands : List ℕ) (table : List Found) : Type 0 where
+pub record IsDealKept (hands : List ℕ) (table : List Entry) : Type 0 where
   pub deal : IsDeal hands
   pub found : IsTable table

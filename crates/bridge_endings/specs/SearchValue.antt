@@ -5,6 +5,9 @@ use Rattle.bridge_cards.specs.declared.seat.Seat.{Seat}
 use Rattle.bridge_cards.specs.CardSet.{has_card}
 use Rattle.bridge_endings.specs.declared.answer.Answer.{Answer}
 use Rattle.bridge_endings.specs.declared.found.Found.{Found}
+use Rattle.bridge_endings.specs.declared.found.Told.{Told}
+use Rattle.bridge_endings.specs.declared.found.Told.TheVariants.{Answer as TheAnswer, Open, Other}
+use Rattle.bridge_endings.specs.declared.table.Entry.{Entry}
 use Rattle.bridge_endings.specs.declared.search.Search.{Search}
 use Rattle.bridge_endings.specs.Worth.{dealt, worth_with}
 use Rattle.bridge_endings.specs.Agree.{IsDealtOut, IsUpward, Agree, Settles}
@@ -26,10 +29,16 @@ pub record IsFound (found : Found) : Type 0 where
   pub bounded : (other : Seat → ℕ → Bool) → IsDealtOut other → Agree (has_card found.counts) (dealt found.hands) other
       → IsBounded (worth_with found.trump (4 * found.tricks) other found.leader []) found.bounds
 
--- a table has some entry, and the bounds of each are true
-pub record IsTable (table : List Found) : Type 0 where
+-- if an answer is told, it is right
+abbrev pub Tells : Option Suit → ℕ → ℕ → (Seat → ℕ → Bool) → Seat → Told → Type 0
+Tells trump cards need held leader (TheAnswer answer) = IsAnswer trump cards need answer held leader []
+Tells trump cards need held leader Open = Unit {0}
+Tells trump cards need held leader Other = Unit {0}
+
+-- a table has some entry, and what was found is true in each
+pub record IsTable (table : List Entry) : Type 0 where
   pub some : 0 < length table
-  pub found : All IsFound table
+  pub found : All (λ entry. IsFound entry.found) table
 
 -- of no tricks none is won
 pub record IsNothing (found : Found) : Type 0 where

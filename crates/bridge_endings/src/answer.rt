@@ -15,6 +15,8 @@ pub struct Answer {
     pub yes: bool,
     /// The cards that counted; of each of their suits the highest.
     pub counts: CardSet,
+    /// The card that gave the answer, or the one tried first; any where none was tried.
+    pub best: Card,
 }
 
 /// The card and those of its suit above it.

@@ -5,6 +5,7 @@ ghost use Rattle.bridge_endings.specs.DealTricks.{declarer_tricks};
 use crate::found::Found;
 use crate::search::Search;
 use crate::solver::tricks_won;
+use crate::table::Entry;
 use bridge_cards::{CardSet, Deal, Seat, Side, Suit};
 use std::alloc::{AllocError, Global};
 use std::marker::Model;
@@ -13,7 +14,11 @@ use std::marker::Model;
 #[derive(Drop)]
 pub struct DealSolver {
     hands: [CardSet; 4],
-    table: Vec<Found>,
+    table: Vec<Entry>,
+    /// Where in it stands what was found last.
+    last: u32,
+    /// How many tricks North and South won in what was asked last.
+    won: u8,
 }
 
 impl Model for DealSolver {
@@ -37,7 +42,9 @@ impl DealSolver {
     {
         Ok(DealSolver {
             hands: deal.hands(),
-            table: vec![in alloc; Found::nothing(); DealSolver::ENTRIES]?,
+            table: vec![in alloc; Entry::of(Found::nothing()); DealSolver::ENTRIES]?,
+            last: 0,
+            won: 7,
         })
     }
 
@@ -48,9 +55,22 @@ impl DealSolver {
         ensures few { result ≤ 13 }
         ensures deal { self.new ≡ self.old }
     {
-        let mut search = Search { trump, tried: 0 };
+        let mut search = Search {
+            trump,
+            tried: 0,
+            last: self.last,
+        };
         let hands = self.hands;
-        let won = tricks_won(&mut search, &mut self.table, &hands, declarer.left(), 13);
+        let won = tricks_won(
+            &mut search,
+            &mut self.table,
+            &hands,
+            declarer.left(),
+            13,
+            self.won,
+        );
+        self.last = search.last;
+        self.won = won;
         match declarer.side() {
             Side::NorthSouth => won,
             Side::EastWest => 13 - won,

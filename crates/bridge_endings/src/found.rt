@@ -1,26 +1,26 @@
-//! What a search has found, and the table that keeps it.
-ghost use Rattle.std.specs.Prelude.{◌≡◌, ℕ, ◌*◌, ◌<◌, ◌≤◌, Bool, [], All, IsTrue, IfSome, length};
+//! What a search has found of hands.
+ghost use Rattle.std.specs.Prelude.{◌≡◌, ℕ, ◌*◌, ◌<◌, Bool, [], IsTrue, IfSome};
 ghost use Rattle.bridge_cards.specs.declared.seat.Seat.{Seat};
 ghost use Rattle.bridge_cards.specs.CardSet.{has_card};
 ghost use Rattle.bridge_endings.specs.Worth.{dealt, worth_with};
 ghost use Rattle.bridge_endings.specs.Agree.{IsDealtOut, Agree};
 ghost use Rattle.bridge_endings.specs.Between.{IsBounded};
-ghost use Rattle.bridge_endings.specs.SearchValue.{IsAnswer, IsFound, IsNothing, IsTable};
+ghost use Rattle.bridge_endings.specs.SearchValue.{IsAnswer, IsFound, IsNothing, Tells};
 
 use crate::answer::Answer;
 use crate::bounds::{Bounds, narrowed};
 use crate::like_hands::{are_as_long, hold_alike};
-use bridge_cards::{CardSet, Seat, Suit};
+use bridge_cards::{Card, CardSet, Seat, Suit};
 
-/// How many slots the table of an ending has; it lies on the stack.
-pub const SLOTS: usize = 512;
-
-/// In how many slots from the first one on something found may stand: in few of a table of an ending, in more of a larger one.
-fn ways(slots: usize) -> usize
-    ensures some { 0 < result }
-    ensures few { result ≤ 64 }
-{
-    if slots > SLOTS { 64 } else { 4 }
+/// What something found tells of whether so many tricks are reached.
+#[derive(Clone, Copy)]
+pub enum Told {
+    /// The answer.
+    Answer(Answer),
+    /// That it is open: its bounds are true of the hands, and do not settle it.
+    Open,
+    /// Nothing: it is of other hands.
+    Other,
 }
 
 /// What was found of hands at the start of a trick.
@@ -82,6 +82,61 @@ impl Found {
         }
     }
 
+    /// What it tells of the hands.
+    pub fn tells(
+        &self,
+        hands: &[CardSet; 4],
+        trump: Option<Suit>,
+        leader: Seat,
+        tricks: u8,
+        need: u8,
+    ) -> Told
+        requires { IsFound self.now }
+        ensures { Tells trump (4 * tricks) need (dealt hands.now) leader result }
+    {
+        if !self.is_of(hands, trump, leader, tricks) {
+            return Told::Other;
+        }
+        if need <= self.bounds.least {
+            return Told::Answer(self.answer(true));
+        }
+        if need > self.bounds.most {
+            return Told::Answer(self.answer(false));
+        }
+        Told::Open
+    }
+
+    /// The answer, with the cards that counted.
+    fn answer(&self, yes: bool) -> Answer
+        ensures yes { result.yes ≡ yes }
+        ensures counts { result.counts ≡ self.now.counts }
+    {
+        Answer {
+            yes,
+            counts: self.counts,
+            best: Card::default(),
+        }
+    }
+
+    /// What both tell of its hands, where the same cards counted and the other is true of them too.
+    pub fn with(&self, other: &Found) -> Option<Found>
+        requires found { IsFound self.now × IsFound other.now }
+        ensures { IfSome result (λ both. IsFound both) }
+    {
+        if self.counts != other.counts
+            || !other.is_of(&self.hands, self.trump, self.leader, self.tricks)
+        {
+            return None;
+        }
+        Some(Found {
+            bounds: Bounds {
+                least: self.bounds.least.max(other.bounds.least),
+                most: self.bounds.most.min(other.bounds.most),
+            },
+            ..*self
+        })
+    }
+
     /// Whether it is true of the hands too: trumps, leader and tricks are the same, the hands have as many cards of each suit,
     /// and the cards that counted are where they were.
     fn is_of(&self, hands: &[CardSet; 4], trump: Option<Suit>, leader: Seat, tricks: u8) -> bool
@@ -96,77 +151,5 @@ impl Found {
             return false;
         }
         are_as_long(&self.hands, hands)
-    }
-}
-
-/// The table in which nothing is found yet.
-pub fn empty_table() -> [Found; SLOTS]
-    ensures { IsTable result }
-{
-    [Found::nothing(); SLOTS]
-}
-
-/// The first slot for the hands and their leader in a table of so many, by how many cards of each suit they have.
-fn slot(hands: &[CardSet; 4], leader: Seat, slots: usize) -> usize
-    requires { 0 < slots }
-    ensures { result < slots }
-{
-    // An odd number without a pattern, as the fraction of the golden ratio: the upper bits of the products spread.
-    let mut mixed = u64::from(leader.number());
-    for hand in hands {
-        for suit in Suit::ALL {
-            let length = hand.of_suit(suit).len() as u64;
-            mixed = (mixed.rotate_left(5) ^ length).wrapping_mul(0x9e37_79b9_7f4a_7c15);
-        }
-    }
-    (mixed >> 32) as usize % slots
-}
-
-/// The answer for the hands, where the table tells it.
-pub fn known(
-    table: &[Found],
-    hands: &[CardSet; 4],
-    trump: Option<Suit>,
-    leader: Seat,
-    tricks: u8,
-    need: u8,
-) -> Option<Answer>
-    requires { IsTable table.now }
-    ensures { IfSome result (λ answer. IsAnswer trump (4 * tricks) need answer (dealt hands.now) leader []) }
-{
-    let first = slot(hands, leader, table.len());
-    for way in 0..ways(table.len()) {
-        if first + way >= table.len() {
-            return None;
-        }
-        let found = table[first + way];
-        if found.is_of(hands, trump, leader, tricks) {
-            if need <= found.bounds.least {
-                return Some(Answer {
-                    yes: true,
-                    counts: found.counts,
-                });
-            }
-            if need > found.bounds.most {
-                return Some(Answer {
-                    yes: false,
-                    counts: found.counts,
-                });
-            }
-        }
-    }
-    None
-}
-
-/// Puts something found into the table, in one of its slots by that number, if the table reaches so far.
-pub fn note(table: &mut [Found], found: &Found, number: u64)
-    requires table { IsTable table.old }
-    requires found { IsFound found.now }
-    ensures { IsTable table.new }
-{
-    let first = slot(&found.hands, found.leader, table.len());
-    let place = first + number as usize % ways(table.len());
-    if place < table.len() {
-        table[place] = *found;
     }
 }

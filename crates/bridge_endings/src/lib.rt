@@ -21,6 +21,7 @@ mod reaching;
 mod search;
 pub mod solver;
 mod sure_card;
+mod table;
 mod trick;
 
 pub use cache::Cache;

@@ -10,6 +10,8 @@ use bridge_cards::{Card, CardSet, Seat, Suit};
 /// What is seen of the other hands before a card is played.
 #[derive(Clone, Copy, Default)]
 pub struct Seen {
+    /// The card that was best before, if one was.
+    pub best: CardSet,
     /// The cards of suits that no opponent ruffs, if one is to be led.
     pub safe: CardSet,
     /// Those of them whose suit's highest card left is on the leader's side.
@@ -20,12 +22,22 @@ pub struct Seen {
 
 impl Search {
     /// What is seen of the other hands before one of the cards is played to the trick; nothing where there is no choice.
-    pub fn seen(&self, hands: &[CardSet; 4], left: CardSet, cards: CardSet, trick: &Trick) -> Seen {
+    pub fn seen(
+        &self,
+        hands: &[CardSet; 4],
+        left: CardSet,
+        cards: CardSet,
+        trick: &Trick,
+        best: Option<Card>,
+    ) -> Seen {
         if !is_choice(cards) {
             return Seen::default();
         }
         match trick.led() {
-            None => self.leads(hands, left, trick.turn()),
+            None => Seen {
+                best: best.map_or(CardSet::new(), |card| CardSet::new().with(card)),
+                ..self.leads(hands, left, trick.turn())
+            },
             Some(led) => Seen {
                 next: self.best_of_next(hands, left, trick, led),
                 ..Seen::default()
@@ -101,6 +113,9 @@ pub fn next_card(cards: CardSet, trick: &Trick, seen: &Seen) -> Option<Card>
     let lowest = cards.lowest()?;
     if cards.without(lowest).is_empty() {
         return Some(lowest);
+    }
+    if let Some(best) = cards.intersection(seen.best).lowest() {
+        return Some(best);
     }
     let Some(led) = trick.led() else {
         return Some(next_lead(cards, lowest, seen));

@@ -7,11 +7,12 @@ ghost use Rattle.bridge_endings.specs.Agree.{IsDealtOut};
 ghost use Rattle.bridge_endings.specs.SearchValue.{GoesOn, IsAnswer, IsTable};
 
 use crate::answer::{Answer, still_to_try, upwards};
-use crate::found::{Found, known, note};
+use crate::found::Found;
 use crate::move_order::next_card;
 use crate::raised::{all_cards, counted, raised};
 use crate::search::{Search, legal_cards};
 use crate::sure_card::settled_by_one;
+use crate::table::{Entry, key_of, look_up, note};
 use crate::trick::Trick;
 use bridge_cards::{Card, CardSet, Seat, Side};
 
@@ -20,7 +21,7 @@ impl Search {
     #[cycle(search)]
     pub fn reaches_from(
         &mut self,
-        table: &mut [Found],
+        table: &mut [Entry],
         hands: &[CardSet; 4],
         left: CardSet,
         leader: Seat,
@@ -38,7 +39,7 @@ impl Search {
             return without_cards(need);
         }
         if tricks < 2 {
-            return self.reaches(table, hands, left, &trick, tricks, need);
+            return self.reaches(table, hands, left, &trick, tricks, need, None);
         }
         if need == settled_by_one(leader, tricks)
             && let Some(card) = self.sure_card(hands, left, leader)
@@ -46,6 +47,7 @@ impl Search {
             return Answer {
                 yes: is_sought(leader),
                 counts: upwards(card),
+                best: card,
             };
         }
         let raised = raised(hands, left);
@@ -54,6 +56,7 @@ impl Search {
         Answer {
             yes: answer.yes,
             counts: counted(hands, left, answer.counts),
+            best: answer.best,
         }
     }
 
@@ -61,7 +64,7 @@ impl Search {
     #[cycle(search)]
     fn reaches_raised(
         &mut self,
-        table: &mut [Found],
+        table: &mut [Entry],
         hands: &[CardSet; 4],
         left: CardSet,
         trick: &Trick,
@@ -78,12 +81,14 @@ impl Search {
         ensures table { IsTable table.new }
     {
         let leader = trick.turn();
-        if let Some(answer) = known(table, hands, self.trump, leader, tricks, need) {
+        let key = key_of(hands, self.trump, leader);
+        let known = look_up(table, key, hands, self.trump, leader, tricks, need);
+        if let Some(answer) = known.answer {
             return answer;
         }
-        let answer = self.reaches(table, hands, left, trick, tricks, need);
+        let answer = self.reaches(table, hands, left, trick, tricks, need, known.best);
         let found = Found::by(hands, self.trump, leader, tricks, need, &answer);
-        note(table, &found, self.tried);
+        note(table, key, &found, answer.best, known.place, &mut self.last);
         answer
     }
 
@@ -91,12 +96,13 @@ impl Search {
     #[cycle(search)]
     fn reaches(
         &mut self,
-        table: &mut [Found],
+        table: &mut [Entry],
         hands: &[CardSet; 4],
         left: CardSet,
         trick: &Trick,
         tricks: u8,
         need: u8,
+        best: Option<Card>,
     ) -> Answer
         requires part { (length trick.now.cards < 4) × (length trick.now.cards ≤ 4 * tricks) }
         requires given { (trick.now.trump ≡ self.old.trump) × IsTable table.old × IsDealtOut (left_to hands.now left) }
@@ -113,26 +119,34 @@ impl Search {
             return without_cards(need);
         }
         let sought = is_sought(trick.turn());
-        let seen = self.seen(hands, left, legal, trick);
+        let seen = self.seen(hands, left, legal, trick, best);
         let mut rest = legal;
         let mut counts = CardSet::new();
+        let mut first = None;
         while let Some(card) = next_card(rest, trick, &seen) {
             let answer = self.reaches_with(table, hands, left, trick, card, tricks, need);
             if answer.yes == sought {
-                return answer;
+                return Answer {
+                    best: card,
+                    ..answer
+                };
             }
             rest = still_to_try(rest, card, answer.counts);
             counts = counts.union(answer.counts);
+            first = first.or(Some(card));
         }
-        let yes = !sought;
-        Answer { yes, counts }
+        Answer {
+            yes: !sought,
+            counts,
+            best: first.unwrap_or_default(),
+        }
     }
 
     /// Whether they do once the card is played.
     #[cycle(search)]
     fn reaches_with(
         &mut self,
-        table: &mut [Found],
+        table: &mut [Entry],
         hands: &[CardSet; 4],
         left: CardSet,
         trick: &Trick,
@@ -152,7 +166,7 @@ impl Search {
         let left = left.without(card);
         let trick = trick.with(card);
         if trick.len() < 4 {
-            return self.reaches(table, hands, left, &trick, tricks, need);
+            return self.reaches(table, hands, left, &trick, tricks, need, None);
         }
         let winner = trick.winner();
         let need = need_after(winner, need);
@@ -160,6 +174,7 @@ impl Search {
         Answer {
             yes: answer.yes,
             counts: answer.counts.union(trick.rank_that_counts()),
+            best: card,
         }
     }
 }
@@ -172,6 +187,7 @@ fn without_cards(need: u8) -> Answer
     Answer {
         yes: need == 0,
         counts: CardSet::new(),
+        best: Card::default(),
     }
 }
 

@@ -17,6 +17,8 @@ pub struct Search {
     pub trump: Option<Suit>,
     /// The cards tried.
     pub tried: u64,
+    /// Where in its table it put what it found last.
+    pub last: u32,
 }
 
 impl Search {

@@ -8,9 +8,9 @@ ghost use Rattle.bridge_endings.specs.CacheValue.{OfCache, Solving};
 use crate::bounds::{Bounds, narrowed};
 use crate::cache::Cache;
 use crate::ending::Ending;
-use crate::found::{Found, empty_table};
 use crate::raised::all_cards;
 use crate::search::Search;
+use crate::table::{Entry, empty_table};
 use bridge_cards::{CardSet, Seat};
 
 /// The tricks of North and South where each of the four sees all the cards, and both sides play for as many as they can.
@@ -28,6 +28,7 @@ pub fn solve(ending: &Ending, cache: Option<&mut Cache>) -> u8
             &mut Search {
                 trump: ending.trump(),
                 tried: 0,
+                last: 0,
             },
         ),
     }
@@ -47,6 +48,7 @@ fn solve_with(ending: &Ending, cache: &mut Cache) -> u8
     let mut search = Search {
         trump: ending.trump(),
         tried,
+        last: 0,
     };
     let worth = worth_by(ending, &mut search);
     cache.keep(ending, worth, search.tried);
@@ -62,16 +64,25 @@ fn worth_by(ending: &Ending, search: &mut Search) -> u8
 {
     let hands = ending.hands();
     let mut table = empty_table();
-    tricks_won(search, &mut table, &hands, ending.leader(), ending.tricks())
+    let tricks = ending.tricks();
+    tricks_won(
+        search,
+        &mut table,
+        &hands,
+        ending.leader(),
+        tricks,
+        tricks / 2 + 1,
+    )
 }
 
-/// The tricks of North and South by a search of so many, which is asked for the middle of what they may be until that is known.
+/// The tricks of North and South by a search of so many, which is asked for a guess first, and then for one more or one less.
 pub fn tricks_won(
     search: &mut Search,
-    table: &mut [Found],
+    table: &mut [Entry],
     hands: &[CardSet; 4],
     leader: Seat,
     tricks: u8,
+    guess: u8,
 ) -> u8
     requires table { IsTable table.old }
     requires dealt { IsDealtOut (dealt hands.now) }
@@ -86,7 +97,7 @@ pub fn tricks_won(
         most: tricks,
     };
     while bounds.least < bounds.most {
-        let need = bounds.most - (bounds.most - bounds.least) / 2;
+        let need = guess.max(bounds.least + 1).min(bounds.most);
         let answer = search.reaches_from(table, hands, left, leader, tricks, need);
         bounds = narrowed(bounds, need, answer.yes);
     }

@@ -20,7 +20,7 @@ loop-bounds-smaller c = omega (arith, (c.narrowed-bounds.ensures.closer (omega a
 pub loop-bounds-preserved : goal.loop-bounds-preserved
 loop-bounds-preserved c =
     let here = dealt c.args.hands.now in
-    let need = c.loop-bounds.bounds.most - (c.loop-bounds.bounds.most - c.loop-bounds.bounds.least) / 2 in
+    let need = c.min-need.result in
     let answer = c.reaches_from-answer.result in
     let is : IsAnswer c.loop-bounds.search.trump (4 * c.args.tricks) need answer here c.args.leader [] =
     subst (λ held. IsAnswer c.loop-bounds.search.trump (4 * c.args.tricks) need answer held c.args.leader []) c.all_cards-left.ensures.all c.reaches_from-answer.ensures.answer in

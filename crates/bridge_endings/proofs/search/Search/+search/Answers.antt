@@ -28,7 +28,7 @@ reaches-returns-then-answer-sought-clause-answer t c =
     c.loop-card.invariant.later c.reaches_with-answer.ensures.answer in
     found c.args.self.now.trump c.args.tricks c.args.need (left_to c.args.hands.now c.args.left) c.requires.given.2
     c.args.trick.now.leader c.args.trick.now.cards c.requires.part.0 c.legal_cards-legal.result c.if-is_settled.ensures.cases c.legal_cards-legal.ensures.legal
-    c.in-Some.card c.is_sought-sought.result c.reaches_with-answer.result (c.loop-card.invariant.answered.among c.in-Some.card c.in-Some.ensures.card.1) (rw (← c.turn.ensures) c.is_sought-sought.ensures) told
+    c.in-Some.card c.is_sought-sought.result c.reaches_with-answer.result c.in-Some.card (c.loop-card.invariant.answered.among c.in-Some.card c.in-Some.ensures.card.1) (rw (← c.turn.ensures) c.is_sought-sought.ensures) told
     (same_answer c.reaches_with-answer.result.yes c.is_sought-sought.result c.if-answer-sought.true)
 
 pub reaches-loop-card-smaller : goal.reaches-loop-card-smaller
@@ -54,7 +54,7 @@ pub reaches-returns-clause-answer : goal.reaches-returns-clause-answer
 reaches-returns-clause-answer t c =
     none_found c.args.self.now.trump c.args.tricks c.args.need (left_to c.args.hands.now c.args.left) c.requires.given.2
     c.args.trick.now.leader c.args.trick.now.cards c.requires.part.0 c.legal_cards-legal.result c.if-is_settled.ensures.cases c.legal_cards-legal.ensures.legal
-    (not c.is_sought-sought.result) c.loop-card.rest c.loop-card.counts c.if-is_empty.ensures.cards c.loop-card.invariant.answered (c.in_default.ensures.none.0 refl)
+    (not c.is_sought-sought.result) c.loop-card.rest c.loop-card.counts _ c.if-is_empty.ensures.cards c.loop-card.invariant.answered (c.in_default.ensures.none.0 refl)
 
 pub reaches_from-returns-then-is_settled-clause-answer : goal.reaches_from-returns-then-is_settled-clause-answer
 reaches_from-returns-then-is_settled-clause-answer t c =
@@ -63,7 +63,7 @@ reaches_from-returns-then-is_settled-clause-answer t c =
 
 pub reaches_from-returns-clause-answer : goal.reaches_from-returns-clause-answer
 reaches_from-returns-clause-answer t c =
-    sure_answer c.args.hands.now c.args.left c.requires.dealt c.args.self.now.trump c.args.leader c.in-Some.card c.upwards.result c.in-Some.ensures c.upwards.ensures
+    sure_answer c.args.hands.now c.args.left c.requires.dealt c.args.self.now.trump c.args.leader c.in-Some.card c.upwards.result _ c.in-Some.ensures c.upwards.ensures
     c.args.tricks c.args.need (omega arith) (omega arith) c.is_sought.result c.is_sought.ensures
 
 pub reaches_from-reaches_raised-answer-requires : goal.reaches_from-reaches_raised-answer-requires
@@ -90,7 +90,7 @@ reaches_from-reaches_raised-answer-requires t c = (
 
 pub reaches_from-returns-2-clause-answer : goal.reaches_from-returns-2-clause-answer
 reaches_from-returns-2-clause-answer t c =
-    raised_answer c.args.self.now.trump c.args.tricks c.args.need c.args.hands.now c.raised-raised.result c.args.left c.counted.result c.args.leader c.reaches_raised-answer.result c.requires.dealt
+    raised_answer c.args.self.now.trump c.args.tricks c.args.need c.args.hands.now c.raised-raised.result c.args.left c.counted.result _ c.args.leader c.reaches_raised-answer.result c.requires.dealt
     c.raised-raised.ensures c.counted.ensures.upward c.counted.ensures.counted
     (subst (λ (seat : Seat). IsAnswer c.args.self.now.trump (4 * c.args.tricks) c.args.need c.reaches_raised-answer.result (dealt c.raised-raised.result) seat []) c.new-trick.ensures.leader c.reaches_raised-answer.ensures.answer)
 
@@ -106,8 +106,8 @@ pub reaches_with-returns-clause-answer : goal.reaches_with-returns-clause-answer
 reaches_with-returns-clause-answer t c =
     let trump_is : c.with-trick.result.trump ≡ c.count_card.new.self.trump = c.with-trick.ensures.trump ∙ c.requires.trump ∙ sym c.count_card.ensures.later.trump in
     told_before c.args.self.now c.count_card.new.self
-    (λ trump. IsAnswer trump (4 * c.args.tricks - length c.args.trick.now.cards - 1) c.args.need (record { yes = c.reaches_from-answer.result.yes; counts = c.union.result }) (after_playing c.args.card (left_to c.args.hands.now c.args.left)) c.args.trick.now.leader (c.args.trick.now.cards ++ c.args.card ∷ []))
+    (λ trump. IsAnswer trump (4 * c.args.tricks - length c.args.trick.now.cards - 1) c.args.need (record { yes = c.reaches_from-answer.result.yes; counts = c.union.result; best = c.args.card }) (after_playing c.args.card (left_to c.args.hands.now c.args.left)) c.args.trick.now.leader (c.args.trick.now.cards ++ c.args.card ∷ []))
     c.count_card.ensures.later
     (after_whole c.count_card.new.self.trump c.args.hands.now c.args.left c.without-left.result c.args.trick.now.leader c.args.trick.now.cards c.args.card c.args.tricks c.args.need c.without-left.ensures
-    c.with-trick.result.leader c.winner-winner.result c.with-trick.result.cards c.need_after-need.result c.reaches_from-answer.result c.rank_that_counts.result c.union.result c.with-trick.ensures.cards c.with-trick.ensures.leader (omega arith) (omega arith)
+    c.with-trick.result.leader c.winner-winner.result c.with-trick.result.cards c.need_after-need.result c.reaches_from-answer.result c.rank_that_counts.result c.union.result c.args.card c.with-trick.ensures.cards c.with-trick.ensures.leader (omega arith) (omega arith)
     (rw (← trump_is) c.winner-winner.ensures) c.need_after-need.ensures c.reaches_from-answer.ensures.answer (rw (← trump_is) c.rank_that_counts.ensures.rank) c.rank_that_counts.ensures.upward c.union.ensures.cards)

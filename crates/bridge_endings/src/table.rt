@@ -1,0 +1,227 @@
+//! The table of a search: what it has found, in lists of what is alike.
+ghost use Rattle.std.specs.Prelude.{◌≡◌, ◌*◌, ◌<◌, [], IfSome};
+ghost use Rattle.bridge_endings.specs.Worth.{dealt};
+ghost use Rattle.bridge_endings.specs.SearchValue.{IsAnswer, IsFound, IsTable, Tells};
+
+use crate::answer::Answer;
+use crate::found::{Found, Told};
+use bridge_cards::{Card, CardSet, Seat, Suit};
+
+/// How many entries the table of an ending has; it lies on the stack.
+pub const ENTRIES: usize = 512;
+
+/// How many entries of a list are looked at.
+const LOOKED_AT: usize = 100;
+
+/// What was found, and the links of its lists. Whatever they lead to is true of the hands that it names.
+#[derive(Clone, Copy)]
+pub struct Entry {
+    /// What was found.
+    pub found: Found,
+    /// The card to try first the next time.
+    pub best: Card,
+    /// The key of its hands.
+    pub key: u64,
+    /// Where the next entry of its list stands; 0 where there is none.
+    pub next: u32,
+    /// Where the first entry stands of the list that begins here; 0 where there is none.
+    pub first: u32,
+}
+
+impl Entry {
+    /// An entry of no list.
+    pub fn of(found: Found) -> Entry
+        ensures { result.found ≡ found }
+    {
+        Entry {
+            found,
+            best: Card::default(),
+            key: 0,
+            next: 0,
+            first: 0,
+        }
+    }
+}
+
+/// What a table knows of hands.
+#[derive(Clone, Copy)]
+pub struct Known {
+    /// The answer, if an entry tells it.
+    pub answer: Option<Answer>,
+    /// The card to try first, if some hands with that key were met.
+    pub best: Option<Card>,
+    /// Where an entry stands that is true of the hands and does not tell the answer; 0 where there is none.
+    pub place: u32,
+}
+
+/// The table in which nothing is found yet.
+pub fn empty_table() -> [Entry; ENTRIES]
+    ensures { IsTable result }
+{
+    [Entry::of(Found::nothing()); ENTRIES]
+}
+
+/// A number that hands have in common where they have as many cards of each suit, and trumps and the leader are the same.
+pub fn key_of(hands: &[CardSet; 4], trump: Option<Suit>, leader: Seat) -> u64 {
+    let mut lengths: u64 = 0;
+    for hand in hands {
+        for suit in Suit::ALL {
+            lengths = lengths << 4 | hand.of_suit(suit).len() as u64;
+        }
+    }
+    let trump = match trump {
+        None => 4,
+        Some(suit) => u64::from(suit.number()),
+    };
+    let seat = u64::from(leader.number()) << 3 | trump;
+    // An odd number without a pattern, as the fraction of the golden ratio: the upper bits of the products spread.
+    let spread = 0x9e37_79b9_7f4a_7c15;
+    let mixed = (lengths ^ lengths >> 32 ^ seat << 32).wrapping_mul(spread);
+    (mixed ^ mixed >> 29).wrapping_mul(spread)
+}
+
+/// Where the list of that key begins in a table of so many.
+fn slot(key: u64, entries: usize) -> usize
+    requires { 0 < entries }
+    ensures { result < entries }
+{
+    (key >> 32) as usize % entries
+}
+
+/// What the table knows of the hands with that key. An entry that tells the answer becomes the first of its list.
+pub fn look_up(
+    table: &mut [Entry],
+    key: u64,
+    hands: &[CardSet; 4],
+    trump: Option<Suit>,
+    leader: Seat,
+    tricks: u8,
+    need: u8,
+) -> Known
+    requires { IsTable table.old }
+    ensures answer { IfSome result.answer (λ answer. IsAnswer trump (4 * tricks) need answer (dealt hands.now) leader []) }
+    ensures table { IsTable table.new }
+{
+    let slot = slot(key, table.len());
+    let mut best = None;
+    let mut place = 0;
+    let mut before = 0;
+    let mut next = table[slot].first;
+    for _ in 0..LOOKED_AT {
+        let index = next as usize;
+        if index == 0 || index >= table.len() {
+            break;
+        }
+        if table[index].key == key {
+            match table[index].found.tells(hands, trump, leader, tricks, need) {
+                Told::Answer(answer) => {
+                    to_front(table, slot, before, next);
+                    return Known {
+                        answer: Some(answer),
+                        best: None,
+                        place: 0,
+                    };
+                }
+                Told::Open => {
+                    place = next;
+                    best = Some(table[index].best);
+                }
+                Told::Other => {
+                    best = best.or(Some(table[index].best));
+                }
+            }
+        }
+        before = next;
+        next = table[index].next;
+    }
+    Known {
+        answer: None,
+        best,
+        place,
+    }
+}
+
+/// The entry at that place becomes the first of its list; the other place is that of the entry before it, or 0.
+fn to_front(table: &mut [Entry], slot: usize, before: u32, place: u32)
+    requires { IsTable table.old }
+    ensures { IsTable table.new }
+{
+    let index = place as usize;
+    if before == 0 || slot >= table.len() || index >= table.len() {
+        return;
+    }
+    let (first, next) = (table[slot].first, table[index].next);
+    set_next(table, before as usize, next);
+    set_next(table, index, first);
+    set_first(table, slot, place);
+}
+
+/// That entry leads to this place.
+fn set_next(table: &mut [Entry], index: usize, next: u32)
+    requires { IsTable table.old }
+    ensures { IsTable table.new }
+{
+    if index < table.len() {
+        table[index].next = next;
+    }
+}
+
+/// The list of that slot begins at this place.
+fn set_first(table: &mut [Entry], slot: usize, first: u32)
+    requires { IsTable table.old }
+    ensures { IsTable table.new }
+{
+    if slot < table.len() {
+        table[slot].first = first;
+    }
+}
+
+/// Puts something found into the table, at that place, as the first of its list.
+fn put(table: &mut [Entry], key: u64, found: &Found, best: Card, place: u32)
+    requires table { IsTable table.old }
+    requires found { IsFound found.now }
+    ensures { IsTable table.new }
+{
+    let slot = slot(key, table.len());
+    let index = place as usize;
+    if index >= table.len() {
+        return;
+    }
+    table[index] = Entry {
+        found: *found,
+        best,
+        key,
+        next: table[slot].first,
+        first: table[index].first,
+    };
+    set_first(table, slot, place);
+}
+
+/// Keeps something found: in the entry at that place, if it is true of the same hands with the same cards that counted, or
+/// else in the next entry.
+pub fn note(table: &mut [Entry], key: u64, found: &Found, best: Card, place: u32, last: &mut u32)
+    requires table { IsTable table.old }
+    requires found { IsFound found.now }
+    ensures { IsTable table.new }
+{
+    let index = place as usize;
+    if index != 0 && index < table.len() {
+        let old = table[index];
+        if let Some(both) = found.with(&old.found) {
+            table[index] = Entry {
+                found: both,
+                best,
+                ..old
+            };
+            return;
+        }
+    }
+    *last = next_place(*last, table.len());
+    put(table, key, found, best, *last);
+}
+
+/// The place after that one; the first entry only begins a list.
+fn next_place(last: u32, entries: usize) -> u32 {
+    let next = last.saturating_add(1);
+    if (next as usize) < entries { next } else { 1 }
+}
