@@ -22,7 +22,7 @@ use Rattle.bridge_endings.specs.Agree.{IsDealtOut, Agree, Settles}
 use Rattle.bridge_endings.specs.SearchValue.{IsAnswer, IsFound, IsTable, IsNothing}
 use Rattle.bridge_endings.proofs.WorthSteps.{worth_with_le}
 use Rattle.bridge_endings.proofs.Agreeing.{agree_then}
-use Rattle.bridge_endings.proofs.Raising.{count_parts, counted_alike}
+use Rattle.bridge_endings.proofs.Counting.{count_parts, counted_alike}
 
 -- ---- cards left that agree
 

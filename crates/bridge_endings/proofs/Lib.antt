@@ -8,8 +8,9 @@ pub mod Partners
 pub mod AgreedTrick
 pub mod Settling
 pub mod Answered
-pub mod Raising
-pub mod RaisedHands
+pub mod Counting
+pub mod Closing
+pub mod MovedCards
 pub mod Finding
 pub mod Reached
 pub mod GoingOn

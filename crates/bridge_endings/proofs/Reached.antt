@@ -1,28 +1,29 @@
 -- The answers of the search: of a position by those after its cards, and after a card by that of what is left.
 use Rattle.std.proofs.Common.{◌≡◌, ℕ, suc, ◌+◌, ◌-◌, ◌*◌, ◌<◌, ◌⊎◌, inl, inr, Bool, true, false, not, ◌&&◌, ◌||◌, ◌==◌, nat_le, List, [], ◌∷◌, ◌++◌, length, Option, IsTrue, refl, sym, ap, ◌∙◌, subst, arith, length-append}
-use Rattle.std.proofs.lemmas.Bool.{eq-eqb, ne_eqb}
+use Rattle.std.proofs.lemmas.Bool.{eq-eqb, ne_eqb, and_parts}
 use Rattle.std.proofs.lemmas.Bool.Decides.{nat_tests}
 use Rattle.bridge_cards.specs.declared.suit.Suit.{Suit}
 use Rattle.bridge_cards.specs.declared.seat.Seat.{Seat}
 use Rattle.bridge_cards.specs.declared.seat.Side.{Side}
 use Rattle.bridge_cards.specs.Seat.{clockwise_from, side_of}
 use Rattle.bridge_cards.specs.Card.{same_suit}
-use Rattle.bridge_cards.specs.CardSet.{has_card}
+use Rattle.bridge_cards.specs.CardSet.{card_count, deck, has_card}
 use Rattle.bridge_cards.specs.Trick.{next_leader}
 use Rattle.bridge_cards.proofs.CardSetLaws.{has_card-zero}
+use Rattle.bridge_cards.proofs.CardCounts.{count_by-without}
 use Rattle.bridge_endings.specs.declared.answer.Answer.{Answer}
 use Rattle.bridge_endings.specs.Worth.{dealt, may_be_played, after_playing, trick_for, worth_with}
 use Rattle.bridge_endings.specs.Left.{left_to, is_sought, IsForegone}
 use Rattle.bridge_endings.specs.Sure.{IsSure, settled_by_one}
 use Rattle.bridge_endings.specs.Agree.{IsDealtOut, IsUpward, Settles, IsRanked}
-use Rattle.bridge_endings.specs.Raised.{is_held, raised_place, raised}
+use Rattle.bridge_endings.specs.Closed.{is_held, closed, opened}
 use Rattle.bridge_endings.specs.SearchValue.{IsAnswer}
 use Rattle.bridge_endings.proofs.WorthSteps.{after_playing-left_to}
 use Rattle.bridge_endings.proofs.Settling.{settles_here, settles_found, settles_all, settles_none, settles_needless, settles_beyond, settles_whole}
-use Rattle.bridge_endings.proofs.Answered.{IsAnswered, upward_none, upward_union, within_left, within_right, ranked_more}
+use Rattle.bridge_endings.proofs.Answered.{IsAnswered, upward_none, upward_union, within_left, within_right, ranked_more, counts_le}
 use Rattle.std.proofs.Math.Path.{fun_ext}
 use Rattle.bridge_endings.proofs.TrickWon.{dealt_out_after}
-use Rattle.bridge_endings.proofs.Raising.{raised_out, settles_raised}
+use Rattle.bridge_endings.proofs.Closing.{none_holds, closed_out, upward_opened, settles_closed}
 use Rattle.bridge_endings.proofs.SureTrick.{sure_settles}
 
 -- an answer is that of the position itself
@@ -154,27 +155,45 @@ sure_answer hands left out trump leader card counts best sure upwards tricks nee
       settled = rw wanted (sure_settles trump (has_card counts) up (left_to hands left) out leader card sure.0 (upwards card ∙ itself card) sure.1 tricks need some is);
     }
 
--- ---- hands raised
+-- ---- hands closed up
 
 -- the cards left after one is played are dealt out too
 pub left_without : (hands : List ℕ) (left rest card : ℕ) → IsDealtOut (left_to hands left) → ((other : ℕ) → has_card rest other ≡ (has_card left other && not (other == card))) → IsDealtOut (left_to hands rest)
 left_without hands left rest card out without =
     subst IsDealtOut (sym (after_playing-left_to hands left rest card without)) (dealt_out_after (left_to hands left) out card)
 
--- hands that are raised are dealt out
-pub raised_dealt : (hands raised_hands : List ℕ) (left all : ℕ) → IsDealtOut (left_to hands left) → ((seat : Seat) (place : ℕ) → dealt raised_hands seat place ≡ raised (left_to hands left) seat place) → left_to raised_hands all ≡ dealt raised_hands → IsDealtOut (left_to raised_hands all)
-raised_dealt hands raised_hands left all out is whole =
-    subst IsDealtOut (sym (whole ∙ fun_ext {B = λ _. ℕ → Bool} (λ seat. fun_ext {B = λ _. Bool} (λ place. is seat place)))) (raised_out (left_to hands left) out)
+module _ (hands closed_hands : List ℕ) (gap : ℕ) (inside : gap < 52) (out : IsDealtOut (dealt hands)) (none : is_held (dealt hands) gap ≡ false) (is : (seat : Seat) (card : ℕ) → dealt closed_hands seat card ≡ closed gap (dealt hands seat) card) where
+  same_closed : dealt closed_hands ≡ (λ seat. closed gap (dealt hands seat))
+  same_closed = fun_ext {B = λ _. ℕ → Bool} (λ seat. fun_ext {B = λ _. Bool} (λ card. is seat card))
 
--- an answer of hands raised is one of the hands, where what counts is brought back
-pub raised_answer : (trump : Option Suit) (tricks need : ℕ) (hands raised_hands : List ℕ) (left counts best : ℕ) (leader : Seat) (answer : Answer) → IsDealtOut (left_to hands left)
-    → ((seat : Seat) (place : ℕ) → dealt raised_hands seat place ≡ raised (left_to hands left) seat place)
-    → IsUpward (has_card counts)
-    → ((card : ℕ) → is_held (left_to hands left) card ≡ true → has_card answer.counts (raised_place (is_held (left_to hands left)) card) ≡ true → has_card counts card ≡ true)
-    → IsAnswer trump (4 * tricks) need answer (dealt raised_hands) leader []
-    → IsAnswer trump (4 * tricks) need (record { yes = answer.yes; counts = counts; best = best }) (left_to hands left) leader []
-raised_answer trump tricks need hands raised_hands left counts best leader answer out is up covers told = record {
-  upward = up;
-  settled = settles_raised trump (4 * tricks) need (has_card counts) (has_card answer.counts) up told.upward answer.yes (left_to hands left) out leader covers
-      (subst (λ held. Settles trump (4 * tricks) need (has_card answer.counts) answer.yes held leader []) (fun_ext {B = λ _. ℕ → Bool} (λ seat. fun_ext {B = λ _. Bool} (λ place. is seat place))) told.settled);
-}
+  -- hands closed up are dealt out
+  pub closed_dealt : IsDealtOut (dealt closed_hands)
+  closed_dealt = subst IsDealtOut (sym same_closed) (closed_out gap inside (dealt hands) out (none_holds (dealt hands) gap none))
+
+  -- an answer of hands closed up is one of the hands, where what counts is opened
+  pub closed_answer : (trump : Option Suit) (tricks need : ℕ) (counts best : ℕ) (leader : Seat) (answer : Answer) → ((card : ℕ) → has_card counts card ≡ opened gap (has_card answer.counts) card)
+      → IsAnswer trump (4 * tricks) need answer (dealt closed_hands) leader []
+      → IsAnswer trump (4 * tricks) need (record { yes = answer.yes; counts = counts; best = best }) (dealt hands) leader []
+  closed_answer trump tricks need counts best leader answer opens told = record {
+    upward = upward_opened gap inside (dealt hands) out (none_holds (dealt hands) gap none) (has_card counts) (has_card answer.counts) told.upward opens;
+    settled = settles_closed gap inside trump (4 * tricks) need (has_card counts) (has_card answer.counts) told.upward opens answer.yes (dealt hands) out (none_holds (dealt hands) gap none) leader
+        (subst (λ held. Settles trump (4 * tricks) need (has_card answer.counts) answer.yes held leader []) same_closed told.settled);
+  }
+
+-- a card that is gone is in no hand
+pub not_there : (hands : List ℕ) (gone all gaps gap : ℕ) → ((card : ℕ) → has_card gaps card ≡ (has_card gone card && not (has_card all card))) → has_card all gap ≡ is_held (dealt hands) gap → has_card gaps gap ≡ true → is_held (dealt hands) gap ≡ false
+not_there hands gone all gaps gap without is has = sym is ∙ not_true (has_card all gap) ((and_parts (has_card gone gap) (not (has_card all gap)) (sym (without gap) ∙ has)).1)
+  where
+    not_true : (b : Bool) → not b ≡ true → b ≡ false
+    not_true true p = cc
+    not_true false p = refl
+
+-- fewer are gone once a gap is closed, and never more than there are cards
+pub fewer_gone : (gone all gaps rest gap : ℕ) → ((card : ℕ) → has_card gaps card ≡ (has_card gone card && not (has_card all card))) → gap < 52 → has_card gaps gap ≡ true → ((card : ℕ) → has_card rest card ≡ (has_card gaps card && not (card == gap))) → card_count rest < card_count gone
+unfolding card_count
+fewer_gone gone all gaps rest gap without inside has less =
+    omega (
+      arith,
+      count_by-without (has_card gaps) (has_card rest) gap inside has less,
+      counts_le (has_card gaps) (has_card gone) (λ card is. (and_parts (has_card gone card) (not (has_card all card)) (sym (without card) ∙ is)).0) deck,
+    )

@@ -5,7 +5,7 @@ pub mod TrickValue
 pub mod Left
 pub mod Agree
 pub mod Sure
-pub mod Raised
+pub mod Closed
 pub mod Between
 pub mod SearchValue
 pub mod CacheValue

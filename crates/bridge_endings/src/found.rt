@@ -26,7 +26,7 @@ pub enum Told {
 /// What was found of hands at the start of a trick.
 #[derive(Clone, Copy)]
 pub struct Found {
-    /// The hands, raised, so that what was found of some is known of all that are raised alike.
+    /// The hands.
     pub hands: [CardSet; 4],
     /// Their cards that counted: the same is true where each hand has as many cards of each suit, and these are where they are.
     pub counts: CardSet,

@@ -11,12 +11,12 @@
 mod answer;
 mod bounds;
 pub mod cache;
+mod closed;
 pub mod deal_solver;
 pub mod ending;
 mod found;
 mod like_hands;
 mod move_order;
-mod raised;
 mod reaching;
 mod search;
 pub mod solver;

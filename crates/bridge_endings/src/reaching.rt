@@ -7,9 +7,9 @@ ghost use Rattle.bridge_endings.specs.Agree.{IsDealtOut};
 ghost use Rattle.bridge_endings.specs.SearchValue.{GoesOn, IsAnswer, IsTable};
 
 use crate::answer::{Answer, still_to_try, upwards};
+use crate::closed::{all_cards, cards_left, closed_hands, opened};
 use crate::found::Found;
 use crate::move_order::next_card;
-use crate::raised::{all_cards, counted, raised};
 use crate::search::{Search, legal_cards};
 use crate::sure_card::settled_by_one;
 use crate::table::{Entry, key_of, look_up, note};
@@ -50,19 +50,46 @@ impl Search {
                 best: card,
             };
         }
-        let raised = raised(hands, left);
-        let all = all_cards(&raised);
-        let answer = self.reaches_raised(table, &raised, all, &trick, tricks, need);
+        let cards = cards_left(hands, left);
+        let gone = all_cards(hands).difference(left);
+        self.reaches_closed(table, &cards, gone, &trick, tricks, need)
+    }
+
+    /// The same, asked of the hands closed up over the cards that are gone.
+    #[cycle(search)]
+    fn reaches_closed(
+        &mut self,
+        table: &mut [Entry],
+        hands: &[CardSet; 4],
+        gone: CardSet,
+        trick: &Trick,
+        tricks: u8,
+        need: u8,
+    ) -> Answer
+        requires table { IsTable table.old }
+        requires dealt { IsDealtOut (dealt hands.now) }
+        requires first { (trick.now.cards ≡ []) × (trick.now.trump ≡ self.old.trump) }
+        requires some { 0 < need }
+        ensures answer { IsAnswer self.old.trump (4 * tricks) need result (dealt hands.now) trick.now.leader [] }
+        ensures later { GoesOn self.old self.new }
+        ensures table { IsTable table.new }
+    {
+        let all = all_cards(hands);
+        let gaps = gone.difference(all);
+        let Some(gap) = gaps.lowest() else {
+            return self.reaches_kept(table, hands, all, trick, tricks, need);
+        };
+        let hands = closed_hands(hands, gap);
+        let answer = self.reaches_closed(table, &hands, gaps.without(gap), trick, tricks, need);
         Answer {
-            yes: answer.yes,
-            counts: counted(hands, left, answer.counts),
-            best: answer.best,
+            counts: opened(answer.counts, gap),
+            ..answer
         }
     }
 
-    /// The same of hands that are raised, of which the table may know it.
+    /// The same of hands of which the table may know it.
     #[cycle(search)]
-    fn reaches_raised(
+    fn reaches_kept(
         &mut self,
         table: &mut [Entry],
         hands: &[CardSet; 4],

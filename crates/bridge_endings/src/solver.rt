@@ -7,8 +7,8 @@ ghost use Rattle.bridge_endings.specs.CacheValue.{OfCache, Solving};
 
 use crate::bounds::{Bounds, narrowed};
 use crate::cache::Cache;
+use crate::closed::all_cards;
 use crate::ending::Ending;
-use crate::raised::all_cards;
 use crate::search::Search;
 use crate::table::{Entry, empty_table};
 use bridge_cards::{CardSet, Seat};

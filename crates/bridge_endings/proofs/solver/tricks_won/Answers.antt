@@ -1,4 +1,4 @@
-use Rattle.std.proofs.Common.{◌-◌, ◌*◌, ◌/◌, ◌∙◌, [], nat_le, refl, ap, subst, arith}
+use Rattle.std.proofs.Common.{◌*◌, ◌∙◌, [], nat_le, refl, ap, subst, arith}
 use Rattle.bridge_endings.specs.Worth.{dealt, worth_with}
 use Rattle.bridge_endings.specs.SearchValue.{IsAnswer}
 use Rattle.bridge_endings.proofs.Root.{worth_le}

@@ -1,13 +1,14 @@
-use Rattle.std.proofs.Common.{rules, subst, ◌≡◌, ◌<◌, ◌⊎◌, inl, inr, ◌-◌, ◌*◌, ◌++◌, ◌∷◌, not, [], length, refl, sym, ap, ◌∙◌, arith}
+use Rattle.std.proofs.Common.{subst, ◌≡◌, ◌<◌, ◌⊎◌, inl, inr, ◌-◌, ◌*◌, ◌++◌, ◌∷◌, not, [], length, refl, sym, ap, ◌∙◌, arith}
 use Rattle.std.proofs.lemmas.Bool.{cases_eq}
-use Rattle.bridge_cards.specs.declared.seat.Seat.{Seat}
-use Rattle.bridge_endings.specs.Worth.{dealt, after_playing}
+use Rattle.bridge_cards.proofs.CardCounts.{card_count_le}
+use Rattle.bridge_endings.specs.Worth.{after_playing}
 use Rattle.bridge_endings.specs.Left.{left_to}
+use Rattle.bridge_endings.specs.Agree.{IsDealtOut}
 use Rattle.bridge_endings.specs.SearchValue.{IsAnswer}
 use Rattle.bridge_endings.proofs.TwoAnswers.{other_answer, same_answer}
 use Rattle.bridge_endings.proofs.GoingOn.{goes_on_again, told_before}
 use Rattle.bridge_endings.proofs.Answered.{answered_step, fewer}
-use Rattle.bridge_endings.proofs.Reached.{foregone, foregone_first, none_legal, found, none_found, after_part, after_whole, sure_answer, raised_dealt, raised_answer}
+use Rattle.bridge_endings.proofs.Reached.{foregone, foregone_first, none_legal, found, none_found, after_part, after_whole, sure_answer, closed_dealt, closed_answer, not_there, fewer_gone}
 use Rattle.bridge_endings.proofs.search.Search.+search.Goals as goal
 
 pub reaches-returns-then-is_settled-clause-answer : goal.reaches-returns-then-is_settled-clause-answer
@@ -66,34 +67,6 @@ reaches_from-returns-clause-answer t c =
     sure_answer c.args.hands.now c.args.left c.requires.dealt c.args.self.now.trump c.args.leader c.in-Some.card c.upwards.result _ c.in-Some.ensures c.upwards.ensures
     c.args.tricks c.args.need (omega arith) (omega arith) c.is_sought.result c.is_sought.ensures
 
-pub reaches_from-reaches_raised-answer-requires : goal.reaches_from-reaches_raised-answer-requires
-reaches_from-reaches_raised-answer-requires t c = (
-  search rules,
-  (
-    c.requires.table,
-    (
-      raised_dealt c.args.hands.now c.raised-raised.result c.args.left c.all_cards-all.result c.requires.dealt c.raised-raised.ensures c.all_cards-all.ensures.all,
-      (
-        c.all_cards-all.ensures.all,
-        (
-          (c.new-trick.ensures.cards, c.new-trick.ensures.trump),
-          at (cases_eq c.args.need 0),
-        ),
-      ),
-    ),
-  ),
-)
-  where
-    at : (c.args.need ≡ 0) ⊎ (c.args.need ≡ 0 → ⊥) → 0 < c.args.need
-    at (inl none) = let never = sym c.if-is_settled.false ∙ c.is_settled.ensures.needless (ap length c.new-trick.ensures.cards) none in cc
-    at (inr some) = omega (arith, some)
-
-pub reaches_from-returns-2-clause-answer : goal.reaches_from-returns-2-clause-answer
-reaches_from-returns-2-clause-answer t c =
-    raised_answer c.args.self.now.trump c.args.tricks c.args.need c.args.hands.now c.raised-raised.result c.args.left c.counted.result _ c.args.leader c.reaches_raised-answer.result c.requires.dealt
-    c.raised-raised.ensures c.counted.ensures.upward c.counted.ensures.counted
-    (subst (λ (seat : Seat). IsAnswer c.args.self.now.trump (4 * c.args.tricks) c.args.need c.reaches_raised-answer.result (dealt c.raised-raised.result) seat []) c.new-trick.ensures.leader c.reaches_raised-answer.ensures.answer)
-
 pub reaches_with-returns-then-len-lt4-clause-answer : goal.reaches_with-returns-then-len-lt4-clause-answer
 reaches_with-returns-then-len-lt4-clause-answer t c =
     told_before c.args.self.now c.count_card.new.self
@@ -111,3 +84,41 @@ reaches_with-returns-clause-answer t c =
     (after_whole c.count_card.new.self.trump c.args.hands.now c.args.left c.without-left.result c.args.trick.now.leader c.args.trick.now.cards c.args.card c.args.tricks c.args.need c.without-left.ensures
     c.with-trick.result.leader c.winner-winner.result c.with-trick.result.cards c.need_after-need.result c.reaches_from-answer.result c.rank_that_counts.result c.union.result c.args.card c.with-trick.ensures.cards c.with-trick.ensures.leader (omega arith) (omega arith)
     (rw (← trump_is) c.winner-winner.ensures) c.need_after-need.ensures c.reaches_from-answer.ensures.answer (rw (← trump_is) c.rank_that_counts.ensures.rank) c.rank_that_counts.ensures.upward c.union.ensures.cards)
+
+pub reaches_from-reaches_closed-requires : goal.reaches_from-reaches_closed-requires
+reaches_from-reaches_closed-requires t c = (
+  omega (arith, card_count_le c.difference-gone.result),
+  (
+    c.requires.table,
+    (
+      subst IsDealtOut (sym c.cards_left-cards.ensures) c.requires.dealt,
+      (
+        (c.new-trick.ensures.cards, c.new-trick.ensures.trump),
+        at (cases_eq c.args.need 0),
+      ),
+    ),
+  ),
+)
+  where
+    at : (c.args.need ≡ 0) ⊎ (c.args.need ≡ 0 → ⊥) → 0 < c.args.need
+    at (inl none) = let never = sym c.if-is_settled.false ∙ c.is_settled.ensures.needless (ap length c.new-trick.ensures.cards) none in cc
+    at (inr some) = omega (arith, some)
+
+pub reaches_closed-reaches_closed-answer-requires : goal.reaches_closed-reaches_closed-answer-requires
+reaches_closed-reaches_closed-answer-requires t c = (
+  omega (arith, fewer_gone c.args.gone c.all_cards-all.result c.difference-gaps.result c.without.result c.in-Some.gap c.difference-gaps.ensures c.in-Some.ensures.card.0 c.in-Some.ensures.card.1 c.without.ensures),
+  (
+    c.requires.table,
+    (
+      closed_dealt c.args.hands.now c.closed_hands-hands.result c.in-Some.gap c.in-Some.ensures.card.0 c.requires.dealt
+          (not_there c.args.hands.now c.args.gone c.all_cards-all.result c.difference-gaps.result c.in-Some.gap c.difference-gaps.ensures (c.all_cards-all.ensures.held c.in-Some.gap) c.in-Some.ensures.card.1) c.closed_hands-hands.ensures,
+      (c.requires.first, c.requires.some),
+    ),
+  ),
+)
+
+pub reaches_closed-returns-clause-answer : goal.reaches_closed-returns-clause-answer
+reaches_closed-returns-clause-answer t c =
+    closed_answer c.args.hands.now c.closed_hands-hands.result c.in-Some.gap c.in-Some.ensures.card.0 c.requires.dealt
+    (not_there c.args.hands.now c.args.gone c.all_cards-all.result c.difference-gaps.result c.in-Some.gap c.difference-gaps.ensures (c.all_cards-all.ensures.held c.in-Some.gap) c.in-Some.ensures.card.1) c.closed_hands-hands.ensures
+    c.args.self.now.trump c.args.tricks c.args.need c.opened.result _ c.args.trick.now.leader c.reaches_closed-answer.result c.opened.ensures c.reaches_closed-answer.ensures.answer

@@ -1,8 +1,8 @@
 use Rattle.std.proofs.Common.{◌+◌, ◌-◌, nat_le, ap, ◌∙◌, arith}
 use Rattle.std.proofs.lemmas.Nat.{one_shl}
 use Rattle.bridge_cards.specs.CardSet.{has_card}
-use Rattle.bridge_endings.proofs.RaisedHands.{ones_few, ones_some, up_to_bits}
-use Rattle.bridge_endings.proofs.raised.up_to.Goals as goal
+use Rattle.bridge_endings.proofs.MovedCards.{ones_few, ones_some, up_to_bits}
+use Rattle.bridge_endings.proofs.closed.up_to.Goals as goal
 
 pub overflow_sub-bits : goal.overflow_sub-bits
 overflow_sub-bits c = omega (arith, one_shl (c.number.result + 1) 64 (omega arith), ones_some c.number.result)
