@@ -15,6 +15,7 @@ mod closed;
 pub mod deal_solver;
 pub mod ending;
 mod found;
+mod leads;
 mod like_hands;
 mod move_order;
 mod reaching;

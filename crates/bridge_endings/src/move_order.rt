@@ -3,21 +3,34 @@ ghost use Rattle.std.specs.Prelude.{◌≡◌, ◌<◌, ◌↔◌, ℕ, true, Is
 ghost use Rattle.bridge_cards.specs.Card.{IsCard};
 ghost use Rattle.bridge_cards.specs.CardSet.{has_card};
 
+use crate::leads::Leads;
 use crate::search::{Search, held};
 use crate::trick::Trick;
-use bridge_cards::{Card, CardSet, Seat, Suit};
+use bridge_cards::{Card, CardSet, SUIT_CARDS, Suit};
 
 /// What is seen of the other hands before a card is played.
-#[derive(Clone, Copy, Default)]
+#[derive(Clone, Copy)]
 pub struct Seen {
     /// The card that was best before, if one was.
     pub best: CardSet,
-    /// The cards of suits that no opponent ruffs, if one is to be led.
-    pub safe: CardSet,
-    /// Those of them whose suit's highest card left is on the leader's side.
-    pub high: CardSet,
+    /// How good it is to lead each suit, if a card is to be led.
+    pub leads: Leads,
     /// The best card of the next hand, if it is an opponent's and would win so far.
     pub next: Option<Card>,
+    /// Whether the partner, who plays last, beats that and what wins so far.
+    pub partner: bool,
+}
+
+impl Seen {
+    /// What is seen where there is no choice.
+    pub fn nothing() -> Seen {
+        Seen {
+            best: CardSet::new(),
+            leads: Leads::none(),
+            next: None,
+            partner: false,
+        }
+    }
 }
 
 impl Search {
@@ -30,35 +43,18 @@ impl Search {
         trick: &Trick,
         best: Option<Card>,
     ) -> Seen {
+        let mut seen = Seen::nothing();
         if !is_choice(cards) {
-            return Seen::default();
+            return seen;
         }
         match trick.led() {
-            None => Seen {
-                best: best.map_or(CardSet::new(), |card| CardSet::new().with(card)),
-                ..self.leads(hands, left, trick.turn())
-            },
-            Some(led) => Seen {
-                next: self.best_of_next(hands, left, trick, led),
-                ..Seen::default()
-            },
-        }
-    }
-
-    /// Which cards are good to lead.
-    fn leads(&self, hands: &[CardSet; 4], left: CardSet, leader: Seat) -> Seen {
-        let mut seen = Seen::default();
-        let side = held(hands, left, leader).union(held(hands, left, leader.partner()));
-        let next = held(hands, left, leader.left());
-        let last = held(hands, left, leader.clockwise(3));
-        for suit in Suit::ALL {
-            if self.ruffs(next, suit) || self.ruffs(last, suit) {
-                continue;
+            None => {
+                seen.best = best.map_or(CardSet::new(), |card| CardSet::new().with(card));
+                seen.leads = self.leads(hands, left, trick.turn());
             }
-            let cards = left.of_suit(suit);
-            seen.safe = seen.safe.union(cards);
-            if cards.highest().is_some_and(|card| side.has(card)) {
-                seen.high = seen.high.union(cards);
+            Some(led) => {
+                seen.next = self.best_of_next(hands, left, trick, led);
+                seen.partner = self.partner_beats(hands, left, trick, led, seen.next);
             }
         }
         seen
@@ -76,12 +72,7 @@ impl Search {
             return None;
         }
         let next = held(hands, left, trick.turn().left());
-        let suited = next.of_suit(led.suit());
-        let best = if suited.is_empty() {
-            next.of_suit(self.trump?).highest()?
-        } else {
-            suited.highest()?
-        };
+        let best = self.best_of(next, led)?;
         if trick.is_beaten_by(best) {
             Some(best)
         } else {
@@ -89,12 +80,32 @@ impl Search {
         }
     }
 
-    /// Whether a hand has trumps and none of the suit.
-    fn ruffs(&self, hand: CardSet, suit: Suit) -> bool {
-        hand.of_suit(suit).is_empty()
-            && self
-                .trump
-                .is_some_and(|trump| !hand.of_suit(trump).is_empty())
+    /// Whether the partner of the second hand has a card that beats what wins so far and the best card of the hand between.
+    fn partner_beats(
+        &self,
+        hands: &[CardSet; 4],
+        left: CardSet,
+        trick: &Trick,
+        led: Card,
+        next: Option<Card>,
+    ) -> bool {
+        if trick.len() != 1 {
+            return false;
+        }
+        let partner = held(hands, left, trick.turn().partner());
+        let Some(best) = self.best_of(partner, led) else {
+            return false;
+        };
+        let other = next.unwrap_or(trick.winning_card());
+        !trick.winners(CardSet::new().with(best), other).is_empty()
+    }
+
+    /// The best card that a hand may play where that card is led: of its suit the highest, or else the highest trump.
+    fn best_of(&self, hand: CardSet, led: Card) -> Option<Card> {
+        match hand.of_suit(led.suit()).highest() {
+            Some(card) => Some(card),
+            None => hand.of_suit(self.trump?).highest(),
+        }
     }
 }
 
@@ -118,15 +129,17 @@ pub fn next_card(cards: CardSet, trick: &Trick, seen: &Seen) -> Option<Card>
         return Some(best);
     }
     let Some(led) = trick.led() else {
-        return Some(next_lead(cards, lowest, seen));
+        return Some(seen.leads.first(cards, lowest));
     };
-    if let Some(card) = lowest_winner(cards, trick, seen.next) {
-        return Some(card);
+    let losers = cards.difference(trick.winners(cards, trick.winning_card()));
+    if seen.partner
+        && let Some(loser) = losers.lowest()
+    {
+        return Some(low_card(losers, loser, led));
     }
-    if lowest.suit() == led.suit() {
-        Some(lowest)
-    } else {
-        Some(lowest_rank(cards, lowest))
+    match lowest_winner(cards, trick, seen.next) {
+        Some(card) => Some(card),
+        None => Some(low_card(cards, lowest, led)),
     }
 }
 
@@ -147,62 +160,32 @@ fn lowest_winner(cards: CardSet, trick: &Trick, next: Option<Card>) -> Option<Ca
     }
 }
 
-/// The highest card of a suit of which the side has the highest, otherwise the lowest that no opponent ruffs, otherwise
-/// the highest; the other card is one of them.
-fn next_lead(cards: CardSet, other: Card, seen: &Seen) -> Card
+/// The lowest of the cards, where they are of the suit led, or else the lowest of a suit with many low cards; the other card
+/// is the lowest of them.
+fn low_card(cards: CardSet, other: Card, led: Card) -> Card
     requires { IsCard other × IsTrue (has_card cards other) }
     ensures { IsCard result × IsTrue (has_card cards result) }
 {
-    let high = cards.intersection(seen.high);
-    if let Some(card) = high.lowest() {
-        return highest_rank(high, card);
+    if other.suit() == led.suit() {
+        return other;
     }
-    let safe = cards.intersection(seen.safe);
-    match safe.lowest() {
-        Some(card) => lowest_rank(safe, card),
-        None => highest_rank(cards, other),
+    let mut low = other;
+    let mut most = i16::MIN;
+    for suit in Suit::ALL {
+        let suited = cards.of_suit(suit);
+        if let Some(card) = suited.lowest() {
+            let worth = discard_worth(suited, card);
+            if worth > most {
+                most = worth;
+                low = card;
+            }
+        }
     }
+    low
 }
 
-/// The card of the highest rank, of equal ranks that of the highest suit; the other card is one of them.
-fn highest_rank(cards: CardSet, other: Card) -> Card
-    requires { IsCard other × IsTrue (has_card cards other) }
-    ensures { IsCard result × IsTrue (has_card cards result) }
-{
-    let highest = 63_u32.saturating_sub(ranks(cards).leading_zeros());
-    match of_rank(cards, highest).highest() {
-        Some(card) => card,
-        None => other,
-    }
-}
-
-/// The card of the lowest rank, of equal ranks that of the lowest suit; the other card is one of them.
-fn lowest_rank(cards: CardSet, other: Card) -> Card
-    requires { IsCard other × IsTrue (has_card cards other) }
-    ensures { IsCard result × IsTrue (has_card cards result) }
-{
-    let lowest = ranks(cards).trailing_zeros().min(63);
-    match of_rank(cards, lowest).lowest() {
-        Some(card) => card,
-        None => other,
-    }
-}
-
-/// The number in which bit n says whether the cards have one of the rank so many ranks above the 2.
-fn ranks(cards: CardSet) -> u64 {
-    let bits = cards.bits();
-    (bits | bits >> 13 | bits >> 26 | bits >> 39) & 0x1fff
-}
-
-/// Those of the cards that have the rank so many ranks above the 2.
-fn of_rank(cards: CardSet, above: u32) -> CardSet
-    requires { above < 64 }
-    ensures { (card : ℕ) → has_card result card ≡ true → has_card cards card ≡ true }
-{
-    // The 2 of each suit.
-    let twos: u64 = 0x80_0400_2001;
-    match CardSet::from_bits(twos << above) {
-        Some(rank) => cards.intersection(rank),
-        None => CardSet::new(),
-    }
+/// How good it is to throw the card away: the more cards of its suit the hand has, and the lower it is.
+fn discard_worth(suited: CardSet, card: Card) -> i16 {
+    let length = suited.len().min(13) as i16;
+    4 * length - 2 * i16::from(card.number() % SUIT_CARDS)
 }
