@@ -1,8 +1,8 @@
 -- Counts of cards: under other names, and of those that are small and those that count.
-use Rattle.std.proofs.Common.{◌≡◌, ℕ, zero, suc, ◌+◌, ◌<◌, ◌⊎◌, inl, inr, Bool, true, false, not, ◌&&◌, ◌||◌, ◌==◌, count_by, refl, sym, ap, ◌∙◌, arith}
+use Rattle.std.proofs.Common.{◌≡◌, ℕ, zero, suc, ◌+◌, ◌<◌, ◌≤◌, ◌⊎◌, inl, inr, Bool, true, false, not, ◌&&◌, ◌||◌, ◌==◌, count_by, refl, sym, ap, ◌∙◌, arith}
 use Rattle.std.specs.List.{list_any}
 use Rattle.std.proofs.Math.Path.{fun_ext}
-use Rattle.std.proofs.lemmas.Bool.{cases_eq, eq-eqb, ne_eqb, and_parts}
+use Rattle.std.proofs.lemmas.Bool.{cases_eq, eqb-true, eq-eqb, ne_eqb, and_parts}
 use Rattle.bridge_cards.specs.declared.seat.Seat.{Seat}
 use Rattle.bridge_cards.specs.Card.{same_suit}
 use Rattle.bridge_cards.specs.CardSet.{deck}
@@ -15,6 +15,37 @@ use Rattle.bridge_endings.proofs.Partners.{some_counted, none_counted, counted_c
 both : (a b : Bool) → a ≡ true → b ≡ true → (a && b) ≡ true
 both true b p q = q
 both false b p q = cc
+
+-- no more cards pass than there are places for them
+pub count_within : (k a : ℕ) (p : ℕ → Bool) → a + k ≤ 52 → ((x : ℕ) → p x ≡ true → (a ≤ x) × (x < a + k)) → count_by p deck ≤ k
+count_within zero a p few each = at (list_any p deck) refl
+  where
+    at : (is : Bool) → list_any p deck ≡ is → count_by p deck ≤ 0
+    at true is = let some = some_such p is in let where_is = each some.0 some.1 in absurd (omega (arith, where_is.0, where_is.1))
+    at false is = omega (arith, none_counted p deck is)
+count_within (suc k) a p few each = at (count_within k a (λ x. p x && not (x == a + k)) (omega (arith, few)) less) (p (a + k)) refl
+  where
+    less : (x : ℕ) → (p x && not (x == a + k)) ≡ true → (a ≤ x) × (x < a + k)
+    less x has =
+        let its = and_parts (p x) (not (x == a + k)) has in
+        let where_is = each x its.0 in
+        (where_is.0, below x where_is.1 (cases_eq x (a + k)) its.1)
+      where
+        below : (x : ℕ) → x < a + suc k → (x ≡ a + k) ⊎ (x ≡ a + k → ⊥) → not (x == a + k) ≡ true → x < a + k
+        below x within (inl same) differs = let never = sym (ap not (eq-eqb x (a + k) same)) ∙ differs in cc
+        below x within (inr differ) differs = omega (arith, within, differ)
+
+    gone : p (a + k) ≡ false → (x : ℕ) (is : Bool) → (x == a + k) ≡ is → p x ≡ (p x && not (x == a + k))
+    gone none x true is = ap p (eqb-true x (a + k) is) ∙ none ∙ sym (ap (λ b. b && not (x == a + k)) (ap p (eqb-true x (a + k) is) ∙ none))
+    gone none x false is = sym (ap (λ b. p x && not b) is ∙ and_true (p x))
+      where
+        and_true : (b : Bool) → (b && true) ≡ b
+        and_true true = refl
+        and_true false = refl
+
+    at : count_by (λ x. p x && not (x == a + k)) deck ≤ k → (is : Bool) → p (a + k) ≡ is → count_by p deck ≤ suc k
+    at rest true is = omega (arith, rest, count_by-without p (λ x. p x && not (x == a + k)) (a + k) (omega (arith, few)) is (λ x. refl))
+    at rest false is = omega (arith, rest, ap (λ r. count_by r deck) (fun_ext {B = λ _. Bool} (λ x. gone is x (x == a + k) refl)))
 
 -- as many cards pass under other names
 pub count_named : (n : ℕ) (name : ℕ → ℕ) (p q : ℕ → Bool) → ((x : ℕ) → p x ≡ true → x < 52) → ((y : ℕ) → q y ≡ true → y < 52) → ((x : ℕ) → p x ≡ true → q (name x) ≡ true) → ((y : ℕ) → q y ≡ true → (x : ℕ) × (p x ≡ true) × (name x ≡ y)) → ((x y : ℕ) → p x ≡ true → p y ≡ true → name x ≡ name y → x ≡ y) → count_by p deck ≡ n → count_by q deck ≡ n

@@ -17,7 +17,7 @@ use Rattle.bridge_endings.specs.declared.found.Found.{Found}
 use Rattle.bridge_endings.specs.declared.table.Entry.{Entry}
 use Rattle.bridge_endings.specs.Between.{IsBounded}
 use Rattle.bridge_endings.specs.Worth.{dealt, worth_with}
-use Rattle.bridge_endings.specs.Left.{suit_length, AreAsLong, HoldAlike}
+use Rattle.bridge_endings.specs.Left.{suit_length, all_lengths, AreAsLong, HoldAlike}
 use Rattle.bridge_endings.specs.Agree.{IsDealtOut, Agree, Settles}
 use Rattle.bridge_endings.specs.SearchValue.{IsAnswer, IsFound, IsTable, IsNothing}
 use Rattle.bridge_endings.proofs.WorthSteps.{worth_with_le}
@@ -73,11 +73,12 @@ module _ (trump : Option Suit) (tricks need : ℕ) (counts : ℕ) (bounds : Boun
   told_no beyond other out (c ∷ played) same same_trick = absurd (omega (arith, same_trick.long))
 
 -- an answer gives bounds
-pub answer_found : (hands : List ℕ) (trump : Option Suit) (tricks need : ℕ) (leader : Seat) (answer : Answer) (bounds : Bounds) → IsAnswer trump (4 * tricks) need answer (dealt hands) leader []
+pub answer_found : (hands : List ℕ) (lengths best : ℕ) → lengths ≡ all_lengths hands → (trump : Option Suit) (tricks need : ℕ) (leader : Seat) (answer : Answer) (bounds : Bounds) → IsAnswer trump (4 * tricks) need answer (dealt hands) leader []
     → ((worth : ℕ) → IsBounded worth (record { least = 0; most = tricks }) → answer.yes ≡ nat_le need worth → IsBounded worth bounds)
-    → IsFound (record { hands = hands; counts = answer.counts; trump = trump; leader = leader; tricks = tricks; bounds = bounds })
-answer_found hands trump tricks need leader answer bounds is narrowed = record {
+    → IsFound (record { hands = hands; counts = answer.counts; lengths = lengths; trump = trump; leader = leader; tricks = tricks; bounds = bounds; best = best })
+answer_found hands lengths best are trump tricks need leader answer bounds is narrowed = record {
   upward = is.upward;
+  lengths = are;
   bounded = λ other out same.
       narrowed (worth_with trump (4 * tricks) other leader [])
       (record { least = omega arith; most = omega (arith, worth_with_le trump (4 * tricks) other leader [] (omega arith)) })
@@ -87,6 +88,7 @@ answer_found hands trump tricks need leader answer bounds is narrowed = record {
 -- of no tricks none is won
 pub nothing_found : (found : Found) → IsNothing found → IsFound found
 nothing_found found is = record {
+  lengths = is.lengths;
   upward = λ card above suit less does.
       let none = sym does ∙ ap (λ cards. has_card cards card) is.counts ∙ has_card-zero card in
       cc;

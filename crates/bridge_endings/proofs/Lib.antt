@@ -9,6 +9,7 @@ pub mod AgreedTrick
 pub mod Settling
 pub mod Answered
 pub mod Counting
+pub mod Lengths
 pub mod Closing
 pub mod MovedCards
 pub mod Finding

@@ -11,6 +11,7 @@ use Rattle.bridge_endings.specs.declared.table.Entry.{Entry}
 use Rattle.bridge_endings.specs.declared.search.Search.{Search}
 use Rattle.bridge_endings.specs.Worth.{dealt, worth_with}
 use Rattle.bridge_endings.specs.Agree.{IsDealtOut, IsUpward, Agree, Settles}
+use Rattle.bridge_endings.specs.Left.{all_lengths}
 use Rattle.bridge_endings.specs.Between.{IsBounded}
 
 -- a search after some cards were tried: of the same trump suit, and no fewer were tried
@@ -23,9 +24,10 @@ pub record IsAnswer (trump : Option Suit) (cards need : ℕ) (answer : Answer) (
   pub upward : IsUpward (has_card answer.counts)
   pub settled : Settles trump cards need (has_card answer.counts) answer.yes held leader trick
 
--- the bounds are true of each position that agrees with these hands in the cards that counted
+-- the lengths are those of the hands, and the bounds are true of each position that agrees with these hands in the cards that counted
 pub record IsFound (found : Found) : Type 0 where
   pub upward : IsUpward (has_card found.counts)
+  pub lengths : found.lengths ≡ all_lengths found.hands
   pub bounded : (other : Seat → ℕ → Bool) → IsDealtOut other → Agree (has_card found.counts) (dealt found.hands) other
       → IsBounded (worth_with found.trump (4 * found.tricks) other found.leader []) found.bounds
 
@@ -43,6 +45,7 @@ pub record IsTable (table : List Entry) : Type 0 where
 -- of no tricks none is won
 pub record IsNothing (found : Found) : Type 0 where
   pub tricks : found.tricks ≡ 0
+  pub lengths : found.lengths ≡ all_lengths found.hands
   pub counts : found.counts ≡ 0
   pub least : found.bounds.least ≡ 0
   pub most : found.bounds.most ≡ 0

@@ -5,11 +5,12 @@ ghost use Rattle.bridge_cards.specs.CardSet.{has_card};
 ghost use Rattle.bridge_endings.specs.Worth.{dealt, worth_with};
 ghost use Rattle.bridge_endings.specs.Agree.{IsDealtOut, Agree};
 ghost use Rattle.bridge_endings.specs.Between.{IsBounded};
+ghost use Rattle.bridge_endings.specs.Left.{all_lengths};
 ghost use Rattle.bridge_endings.specs.SearchValue.{IsAnswer, IsFound, IsNothing, Tells};
 
 use crate::answer::Answer;
 use crate::bounds::{Bounds, narrowed};
-use crate::like_hands::{are_as_long, hold_alike};
+use crate::like_hands::{hold_alike, lengths_of};
 use bridge_cards::{Card, CardSet, Seat, Suit};
 
 /// What something found tells of whether so many tricks are reached.
@@ -30,6 +31,8 @@ pub struct Found {
     pub hands: [CardSet; 4],
     /// Their cards that counted: the same is true where each hand has as many cards of each suit, and these are where they are.
     pub counts: CardSet,
+    /// How many cards of each suit they have.
+    pub lengths: u64,
     /// The trump suit, if there is one.
     pub trump: Option<Suit>,
     /// The seat to lead.
@@ -38,6 +41,8 @@ pub struct Found {
     pub tricks: u8,
     /// Bounds of what North and South win of them.
     pub bounds: Bounds,
+    /// The card to try first the next time.
+    pub best: Card,
 }
 
 impl Found {
@@ -45,19 +50,23 @@ impl Found {
     pub fn nothing() -> Found
         ensures { IsNothing result }
     {
+        let hands = [CardSet::new(); 4];
         Found {
-            hands: [CardSet::new(); 4],
+            hands,
             counts: CardSet::new(),
+            lengths: lengths_of(&hands),
             trump: None,
             leader: Seat::North,
             tricks: 0,
             bounds: Bounds { least: 0, most: 0 },
+            best: Card::default(),
         }
     }
 
     /// What an answer tells of the hands.
     pub fn by(
         hands: &[CardSet; 4],
+        lengths: u64,
         trump: Option<Suit>,
         leader: Seat,
         tricks: u8,
@@ -65,6 +74,7 @@ impl Found {
         answer: &Answer,
     ) -> Found
         requires some { 0 < need }
+        requires lengths { lengths ≡ all_lengths hands.now }
         requires answer { IsAnswer trump (4 * tricks) need answer.now (dealt hands.now) leader [] }
         ensures { IsFound result }
     {
@@ -75,10 +85,12 @@ impl Found {
         Found {
             hands: *hands,
             counts: answer.counts,
+            lengths,
             trump,
             leader,
             tricks,
             bounds: narrowed(none, need, answer.yes),
+            best: answer.best,
         }
     }
 
@@ -86,15 +98,17 @@ impl Found {
     pub fn tells(
         &self,
         hands: &[CardSet; 4],
+        lengths: u64,
         trump: Option<Suit>,
         leader: Seat,
         tricks: u8,
         need: u8,
     ) -> Told
-        requires { IsFound self.now }
+        requires found { IsFound self.now }
+        requires lengths { lengths ≡ all_lengths hands.now }
         ensures { Tells trump (4 * tricks) need (dealt hands.now) leader result }
     {
-        if !self.is_of(hands, trump, leader, tricks) {
+        if !self.is_of(hands, lengths, trump, leader, tricks) {
             return Told::Other;
         }
         if need <= self.bounds.least {
@@ -124,7 +138,13 @@ impl Found {
         ensures { IfSome result (λ both. IsFound both) }
     {
         if self.counts != other.counts
-            || !other.is_of(&self.hands, self.trump, self.leader, self.tricks)
+            || !other.is_of(
+                &self.hands,
+                self.lengths,
+                self.trump,
+                self.leader,
+                self.tricks,
+            )
         {
             return None;
         }
@@ -139,17 +159,25 @@ impl Found {
 
     /// Whether it is true of the hands too: trumps, leader and tricks are the same, the hands have as many cards of each suit,
     /// and the cards that counted are where they were.
-    fn is_of(&self, hands: &[CardSet; 4], trump: Option<Suit>, leader: Seat, tricks: u8) -> bool
-        requires { IsFound self.now }
+    fn is_of(
+        &self,
+        hands: &[CardSet; 4],
+        lengths: u64,
+        trump: Option<Suit>,
+        leader: Seat,
+        tricks: u8,
+    ) -> bool
+        requires found { IsFound self.now }
+        requires lengths { lengths ≡ all_lengths hands.now }
         ensures { IsTrue result → (other : Seat → ℕ → Bool) → IsDealtOut other → Agree (has_card self.now.counts) (dealt hands.now) other
             → IsBounded (worth_with trump (4 * tricks) other leader []) self.now.bounds }
     {
-        if self.leader != leader || self.tricks != tricks || self.trump != trump {
+        if self.lengths != lengths || self.leader != leader {
             return false;
         }
-        if !hold_alike(&self.hands, hands, self.counts) {
+        if self.tricks != tricks || self.trump != trump {
             return false;
         }
-        are_as_long(&self.hands, hands)
+        hold_alike(&self.hands, hands, self.counts)
     }
 }

@@ -13,7 +13,7 @@ pub struct Leads {
     tops: CardSet,
     /// By suits, how good it is to lead that card.
     top: [i16; 4],
-    /// By suits, how good it is to lead the lowest, if that is a 2.
+    /// By suits, how good it is to lead a 2; a card is worth less by its rank.
     low: [i16; 4],
 }
 
@@ -145,4 +145,9 @@ impl Search {
                 .trump
                 .is_some_and(|trump| !hand.of_suit(trump).is_empty())
     }
+}
+
+/// How much a card of a suit is worth more, since it is lower among those left than by its rank.
+fn gone_worth(cards: CardSet) -> i16 {
+    8 * (13 - cards.len().min(13) as i16)
 }

@@ -1,8 +1,8 @@
 //! Hands that are alike down to the cards that count.
-ghost use Rattle.std.specs.Prelude.{◌≡◌, IsTrue};
+ghost use Rattle.std.specs.Prelude.{◌≡◌, ◌<◌, ◌≤◌, IsTrue};
 ghost use Rattle.bridge_cards.specs.declared.seat.Seat.{Seat};
 ghost use Rattle.bridge_cards.specs.Deal.{hand_at};
-ghost use Rattle.bridge_endings.specs.Left.{suit_length, AreAsLong, HoldAlike};
+ghost use Rattle.bridge_endings.specs.Left.{suit_length, lengths_in, all_lengths, HoldAlike};
 
 use bridge_cards::{CardSet, Suit};
 
@@ -25,34 +25,30 @@ fn holds_alike(hand: CardSet, other: CardSet, counts: CardSet) -> bool
     hand.intersection(counts) == other.intersection(counts)
 }
 
-/// Whether each hand has as many cards of each suit as the other.
-pub fn are_as_long(hands: &[CardSet; 4], others: &[CardSet; 4]) -> bool
-    ensures { IsTrue result → (seat : Seat) → AreAsLong (hand_at hands.now seat) (hand_at others.now seat) }
+/// How many cards of each suit each hand has, in one number.
+pub fn lengths_of(hands: &[CardSet; 4]) -> u64
+    ensures { result ≡ all_lengths hands.now }
 {
-    for seat in 0..4_usize {
-        if !is_as_long(hands[seat], others[seat]) {
-            return false;
-        }
-    }
-    true
+    let [north, east, south, west] = hands;
+    let side = lengths_in(*north) * 65_536 + lengths_in(*east);
+    let other = lengths_in(*south) * 65_536 + lengths_in(*west);
+    side * 4_294_967_296 + other
 }
 
 /// The same of one hand.
-fn is_as_long(hand: CardSet, other: CardSet) -> bool
-    ensures { IsTrue result → AreAsLong hand other }
+fn lengths_in(hand: CardSet) -> u64
+    ensures lengths { result ≡ lengths_in hand }
+    ensures few { result < 65536 }
 {
-    if !is_as_long_in(hand, other, Suit::Clubs)
-        || !is_as_long_in(hand, other, Suit::Diamonds)
-        || !is_as_long_in(hand, other, Suit::Hearts)
-    {
-        return false;
-    }
-    is_as_long_in(hand, other, Suit::Spades)
+    let minor = length_in(hand, Suit::Clubs) * 16 + length_in(hand, Suit::Diamonds);
+    let major = length_in(hand, Suit::Hearts) * 16 + length_in(hand, Suit::Spades);
+    minor * 256 + major
 }
 
-/// The same of one suit.
-fn is_as_long_in(hand: CardSet, other: CardSet, suit: Suit) -> bool
-    ensures { IsTrue result → suit_length hand suit ≡ suit_length other suit }
+/// How many cards of the suit the hand has.
+fn length_in(hand: CardSet, suit: Suit) -> u64
+    ensures length { result ≡ suit_length hand suit }
+    ensures few { result ≤ 13 }
 {
-    hand.of_suit(suit).len() == other.of_suit(suit).len()
+    hand.of_suit(suit).len() as u64
 }

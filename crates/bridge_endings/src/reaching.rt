@@ -9,10 +9,11 @@ ghost use Rattle.bridge_endings.specs.SearchValue.{GoesOn, IsAnswer, IsTable};
 use crate::answer::{Answer, still_to_try, upwards};
 use crate::closed::{all_cards, cards_left, closed_hands, opened};
 use crate::found::Found;
+use crate::like_hands::lengths_of;
 use crate::move_order::next_card;
 use crate::search::{Search, legal_cards};
 use crate::sure_card::settled_by_one;
-use crate::table::{Entry, key_of, look_up, note};
+use crate::table::{Entry, look_up, note};
 use crate::trick::Trick;
 use bridge_cards::{Card, CardSet, Seat, Side};
 
@@ -108,14 +109,14 @@ impl Search {
         ensures table { IsTable table.new }
     {
         let leader = trick.turn();
-        let key = key_of(hands, self.trump, leader);
-        let known = look_up(table, key, hands, self.trump, leader, tricks, need);
+        let lengths = lengths_of(hands);
+        let known = look_up(table, hands, lengths, self.trump, leader, tricks, need);
         if let Some(answer) = known.answer {
             return answer;
         }
         let answer = self.reaches(table, hands, left, trick, tricks, need, known.best);
-        let found = Found::by(hands, self.trump, leader, tricks, need, &answer);
-        note(table, key, &found, answer.best, known.place, &mut self.last);
+        let found = Found::by(hands, lengths, self.trump, leader, tricks, need, &answer);
+        note(table, &found, known.place, &mut self.last);
         answer
     }
 

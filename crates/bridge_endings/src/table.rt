@@ -1,6 +1,7 @@
 //! The table of a search: what it has found, in lists of what is alike.
 ghost use Rattle.std.specs.Prelude.{◌≡◌, ◌*◌, ◌<◌, [], IfSome};
 ghost use Rattle.bridge_endings.specs.Worth.{dealt};
+ghost use Rattle.bridge_endings.specs.Left.{all_lengths};
 ghost use Rattle.bridge_endings.specs.SearchValue.{IsAnswer, IsFound, IsTable, Tells};
 
 use crate::answer::Answer;
@@ -18,10 +19,6 @@ const LOOKED_AT: usize = 100;
 pub struct Entry {
     /// What was found.
     pub found: Found,
-    /// The card to try first the next time.
-    pub best: Card,
-    /// The key of its hands.
-    pub key: u64,
     /// Where the next entry of its list stands; 0 where there is none.
     pub next: u32,
     /// Where the first entry stands of the list that begins here; 0 where there is none.
@@ -35,8 +32,6 @@ impl Entry {
     {
         Entry {
             found,
-            best: Card::default(),
-            key: 0,
             next: 0,
             first: 0,
         }
@@ -48,7 +43,7 @@ impl Entry {
 pub struct Known {
     /// The answer, if an entry tells it.
     pub answer: Option<Answer>,
-    /// The card to try first, if some hands with that key were met.
+    /// The card to try first, if some hands with those lengths were met.
     pub best: Option<Card>,
     /// Where an entry stands that is true of the hands and does not tell the answer; 0 where there is none.
     pub place: u32,
@@ -61,14 +56,11 @@ pub fn empty_table() -> [Entry; ENTRIES]
     [Entry::of(Found::nothing()); ENTRIES]
 }
 
-/// A number that hands have in common where they have as many cards of each suit, and trumps and the leader are the same.
-pub fn key_of(hands: &[CardSet; 4], trump: Option<Suit>, leader: Seat) -> u64 {
-    let mut lengths: u64 = 0;
-    for hand in hands {
-        for suit in Suit::ALL {
-            lengths = lengths << 4 | hand.of_suit(suit).len() as u64;
-        }
-    }
+/// Where the list begins of hands with those lengths, where that suit is trumps and that seat leads, in a table of so many.
+fn slot(lengths: u64, trump: Option<Suit>, leader: Seat, entries: usize) -> usize
+    requires { 0 < entries }
+    ensures { result < entries }
+{
     let trump = match trump {
         None => 4,
         Some(suit) => u64::from(suit.number()),
@@ -77,32 +69,26 @@ pub fn key_of(hands: &[CardSet; 4], trump: Option<Suit>, leader: Seat) -> u64 {
     // An odd number without a pattern, as the fraction of the golden ratio: the upper bits of the products spread.
     let spread = 0x9e37_79b9_7f4a_7c15;
     let mixed = (lengths ^ lengths >> 32 ^ seat << 32).wrapping_mul(spread);
-    (mixed ^ mixed >> 29).wrapping_mul(spread)
+    let mixed = (mixed ^ mixed >> 29).wrapping_mul(spread);
+    (mixed >> 32) as usize % entries
 }
 
-/// Where the list of that key begins in a table of so many.
-fn slot(key: u64, entries: usize) -> usize
-    requires { 0 < entries }
-    ensures { result < entries }
-{
-    (key >> 32) as usize % entries
-}
-
-/// What the table knows of the hands with that key. An entry that tells the answer becomes the first of its list.
+/// What the table knows of the hands with those lengths. An entry that tells the answer becomes the first of its list.
 pub fn look_up(
     table: &mut [Entry],
-    key: u64,
     hands: &[CardSet; 4],
+    lengths: u64,
     trump: Option<Suit>,
     leader: Seat,
     tricks: u8,
     need: u8,
 ) -> Known
-    requires { IsTable table.old }
+    requires table { IsTable table.old }
+    requires lengths { lengths ≡ all_lengths hands.now }
     ensures answer { IfSome result.answer (λ answer. IsAnswer trump (4 * tricks) need answer (dealt hands.now) leader []) }
     ensures table { IsTable table.new }
 {
-    let slot = slot(key, table.len());
+    let slot = slot(lengths, trump, leader, table.len());
     let mut best = None;
     let mut place = 0;
     let mut before = 0;
@@ -112,8 +98,9 @@ pub fn look_up(
         if index == 0 || index >= table.len() {
             break;
         }
-        if table[index].key == key {
-            match table[index].found.tells(hands, trump, leader, tricks, need) {
+        let found = &table[index].found;
+        if found.lengths == lengths {
+            match found.tells(hands, lengths, trump, leader, tricks, need) {
                 Told::Answer(answer) => {
                     to_front(table, slot, before, next);
                     return Known {
@@ -124,10 +111,10 @@ pub fn look_up(
                 }
                 Told::Open => {
                     place = next;
-                    best = Some(table[index].best);
+                    best = Some(table[index].found.best);
                 }
                 Told::Other => {
-                    best = best.or(Some(table[index].best));
+                    best = best.or(Some(table[index].found.best));
                 }
             }
         }
@@ -177,20 +164,18 @@ fn set_first(table: &mut [Entry], slot: usize, first: u32)
 }
 
 /// Puts something found into the table, at that place, as the first of its list.
-fn put(table: &mut [Entry], key: u64, found: &Found, best: Card, place: u32)
+fn put(table: &mut [Entry], found: &Found, place: u32)
     requires table { IsTable table.old }
     requires found { IsFound found.now }
     ensures { IsTable table.new }
 {
-    let slot = slot(key, table.len());
+    let slot = slot(found.lengths, found.trump, found.leader, table.len());
     let index = place as usize;
     if index >= table.len() {
         return;
     }
     table[index] = Entry {
         found: *found,
-        best,
-        key,
         next: table[slot].first,
         first: table[index].first,
     };
@@ -199,7 +184,7 @@ fn put(table: &mut [Entry], key: u64, found: &Found, best: Card, place: u32)
 
 /// Keeps something found: in the entry at that place, if it is true of the same hands with the same cards that counted, or
 /// else in the next entry.
-pub fn note(table: &mut [Entry], key: u64, found: &Found, best: Card, place: u32, last: &mut u32)
+pub fn note(table: &mut [Entry], found: &Found, place: u32, last: &mut u32)
     requires table { IsTable table.old }
     requires found { IsFound found.now }
     ensures { IsTable table.new }
@@ -208,16 +193,12 @@ pub fn note(table: &mut [Entry], key: u64, found: &Found, best: Card, place: u32
     if index != 0 && index < table.len() {
         let old = table[index];
         if let Some(both) = found.with(&old.found) {
-            table[index] = Entry {
-                found: both,
-                best,
-                ..old
-            };
+            table[index] = Entry { found: both, ..old };
             return;
         }
     }
     *last = next_place(*last, table.len());
-    put(table, key, found, best, *last);
+    put(table, found, *last);
 }
 
 /// The place after that one; the first entry only begins a list.
