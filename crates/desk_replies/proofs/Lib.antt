@@ -1,0 +1,4 @@
+pub mod PlainTexts
+pub mod Parts
+pub mod Lines
+pub mod ClaimViews

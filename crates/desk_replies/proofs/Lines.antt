@@ -1,0 +1,38 @@
+-- Lines, one after another.
+use Rattle.std.proofs.Common.{◌≡◌, ℕ, ◌+◌, ◌<◌, List, [], ◌∷◌, ◌++◌, length, get_or, take, Result, Ok, Err, OnOk, refl, sym, ap, ◌∙◌, append_assoc, append-nil}
+use Rattle.std.specs.Prelude.{flat_map, codes}
+use Rattle.std.proofs.lemmas.List.{take_more}
+use Rattle.std.proofs.lemmas.List.Concat.{flat_map-append}
+use Rattle.line_text.specs.Lines.{lines_text}
+use Rattle.line_replies.specs.ReplyTexts.{listed_text}
+
+-- what follows from what holds at Ok holds at Ok
+pub then_ok : {A E P Q : Type 0} (r : Result A E) → (P → Q) → OnOk r P → OnOk r Q
+then_ok (Ok x) follows holds = follows holds
+then_ok (Err e) follows holds = tt
+
+-- the text of two lists of lines
+pub lines_append : (xs ys : List (List ℕ)) → lines_text (xs ++ ys) ≡ lines_text xs ++ lines_text ys
+lines_append [] ys = refl
+lines_append (x ∷ xs) ys =
+    ap (λ rest. x ++ 10 ∷ rest) (lines_append xs ys) ∙ sym (append_assoc x (10 ∷ lines_text xs) (lines_text ys))
+
+-- two lists of lines that were added
+pub two_added : (xs ys : List (List ℕ)) (a b c : List ℕ) → b ≡ a ++ lines_text xs → c ≡ b ++ lines_text ys → c ≡ a ++ lines_text (xs ++ ys)
+two_added xs ys a b c first second = rw (second, first, lines_append xs ys) (append_assoc a (lines_text xs) (lines_text ys))
+
+-- what stands around three lists of lines
+pub listed_three : (xs ys zs : List (List ℕ)) (a b c d e f : List ℕ) → b ≡ a ++ codes "OK\n" → c ≡ b ++ lines_text xs → d ≡ c ++ lines_text ys → e ≡ d ++ lines_text zs
+    → f ≡ e ++ codes ".\n" → f ≡ a ++ listed_text (xs ++ (ys ++ zs))
+listed_three xs ys zs a b c d e f one two three four five =
+    rw (five, four, three, two, one, lines_append (xs ++ (ys ++ zs)) (codes "." ∷ []), lines_append xs (ys ++ zs), lines_append ys zs) (simp append_assoc)
+
+-- the lines of one element more
+pub one_more : {X : Type 0} (lines : X → List (List ℕ)) (all : List X) (i : ℕ) (d : X) (a b c : List ℕ) → i < length all → b ≡ a ++ lines_text (flat_map lines (take i all))
+    → c ≡ b ++ lines_text (lines (get_or all i d)) → c ≡ a ++ lines_text (flat_map lines (take (i + 1) all))
+one_more lines all i d a b c within first second =
+    let more : flat_map lines (take (i + 1) all) ≡ flat_map lines (take i all) ++ lines (get_or all i d) =
+    ap (flat_map lines) (take_more all i d within)
+    ∙ flat_map-append lines (take i all) (get_or all i d ∷ [])
+    ∙ ap (λ last. flat_map lines (take i all) ++ last) (append-nil (lines (get_or all i d))) in
+    two_added (flat_map lines (take i all)) (lines (get_or all i d)) a b c first second ∙ ap (λ l. a ++ lines_text l) (sym more)

@@ -1,0 +1,117 @@
+-- What is told of the desk: to a player what concerns his table, to the director all calls.
+use Rattle.std.specs.Prelude.{ℕ, ◌-◌, ◌*◌, ◌==◌, if◌then◌else◌, List, [], ◌∷◌, ◌++◌, codes, flat_map, Option, Some, None, Result, Ok, Err}
+use Rattle.std.specs.Fmt.{decimal}
+use Rattle.line_text.specs.Refusal.{refusal_line}
+use Rattle.bridge_config.specs.ConfigValue.{Pair, player_name}
+use Rattle.session_rules.specs.declared.refused.Refused.{Refused as SessionRefused}
+use Rattle.session_rules.specs.declared.seating.Seating.{Seating}
+use Rattle.session_rules.specs.State.{SessionValue, seating_of}
+use Rattle.line_replies.specs.declared.short_reply.ShortReply.TheVariants.{Refused, BadLine}
+use Rattle.line_replies.specs.ReplyTexts.{short_text, spaced_line, listed_text}
+use Rattle.desk_replies.specs.declared.asked.Asked.{Asked}
+use Rattle.desk_replies.specs.declared.claims.SeenClaim.{SeenClaim}
+use Rattle.desk_replies.specs.declared.desk.Desk.{Desk}
+use Rattle.desk_replies.specs.declared.desk.RoundClock.{RoundClock}
+use Rattle.desk_replies.specs.declared.desk.StandingClaim.{StandingClaim}
+use Rattle.desk_replies.specs.declared.desk.Statement.{Statement}
+use Rattle.desk_replies.specs.declared.desk.TableCall.{TableCall}
+use Rattle.desk_replies.specs.declared.refused.DeskRefused.{DeskRefused}
+use Rattle.desk_replies.specs.declared.refused.DeskRefused.TheVariants.{Session, TooSoon}
+use Rattle.desk_replies.specs.Asked.{asked_of}
+use Rattle.desk_replies.specs.Claims.{claim_to}
+use Rattle.desk_replies.specs.Desk.{call_at, statement_at, is_said_with}
+use Rattle.desk_replies.specs.Taken.{Taken, taken, left_by}
+
+-- the director's notice, if there is one
+abbrev pub notice_lines : Option (List ℕ) → List (List ℕ)
+notice_lines None = []
+notice_lines (Some text) = spaced_line (codes "NOTICE") (text ∷ []) ∷ []
+
+-- how many seconds of a clock are left
+abbrev pub seconds_left : ℕ → RoundClock → ℕ
+seconds_left at clock = 60 * clock.minutes - (at - clock.begun)
+
+-- the seconds left of the round's clock, if there is one
+abbrev pub clock_lines : ℕ → Option RoundClock → List (List ℕ)
+clock_lines at None = []
+clock_lines at (Some clock) = spaced_line (codes "CLOCK") (decimal (seconds_left at clock) ∷ []) ∷ []
+
+-- the table, for how many seconds it has called, the pair and the name of the player who called, and what he said
+abbrev pub call_line : List Pair → ℕ → TableCall → List ℕ
+call_line pairs at call =
+    spaced_line (codes "CALL")
+    (decimal call.table ∷ decimal (at - call.since) ∷ decimal call.player.pair ∷ player_name pairs call.player.pair call.player.first ∷ call.text ∷ [])
+
+-- a call, if there is one
+abbrev pub call_lines : List Pair → ℕ → Option TableCall → List (List ℕ)
+call_lines pairs at None = []
+call_lines pairs at (Some call) = call_line pairs at call ∷ []
+
+-- what was said
+abbrev pub said_line : Statement → List ℕ
+said_line statement = spaced_line (codes "STATEMENT") (statement.text ∷ [])
+
+-- what was said with the claim that stands, if something was
+abbrev pub said_lines : Option StandingClaim → Option Statement → List (List ℕ)
+said_lines None statement = []
+said_lines (Some claim) None = []
+said_lines (Some claim) (Some statement) = if is_said_with claim (Some statement) then said_line statement ∷ [] else []
+
+-- the call of the table where a player sits
+abbrev pub own_call_lines : List Pair → Desk → ℕ → Result Seating SessionRefused → List (List ℕ)
+own_call_lines pairs desk at (Err refused) = []
+own_call_lines pairs desk at (Ok seating) = call_lines pairs at (call_at desk seating.table)
+
+-- what was said with the claim that he is shown there
+abbrev pub own_said_lines : Desk → Result SeenClaim SessionRefused → List (List ℕ)
+own_said_lines desk (Err refused) = []
+own_said_lines desk (Ok seen) = said_lines seen.claim (statement_at desk seen.table)
+
+-- what is told of his own table to the player of the key
+abbrev pub own_lines : SessionValue → Desk → ℕ → ℕ → List (List ℕ)
+own_lines s desk at key =
+    own_call_lines s.configuration.pairs desk at (seating_of s.configuration s.round key) ++ own_said_lines desk (claim_to s key)
+
+-- what the director is told: the calls of all tables, by table
+abbrev pub all_call_lines : SessionValue → Desk → ℕ → List (List ℕ)
+all_call_lines s desk at = flat_map (call_lines s.configuration.pairs at) desk.calls
+
+-- what concerns the holder of a key: his table, or the director all
+abbrev pub concerns : SessionValue → Desk → ℕ → ℕ → List (List ℕ)
+concerns s desk at key = if key == s.configuration.director then all_call_lines s desk at else own_lines s desk at key
+
+-- what is told to the holder of a key: the notice and the clock, as everybody is, and what concerns him
+abbrev pub lines_to : SessionValue → Desk → ℕ → ℕ → List (List ℕ)
+lines_to s desk at key = notice_lines desk.notice ++ (clock_lines at desk.clock ++ concerns s desk at key)
+
+-- the same as a text
+abbrev pub standing_text : SessionValue → Desk → ℕ → ℕ → List ℕ
+standing_text s desk at key = listed_text (lines_to s desk at key)
+
+-- the line of a refusal
+abbrev pub refused_text : DeskRefused → List ℕ
+refused_text (Session refused) = short_text (Refused refused)
+refused_text TooSoon = refusal_line 32 (codes "TooSoon")
+
+-- what is answered: what stands then, or why nothing is taken
+abbrev pub taken_text : SessionValue → ℕ → ℕ → Taken → List ℕ
+taken_text s at key (Err refused) = refused_text refused
+taken_text s at key (Ok desk) = standing_text s desk at key
+
+-- what is answered to what is asked
+abbrev pub asked_text : SessionValue → Desk → ℕ → Option Asked → List ℕ
+asked_text s desk at None = short_text BadLine
+asked_text s desk at (Some asked) = taken_text s at asked.key.0 (taken s desk at asked)
+
+-- what is answered to these bytes at a second
+abbrev pub desk_text : SessionValue → Desk → ℕ → List ℕ → List ℕ
+desk_text s desk at bytes = asked_text s desk at (asked_of bytes)
+
+-- what stands once that is answered
+abbrev pub desk_after_asked : SessionValue → Desk → ℕ → Option Asked → Desk
+desk_after_asked s desk at None = desk
+desk_after_asked s desk at (Some asked) = left_by desk (taken s desk at asked)
+
+-- what stands once these bytes are answered at a second
+abbrev pub desk_after : SessionValue → Desk → ℕ → List ℕ → Desk
+desk_after s desk at bytes = desk_after_asked s desk at (asked_of bytes)

@@ -1,0 +1,20 @@
+//! What stands beside the session, in the server's memory alone: calls for the director, his notice, the round's clock, and what
+//! was said with a claim.
+#![tactic(auto)]
+
+mod answering;
+mod asked;
+mod claims;
+mod desk;
+mod plain_text;
+mod refused;
+mod taking;
+mod telling;
+mod text;
+
+pub use answering::answer_desk;
+pub use asked::{Asked, Order, read_asked};
+pub use claims::SeenClaim;
+pub use desk::{Desk, RoundClock, StandingClaim, Statement, TableCall};
+pub use plain_text::PlainText;
+pub use refused::DeskRefused;
