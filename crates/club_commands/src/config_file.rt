@@ -47,8 +47,10 @@ pub fn read_text<R: Read>(reader: &mut R, text: &mut Text) -> Result<(), ServeFa
     ensures fault { IfErr result (λ fault. fault ≡ ReadFault) }
 {
     while text.len() < FILE_BYTES {
-        if !read_on(reader, text)? {
-            return Ok(());
+        match read_on(reader, text) {
+            Ok(true) => {}
+            Ok(false) => return Ok(()),
+            Err(fault) => return Err(fault),
         }
     }
     Ok(())
