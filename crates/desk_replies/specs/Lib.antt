@@ -4,3 +4,4 @@ pub mod Desk
 pub mod Claims
 pub mod Taken
 pub mod Told
+pub mod Laws
