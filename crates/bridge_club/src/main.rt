@@ -22,8 +22,8 @@ ghost use Rattle.club_commands.specs.Run.{HasRun, HasFailed, IsUsage};
 
 use club_commands::{run_words_with, status_of};
 use page_assets::{
-    BOARDS_SCRIPT, DIRECTOR_SCRIPT, PAGE, SHARED_SCRIPT, STYLE, TABLE_SCRIPT, TEXTS_SCRIPT,
-    UNKNOWN_PAGE, WRONG_HOST,
+    BOARDS_SCRIPT, DESK_SCRIPT, DIRECTOR_SCRIPT, PAGE, SHARED_SCRIPT, STYLE, TABLE_SCRIPT,
+    TEXTS_SCRIPT, UNKNOWN_PAGE, WRONG_HOST,
 };
 use std::alloc::Global;
 use std::fs::File;
@@ -47,6 +47,7 @@ fn club_texts() -> PageTexts
         shared_script: SHARED_SCRIPT,
         table_script: TABLE_SCRIPT,
         boards_script: BOARDS_SCRIPT,
+        desk_script: DESK_SCRIPT,
         director_script: DIRECTOR_SCRIPT,
         unknown_page: UNKNOWN_PAGE,
         wrong_host: WRONG_HOST,

@@ -22,7 +22,7 @@ use std::hash::RandomState;
 use std::io::{self, Write};
 use std::net::{Net, TcpListener, TcpStream};
 use std::time::Clock;
-use table_pages::{HostNames, PageTexts, TablePages, show_minutes};
+use table_pages::{HostNames, PageTexts, Seconds, ServerClock, TablePages, show_minutes};
 
 /// How the showing of pages ended, by whether the store has failed and by what the clock answered, which are handed in, since
 /// only so a clause can say what comes of them.
@@ -40,12 +40,16 @@ fn ended(failed: bool, shown: io::Result<()>) -> Result<(), RunFault>
 
 /// Shows pages for so many minutes, or until the store fails. The fault is that the store failed, or that the clock cannot be
 /// read.
-pub fn show_pages<N: Net<Listener = TcpListener, Stream = TcpStream> + Clock, D: SectorDisk + Drop>(
+pub fn show_pages<
+    N: Net<Listener = TcpListener, Stream = TcpStream> + Clock,
+    D: SectorDisk + Drop,
+    K: Seconds,
+>(
     rt: &N,
     alloc: Global,
     keys: RandomState,
     listener: &TcpListener,
-    pages: &mut TablePages<Store<D, Session>>,
+    pages: &mut TablePages<Store<D, Session>, K>,
     minutes: u16,
 ) -> Result<(), RunFault>
     requires { pages.old.server.failed ≡ false }
@@ -57,13 +61,13 @@ pub fn show_pages<N: Net<Listener = TcpListener, Stream = TcpStream> + Clock, D:
 
 /// Says where the pages are and shows them for so many minutes over a store, where there is a listener. What was found is handed
 /// in, since only so a clause can say what comes of it.
-fn show_heard<N: Host, W: Write>(
+fn show_heard<N: Host, W: Write, K: Seconds>(
     rt: &N,
     alloc: Global,
     found: Result<TcpListener, RunFault>,
     minutes: u16,
     line: &str,
-    pages: &mut TablePages<ClubStore>,
+    pages: &mut TablePages<ClubStore, K>,
     output: &mut W,
 ) -> Result<(), RunFault>
     requires works { pages.old.server.failed ≡ false }
@@ -80,13 +84,13 @@ fn show_heard<N: Host, W: Write>(
 }
 
 /// Listens, says where, and shows pages for so many minutes over a store.
-fn listen_and_show<N: Host, W: Write>(
+fn listen_and_show<N: Host, W: Write, K: Seconds>(
     rt: &N,
     alloc: Global,
     host: &WebHost<'_>,
     minutes: u16,
     line: &str,
-    pages: &mut TablePages<ClubStore>,
+    pages: &mut TablePages<ClubStore, K>,
     output: &mut W,
 ) -> Result<(), RunFault>
     requires works { pages.old.server.failed ≡ false }
@@ -97,15 +101,16 @@ fn listen_and_show<N: Host, W: Write>(
     show_heard(rt, alloc, listen_at(rt, host), minutes, line, pages, output)
 }
 
-/// The pages of these texts over a store, where players are told of other tables or not.
-fn pages_over(
+/// The pages of these texts over a store, by this clock, where players are told of other tables or not.
+fn pages_over<K: Seconds>(
     alloc: Global,
     names: HostNames,
     texts: PageTexts,
     store: ClubStore,
     cache: Cache,
     open_boards: bool,
-) -> TablePages<ClubStore>
+    clock: K,
+) -> TablePages<ClubStore, K>
     requires works { store.failed ≡ false }
     requires none_pending { store.pending ≡ [] }
     ensures server { result.server ≡ store }
@@ -113,7 +118,7 @@ fn pages_over(
     ensures texts { result.texts ≡ texts }
     ensures open { result.is_open ≡ open_boards }
 {
-    let mut pages = TablePages::new(alloc, names, texts, store, cache);
+    let mut pages = TablePages::new(alloc, names, texts, store, cache, clock);
     if open_boards {
         pages.open_boards();
     }
@@ -141,7 +146,8 @@ pub fn show_over<N: Host, W: Write>(
     let Ok(line) = listening_line(alloc, names.host()) else {
         return with_disk(store, Err(RunFault::Store(StoreFault::NoMemory)));
     };
-    let mut pages = pages_over(alloc, names, texts, store, cache, host.open_boards);
+    let clock = ServerClock::new(rt);
+    let mut pages = pages_over(alloc, names, texts, store, cache, host.open_boards, clock);
     let ended = listen_and_show(rt, alloc, host, minutes, line.as_str(), &mut pages, output);
     with_disk(pages.into_server(), ended)
 }

@@ -29,6 +29,7 @@ const TEXTS: PageTexts = PageTexts {
     shared_script: "shared",
     table_script: "table",
     boards_script: "boards",
+    desk_script: "desk",
     director_script: "director",
     unknown_page: "unknown",
     wrong_host: "wrong",

@@ -1,7 +1,9 @@
 -- What is asked of the desk.
-use Rattle.std.specs.Prelude.{ℕ, ◌==◌, if◌then◌else◌, List, [], ◌∷◌, bytes_eq, codes, Option, Some, None, option_and_then}
+use Rattle.std.specs.Prelude.{ℕ, Bool, false, ◌==◌, if◌then◌else◌, List, [], ◌∷◌, bytes_eq, codes, Option, Some, None, option_and_then}
 use Rattle.std.specs.Option.{option_map}
+use Rattle.bridge_config.specs.ConfigValue.{ConfigValue}
 use Rattle.bridge_config.specs.declared.fields.Key.{Key}
+use Rattle.session_rules.specs.State.{is_nobodys}
 use Rattle.line_replies.specs.KeyWord.{number_of_word, key_of_word}
 use Rattle.desk_replies.specs.PlainText.{plain_text_of}
 use Rattle.desk_replies.specs.declared.asked.Asked.{Asked}
@@ -55,3 +57,7 @@ asked_of_parts bytes (Some parts) = asked_by parts.0 (order_of parts.1)
 -- what these bytes ask for
 abbrev pub asked_of : List ℕ → Option Asked
 asked_of bytes = asked_of_parts bytes (parted bytes)
+
+-- whether these bytes ask by a key that is nobody's
+abbrev pub has_wrong_key : ConfigValue → List ℕ → Bool
+has_wrong_key configuration bytes = option_map_or (λ (asked : Asked). is_nobodys configuration asked.key.0) (asked_of bytes) false

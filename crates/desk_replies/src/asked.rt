@@ -2,10 +2,12 @@
 ghost use Rattle.std.specs.Prelude.{◌≡◌, Some};
 ghost use Rattle.std.specs.Option.{option_map};
 ghost use Rattle.line_replies.specs.KeyWord.{number_of_word};
-ghost use Rattle.desk_replies.specs.Asked.{parted, order_alone, order_with, order_of, asked_by, asked_of};
+ghost use Rattle.desk_replies.specs.Asked.{parted, order_alone, order_with, order_of, asked_by, asked_of, has_wrong_key};
 
 use crate::plain_text::PlainText;
 use bridge_config::Key;
+use bridge_session::Session;
+use bridge_table::is_nobodys;
 use line_replies::{read_key, read_number};
 use line_text::split_once;
 use session_rules::TableNumber;
@@ -143,5 +145,15 @@ pub fn read_asked(bytes: &[u8]) -> Option<Asked>
     match parted(bytes) {
         Some((key, rest)) => read_keyed(key, rest),
         None => read_look(bytes),
+    }
+}
+
+/// Whether these bytes ask by a key that is nobody's in this session.
+pub fn has_wrong_key(session: &Session, bytes: &[u8]) -> bool
+    ensures { result ≡ has_wrong_key session.now.configuration bytes.now }
+{
+    match read_asked(bytes) {
+        Some(asked) => is_nobodys(session.config(), asked.key),
+        None => false,
     }
 }

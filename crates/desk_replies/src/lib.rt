@@ -14,7 +14,7 @@ mod telling;
 mod text;
 
 pub use answering::answer_desk;
-pub use asked::{Asked, Order, read_asked};
+pub use asked::{Asked, Order, has_wrong_key, read_asked};
 pub use claims::SeenClaim;
 pub use desk::{Desk, RoundClock, StandingClaim, Statement, TableCall};
 pub use laws::{desks_show_no_hidden_card, players_are_told_of_their_own_table};

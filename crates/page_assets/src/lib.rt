@@ -8,6 +8,7 @@
 //!     shared_script: SHARED_SCRIPT,
 //!     table_script: TABLE_SCRIPT,
 //!     boards_script: BOARDS_SCRIPT,
+//!     desk_script: DESK_SCRIPT,
 //!     director_script: DIRECTOR_SCRIPT,
 //!     unknown_page: UNKNOWN_PAGE,
 //!     wrong_host: WRONG_HOST,
@@ -18,6 +19,6 @@
 mod assets;
 
 pub use assets::{
-    BOARDS_SCRIPT, DIRECTOR_SCRIPT, PAGE, SHARED_SCRIPT, STYLE, TABLE_SCRIPT, TEXTS_SCRIPT,
-    UNKNOWN_PAGE, WRONG_HOST,
+    BOARDS_SCRIPT, DESK_SCRIPT, DIRECTOR_SCRIPT, PAGE, SHARED_SCRIPT, STYLE, TABLE_SCRIPT,
+    TEXTS_SCRIPT, UNKNOWN_PAGE, WRONG_HOST,
 };

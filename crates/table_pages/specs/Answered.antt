@@ -11,6 +11,9 @@ use Rattle.page_replies.specs.Tables.{tables_text}
 use Rattle.page_replies.specs.WrongKey.{is_wrong_key}
 use Rattle.board_replies.specs.Asked.{has_wrong_key}
 use Rattle.board_replies.specs.Told.{boards_text, opened_by}
+use Rattle.desk_replies.specs.declared.desk.Desk.{Desk}
+use Rattle.desk_replies.specs.Asked.{has_wrong_key as asks_wrongly}
+use Rattle.desk_replies.specs.Told.{desk_text, desk_after}
 use Rattle.table_server.specs.declared.asked.Asked.{Asked}
 use Rattle.line_replies.specs.declared.fault.ServeFault.{ServeFault}
 use Rattle.table_server.specs.Answered.{AskAll}
@@ -53,6 +56,18 @@ wrong_key_told store key = is_wrong_key store.state.configuration key
 -- and whether boards are asked for by one
 abbrev pub wrong_key_at_boards : {D : Type 0} → StoreValue D SessionValue Action → List ℕ → Bool
 wrong_key_at_boards store bytes = has_wrong_key store.state.configuration bytes
+
+-- and whether something is asked of the desk by one
+abbrev pub wrong_key_at_desk : {D : Type 0} → StoreValue D SessionValue Action → List ℕ → Bool
+wrong_key_at_desk store bytes = asks_wrongly store.state.configuration bytes
+
+-- over the session of a store: what is told of the desk where these bytes are posted at a second
+abbrev pub desks_told : {D : Type 0} → StoreValue D SessionValue Action → Desk → ℕ → List ℕ → List ℕ
+desks_told store desk at body = desk_text store.state desk at body
+
+-- and what stands on it from then on
+abbrev pub stands_told : {D : Type 0} → StoreValue D SessionValue Action → Desk → ℕ → List ℕ → Desk
+stands_told store desk at body = desk_after store.state desk at body
 
 module _ {D : Type 0} (disk : Disk D) where
   -- All complete lines of a body were served over a store, and the text is the replies to them.

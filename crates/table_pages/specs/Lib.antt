@@ -5,3 +5,4 @@ pub mod HostNames
 pub mod Site
 pub mod WrongKeys
 pub mod Opened
+pub mod Stands

@@ -5,10 +5,11 @@ use Rattle.http.specs.Request.{head_of, body_of}
 use Rattle.http_server.specs.declared.response.Response.{Response}
 use Rattle.web_requests.specs.declared.kind.Kind.TheVariants as kind
 use Rattle.web_requests.specs.declared.route.Route.{Route}
-use Rattle.web_requests.specs.declared.route.Route.TheVariants.{Page, TextsScript, SharedScript, TableScript, BoardsScript, DirectorScript, Style, Lines, Place, Tables, Boards, Results, Refused}
+use Rattle.web_requests.specs.declared.route.Route.TheVariants.{Page, TextsScript, SharedScript, TableScript, BoardsScript, DeskScript, DirectorScript, Style, Lines, Place, Tables, Boards, Results, Desk, Refused}
 use Rattle.web_requests.specs.declared.route.Refusal.TheVariants.{TooLong}
 use Rattle.web_requests.specs.Route.{route_for}
 use Rattle.web_requests.specs.Filled.{IsText, IsRefused, IsUnavailable}
+use Rattle.desk_replies.specs.declared.desk.Desk.{Desk as DeskType}
 use Rattle.table_pages.specs.declared.page_texts.PageTexts.{PageTexts}
 use Rattle.table_pages.specs.Refused.{TellsRefused}
 use Rattle.table_pages.specs.Site.{Site}
@@ -26,7 +27,7 @@ module _ {T : Type 0} (answers : T → List ℕ → Option (List ℕ) → T → 
   TellsShort true old body response new = TellsLines old body response new
   TellsShort false old body response new = IsRefused TooLong response × (new ≡ old)
 
-  module _ (places tables : T → List ℕ → List ℕ) (boards : T → Bool → List ℕ → List ℕ) (results : T → List ℕ → List ℕ → Type 0) where
+  module _ (places tables : T → List ℕ → List ℕ) (boards : T → Bool → List ℕ → List ℕ) (desks : T → DeskType → ℕ → List ℕ → List ℕ) (results : T → List ℕ → List ℕ → Type 0) where
     module _ (texts : PageTexts) where
       -- the response to a request on this route: the text of the page, script or style that the pages were made with, the
       -- replies to its lines, or what is told to the holder of the key that it has
@@ -36,6 +37,7 @@ module _ {T : Type 0} (answers : T → List ℕ → Option (List ℕ) → T → 
       Responds SharedScript old body response new = IsText kind.Script texts.shared_script.now response × (new ≡ old)
       Responds TableScript old body response new = IsText kind.Script texts.table_script.now response × (new ≡ old)
       Responds BoardsScript old body response new = IsText kind.Script texts.boards_script.now response × (new ≡ old)
+      Responds DeskScript old body response new = IsText kind.Script texts.desk_script.now response × (new ≡ old)
       Responds DirectorScript old body response new = IsText kind.Script texts.director_script.now response × (new ≡ old)
       Responds Style old body response new = IsText kind.Style texts.style.now response × (new ≡ old)
       Responds Lines old body response new = TellsShort (nat_lt (length body) 65536) old body response new
@@ -43,6 +45,8 @@ module _ {T : Type 0} (answers : T → List ℕ → Option (List ℕ) → T → 
       Responds Tables old body response new = IsText kind.Lines (tables old body) response × (new ≡ old)
       Responds Boards old body response new = ((is_open : Bool) × IsText kind.Lines (boards old is_open body) response) × (new ≡ old)
       Responds Results old body response new = ((text : List ℕ) × results old body text × IsText kind.Lines text response) × (new ≡ old)
+      Responds Desk old body response new =
+          ((desk : DeskType) × (at : ℕ) × (IsText kind.Lines (desks old desk at body) response ⊎ IsUnavailable response)) × (new ≡ old)
       Responds (Refused why) old body response new = TellsRefused texts why response × (new ≡ old)
 
     -- the response to a request at this site

@@ -2,7 +2,7 @@
 use Rattle.std.specs.Prelude.{◌≡◌, ◌⊎◌, ℕ, ◌+◌, Bool, if◌then◌else◌, min, List, []}
 use Rattle.http_server.specs.declared.response.Response.{Response}
 use Rattle.web_requests.specs.declared.route.Route.{Route}
-use Rattle.web_requests.specs.declared.route.Route.TheVariants.{Lines, Place, Tables, Boards, Results}
+use Rattle.web_requests.specs.declared.route.Route.TheVariants.{Lines, Place, Tables, Boards, Results, Desk}
 
 -- so many more, as far as 64 bits count
 abbrev pub with_more : ℕ → ℕ → ℕ
@@ -17,8 +17,9 @@ abbrev pub CountsLines : (ℕ → Type 0) → ℕ → Response → ℕ → Type 
 CountsLines Counted old response new =
     ((count : ℕ) × Counted count × (new ≡ with_more old count)) ⊎ ((response.body.items ≡ []) × (new ≡ old))
 
--- over a server of lines: how many lines of these bytes have a wrong key, and whether these bytes are one, or ask for boards by one
-module _ {T : Type 0} (counts : T → List ℕ → ℕ → Type 0) (wrong_key wrong_at_boards : T → List ℕ → Bool) where
+-- over a server of lines: how many lines of these bytes have a wrong key, and whether these bytes are one, or ask for boards by
+-- one, or of the desk
+module _ {T : Type 0} (counts : T → List ℕ → ℕ → Type 0) (wrong_key wrong_at_boards wrong_at_desk : T → List ℕ → Bool) where
   -- what is counted at a response to a request on this route with this body
   abbrev pub Counts : Route → T → List ℕ → ℕ → Response → ℕ → Type 0
   Counts Lines server body old response new = CountsLines (counts server body) old response new
@@ -26,4 +27,5 @@ module _ {T : Type 0} (counts : T → List ℕ → ℕ → Type 0) (wrong_key wr
   Counts Tables server body old response new = new ≡ with_key old (wrong_key server body)
   Counts Boards server body old response new = new ≡ with_key old (wrong_at_boards server body)
   Counts Results server body old response new = new ≡ with_key old (wrong_key server body)
+  Counts Desk server body old response new = CountsLines (λ count. count ≡ (if wrong_at_desk server body then 1 else 0)) old response new
   Counts _ server body old response new = new ≡ old

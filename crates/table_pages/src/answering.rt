@@ -1,13 +1,14 @@
 //! Lines that came in one request, answered over a store.
 ghost use Rattle.std.specs.Prelude.{◌≡◌, ◌<◌, [], false, length, option_map, IfSome};
 ghost use Rattle.table_server.specs.Faulted.{FailsWithDisk};
-ghost use Rattle.table_pages.specs.Answered.{AnswersBody, AnswersLines, CountsKeys, is_settled, wrong_key_told, wrong_key_at_boards, place_told, tables_told, boards_told, opens_told};
+ghost use Rattle.table_pages.specs.Answered.{AnswersBody, AnswersLines, CountsKeys, is_settled, wrong_key_told, wrong_key_at_boards, wrong_key_at_desk, place_told, tables_told, boards_told, opens_told, desks_told, stands_told};
 ghost use Rattle.page_replies.specs.ToldResults.{results_told};
 
 use crate::line_server::{LineServer, Replies};
-use board_replies::{has_wrong_key, opened_by, told_boards};
+use board_replies::{opened_by, told_boards};
 use bridge_endings::Cache;
 use bridge_session::Session;
+use desk_replies::{Desk, answer_desk};
 use page_replies::{is_wrong_key, push_place, push_tables, told_results};
 use sector_disk::SectorDisk;
 use session_store::Store;
@@ -54,6 +55,8 @@ impl<D: SectorDisk + Drop> LineServer for Store<D, Session> {
 
     ghost wrong_at_boards = { λ store bytes. wrong_key_at_boards store bytes };
 
+    ghost wrong_at_desk = { λ store bytes. wrong_key_at_desk store bytes };
+
     ghost places = { λ store key. place_told store key };
 
     ghost tables = { λ store key. tables_told store key };
@@ -61,6 +64,10 @@ impl<D: SectorDisk + Drop> LineServer for Store<D, Session> {
     ghost boards = { λ store is_open key. boards_told store is_open key };
 
     ghost opens = { λ store is_open key. opens_told store is_open key };
+
+    ghost desks = { λ store desk at body. desks_told store desk at body };
+
+    ghost stands = { λ store desk at body. stands_told store desk at body };
 
     ghost results = { λ store key text. results_told store key text };
 
@@ -73,7 +80,11 @@ impl<D: SectorDisk + Drop> LineServer for Store<D, Session> {
     }
 
     fn has_wrong_key_at_boards(&self, bytes: &[u8]) -> bool {
-        has_wrong_key(self.state(), bytes)
+        board_replies::has_wrong_key(self.state(), bytes)
+    }
+
+    fn has_wrong_key_at_desk(&self, bytes: &[u8]) -> bool {
+        desk_replies::has_wrong_key(self.state(), bytes)
     }
 
     fn place(&self, key: &[u8], text: &mut ReplyText) {
@@ -90,6 +101,10 @@ impl<D: SectorDisk + Drop> LineServer for Store<D, Session> {
 
     fn opens(&self, is_open: bool, key: &[u8]) -> bool {
         opened_by(self.state(), is_open, key)
+    }
+
+    fn desk(&self, desk: &mut Desk, alloc: Global, at: u32, body: &[u8]) -> Option<Vec<u8>> {
+        answer_desk(self.state(), desk, alloc, at, body)
     }
 
     fn results(&self, alloc: Global, key: &[u8]) -> Option<Vec<u8>> {

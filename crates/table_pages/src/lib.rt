@@ -2,7 +2,7 @@
 //!
 //! ```rust
 //! let names = HostNames::of_this_computer(rt.alloc(), 4000)?;
-//! let mut pages = TablePages::new(rt.alloc(), names, texts, store, cache);
+//! let mut pages = TablePages::new(rt.alloc(), names, texts, store, cache, ServerClock::new(&rt));
 //! show_minutes(&rt, rt.alloc(), RandomState::new(&rt)?, &listener, &mut pages, 180)?;
 //! ```
 #![tactic(auto)]
@@ -13,6 +13,7 @@ mod line_server;
 mod page_texts;
 mod pages;
 mod refused;
+mod seconds;
 mod showing;
 
 pub use answering::answer_lines;
@@ -20,4 +21,5 @@ pub use host_names::HostNames;
 pub use line_server::{LineServer, Replies};
 pub use page_texts::PageTexts;
 pub use pages::TablePages;
+pub use seconds::{Seconds, ServerClock};
 pub use showing::{limits, show_minutes};

@@ -1,7 +1,9 @@
 //! What answers lines.
 ghost use Rattle.std.specs.Prelude.{◌≡◌, ◌<◌, ℕ, Bool, true, List, [], Option, IfSome, length, option_map};
+ghost use Rattle.desk_replies.specs.declared.desk.Desk.{Desk as DeskType};
 
 use bridge_endings::Cache;
+use desk_replies::Desk;
 use std::alloc::Global;
 use table_server::ReplyText;
 
@@ -34,6 +36,9 @@ pub trait LineServer: Drop {
     // whether boards are asked for by one
     ghost wrong_at_boards: { Self → List ℕ → Bool };
 
+    // whether something is asked of the desk by one
+    ghost wrong_at_desk: { Self → List ℕ → Bool };
+
     // what is told to the player whose key these bytes are
     ghost places: { Self → List ℕ → List ℕ };
 
@@ -45,6 +50,12 @@ pub trait LineServer: Drop {
 
     // and whether they are told of them from then on
     ghost opens: { Self → Bool → List ℕ → Bool };
+
+    // what is told of the desk where these bytes are posted at a second
+    ghost desks: { Self → DeskType → ℕ → List ℕ → List ℕ };
+
+    // and what stands on it from then on
+    ghost stands: { Self → DeskType → ℕ → List ℕ → DeskType };
 
     // the text is what is told of the results to the holder of the key that these bytes are
     ghost results: { Self → List ℕ → List ℕ → Type 0 };
@@ -66,6 +77,10 @@ pub trait LineServer: Drop {
     fn has_wrong_key_at_boards(&self, bytes: &[u8]) -> bool
         ensures { result ≡ wrong_at_boards self.now bytes.now };
 
+    /// Whether something is asked of the desk by a key that is nobody's.
+    fn has_wrong_key_at_desk(&self, bytes: &[u8]) -> bool
+        ensures { result ≡ wrong_at_desk self.now bytes.now };
+
     /// Adds what is told to the player whose key these bytes are, of his place.
     fn place(&self, key: &[u8], text: &mut ReplyText)
         requires { text.old.bytes ≡ [] }
@@ -84,6 +99,12 @@ pub trait LineServer: Drop {
     /// Whether players are told of other tables once these bytes are answered.
     fn opens(&self, is_open: bool, key: &[u8]) -> bool
         ensures { result ≡ opens self.now is_open key.now };
+
+    /// Takes what these bytes ask of the desk at a second, and gives what is told of it. `None` where memory was refused for the
+    /// text; what was asked for is taken all the same.
+    fn desk(&self, desk: &mut Desk, alloc: Global, at: u32, body: &[u8]) -> Option<Vec<u8>>
+        ensures text { IfSome result (λ text. text.items ≡ desks self.now desk.old at body.now) }
+        ensures desk { desk.new ≡ stands self.now desk.old at body.now };
 
     /// What is told of the results to the holder of the key that these bytes are. `None` where memory was refused for it.
     fn results(&self, alloc: Global, key: &[u8]) -> Option<Vec<u8>>

@@ -15,6 +15,8 @@ pub struct PageTexts {
     pub table_script: &'static str,
     /// The script of boards that are over.
     pub boards_script: &'static str,
+    /// The script of what stands beside the session, at `/desk.js`.
+    pub desk_script: &'static str,
     /// The director's script.
     pub director_script: &'static str,
     /// The page for a path at which there is nothing.

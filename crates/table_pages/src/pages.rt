@@ -1,5 +1,5 @@
 //! The pages, and the lines that they post.
-ghost use Rattle.std.specs.Prelude.{◌≡◌, ◌<◌, ◌⊎◌, ℕ, List, true, false, not, length, nat_lt, string_bytes, OnOk, OnErr};
+ghost use Rattle.std.specs.Prelude.{◌≡◌, ◌<◌, ◌⊎◌, ℕ, List, [], true, false, not, length, nat_lt, string_bytes, OnOk, OnErr};
 ghost use Rattle.http_server.specs.Response.{IsBlank};
 ghost use Rattle.http.specs.Request.{head_of};
 ghost use Rattle.web_requests.specs.Filled.{IsText, IsUnavailable};
@@ -10,8 +10,10 @@ use crate::host_names::HostNames;
 use crate::line_server::{LineServer, Replies};
 use crate::page_texts::PageTexts;
 use crate::refused::put_refused;
+use crate::seconds::Seconds;
 use bridge_endings::Cache;
 use bytes::Bytes;
+use desk_replies::Desk;
 use http::Request;
 use http_server::{Response, Service};
 use std::alloc::{AllocError, Global};
@@ -21,6 +23,7 @@ use web_requests::{
     Kind, Refusal, Route, put_refusal, put_static, put_text, put_unavailable, route_of,
 };
 
+mod beside;
 mod telling;
 
 /// A body of so many bytes is too long.
@@ -28,7 +31,7 @@ const TOO_MANY_BYTES: usize = 65_536;
 
 /// The pages of one server, and what answers the lines that they post.
 #[derive(Drop)]
-pub struct TablePages<T: LineServer> {
+pub struct TablePages<T: LineServer, K: Seconds> {
     alloc: Global,
     names: HostNames,
     texts: PageTexts,
@@ -38,10 +41,15 @@ pub struct TablePages<T: LineServer> {
     wrong: u64,
     /// Whether players are told of other tables.
     is_open: bool,
+    /// What stands beside the session.
+    desk: Desk,
+    /// What tells the time.
+    clock: K,
     ghost ready: { T.is_ready server ≡ true },
 }
 
-impl<T: LineServer> TablePages<T> {
+impl<T: LineServer, K: Seconds> TablePages<T, K> {
+    ghost use Rattle.desk_replies.specs.Desk.{new_desk};
     ghost use Rattle.table_pages.specs.Responses.{TellsLines, TellsShort};
 
     /// Pages of these texts, at a server that goes by these names.
@@ -51,13 +59,15 @@ impl<T: LineServer> TablePages<T> {
         texts: PageTexts,
         server: T,
         cache: Cache,
-    ) -> TablePages<T>
+        clock: K,
+    ) -> TablePages<T, K>
         requires { T.is_ready server ≡ true }
         ensures server { result.server ≡ server }
         ensures names { result.names ≡ names }
         ensures texts { result.texts ≡ texts }
         ensures wrong { result.wrong ≡ 0 }
         ensures shut { result.is_open ≡ false }
+        ensures desk { result.desk ≡ new_desk }
     {
         TablePages {
             alloc,
@@ -67,6 +77,8 @@ impl<T: LineServer> TablePages<T> {
             cache,
             wrong: 0,
             is_open: false,
+            desk: Desk::new(),
+            clock,
         }
     }
 
@@ -99,6 +111,7 @@ impl<T: LineServer> TablePages<T> {
         ensures names { self.new.names ≡ self.old.names }
         ensures texts { self.new.texts ≡ self.old.texts }
         ensures wrong { self.new.wrong ≡ self.old.wrong }
+        ensures desk { self.new.desk ≡ self.old.desk }
     {
         self.is_open = true;
     }
@@ -109,7 +122,7 @@ impl<T: LineServer> TablePages<T> {
         ensures lines { OnOk result (TellsShort T.answers (nat_lt (length body.now) 65536) self.old.server body.now response.new self.new.server) }
         ensures counted { OnOk result (CountsLines (T.counts self.old.server body.now) self.old.wrong response.new self.new.wrong) }
         ensures fixed { (self.new.names ≡ self.old.names) × (self.new.texts ≡ self.old.texts) }
-        ensures open { self.new.is_open ≡ self.old.is_open }
+        ensures beside { (self.new.is_open ≡ self.old.is_open) × (self.new.desk ≡ self.old.desk) }
         ensures err { OnErr result (self.new ≡ self.old) }
     {
         if body.len() < TOO_MANY_BYTES {
@@ -127,7 +140,7 @@ impl<T: LineServer> TablePages<T> {
         ensures counted { OnOk result (self.new.wrong ≡ with_key self.old.wrong (T.wrong_key self.old.server key.now)) }
         ensures server { self.new.server ≡ self.old.server }
         ensures fixed { (self.new.names ≡ self.old.names) × (self.new.texts ≡ self.old.texts) }
-        ensures open { self.new.is_open ≡ self.old.is_open }
+        ensures beside { (self.new.is_open ≡ self.old.is_open) × (self.new.desk ≡ self.old.desk) }
         ensures err { OnErr result (self.new ≡ self.old) }
     {
         let mut text = ReplyText::new();
@@ -143,50 +156,13 @@ impl<T: LineServer> TablePages<T> {
         ensures counted { OnOk result (self.new.wrong ≡ with_key self.old.wrong (T.wrong_key self.old.server key.now)) }
         ensures server { self.new.server ≡ self.old.server }
         ensures fixed { (self.new.names ≡ self.old.names) × (self.new.texts ≡ self.old.texts) }
-        ensures open { self.new.is_open ≡ self.old.is_open }
+        ensures beside { (self.new.is_open ≡ self.old.is_open) × (self.new.desk ≡ self.old.desk) }
         ensures err { OnErr result (self.new ≡ self.old) }
     {
         let mut text = ReplyText::new();
         self.server.tables(key, &mut text);
         let wrong = self.server.has_wrong_key(key);
         self.put_told(response, text.as_str().as_bytes(), u64::from(wrong))
-    }
-
-    /// Answers what is posted to boards, and keeps whether players are told of other tables.
-    fn put_boards(&mut self, key: &[u8], response: &mut Response) -> Result<(), AllocError>
-        requires { IsBlank response.old }
-        ensures told { OnOk result (IsText Kind.Lines (T.boards self.old.server self.old.is_open key.now) response.new) }
-        ensures counted { OnOk result (self.new.wrong ≡ with_key self.old.wrong (T.wrong_at_boards self.old.server key.now)) }
-        ensures server { self.new.server ≡ self.old.server }
-        ensures fixed { (self.new.names ≡ self.old.names) × (self.new.texts ≡ self.old.texts) }
-        ensures opened { OnOk result (self.new.is_open ≡ T.opens self.old.server self.old.is_open key.now) }
-        ensures err { OnErr result (self.new ≡ self.old) }
-    {
-        let Some(text) = self.boards(key) else {
-            return Err(AllocError);
-        };
-        let is_open = self.opens(key);
-        let wrong = self.server.has_wrong_key_at_boards(key);
-        self.put_told(response, text.as_slice(), u64::from(wrong))?;
-        self.is_open = is_open;
-        Ok(())
-    }
-
-    /// Answers a key with what its holder is told of the results.
-    fn put_results(&mut self, key: &[u8], response: &mut Response) -> Result<(), AllocError>
-        requires { IsBlank response.old }
-        ensures told { OnOk result ((text : List ℕ) × T.results self.old.server key.now text × IsText Kind.Lines text response.new) }
-        ensures counted { OnOk result (self.new.wrong ≡ with_key self.old.wrong (T.wrong_key self.old.server key.now)) }
-        ensures server { self.new.server ≡ self.old.server }
-        ensures fixed { (self.new.names ≡ self.old.names) × (self.new.texts ≡ self.old.texts) }
-        ensures open { self.new.is_open ≡ self.old.is_open }
-        ensures err { OnErr result (self.new ≡ self.old) }
-    {
-        let Some(text) = self.results(key) else {
-            return Err(AllocError);
-        };
-        let wrong = self.server.has_wrong_key(key);
-        self.put_told(response, text.as_slice(), u64::from(wrong))
     }
 
     /// Answers posted lines. Where memory is refused once they were taken, the response says nothing.
@@ -196,7 +172,7 @@ impl<T: LineServer> TablePages<T> {
         ensures lines { TellsLines T.answers self.old.server body.now response.new self.new.server }
         ensures counted { CountsLines (T.counts self.old.server body.now) self.old.wrong response.new self.new.wrong }
         ensures fixed { (self.new.names ≡ self.old.names) × (self.new.texts ≡ self.old.texts) }
-        ensures open { self.new.is_open ≡ self.old.is_open }
+        ensures beside { (self.new.is_open ≡ self.old.is_open) × (self.new.desk ≡ self.old.desk) }
     {
         match self.server.answer(self.alloc, &mut self.cache, body) {
             Some(replies) => self.put_replies(response, &replies),
@@ -211,7 +187,7 @@ impl<T: LineServer> TablePages<T> {
         ensures counted { CountsLines (λ count. count ≡ replies.now.wrong_keys) self.old.wrong response.new self.new.wrong }
         ensures server { self.new.server ≡ self.old.server }
         ensures fixed { (self.new.names ≡ self.old.names) × (self.new.texts ≡ self.old.texts) }
-        ensures open { self.new.is_open ≡ self.old.is_open }
+        ensures beside { (self.new.is_open ≡ self.old.is_open) × (self.new.desk ≡ self.old.desk) }
     {
         let told = self.put_told(response, replies.text.as_slice(), replies.wrong_keys);
         if told.is_err() {
@@ -231,7 +207,7 @@ impl<T: LineServer> TablePages<T> {
         ensures counted { OnOk result (self.new.wrong ≡ with_more self.old.wrong wrong_keys) }
         ensures server { self.new.server ≡ self.old.server }
         ensures fixed { (self.new.names ≡ self.old.names) × (self.new.texts ≡ self.old.texts) }
-        ensures open { self.new.is_open ≡ self.old.is_open }
+        ensures beside { (self.new.is_open ≡ self.old.is_open) × (self.new.desk ≡ self.old.desk) }
         ensures err { OnErr result (self.new ≡ self.old) }
     {
         put_text(response, Kind::Lines, text)?;
@@ -240,21 +216,23 @@ impl<T: LineServer> TablePages<T> {
     }
 }
 
-impl<T: LineServer> Service for TablePages<T> {
+impl<T: LineServer, K: Seconds> Service for TablePages<T, K> {
     ghost use Rattle.std.specs.Prelude.{◌≡◌, string_bytes};
     ghost use Rattle.http.specs.Request.{head_of, body_of};
     ghost use Rattle.table_pages.specs.Opened.{Opens};
+    ghost use Rattle.table_pages.specs.Stands.{Stands};
     ghost use Rattle.web_requests.specs.Route.{route_for};
     ghost use Rattle.table_pages.specs.Responses.{Answering};
     ghost use Rattle.table_pages.specs.Site.{site_of};
     ghost use Rattle.table_pages.specs.WrongKeys.{Counts};
 
     ghost answers = { λ old request response new.
-        Answering T.answers T.places T.tables T.boards T.results (site_of old.texts old.names) old.server request response new.server
+        Answering T.answers T.places T.tables T.boards T.desks T.results (site_of old.texts old.names) old.server request response new.server
         × (new.names ≡ old.names) × (new.texts ≡ old.texts)
-        × Counts T.counts T.wrong_key T.wrong_at_boards (route_for (string_bytes old.names.host) (string_bytes old.names.alias) (head_of request))
+        × Counts T.counts T.wrong_key T.wrong_at_boards T.wrong_at_desk (route_for (string_bytes old.names.host) (string_bytes old.names.alias) (head_of request))
         old.server (body_of request) old.wrong response new.wrong
-        × Opens T.boards T.opens (route_for (string_bytes old.names.host) (string_bytes old.names.alias) (head_of request)) old.server old.is_open (body_of request) response new.is_open };
+        × Opens T.boards T.opens (route_for (string_bytes old.names.host) (string_bytes old.names.alias) (head_of request)) old.server old.is_open (body_of request) response new.is_open
+        × Stands T.desks T.stands (route_for (string_bytes old.names.host) (string_bytes old.names.alias) (head_of request)) old.server old.desk (body_of request) response new.desk };
 
     fn call(
         &mut self,
@@ -267,6 +245,7 @@ impl<T: LineServer> Service for TablePages<T> {
             Route::SharedScript => put_static(response, Kind::Script, self.texts.shared_script),
             Route::TableScript => put_static(response, Kind::Script, self.texts.table_script),
             Route::BoardsScript => put_static(response, Kind::Script, self.texts.boards_script),
+            Route::DeskScript => put_static(response, Kind::Script, self.texts.desk_script),
             Route::DirectorScript => put_static(response, Kind::Script, self.texts.director_script),
             Route::Style => put_static(response, Kind::Style, self.texts.style),
             Route::Lines => self.call_lines(request.body().as_slice(), response),
@@ -274,15 +253,25 @@ impl<T: LineServer> Service for TablePages<T> {
             Route::Tables => self.put_tables(request.body().as_slice(), response),
             Route::Boards => self.put_boards(request.body().as_slice(), response),
             Route::Results => self.put_results(request.body().as_slice(), response),
+            Route::Desk => {
+                self.put_desk(request.body().as_slice(), response);
+                Ok(())
+            }
             Route::Refused(refusal) => put_refused(&self.texts, refusal, response),
         }
     }
 }
 
-impl<T: LineServer> LastingService for TablePages<T> {
+impl<T: LineServer, K: Seconds> LastingService for TablePages<T, K> {
     ghost lasts = { λ pages. not (T.failed pages.server) };
 
     ghost offences = { λ pages. pages.wrong };
+
+    ghost waits = { λ pages. 0 };
+
+    ghost wish = { λ pages. [] };
+
+    ghost comes = { λ pages wish has. has ≡ true };
 
     fn lasts(&self) -> bool {
         !self.server.has_failed()
@@ -290,5 +279,18 @@ impl<T: LineServer> LastingService for TablePages<T> {
 
     fn offences(&self) -> u64 {
         self.wrong
+    }
+
+    /// No answer is put off.
+    fn waits(&self) -> u64 {
+        0
+    }
+
+    fn wish(&self) -> Option<Vec<u8>> {
+        None
+    }
+
+    fn has_come(&self, _named: &[u8]) -> bool {
+        true
     }
 }

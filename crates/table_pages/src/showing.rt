@@ -6,6 +6,7 @@ ghost use Rattle.table_pages.specs.Site.{site_of};
 
 use crate::line_server::LineServer;
 use crate::pages::TablePages;
+use crate::seconds::Seconds;
 use http_server::Config;
 use http1::Limits;
 use std::alloc::Global;
@@ -43,18 +44,18 @@ pub fn limits() -> Config
 /// Shows pages to the clients of a listener that does not block for so many minutes, in rounds in each of which each client has
 /// its turn, or until the server of lines has failed; then what is pending is sent. Names that clients choose are looked up by
 /// `keys`, which are secret. The error is that the clock cannot be read.
-pub fn show_minutes<N: Net + Clock, T: LineServer>(
+pub fn show_minutes<N: Net + Clock, T: LineServer, K: Seconds>(
     rt: &N,
     alloc: Global,
     keys: RandomState,
     listener: &N::Listener,
-    pages: &mut TablePages<T>,
+    pages: &mut TablePages<T, K>,
     minutes: u16,
 ) -> io::Result<()>
 where
     N::Listener: AsRawFd,
     N::Stream: AsRawFd,
-    ensures { LeadsTo (Answering T.answers T.places T.tables T.boards T.results (site_of pages.old.texts pages.old.names)) pages.old.server pages.new.server }
+    ensures { LeadsTo (Answering T.answers T.places T.tables T.boards T.desks T.results (site_of pages.old.texts pages.old.names)) pages.old.server pages.new.server }
 {
     let mut clients = Clients::new(alloc, keys, limits(), Instant::now(rt)?);
     serve_minutes(rt, listener, &mut clients, pages, minutes)

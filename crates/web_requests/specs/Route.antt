@@ -5,7 +5,7 @@ use Rattle.http_header.specs.FieldValue.{FieldValue}
 use Rattle.http_header.specs.HeaderMap.{get}
 use Rattle.http_uri.specs.Uri.{uri_authority, uri_path, uri_query}
 use Rattle.web_requests.specs.declared.route.Route.{Route}
-use Rattle.web_requests.specs.declared.route.Route.TheVariants.{Page, TextsScript, SharedScript, TableScript, BoardsScript, DirectorScript, Style, Lines, Place, Tables, Boards, Results, Refused}
+use Rattle.web_requests.specs.declared.route.Route.TheVariants.{Page, TextsScript, SharedScript, TableScript, BoardsScript, DeskScript, DirectorScript, Style, Lines, Place, Tables, Boards, Results, Desk, Refused}
 use Rattle.web_requests.specs.declared.route.Refusal.TheVariants.{Misdirected, NotFound, OnlyRead, OnlyPosted, WrongType}
 
 -- there is a value, and it is this text
@@ -59,13 +59,15 @@ route_at path head =
     if bytes_eq path (codes "/shared.js") then reading SharedScript head.method else (
     if bytes_eq path (codes "/table.js") then reading TableScript head.method else (
     if bytes_eq path (codes "/boards.js") then reading BoardsScript head.method else (
+    if bytes_eq path (codes "/desk.js") then reading DeskScript head.method else (
     if bytes_eq path (codes "/director.js") then reading DirectorScript head.method else (
     if bytes_eq path (codes "/table.css") then reading Style head.method else (
     if bytes_eq path (codes "/lines") then posting Lines head else (
     if bytes_eq path (codes "/place") then posting Place head else (
     if bytes_eq path (codes "/tables") then posting Tables head else (
     if bytes_eq path (codes "/boards") then posting Boards head else (
-    if bytes_eq path (codes "/results") then posting Results head else Refused NotFound)))))))))))
+    if bytes_eq path (codes "/results") then posting Results head else (
+    if bytes_eq path (codes "/desk") then posting Desk head else Refused NotFound)))))))))))))
 
 -- where a request goes that came to a server of these two names
 abbrev pub route_for : List ℕ → List ℕ → Parts → Route

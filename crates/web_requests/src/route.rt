@@ -20,6 +20,8 @@ pub enum Route {
     TableScript,
     /// `GET /boards.js`: the script of boards that are over.
     BoardsScript,
+    /// `GET /desk.js`: the script of what stands beside the session.
+    DeskScript,
     /// `GET /director.js`: the director's script.
     DirectorScript,
     /// `GET /table.css`: its style.
@@ -34,6 +36,8 @@ pub enum Route {
     Boards,
     /// `POST /results`: the results are to be told to the holder of the key that is its body.
     Results,
+    /// `POST /desk`: what its body asks of the desk is to be answered, beside the session.
+    Desk,
     /// Nothing that is here.
     Refused(Refusal),
 }
@@ -74,6 +78,7 @@ pub fn route_of(host: &str, alias: &str, request: &Request<Bytes>) -> Route
         "/shared.js" => reading(request, Route::SharedScript),
         "/table.js" => reading(request, Route::TableScript),
         "/boards.js" => reading(request, Route::BoardsScript),
+        "/desk.js" => reading(request, Route::DeskScript),
         "/director.js" => reading(request, Route::DirectorScript),
         "/table.css" => reading(request, Route::Style),
         "/lines" => posting(request, Route::Lines),
@@ -81,6 +86,7 @@ pub fn route_of(host: &str, alias: &str, request: &Request<Bytes>) -> Route
         "/tables" => posting(request, Route::Tables),
         "/boards" => posting(request, Route::Boards),
         "/results" => posting(request, Route::Results),
+        "/desk" => posting(request, Route::Desk),
         _ => Route::Refused(Refusal::NotFound),
     }
 }

@@ -1,5 +1,6 @@
 //! Requests of known bytes, and their responses.
 mod boards;
+mod desk;
 mod guesses;
 mod peer;
 mod posted;

@@ -3,8 +3,9 @@ ghost use Rattle.std.specs.Prelude.{◌≡◌, IfSome};
 
 use super::TablePages;
 use crate::line_server::LineServer;
+use crate::seconds::Seconds;
 
-impl<T: LineServer> TablePages<T> {
+impl<T: LineServer, K: Seconds> TablePages<T, K> {
     /// What is told of boards where these bytes are posted. `None` where memory is refused.
     pub(super) fn boards(&self, key: &[u8]) -> Option<Vec<u8>>
         ensures { IfSome result (λ text. text.items ≡ T.boards self.now.server self.now.is_open key.now) }

@@ -13,7 +13,7 @@ use std::hash::RandomState;
 use std::io::{Error, ErrorKind, Read, Result};
 use std::random::RandomSource;
 use std::test::Fail;
-use table_pages::{HostNames, PageTexts, TablePages, limits};
+use table_pages::{HostNames, PageTexts, Seconds, TablePages, limits};
 use test_texts::TWO_TABLES;
 use web_loop::{Turn, take_turn};
 
@@ -25,6 +25,7 @@ const TEXTS: PageTexts = PageTexts {
     shared_script: "let shared = 1;",
     table_script: "let table = 2;",
     boards_script: "let boards = 5;",
+    desk_script: "let desk = 8;",
     director_script: "let director = 3;",
     unknown_page: "<!doctype html><p>unknown",
     wrong_host: "<!doctype html><p>wrong",
@@ -60,12 +61,30 @@ fn opened(alloc: Global) -> std::result::Result<ClubStore, Fail>
     }
 }
 
+/// A clock that stands.
+#[derive(Drop)]
+pub struct StoppedClock;
+
+impl Seconds for StoppedClock {
+    fn seconds(&self) -> u32 {
+        0
+    }
+}
+
 /// The pages at port 4000 of this computer over the opening session.
-pub fn pages(alloc: Global) -> std::result::Result<TablePages<ClubStore>, Fail> {
+pub fn pages(alloc: Global) -> std::result::Result<TablePages<ClubStore, StoppedClock>, Fail> {
+    pages_with(alloc, StoppedClock)
+}
+
+/// The same with a clock.
+pub fn pages_with<K: Seconds>(
+    alloc: Global,
+    clock: K,
+) -> std::result::Result<TablePages<ClubStore, K>, Fail> {
     let names = HostNames::of_this_computer(alloc, 4000)?;
     let store = opened(alloc)?;
     let cache = Cache::new(alloc, 16)?;
-    Ok(TablePages::new(alloc, names, TEXTS, store, cache))
+    Ok(TablePages::new(alloc, names, TEXTS, store, cache, clock))
 }
 
 /// Gives so many bytes at each read, and blocks before each and once all are given.
@@ -88,10 +107,10 @@ impl Read for Peer<'_> {
 }
 
 /// All that is written for these requests on one connection, of which each read gives so many bytes, in as many turns.
-pub fn answered<N: RandomSource>(
+pub fn answered<N: RandomSource, K: Seconds>(
     rt: &N,
     alloc: Global,
-    pages: &mut TablePages<ClubStore>,
+    pages: &mut TablePages<ClubStore, K>,
     requests: &[u8],
     piece: usize,
 ) -> std::result::Result<Vec<u8>, Fail> {

@@ -1,0 +1,21 @@
+-- What stands beside the session.
+use Rattle.std.specs.Prelude.{◌≡◌, ◌⊎◌, ℕ, List}
+use Rattle.desk_replies.specs.declared.desk.Desk.{Desk as DeskType}
+use Rattle.http_server.specs.declared.response.Response.{Response}
+use Rattle.web_requests.specs.declared.kind.Kind.TheVariants as kind
+use Rattle.web_requests.specs.declared.route.Route.{Route}
+use Rattle.web_requests.specs.declared.route.Route.TheVariants.{Desk}
+use Rattle.web_requests.specs.Filled.{IsText, IsUnavailable}
+
+module _ {T : Type 0} (desks : T → DeskType → ℕ → List ℕ → List ℕ) (stands : T → DeskType → ℕ → List ℕ → DeskType) where
+  -- What was asked at some second was told by what stood before, and is what stands from then on; where memory is refused nothing
+  -- is told.
+  pub record AnswersDesk (server : T) (old : DeskType) (body : List ℕ) (response : Response) (new : DeskType) : Type 0 where
+    pub at : ℕ
+    pub told : IsText kind.Lines (desks server old at body) response ⊎ IsUnavailable response
+    pub left : new ≡ stands server old at body
+
+  -- no other request changes what stands
+  abbrev pub Stands : Route → T → DeskType → List ℕ → Response → DeskType → Type 0
+  Stands Desk server old body response new = AnswersDesk server old body response new
+  Stands _ server old body response new = new ≡ old

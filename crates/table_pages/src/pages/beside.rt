@@ -1,0 +1,77 @@
+//! What is answered from beside the session, and from what is over.
+ghost use Rattle.std.specs.Prelude.{◌≡◌, ℕ, List, OnOk, OnErr, if◌then◌else◌};
+ghost use Rattle.http_server.specs.Response.{IsBlank};
+ghost use Rattle.web_requests.specs.Filled.{IsText};
+ghost use Rattle.table_pages.specs.Stands.{AnswersDesk};
+ghost use Rattle.table_pages.specs.WrongKeys.{with_key, CountsLines};
+
+use super::TablePages;
+use crate::line_server::{LineServer, Replies};
+use crate::seconds::Seconds;
+use http_server::Response;
+use std::alloc::AllocError;
+use web_requests::{Kind, put_unavailable};
+
+impl<T: LineServer, K: Seconds> TablePages<T, K> {
+    /// Answers what is posted to boards, and keeps whether players are told of other tables.
+    pub(super) fn put_boards(
+        &mut self,
+        key: &[u8],
+        response: &mut Response,
+    ) -> Result<(), AllocError>
+        requires { IsBlank response.old }
+        ensures told { OnOk result (IsText Kind.Lines (T.boards self.old.server self.old.is_open key.now) response.new) }
+        ensures counted { OnOk result (self.new.wrong ≡ with_key self.old.wrong (T.wrong_at_boards self.old.server key.now)) }
+        ensures server { self.new.server ≡ self.old.server }
+        ensures fixed { (self.new.names ≡ self.old.names) × (self.new.texts ≡ self.old.texts) × (self.new.desk ≡ self.old.desk) }
+        ensures opened { OnOk result (self.new.is_open ≡ T.opens self.old.server self.old.is_open key.now) }
+        ensures err { OnErr result (self.new ≡ self.old) }
+    {
+        let Some(text) = self.boards(key) else {
+            return Err(AllocError);
+        };
+        let is_open = self.opens(key);
+        let wrong = self.server.has_wrong_key_at_boards(key);
+        self.put_told(response, text.as_slice(), u64::from(wrong))?;
+        self.is_open = is_open;
+        Ok(())
+    }
+
+    /// Answers a key with what its holder is told of the results.
+    pub(super) fn put_results(
+        &mut self,
+        key: &[u8],
+        response: &mut Response,
+    ) -> Result<(), AllocError>
+        requires { IsBlank response.old }
+        ensures told { OnOk result ((text : List ℕ) × T.results self.old.server key.now text × IsText Kind.Lines text response.new) }
+        ensures counted { OnOk result (self.new.wrong ≡ with_key self.old.wrong (T.wrong_key self.old.server key.now)) }
+        ensures server { self.new.server ≡ self.old.server }
+        ensures fixed { (self.new.names ≡ self.old.names) × (self.new.texts ≡ self.old.texts) }
+        ensures beside { (self.new.is_open ≡ self.old.is_open) × (self.new.desk ≡ self.old.desk) }
+        ensures err { OnErr result (self.new ≡ self.old) }
+    {
+        let Some(text) = self.results(key) else {
+            return Err(AllocError);
+        };
+        let wrong = self.server.has_wrong_key(key);
+        self.put_told(response, text.as_slice(), u64::from(wrong))
+    }
+
+    /// Takes what is posted to the desk, and answers it. Where memory is refused once it was taken, the response says nothing.
+    pub(super) fn put_desk(&mut self, body: &[u8], response: &mut Response)
+        requires { IsBlank response.old }
+        ensures desk { AnswersDesk T.desks T.stands self.old.server self.old.desk body.now response.new self.new.desk }
+        ensures counted { CountsLines (λ count. count ≡ (if T.wrong_at_desk self.old.server body.now then 1 else 0)) self.old.wrong response.new self.new.wrong }
+        ensures server { self.new.server ≡ self.old.server }
+        ensures fixed { (self.new.names ≡ self.old.names) × (self.new.texts ≡ self.old.texts) }
+        ensures open { self.new.is_open ≡ self.old.is_open }
+    {
+        let wrong_keys = u64::from(self.server.has_wrong_key_at_desk(body));
+        let at = self.clock.seconds();
+        match self.server.desk(&mut self.desk, self.alloc, at, body) {
+            Some(text) => self.put_replies(response, &Replies { text, wrong_keys }),
+            None => put_unavailable(response),
+        }
+    }
+}

@@ -1,0 +1,122 @@
+//! Calls for the director, his notice, the clock, and what is said with a claim.
+use super::expect_eq;
+use super::peer::{answered, pages_with};
+use super::requests::{body_of, request};
+use std::cell::Cell;
+use std::test::Fail;
+use table_pages::Seconds;
+use test_texts::SEVEN_TRICKS;
+
+/// A clock that is set.
+#[derive(Drop)]
+struct SetClock<'a> {
+    seconds: &'a Cell<u32>,
+}
+
+impl Seconds for SetClock<'_> {
+    fn seconds(&self) -> u32 {
+        self.seconds.get()
+    }
+}
+
+/// The second, the path, the body, and what the response ends with.
+const ROWS: &[(u32, &str, &str, &str)] = &[
+    (0, "/desk", "11", "OK\n.\n"),
+    (0, "/desk", "100", "OK\n.\n"),
+    (0, "/desk", "12345", "ERR 1 NoKey\n"),
+    (0, "/desk", "x", "ERR 30 BadLine\n"),
+    (0, "/desk", "", "ERR 30 BadLine\n"),
+    (0, "/desk", "11 HELP", "ERR 30 BadLine\n"),
+    (0, "/desk", "11 NOTICE Coffee", "ERR 2 NotAllowed\n"),
+    (
+        0,
+        "/desk",
+        "100 NOTICE Coffee is ready",
+        "OK\nNOTICE Coffee is ready\n.\n",
+    ),
+    (0, "/desk", "41", "OK\nNOTICE Coffee is ready\n.\n"),
+    (0, "/desk", "100 NOTICE Tea", "ERR 32 TooSoon\n"),
+    (
+        1,
+        "/desk",
+        "100 NOTICE Tee f\u{fc}r alle",
+        "OK\nNOTICE Tee f\u{fc}r alle\n.\n",
+    ),
+    (2, "/desk", "100 NOTICE a\u{202e}b", "ERR 30 BadLine\n"),
+    (2, "/desk", "100 NOTICE a\nb", "ERR 30 BadLine\n"),
+    (2, "/desk", "100 NOTICE", "OK\n.\n"),
+    (3, "/desk", "100 CLOCK 0", "ERR 30 BadLine\n"),
+    (3, "/desk", "100 CLOCK 241", "ERR 30 BadLine\n"),
+    (3, "/desk", "100 CLOCK 7", "OK\nCLOCK 420\n.\n"),
+    (63, "/desk", "31", "OK\nCLOCK 360\n.\n"),
+    (500, "/desk", "31", "OK\nCLOCK 0\n.\n"),
+    (500, "/desk", "100 CLOCK", "OK\n.\n"),
+    (500, "/desk", "100 CALL", "ERR 2 NotAllowed\n"),
+    (
+        500,
+        "/desk",
+        "11 CALL Lead out of turn",
+        "OK\nCALL 1 0 1 Ann Lead out of turn\n.\n",
+    ),
+    (
+        510,
+        "/desk",
+        "32 CALL",
+        "OK\nCALL 1 10 1 Ann Lead out of turn\n.\n",
+    ),
+    (510, "/desk", "21", "OK\n.\n"),
+    (510, "/desk", "22 CALL", "OK\nCALL 2 0 2 Dan \n.\n"),
+    (
+        511,
+        "/desk",
+        "100",
+        "OK\nCALL 1 11 1 Ann Lead out of turn\nCALL 2 1 2 Dan \n.\n",
+    ),
+    (511, "/desk", "11 ANSWERED 1", "ERR 2 NotAllowed\n"),
+    (511, "/desk", "100 ANSWERED 1", "OK\nCALL 2 1 2 Dan \n.\n"),
+    (511, "/desk", "100 ANSWERED 2", "OK\n.\n"),
+    (511, "/desk", "11 STATEMENT All high", "ERR 8 NotDealt\n"),
+    (511, "/lines", SEVEN_TRICKS, "OK\n"),
+    (511, "/desk", "11 STATEMENT All high", "ERR 11 NoClaim\n"),
+    (511, "/lines", "CLAIM 11 1 0 6\n", "OK\n"),
+    (511, "/desk", "31 STATEMENT Not mine", "ERR 11 NoClaim\n"),
+    (
+        511,
+        "/desk",
+        "11 STATEMENT All high",
+        "OK\nSTATEMENT All high\n.\n",
+    ),
+    (
+        511,
+        "/desk",
+        "11 STATEMENT But one",
+        "OK\nSTATEMENT All high\n.\n",
+    ),
+    (511, "/desk", "32", "OK\nSTATEMENT All high\n.\n"),
+    (511, "/desk", "21", "OK\n.\n"),
+    (511, "/lines", "REFUSE 31 1 1\n", "OK\n"),
+    (511, "/desk", "32", "OK\n.\n"),
+];
+
+// What stands beside the session is told to those whom it concerns, at the second of the request.
+#[test]
+fn what_stands_on_the_desk_is_told(rt: HostRuntime) -> Result<(), Fail> {
+    let alloc = rt.alloc();
+    let seconds = Cell::new(0);
+    let mut pages = pages_with(alloc, SetClock { seconds: &seconds })?;
+    for (at, path, body, due) in ROWS {
+        seconds.set(*at);
+        let line = format!(in alloc; "POST {path} HTTP/1.1")?;
+        let bytes = request(
+            alloc,
+            line.as_str(),
+            "127.0.0.1:4000",
+            "application/x-table-lines",
+            body,
+        )?;
+        let response = answered(&rt, alloc, &mut pages, bytes.as_slice(), 4096)?;
+        let told = body_of(response.as_slice());
+        expect_eq(&rt, told.ends_with(due.as_bytes()), true, (body, due));
+    }
+    Ok(())
+}
