@@ -63,7 +63,6 @@ async function askDesk(order) {
 // A player or the director has sat down, and has left.
 function openDesk() {
   if (deskTimer === 0) deskTimer = setTimeout(askDesk, 0);
-  at("bell").hidden = isDirector();
 }
 
 function leaveDesk() {
@@ -73,7 +72,6 @@ function leaveDesk() {
   desk = nothingStands();
   closeCall();
   showDesk();
-  at("bell").hidden = true;
 }
 
 // ---- the round's clock, which goes on between two looks
@@ -108,6 +106,7 @@ function callNodesOf(call) {
 // Shows what stands, where it has changed; the focus stays.
 function showDesk() {
   showClock();
+  at("bell").hidden = key === null || isDirector();
   const made = JSON.stringify([desk.notice, desk.calls, desk.said, isDirector()]);
   if (made === deskShown) return;
   deskShown = made;

@@ -21,6 +21,8 @@ let ordered = false;
 // The names of pairs; the play that is looked at, as round, table and place in its set, and what was told of it.
 let pairNames = new Map();
 let opened = null;
+// The tables as they were told last.
+let lastTables = null;
 
 // A reply of one line in words.
 function outcome(reply) {
@@ -97,9 +99,10 @@ function minutesText(table, now) {
   return String(Math.floor((now - since.get(table.number).at) / MINUTE));
 }
 
-// How a table stands, for its colour: done, at play, slow, or not dealt.
+// How a table stands, for its colour: the director was called, done, at play, slow, or not dealt.
 const SLOW_TABLE = 5;
 function standsAs(table, minutes) {
+  if (desk.calls.some((call) => call.table === table.number)) return "called";
   if (table.idle === "NotCurrent" || table.idle === "SitsOut") return "done";
   if (table.idle) return "waits";
   return minutes >= SLOW_TABLE ? "slow" : "plays";
@@ -119,10 +122,7 @@ function tablesTable(state) {
   const rows = state.tables.map((table) => {
     const minutes = minutesText(table, now);
     const stands = standsAs(table, Number(minutes));
-    const open = make("button",
-      { type: "button", id: "open-" + table.number, aria_label: TEXTS.openTable(table.number), onclick: () => openPlay([
-        state.round, table.number, table.idle ? 1 : placeInSet(Number(table.board))]) },
-      TEXTS.open);
+    const open = make("button", { type: "button", id: "open-" + table.number, aria_label: TEXTS.openTable(table.number), onclick: () => openTable(table) }, TEXTS.open);
     return make("tr", { className: stands },
       ...[table.number, pairText(table.ns), pairText(table.ew),
         table.idle ? "" : table.board, progressText(table), table.idle ? "" : TEXTS.stillFor(Number(minutes)),
@@ -131,6 +131,11 @@ function tablesTable(state) {
   });
   return make("table", { id: "tables", className: "tables", hidden: rows.length === 0, aria_label: TEXTS.tables },
     make("thead", null, make("tr", null, ...TEXTS.tableHeads.map((title) => make("th", { scope: "col" }, title)))), make("tbody", null, ...rows));
+}
+
+// Shows the play at a table: its current one, or the first of its set.
+function openTable(table) {
+  return openPlay([lastTables.round, table.number, table.idle ? 1 : placeInSet(Number(table.board))]);
 }
 
 // The tables that are still at play, by their numbers.
@@ -147,6 +152,7 @@ function roundText(state) {
 function showTables(state) {
   boardsOfSet = state.boards;
   boardsOfAll = state.all;
+  lastTables = state;
   noteSets(state);
   say("status", roundText(state));
   const old = at("tables");
@@ -462,6 +468,7 @@ function directorNodes() {
     section("solving", TEXTS.solving, playFields("solve"),
       make("div", { className: "row" }, numberField("solve-tricks", TEXTS.afterTricks, 7, 13, 7), button(TEXTS.solve, "", "solve", true, solve)),
       make("p", { id: "solved", role: "status" })),
+    section("telling", TEXTS.telling, ...tellingNodes()),
     section("ranking", TEXTS.standings, button(TEXTS.showRanking, "", "rank", true, askRankings), make("div", { id: "rankings" })),
     section("publishing", TEXTS.results, make("div", { id: "others" }),
       make("div", { className: "row" },

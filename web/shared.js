@@ -148,6 +148,8 @@ function leave() {
   turn += 1;
   sessionStorage.removeItem("key");
   say("notice", "");
+  drawn = () => {};
+  leaveDesk();
   showLogin();
 }
 
@@ -199,6 +201,7 @@ function enter(asked) {
   sessionStorage.setItem("key", asked);
   sayLeave();
   at("menu").hidden = false;
+  openDesk();
 }
 
 // Leave is asked: it wants a second press within some seconds.

@@ -169,7 +169,7 @@ function choose(what, line, event) {
 
 function send(line) {
   unmark();
-  act(line);
+  return act(line);
 }
 
 function confirmButton(prompt, sending) {
@@ -238,8 +238,7 @@ function oneStop(node) {
 // In a sheet Tab goes round.
 function holdTab(event) {
   if (event.key !== "Tab") return;
-  const stops = [...event.currentTarget.querySelectorAll("button"), ...event.currentTarget.querySelectorAll("input")]
-    .filter((one) => !one.disabled && (one.type !== "radio" || one.checked));
+  const stops = [...event.currentTarget.querySelectorAll("button, input")].filter((one) => !one.disabled && (one.type !== "radio" || one.checked));
   const [first, last] = [stops[0], stops[stops.length - 1]];
   if (document.activeElement !== (event.shiftKey ? first : last)) return;
   event.preventDefault();
@@ -262,6 +261,9 @@ function moveFocus() {
   if (!now && openSheet && at(openSheet[0]) && document.activeElement === document.body) at(openSheet[0]).focus();
   openSheet = now;
 }
+
+// What is said with a claim, while it is being made.
+let saying = "";
 
 // Arrows go through what may be chosen in a hand or a box of so many columns.
 function arrowKey(event, columns) {
@@ -492,11 +494,19 @@ function claimSheet(place, view) {
   const numbers = Array.from({ length: left + 1 },
     (_none, tricks) => choice(tricks, tricks === 0 ? TEXTS.claimNone : tricks === left ? TEXTS.claimAll(left) : String(tricks)));
   const line = "CLAIM " + key + " " + view.board + " " + view.made.claims + " " + claiming.tricks;
-  const claim = button(TEXTS.claimTricks(claiming.tricks), "", "claim-button", true, (event) => { if (!isDeaf(event)) send(line); });
+  const said = make("input", { id: "claim-says", type: "text", maxLength: 100, value: saying, oninput: () => { saying = said.value; } });
+  // What is said goes with the claim once that stands.
+  const makeIt = async () => {
+    const words = saying.trim();
+    saying = "";
+    if (await send(line) && words) askDesk("STATEMENT " + words);
+  };
+  const claim = button(TEXTS.claimTricks(claiming.tricks), "", "claim-button", true, (event) => (isDeaf(event) ? undefined : makeIt()));
   claim.className = "send";
   return sheet("claiming", TEXTS.claimTitle,
     make("h2", null, TEXTS.claimOf(left)), make("div", { className: "numbers" }, ...numbers),
-    make("p", null, claimWords(place, view, view.seat, claiming.tricks) + "."), make("p", { className: "second" }, TEXTS.claimHelp),
+    make("p", null, claimWords(place, view, view.seat, claiming.tricks) + "."),
+    make("label", { for: "claim-says" }, TEXTS.claimSays), said, make("p", { className: "second" }, TEXTS.claimHelp),
     make("div", { className: "row" }, button(TEXTS.back, "", "claim-back", true, () => { claiming = null; drawn(); }), claim));
 }
 
@@ -510,7 +520,7 @@ function answerDock(place, view) {
   const line = (word) => word + " " + key + " " + view.board + " " + view.made.claims;
   return make("section", { id: "dock", className: "claimed", aria_label: TEXTS.theClaim },
     make("p", null, make("b", null, TEXTS.claims(SEAT_NAMES[view.claim.seat], view.claim.tricks, leftOf(view))), make("br"),
-      claimWords(place, view, view.claim.seat, Number(view.claim.tricks)) + TEXTS.ifAgreed),
+      claimWords(place, view, view.claim.seat, Number(view.claim.tricks)) + TEXTS.ifAgreed, ...(desk.said ? [make("br"), TEXTS.saidWith(desk.said)] : [])),
     button(TEXTS.refuse, "", "refuse", true, (event) => { if (!isDeaf(event)) send(line("REFUSE")); }),
     button(TEXTS.agree, "", "agree", true, (event) => { if (!isDeaf(event)) send(line("AGREE")); }));
 }
@@ -704,6 +714,7 @@ function showView(placeReply, reply) {
     const done = refused === "NotCurrent";
     const status = refused === "NotDealt" ? TEXTS.notDealtYet : done ? TEXTS.boardsDone + nextText(place)
       : refused === "SitsOut" ? TEXTS.sitsOut + " " + nextText(place) : TEXTS.refusals[refused] || reply;
+    drawn = () => {};
     if (showLeaf(place, TEXTS.toNext)) return;
     barFor(place, null);
     show(made + told.text, status, "between", () => betweenNodes(place, done || refused === "SitsOut"));
@@ -719,7 +730,7 @@ function showView(placeReply, reply) {
   if (said) say("heard", said);
   if (showLeaf(place, (mine ? TEXTS.nextYours : TEXTS.nextBoard)(view.board))) return;
   barFor(place, view);
-  drawn = () => show(made + JSON.stringify([marked, claiming, looking, isSafe()]),
+  drawn = () => show(made + JSON.stringify([marked, claiming, looking, isSafe(), desk.said]),
     waiting(place, view), shapeOf(place, view) + (mine ? " mine" : ""), () => playNodes(place, view), moveFocus);
   drawn();
   // The newest row of a long auction is in view.
@@ -744,6 +755,7 @@ async function showClosed(placeReply, asked, mine) {
   await lookAtBoards(asked, place, null);
   if (mine !== turn) return;
   turnTitle(false);
+  drawn = () => {};
   if (showLeaf(place, TEXTS.toNext)) return;
   barFor(place, null);
   const both = [[1, first], [2, second]].filter((one) => !refusal(one[1]));
@@ -818,7 +830,8 @@ async function act(line) {
   unsureAt = Date.now();
   if (reply === null) say("notice", TEXTS.unknownFate);
   else if (refusal(reply)) say("notice", TEXTS.refusals[refusal(reply)] || reply);
-  return look();
+  await look();
+  return reply !== null && !refusal(reply);
 }
 
 // ---- choices, kept for the tab
@@ -864,6 +877,7 @@ at("chosen").textContent = TEXTS.done;
 document.addEventListener("keydown", (event) => {
   if (event.key !== "Escape") return;
   if (!at("choices").hidden) at("chosen").onclick();
+  closeCall();
   if (marked || claiming || looking) { unmark(); drawn(); }
 });
 chosen();

@@ -224,6 +224,26 @@ run({
     assert.strictEqual(page.text("solved"), "Of the tricks left North and South can win 6, and East and West 0.");
   },
 
+  "a table that calls is shown, opened and answered": async () => {
+    const page = await opened(tables(AT_PLAY), "OK\nCALL 1 130 2 Dan Slow play\n.\n");
+    assert.deepStrictEqual(await page.pass(0), [`/desk ${KEY}`]);
+    assert.match(page.text("desk"), /^Table 1 calls: Slow play\. Dan.*pair 2, 2 minutes ago\./);
+    assert.match((await page.click("go-1"))[0], new RegExp(`^/boards ${KEY} 2 1 \\d$`));
+    assert.deepStrictEqual(await page.click("answered-1"), [`/desk ${KEY} ANSWERED 1`]);
+  },
+
+  "all tables are told, and the clock is set": async () => {
+    const page = await opened(tables(AT_PLAY), "OK\nCLOCK 1190\n.\n");
+    fill(page, { "tell-text": "Tea after round 4", "clock-minutes": "20" });
+    assert.deepStrictEqual(await page.click("tell-all"), [`/desk ${KEY} NOTICE Tea after round 4`]);
+    assert.deepStrictEqual(await page.click("take-down"), [`/desk ${KEY} NOTICE`]);
+    assert.deepStrictEqual(await page.click("clock-start"), [`/desk ${KEY} CLOCK 20`]);
+    assert.deepStrictEqual(await page.click("clock-more"), [`/desk ${KEY} CLOCK 22`]);
+    assert.deepStrictEqual(await page.click("clock-stop"), [`/desk ${KEY} CLOCK`]);
+    fill(page, { "clock-minutes": "0" });
+    assert.deepStrictEqual(await page.click("clock-start"), []);
+  },
+
   "each field stands under its heading": async () => {
     const ranks = { 1: "OK\n1 2 6.0/8.0 75.00\n.\n", 2: "OK\n1 8 3.0/8.0 37.50\n.\n" };
     const page = await opened(tables(AT_PLAY), (where, body) => (where === "/results" ? "Pair 2: Cy and Di\n" : ranks[body.trim().split(" ")[2]]));

@@ -60,11 +60,15 @@ class Element {
     return [this, ...this.nodes.flatMap((node) => (node instanceof Element ? node.all() : []))];
   }
 
-  // The elements within that have a tag, and where it is asked for an attribute: `tag`, `tag[name]` or `tag[name=value]`.
-  querySelectorAll(selector) {
-    const [, tag, name, value] = /^(\w+)(?:\[(\w+)(?:=(\w+))?\])?$/.exec(selector);
-    const has = (element) => name === undefined || (value === undefined ? Boolean(element[name]) : element[name] === value);
-    return this.all().slice(1).filter((element) => element.tag === tag && has(element));
+  // The elements within that have a tag, and where it is asked for an attribute: `tag`, `tag[name]` or `tag[name=value]`, or one
+  // of several such behind commas.
+  querySelectorAll(selectors) {
+    const fits = selectors.split(", ").map((selector) => {
+      const [, tag, name, value] = /^(\w+)(?:\[(\w+)(?:=(\w+))?\])?$/.exec(selector);
+      const has = (element) => name === undefined || (value === undefined ? Boolean(element[name]) : element[name] === value);
+      return (element) => element.tag === tag && has(element);
+    });
+    return this.all().slice(1).filter((element) => fits.some((one) => one(element)));
   }
 
   contains(other) {

@@ -9,7 +9,7 @@ const { readPage } = require("./document.js");
 
 const WEB = path.join(__dirname, "..");
 // What may be asked, and how.
-const PATHS = ["/lines", "/place", "/tables", "/results", "/boards"];
+const PATHS = ["/lines", "/place", "/tables", "/results", "/boards", "/desk"];
 const TYPE = "application/x-table-lines";
 
 // The random bytes of the test: 1, 2, 3 ..

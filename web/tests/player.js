@@ -535,6 +535,47 @@ run({
     }
   },
 
+  "the director is called with a reason or without, and all see it": async () => {
+    for (const [words, order] of [["Out of turn", " CALL Out of turn"], ["", " CALL"]]) {
+      const page = await seated(place(), view());
+      assert.deepStrictEqual(await page.pass(0), [`/desk ${KEY}`]);
+      assert.deepStrictEqual(await page.click("bell"), []);
+      if (words) page.button(words).click();
+      page.answer = () => `OK\nCALL 2 0 2 Dan ${words}\n.\n`;
+      assert.deepStrictEqual(await page.click("call-director"), [`/desk ${KEY}${order}`]);
+      assert.strictEqual(page.text("desk"), `Director called. ${words ? words + ". " : ""}Please wait, play nothing.`);
+      page.answer = () => "OK\n.\n";
+      await page.pass(2000);
+      assert.strictEqual(page.text("desk"), "");
+    }
+  },
+
+  "the notice and the clock of the round are shown": async () => {
+    const page = await seated(place(), view(), "OK\nNOTICE Tea after round 4\nCLOCK 301\n.\n");
+    await page.pass(0);
+    assert.strictEqual(page.text("desk"), "The director: Tea after round 4");
+    assert.strictEqual(page.text("clock"), "5:01left");
+    page.now += 1000;
+    page.context.showClock();
+    assert.strictEqual(page.text("clock"), "5:00left");
+    assert.strictEqual(page.text("heard"), "5 minutes left in this round");
+  },
+
+  "what is said with a claim follows it once it stands, and is shown to who answers": async () => {
+    const claims = async (done) => {
+      const page = await seated(place({ CONTRACT: "1H E" }), play(), done);
+      await page.click("claim-open");
+      page.at("claim-says").value = " drawing trumps ";
+      page.at("claim-says").oninput();
+      return page.click("claim-button");
+    };
+    assert.deepStrictEqual((await claims("OK\n")).filter((one) => one.startsWith("/desk")), [`/desk ${KEY} STATEMENT drawing trumps`]);
+    assert.deepStrictEqual((await claims("ERR 11 ClaimStands\n")).filter((one) => one.startsWith("/desk")), []);
+    const asked = await seated(place({ CONTRACT: "1H E", ANSWER: "DUE" }), play({ AT: "7 20 1", CLAIM: "E 5" }), "OK\nSTATEMENT the rest are mine\n.\n");
+    await asked.pass(0);
+    assert.match(asked.text("dock"), /\u201cthe rest are mine\u201d/);
+  },
+
   "that a claim was refused is told": async () => {
     const page = await seated(place({ CONTRACT: "1H E" }), play({ AT: "7 20 1", CLAIM: "S 5" }));
     page.answer = (where) => (where === "/place" ? place({ CONTRACT: "1H E" }) : play({ AT: "7 20 1" }));

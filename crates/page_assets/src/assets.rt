@@ -14,20 +14,24 @@ pub const PAGE: &str = r##"<!doctype html>
 <script src="/shared.js" defer></script>
 <script src="/table.js" defer></script>
 <script src="/boards.js" defer></script>
+<script src="/desk.js" defer></script>
 <script src="/director.js" defer></script>
 </head>
 <body>
 <header id="bar">
 <div id="chip" role="img" hidden></div>
 <div id="heads"><h1 id="title">Bridge table</h1><p id="below"></p></div>
+<p id="clock" hidden></p>
+<button id="bell" type="button" aria-controls="calling" hidden>Director</button>
 <button id="menu" type="button" aria-controls="choices" hidden>Menu</button>
 </header>
-<p id="notice" role="alert"></p>
+<div id="notes"><p id="notice" role="alert"></p><div id="desk" role="alert"></div></div>
 <main id="main"><noscript>This page needs JavaScript.</noscript></main>
 <section id="choices" class="sheet" role="dialog" aria-modal="true" aria-label="Menu" hidden>
 <div id="options"></div>
 <div class="row"><button id="leave" type="button">Leave</button><button id="chosen" type="button">Done</button></div>
 </section>
+<section id="calling" class="sheet" role="dialog" aria-modal="true" aria-label="Call the director" hidden></section>
 <p id="status" role="status"></p>
 <p id="heard" role="status"></p>
 </body>
@@ -102,7 +106,23 @@ label { display: inline-flex; align-items: center; gap: .4rem; min-height: 2.75r
 #heads { flex: 1 1 4rem; min-width: 4rem; }
 #below { margin: 0; font-size: .875rem; color: var(--bar-second); white-space: nowrap; overflow: hidden; text-overflow: ellipsis; }
 #below:empty, #notice:empty, #status:empty { display: none; }
-#notice { grid-area: note; margin: 0; padding: .5rem .75rem; color: var(--note-ink); background: var(--note); font-weight: bold; }
+#notes { grid-area: note; }
+#notice { margin: 0; padding: .5rem .75rem; color: var(--note-ink); background: var(--note); font-weight: bold; }
+#desk p { margin: 0; overflow-wrap: anywhere; }
+#desk > * { padding: .35rem .75rem; color: var(--note-ink); background: var(--note); border-top: 1px solid var(--edge); }
+#desk .row { margin: 0; justify-content: space-between; color: var(--gold-ink); background: var(--gold); }
+#desk .row p { flex: 1 1 16rem; }
+#desk .row button:not(.send) { color: inherit; background: transparent; border-color: currentcolor; }
+#clock { display: grid; justify-items: center; margin: 0; line-height: 1.1; font-size: .75rem; color: var(--bar-second); }
+#clock b { font-size: 1.25rem; color: var(--on-bar); font-variant-numeric: tabular-nums; }
+#clock.over b { color: var(--felt-red); }
+#clock[hidden] { display: none; }
+.reasons { display: grid; grid-template-columns: 1fr 1fr; gap: .6rem; margin: .6rem 0; }
+.reasons [aria-pressed=true] { color: var(--page); background: var(--ink); }
+#claim-says, #tell-text { width: 100%; }
+.director #tables .called { border-color: var(--vul); }
+.director #tables .called td:nth-child(7) { color: #fff; background: var(--vul); }
+@media (min-width: 80em) { #rankings { max-height: max(6.4rem, calc(100vh - 49.7rem)); overflow: auto; } }
 #status {
   grid-area: say; justify-self: center; margin: .25rem .5rem; padding: .2rem 1rem; max-width: calc(100% - 1rem); border-radius: 1rem; text-align: center;
   background: var(--soft);
@@ -197,7 +217,7 @@ details { margin: .6rem 0; border-top: 1px solid var(--edge); padding-top: .4rem
   .director #main { display: grid; grid-template-columns: minmax(0, 1fr) 22rem; gap: 0 1rem; align-items: start; max-width: 90rem; }
   .director #main > * { grid-column: 2; min-width: 0; }
   .director #main > #told, .director #main > #opened { grid-column: 1 / -1; }
-  .director #main > #tables { grid-column: 1; grid-row: 3 / span 6; }
+  .director #main > #tables { grid-column: 1; grid-row: 3 / span 7; }
   .director #main > .row { grid-row: 3; margin-top: 0; }
   .director #main > #publishing, .director #main > #lines { grid-column: 1 / -1; }
 }
@@ -729,10 +749,11 @@ legend { font-weight: bold; padding: 0 .3rem; }
   #end-question { grid-row: 4; }
   #dealing { grid-row: 5; }
   #ruling { grid-row: 6; }
-  #solving { grid-row: 7; }
-  #ranking { grid-row: 8; }
-  #publishing { grid-row: 9; }
-  #lines { grid-row: 10; }
+  #telling { grid-row: 7; }
+  #solving { grid-row: 8; }
+  #ranking { grid-row: 9; }
+  #publishing { grid-row: 10; }
+  #lines { grid-row: 11; }
 }
 @media (min-width: 80em) { #opened .parts { grid-template: "h p" auto / 1fr 1fr; } }
 
@@ -885,6 +906,7 @@ const TEXTS = {
     Disk: "The server's disk has failed. Call the director.",
     EpochsSpent: "The server's disk is used up. Call the director.",
     BadLine: "That cannot be read.",
+    TooSoon: "Please wait a second, and send it again.",
   },
   directorRefusals: {
     AlreadyDealt: "already dealt",
@@ -1060,6 +1082,31 @@ const TEXTS = {
   noBoards: "No board is over yet.",
   ruledOn: (number) => "The director has ruled on board " + number + ".",
 
+  // What stands beside the session.
+  bell: "Director",
+  callDirector: "Call the director",
+  callTitle: "Call the director to your table?",
+  callHelp: "Everybody stops. What it is about helps, and may be left out:",
+  reasons: ["Wrong call or card", "Out of turn", "Claim", "Hesitation or information", "Slow play", "Something else"],
+  directorCalled: "Director called.",
+  waitForDirector: "Please wait, play nothing.",
+  noticeOf: "The director:",
+  clockLeft: "left",
+  minutesLeft: (minutes) => (minutes === 1 ? "One minute left" : minutes + " minutes left") + " in this round",
+  claimSays: "What you say with it (may be left out)",
+  saidWith: (words) => "\u201c" + words + "\u201d",
+  tableCalls: (table) => "Table " + table + " calls:",
+  minutesAgo: (minutes) => (minutes === 0 ? "just now" : minutes === 1 ? "1 minute ago" : minutes + " minutes ago"),
+  answered: "On my way",
+  telling: "Tell all tables, and the clock",
+  tellText: "A notice for all tables, up to 200 characters",
+  tellAll: "Tell all tables",
+  takeDown: "Take it down",
+  clockMinutes: "Minutes for the round",
+  clockStart: "Start the clock",
+  clockMore: "+ 2 min",
+  clockStop: "Stop",
+
   // The director.
   director: "Director",
   answerAwaited: "An answer is still waited for; nothing was sent.",
@@ -1074,7 +1121,7 @@ const TEXTS = {
   stillFor: (minutes) => (minutes === 0 ? "moved just now" : "still for " + minutes + " min"),
   tables: "Tables",
   tableHeads: ["Table", "N-S", "E-W", "Board", "What goes on", "Min.", "Stands", "Open"],
-  stands: { done: "Done", plays: "Playing", slow: "Slow", waits: "No deal" },
+  stands: { called: "Called", done: "Done", plays: "Playing", slow: "Slow", waits: "No deal" },
   open: "Open",
   openTable: (table) => "Open table " + table,
   openedAt: (table, round) => "Table " + table + ", round " + round,
@@ -1303,6 +1350,8 @@ function leave() {
   turn += 1;
   sessionStorage.removeItem("key");
   say("notice", "");
+  drawn = () => {};
+  leaveDesk();
   showLogin();
 }
 
@@ -1354,6 +1403,7 @@ function enter(asked) {
   sessionStorage.setItem("key", asked);
   sayLeave();
   at("menu").hidden = false;
+  openDesk();
 }
 
 // Leave is asked: it wants a second press within some seconds.
@@ -1550,7 +1600,7 @@ function choose(what, line, event) {
 
 function send(line) {
   unmark();
-  act(line);
+  return act(line);
 }
 
 function confirmButton(prompt, sending) {
@@ -1619,8 +1669,7 @@ function oneStop(node) {
 // In a sheet Tab goes round.
 function holdTab(event) {
   if (event.key !== "Tab") return;
-  const stops = [...event.currentTarget.querySelectorAll("button"), ...event.currentTarget.querySelectorAll("input")]
-    .filter((one) => !one.disabled && (one.type !== "radio" || one.checked));
+  const stops = [...event.currentTarget.querySelectorAll("button, input")].filter((one) => !one.disabled && (one.type !== "radio" || one.checked));
   const [first, last] = [stops[0], stops[stops.length - 1]];
   if (document.activeElement !== (event.shiftKey ? first : last)) return;
   event.preventDefault();
@@ -1643,6 +1692,9 @@ function moveFocus() {
   if (!now && openSheet && at(openSheet[0]) && document.activeElement === document.body) at(openSheet[0]).focus();
   openSheet = now;
 }
+
+// What is said with a claim, while it is being made.
+let saying = "";
 
 // Arrows go through what may be chosen in a hand or a box of so many columns.
 function arrowKey(event, columns) {
@@ -1873,11 +1925,19 @@ function claimSheet(place, view) {
   const numbers = Array.from({ length: left + 1 },
     (_none, tricks) => choice(tricks, tricks === 0 ? TEXTS.claimNone : tricks === left ? TEXTS.claimAll(left) : String(tricks)));
   const line = "CLAIM " + key + " " + view.board + " " + view.made.claims + " " + claiming.tricks;
-  const claim = button(TEXTS.claimTricks(claiming.tricks), "", "claim-button", true, (event) => { if (!isDeaf(event)) send(line); });
+  const said = make("input", { id: "claim-says", type: "text", maxLength: 100, value: saying, oninput: () => { saying = said.value; } });
+  // What is said goes with the claim once that stands.
+  const makeIt = async () => {
+    const words = saying.trim();
+    saying = "";
+    if (await send(line) && words) askDesk("STATEMENT " + words);
+  };
+  const claim = button(TEXTS.claimTricks(claiming.tricks), "", "claim-button", true, (event) => (isDeaf(event) ? undefined : makeIt()));
   claim.className = "send";
   return sheet("claiming", TEXTS.claimTitle,
     make("h2", null, TEXTS.claimOf(left)), make("div", { className: "numbers" }, ...numbers),
-    make("p", null, claimWords(place, view, view.seat, claiming.tricks) + "."), make("p", { className: "second" }, TEXTS.claimHelp),
+    make("p", null, claimWords(place, view, view.seat, claiming.tricks) + "."),
+    make("label", { for: "claim-says" }, TEXTS.claimSays), said, make("p", { className: "second" }, TEXTS.claimHelp),
     make("div", { className: "row" }, button(TEXTS.back, "", "claim-back", true, () => { claiming = null; drawn(); }), claim));
 }
 
@@ -1891,7 +1951,7 @@ function answerDock(place, view) {
   const line = (word) => word + " " + key + " " + view.board + " " + view.made.claims;
   return make("section", { id: "dock", className: "claimed", aria_label: TEXTS.theClaim },
     make("p", null, make("b", null, TEXTS.claims(SEAT_NAMES[view.claim.seat], view.claim.tricks, leftOf(view))), make("br"),
-      claimWords(place, view, view.claim.seat, Number(view.claim.tricks)) + TEXTS.ifAgreed),
+      claimWords(place, view, view.claim.seat, Number(view.claim.tricks)) + TEXTS.ifAgreed, ...(desk.said ? [make("br"), TEXTS.saidWith(desk.said)] : [])),
     button(TEXTS.refuse, "", "refuse", true, (event) => { if (!isDeaf(event)) send(line("REFUSE")); }),
     button(TEXTS.agree, "", "agree", true, (event) => { if (!isDeaf(event)) send(line("AGREE")); }));
 }
@@ -2085,6 +2145,7 @@ function showView(placeReply, reply) {
     const done = refused === "NotCurrent";
     const status = refused === "NotDealt" ? TEXTS.notDealtYet : done ? TEXTS.boardsDone + nextText(place)
       : refused === "SitsOut" ? TEXTS.sitsOut + " " + nextText(place) : TEXTS.refusals[refused] || reply;
+    drawn = () => {};
     if (showLeaf(place, TEXTS.toNext)) return;
     barFor(place, null);
     show(made + told.text, status, "between", () => betweenNodes(place, done || refused === "SitsOut"));
@@ -2100,7 +2161,7 @@ function showView(placeReply, reply) {
   if (said) say("heard", said);
   if (showLeaf(place, (mine ? TEXTS.nextYours : TEXTS.nextBoard)(view.board))) return;
   barFor(place, view);
-  drawn = () => show(made + JSON.stringify([marked, claiming, looking, isSafe()]),
+  drawn = () => show(made + JSON.stringify([marked, claiming, looking, isSafe(), desk.said]),
     waiting(place, view), shapeOf(place, view) + (mine ? " mine" : ""), () => playNodes(place, view), moveFocus);
   drawn();
   // The newest row of a long auction is in view.
@@ -2125,6 +2186,7 @@ async function showClosed(placeReply, asked, mine) {
   await lookAtBoards(asked, place, null);
   if (mine !== turn) return;
   turnTitle(false);
+  drawn = () => {};
   if (showLeaf(place, TEXTS.toNext)) return;
   barFor(place, null);
   const both = [[1, first], [2, second]].filter((one) => !refusal(one[1]));
@@ -2199,7 +2261,8 @@ async function act(line) {
   unsureAt = Date.now();
   if (reply === null) say("notice", TEXTS.unknownFate);
   else if (refusal(reply)) say("notice", TEXTS.refusals[refusal(reply)] || reply);
-  return look();
+  await look();
+  return reply !== null && !refusal(reply);
 }
 
 // ---- choices, kept for the tab
@@ -2245,6 +2308,7 @@ at("chosen").textContent = TEXTS.done;
 document.addEventListener("keydown", (event) => {
   if (event.key !== "Escape") return;
   if (!at("choices").hidden) at("chosen").onclick();
+  closeCall();
   if (marked || claiming || looking) { unmark(); drawn(); }
 });
 chosen();
@@ -2656,6 +2720,168 @@ async function lookAtBoards(asked, place, now) {
 }
 "##;
 
+/// The script of what stands beside the session.
+pub const DESK_SCRIPT: &str = r##""use strict";
+// What stands beside the session: the director's notice, the round's clock, calls for the director, and what was said with a
+// claim. The server keeps it for as long as it runs.
+
+// Milliseconds between two looks, of players and of the director; and how many seconds left of the clock are said.
+const DESK_LOOK = 2000;
+const DIRECTORS_LOOK = 1000;
+const CLOCK_SAID = [300, 60];
+const SECOND = 1000;
+
+const nothingStands = () => ({ notice: "", clock: null, calls: [], said: "", at: 0 });
+let desk = nothingStands();
+let deskTimer = 0;
+let clockTimer = 0;
+// What is on the page of it; and the reason that is chosen while the director is being called, or null.
+let deskShown = "";
+let reason = null;
+
+// A line from so many words on.
+const wordsFrom = (line, count) => line.split(" ").slice(count).join(" ");
+
+const DESK_LINES = {
+  NOTICE: (found, line) => { found.notice = wordsFrom(line, 1); },
+  CLOCK: (found, line) => { found.clock = Number(wordsFrom(line, 1)); },
+  CALL: (found, line) => {
+    const [, table, seconds, pair, name] = line.split(" ");
+    found.calls.push({ table, minutes: Math.floor(Number(seconds) / 60), pair, name, text: wordsFrom(line, 5) });
+  },
+  STATEMENT: (found, line) => { found.said = wordsFrom(line, 1); },
+};
+
+function readDesk(reply) {
+  const found = nothingStands();
+  found.at = Date.now();
+  for (const line of reply.split("\n")) {
+    const put = DESK_LINES[line.split(" ")[0]];
+    if (put) put(found, line);
+  }
+  return found;
+}
+
+const isDirector = () => document.body.className === "director";
+
+// Looks at the desk, or asks something of it and shows what stands then.
+async function askDesk(order) {
+  const asked = key;
+  clearTimeout(deskTimer);
+  if (asked === null) return;
+  const reply = await ask("/desk", order ? asked + " " + order : asked);
+  if (key !== asked) return;
+  if (reply !== null && !refusal(reply)) {
+    desk = readDesk(reply);
+    showDesk();
+  } else if (order) {
+    const why = reply === null ? TEXTS.unknownDone : TEXTS.refusals[refusal(reply)] || reply;
+    if (isDirector()) tell(why);
+    else say("notice", why);
+  }
+  clearTimeout(deskTimer);
+  deskTimer = setTimeout(askDesk, document.hidden ? HIDDEN_LOOK : isDirector() ? DIRECTORS_LOOK : DESK_LOOK);
+}
+
+// A player or the director has sat down, and has left.
+function openDesk() {
+  if (deskTimer === 0) deskTimer = setTimeout(askDesk, 0);
+}
+
+function leaveDesk() {
+  clearTimeout(deskTimer);
+  clearTimeout(clockTimer);
+  deskTimer = 0;
+  desk = nothingStands();
+  closeCall();
+  showDesk();
+}
+
+// ---- the round's clock, which goes on between two looks
+
+const secondsLeft = () => Math.max(0, desk.clock - Math.floor((Date.now() - desk.at) / SECOND));
+const clockText = (seconds) => Math.floor(seconds / 60) + ":" + String(seconds % 60).padStart(2, "0");
+
+function showClock() {
+  clearTimeout(clockTimer);
+  at("clock").hidden = desk.clock === null;
+  if (desk.clock === null) return;
+  const left = secondsLeft();
+  if (CLOCK_SAID.includes(left)) say("heard", TEXTS.minutesLeft(left / 60));
+  at("clock").className = left === 0 ? "over" : "";
+  at("clock").replaceChildren(make("b", null, clockText(left)), make("span", null, TEXTS.clockLeft));
+  clockTimer = setTimeout(showClock, SECOND);
+}
+
+// ---- what stands above the page
+
+const whoCalls = ({ pair, name }) => TEXTS.ofPair(name, pair);
+
+function callNodesOf(call) {
+  if (!isDirector()) return [make("p", null, make("b", null, TEXTS.directorCalled), " ", call.text ? call.text + ". " : "", TEXTS.waitForDirector)];
+  const open = () => { const state = lastTables && lastTables.tables.find((one) => one.number === call.table); if (state) openTable(state); };
+  return [make("div", { className: "row" }, make("p", null, make("b", null, TEXTS.tableCalls(call.table)), " ", call.text ? call.text + ". " : "",
+    whoCalls(call) + ", " + TEXTS.minutesAgo(call.minutes) + "."),
+  make("button", { type: "button", id: "answered-" + call.table, onclick: () => askDesk("ANSWERED " + call.table) }, TEXTS.answered),
+  make("button", { type: "button", id: "go-" + call.table, className: "send", onclick: open }, TEXTS.openTable(call.table)))];
+}
+
+// Shows what stands, where it has changed; the focus stays.
+function showDesk() {
+  showClock();
+  at("bell").hidden = key === null || isDirector();
+  const made = JSON.stringify([desk.notice, desk.calls, desk.said, isDirector()]);
+  if (made === deskShown) return;
+  deskShown = made;
+  const focus = document.activeElement ? document.activeElement.id : "";
+  const notice = desk.notice ? [make("p", null, make("b", null, TEXTS.noticeOf), " ", desk.notice)] : [];
+  at("desk").replaceChildren(...notice, ...desk.calls.flatMap(callNodesOf));
+  if (focus && at(focus)) at(focus).focus();
+  drawn();
+}
+
+// ---- a call for the director
+
+function showCall() {
+  const choice = (words) => {
+    const node = button(words, "", "", true, () => { reason = reason === words ? "" : words; showCall(); });
+    node.setAttribute("aria-pressed", String(reason === words));
+    return node;
+  };
+  if (reason === null) reason = "";
+  const send = button(TEXTS.callDirector, "", "call-director", true, () => { const order = reason ? "CALL " + reason : "CALL"; closeCall(); askDesk(order); });
+  send.className = "send";
+  at("calling").replaceChildren(make("h2", null, TEXTS.callTitle), make("p", { className: "second" }, TEXTS.callHelp),
+    make("div", { className: "reasons" }, ...TEXTS.reasons.map(choice)), make("div", { className: "row" }, button(TEXTS.back, "", "call-back", true, closeCall), send));
+  at("calling").hidden = false;
+  send.focus();
+}
+
+function closeCall() {
+  if (reason !== null && !at("bell").hidden) at("bell").focus();
+  reason = null;
+  at("calling").hidden = true;
+}
+
+at("bell").onclick = () => { if (reason === null) showCall(); else closeCall(); };
+at("bell").textContent = TEXTS.bell;
+at("bell").setAttribute("aria-label", TEXTS.callDirector);
+at("calling").onkeydown = holdTab;
+
+// ---- the director tells all tables, and sets the clock
+
+function tellingNodes() {
+  const field = make("input", { id: "tell-text", type: "text", maxLength: 200 });
+  const telling = () => { const words = field.value.trim(); if (words) askDesk("NOTICE " + words); };
+  const start = () => { if (isFilledIn("telling")) askDesk("CLOCK " + numberAt("clock-minutes")); };
+  const more = () => { if (desk.clock !== null) askDesk("CLOCK " + (Math.ceil(secondsLeft() / 60) + 2)); };
+  return [make("label", { for: "tell-text" }, TEXTS.tellText), make("div", { className: "row" }, field, button(TEXTS.tellAll, "", "tell-all", true, telling),
+    button(TEXTS.takeDown, "", "take-down", true, () => askDesk("NOTICE"))),
+  make("div", { className: "row" }, numberField("clock-minutes", TEXTS.clockMinutes, 1, 240, 20), button(TEXTS.clockStart, "", "clock-start", true, start),
+    button(TEXTS.clockMore, "", "clock-more", true, more), button(TEXTS.clockStop, "", "clock-stop", true, () => askDesk("CLOCK")))];
+}
+"##;
+
 /// The director's script.
 pub const DIRECTOR_SCRIPT: &str = r##""use strict";
 // The director's page: tables, rounds, deals, rulings, endings, rankings and results. It asks by lines of the protocol, and
@@ -2680,6 +2906,8 @@ let ordered = false;
 // The names of pairs; the play that is looked at, as round, table and place in its set, and what was told of it.
 let pairNames = new Map();
 let opened = null;
+// The tables as they were told last.
+let lastTables = null;
 
 // A reply of one line in words.
 function outcome(reply) {
@@ -2756,9 +2984,10 @@ function minutesText(table, now) {
   return String(Math.floor((now - since.get(table.number).at) / MINUTE));
 }
 
-// How a table stands, for its colour: done, at play, slow, or not dealt.
+// How a table stands, for its colour: the director was called, done, at play, slow, or not dealt.
 const SLOW_TABLE = 5;
 function standsAs(table, minutes) {
+  if (desk.calls.some((call) => call.table === table.number)) return "called";
   if (table.idle === "NotCurrent" || table.idle === "SitsOut") return "done";
   if (table.idle) return "waits";
   return minutes >= SLOW_TABLE ? "slow" : "plays";
@@ -2778,10 +3007,7 @@ function tablesTable(state) {
   const rows = state.tables.map((table) => {
     const minutes = minutesText(table, now);
     const stands = standsAs(table, Number(minutes));
-    const open = make("button",
-      { type: "button", id: "open-" + table.number, aria_label: TEXTS.openTable(table.number), onclick: () => openPlay([
-        state.round, table.number, table.idle ? 1 : placeInSet(Number(table.board))]) },
-      TEXTS.open);
+    const open = make("button", { type: "button", id: "open-" + table.number, aria_label: TEXTS.openTable(table.number), onclick: () => openTable(table) }, TEXTS.open);
     return make("tr", { className: stands },
       ...[table.number, pairText(table.ns), pairText(table.ew),
         table.idle ? "" : table.board, progressText(table), table.idle ? "" : TEXTS.stillFor(Number(minutes)),
@@ -2790,6 +3016,11 @@ function tablesTable(state) {
   });
   return make("table", { id: "tables", className: "tables", hidden: rows.length === 0, aria_label: TEXTS.tables },
     make("thead", null, make("tr", null, ...TEXTS.tableHeads.map((title) => make("th", { scope: "col" }, title)))), make("tbody", null, ...rows));
+}
+
+// Shows the play at a table: its current one, or the first of its set.
+function openTable(table) {
+  return openPlay([lastTables.round, table.number, table.idle ? 1 : placeInSet(Number(table.board))]);
 }
 
 // The tables that are still at play, by their numbers.
@@ -2806,6 +3037,7 @@ function roundText(state) {
 function showTables(state) {
   boardsOfSet = state.boards;
   boardsOfAll = state.all;
+  lastTables = state;
   noteSets(state);
   say("status", roundText(state));
   const old = at("tables");
@@ -3121,6 +3353,7 @@ function directorNodes() {
     section("solving", TEXTS.solving, playFields("solve"),
       make("div", { className: "row" }, numberField("solve-tricks", TEXTS.afterTricks, 7, 13, 7), button(TEXTS.solve, "", "solve", true, solve)),
       make("p", { id: "solved", role: "status" })),
+    section("telling", TEXTS.telling, ...tellingNodes()),
     section("ranking", TEXTS.standings, button(TEXTS.showRanking, "", "rank", true, askRankings), make("div", { id: "rankings" })),
     section("publishing", TEXTS.results, make("div", { id: "others" }),
       make("div", { className: "row" },
