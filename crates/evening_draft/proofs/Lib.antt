@@ -5,3 +5,4 @@ pub mod NameBytes
 pub mod ConfigLines
 pub mod ConfigSpelled
 pub mod DrawnKeys
+pub mod Drafted

@@ -1,3 +1,5 @@
 pub mod ConfigText
 pub mod Keys
 pub mod AsciiName
+pub mod Draft
+pub mod Drafted

@@ -9,13 +9,23 @@
 #![tactic(auto)]
 
 mod ascii;
+mod boards;
+mod drafting;
 mod form;
 mod keys;
 mod line;
+mod pairs;
+pub mod refused;
 mod rows;
+#[cfg(test)]
+mod tests;
 mod text;
+pub mod wishes;
 
 pub use ascii::ascii_name;
+pub use drafting::draft;
 pub use form::{MovementForm, form_of};
 pub use keys::draw_keys;
+pub use refused::DraftRefused;
 pub use text::write_config;
+pub use wishes::{PERSON_BYTES, PairNames, PersonName, Wishes};
