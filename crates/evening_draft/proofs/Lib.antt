@@ -6,3 +6,4 @@ pub mod ConfigLines
 pub mod ConfigSpelled
 pub mod DrawnKeys
 pub mod Drafted
+pub mod NamesRead

@@ -11,10 +11,14 @@
 mod ascii;
 mod boards;
 mod drafting;
+mod fault;
 mod form;
 mod keys;
 mod line;
+mod names;
+pub mod names_refused;
 mod pairs;
+mod person;
 pub mod refused;
 mod rows;
 #[cfg(test)]
@@ -24,8 +28,11 @@ pub mod wishes;
 
 pub use ascii::ascii_name;
 pub use drafting::draft;
+pub use fault::write_names_fault;
 pub use form::{MovementForm, form_of};
 pub use keys::draw_keys;
+pub use names::read_names;
+pub use names_refused::{NamesFault, NamesRefused};
 pub use refused::DraftRefused;
 pub use text::write_config;
 pub use wishes::{PERSON_BYTES, PairNames, PersonName, Wishes};

@@ -1,5 +1,5 @@
 //! An evening of three pairs, as it was written by hand from the first words of ChaCha20 under a key of zeros.
-use crate::{PairNames, Wishes, ascii_name, draft, write_config};
+use crate::{PairNames, Wishes, ascii_name, draft, read_names, write_config, write_names_fault};
 use arrayvec::{ArrayString, ArrayVec};
 use bridge_config::read_config;
 use bridge_movement::NamedMovement;
@@ -87,4 +87,60 @@ fn names_in_ascii(rt: HostRuntime) {
         let brought = ascii_name(name);
         assert!(&rt; brought.as_str() == ascii, "{brought}");
     }
+}
+
+const LIST: &str = "# Thursday\n\n José García & A. Berger\r\nΆννα\tZoë\nLise Müller&Bob";
+
+#[test]
+fn a_list_of_three_pairs(rt: HostRuntime) {
+    let read = read_names(LIST.as_bytes());
+    assert!(&rt; read.is_ok_and(|pairs| pairs.as_slice() == names().as_slice()));
+}
+
+/// What is written of the fault of a list.
+fn words_of(list: &[u8]) -> ArrayVec<u8, 256> {
+    let mut written = ArrayVec::<u8, 256>::new();
+    if let Err(fault) = read_names(list) {
+        let _ = write_names_fault(fault, &mut written);
+    }
+    written
+}
+
+#[test]
+fn lists_with_a_fault(rt: HostRuntime) {
+    let rows = [
+        (b"A & B\nC\n".as_slice(), "line 2\n"),
+        (b"A & B\nC & D\n".as_slice(), "line 3\n"),
+        (b"A & B\nC & \n".as_slice(), "line 2\n"),
+        (b"A & B & C\n".as_slice(), "line 1\n"),
+        (b"A & B\0\n".as_slice(), "line 1\n"),
+        (b"A & \xFF\n".as_slice(), "line 1\n"),
+        ("A & \u{202E}B\n".as_bytes(), "line 1\n"),
+        (
+            b"A & 12345678901234567890123456789012345678901\n".as_slice(),
+            "line 1\n",
+        ),
+    ];
+    for (list, line) in rows {
+        let words = words_of(list);
+        assert!(&rt;
+            words.starts_with(line.as_bytes()),
+            "{:?}",
+            str::from_utf8(words.as_slice())
+        );
+    }
+}
+
+#[test]
+fn a_list_of_too_many_lines(rt: HostRuntime) {
+    let mut list = ArrayVec::<u8, 1200>::new();
+    for _ in 0..1200 {
+        let _ = list.try_push(b'\n');
+    }
+    let words = words_of(list.as_slice());
+    assert!(&rt;
+        words.starts_with(b"line 1001\n"),
+        "{:?}",
+        str::from_utf8(words.as_slice())
+    );
 }

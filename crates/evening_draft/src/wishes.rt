@@ -11,7 +11,7 @@ pub const PERSON_BYTES: usize = 160;
 pub type PersonName = ArrayString<PERSON_BYTES>;
 
 /// The names of a pair's players. The first sits North or East, the second South or West.
-#[derive(Clone, Copy, Debug)]
+#[derive(Clone, Copy, Debug, Default, PartialEq, Eq)]
 pub struct PairNames {
     /// The first player's name.
     pub first: PersonName,
