@@ -3,7 +3,8 @@
 #
 #     bench/deals.sh [DEALS] [SEED]     (10 and 1 when left out)
 #
-# Prints the means, the ratio of means and of the worst deals, and how many of the numbers differ.
+# Prints the means of processor time, the ratios of the means and of the worst deals, and how many of the numbers differ. Each
+# deal is one of its own seed, from SEED on, and both programs solve it in turn.
 set -eu
 here=$(cd "$(dirname "$0")" && pwd)
 top=$(cd "$here/.." && pwd)

@@ -33,7 +33,7 @@ impl Model for DealSolver {
 }
 
 impl DealSolver {
-    /// How many entries its table has: 25 MB.
+    /// How many entries its table has, of 64 bytes each: 32 MiB.
     pub const ENTRIES: usize = 524_288;
 
     /// A solver of that deal. Its memory is taken here, once.

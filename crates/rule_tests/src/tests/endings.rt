@@ -1,4 +1,5 @@
 //! The worth of endings by worked rows, and by a plain twin over many of them.
+mod deals;
 mod random_endings;
 mod rows;
 mod twin;
