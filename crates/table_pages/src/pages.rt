@@ -189,8 +189,8 @@ impl<T: LineServer, K: Seconds> TablePages<T, K> {
         ensures fixed { (self.new.names ≡ self.old.names) × (self.new.texts ≡ self.old.texts) }
         ensures beside { (self.new.is_open ≡ self.old.is_open) × (self.new.desk ≡ self.old.desk) }
     {
-        let told = self.put_told(response, replies.text.as_slice(), replies.wrong_keys);
-        if told.is_err() {
+        let text = replies.text.as_slice();
+        if self.put_told(response, text, replies.wrong_keys).is_err() {
             put_unavailable(response);
         }
     }

@@ -107,41 +107,47 @@ module _ {D : Type 0} (disk : Disk D) where
   pub ends_at_end : (start store new : StoreValue D SessionValue Action) (service : LineService) (reader : Stream) (before now after : Option (List ℕ)) (left : ℕ) (result : Served)
       → (r : HasRead disk start store service reader (between before now) left) → 0 < left → IsAtEnd reader.new
       → Ends disk start r.hearing.asked new r.text (between now after) (Ok result) → result.lines ≡ service.held.served.lines
-      → HasServed disk start new reader (between before after) result
+      → HasCounted disk start new reader (between before after) (record { served = result; wrong_keys = service.wrong_keys })
   ends_at_end start store new service reader before now after left result r some end e lines =
       let below : nat_le byte_limit (length r.bytes) ≡ false = lt-leb byte_limit (length r.bytes) (omega (arith, r.count, some)) in record {
-        bytes = r.bytes;
-        few = omega (arith, r.count);
-        given = r.given;
-        whole = whole_read reader.old reader.new r.bytes left r.count r.given (λ it. end);
-        asked = r.hearing.asked;
-        asks = hears_asks r.bytes service.feed r.hearing.asked r.hearing.hears;
-        text = r.text ++ e.0;
-        wrote = rw (below, append-nil (r.text ++ e.0)) (Appends-trans before now after r.text e.0 r.wrote e.1);
-        served = e.2;
-        lines = lines ∙ r.hearing.lines;
-        failed = e.3;
+        has = record {
+          bytes = r.bytes;
+          few = omega (arith, r.count);
+          given = r.given;
+          whole = whole_read reader.old reader.new r.bytes left r.count r.given (λ it. end);
+          asked = r.hearing.asked;
+          asks = hears_asks r.bytes service.feed r.hearing.asked r.hearing.hears;
+          text = r.text ++ e.0;
+          wrote = rw (below, append-nil (r.text ++ e.0)) (Appends-trans before now after r.text e.0 r.wrote e.1);
+          served = e.2;
+          lines = lines ∙ r.hearing.lines;
+          failed = e.3;
+        };
+        counted = r.hearing.counted;
       }
 
   -- the limit was reached, and the notice is written
   pub ends_at_limit : (start store new : StoreValue D SessionValue Action) (service : LineService) (reader : Stream) (before now mid after : Option (List ℕ)) (left : ℕ) (result : Served)
       → (r : HasRead disk start store service reader (between before now) left) → left ≡ 0
       → Ends disk start r.hearing.asked new r.text (between now mid) (Ok result) → result.lines ≡ service.held.served.lines
-      → Appends mid after (limit_notice true) → HasServed disk start new reader (between before after) result
+      → Appends mid after (limit_notice true) → HasCounted disk start new reader (between before after) (record { served = result; wrong_keys = service.wrong_keys })
   ends_at_limit start store new service reader before now mid after left result r none e lines notice =
       let reached : nat_le byte_limit (length r.bytes) ≡ true = le-leb byte_limit (length r.bytes) (omega (arith, r.count, none)) in
       let wrote = Appends-trans before now mid r.text e.0 r.wrote e.1 in record {
-        bytes = r.bytes;
-        few = omega (arith, r.count);
-        given = r.given;
-        whole = whole_read reader.old reader.new r.bytes left r.count r.given (λ some. absurd (omega (arith, some, none)));
-        asked = r.hearing.asked;
-        asks = hears_asks r.bytes service.feed r.hearing.asked r.hearing.hears;
-        text = r.text ++ e.0;
-        wrote = rw reached (Appends-trans before mid after (r.text ++ e.0) (limit_notice true) wrote notice);
-        served = e.2;
-        lines = lines ∙ r.hearing.lines;
-        failed = e.3;
+        has = record {
+          bytes = r.bytes;
+          few = omega (arith, r.count);
+          given = r.given;
+          whole = whole_read reader.old reader.new r.bytes left r.count r.given (λ some. absurd (omega (arith, some, none)));
+          asked = r.hearing.asked;
+          asks = hears_asks r.bytes service.feed r.hearing.asked r.hearing.hears;
+          text = r.text ++ e.0;
+          wrote = rw reached (Appends-trans before mid after (r.text ++ e.0) (limit_notice true) wrote notice);
+          served = e.2;
+          lines = lines ∙ r.hearing.lines;
+          failed = e.3;
+        };
+        counted = r.hearing.counted;
       }
 
   -- a write failed in the notice

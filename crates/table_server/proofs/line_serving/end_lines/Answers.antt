@@ -14,19 +14,17 @@ returns-in-Err-clause-ends g c start reader before left end r =
 pub returns-in-AtEnd-clause-ends : goal.returns-in-AtEnd-clause-ends
 returns-in-AtEnd-clause-ends g c start reader before left end r =
     let is = subst (λ ended. IsEnd ended left reader.new) c.in-AtEnd.is end in
-    let has = ends_at_end g.D.SectorDisk.disk start c.args.store.now c.finish.new.store c.args.service.now reader before (g.W.Write.contents c.args.writer.now)
-    (g.W.Write.contents c.finish.new.writer) left c.in-Ok.served r is.0 is.1 (c.in-Ok.ensures.ends start r.hearing.asked r.text r.hearing.serving) c.in-Ok.ensures.lines in
-    record { has = has; counted = r.hearing.counted }
+    ends_at_end g.D.SectorDisk.disk start c.args.store.now c.finish.new.store c.args.service.now reader before (g.W.Write.contents c.args.writer.now)
+    (g.W.Write.contents c.finish.new.writer) left c.in-Ok.served r is.0 is.1 (c.in-Ok.ensures.ends start r.hearing.asked r.text r.hearing.serving) c.in-Ok.ensures.lines
 
 pub returns-in-Ok-write_whole-clause-ends : goal.returns-in-Ok-write_whole-clause-ends
 returns-in-Ok-write_whole-clause-ends g c start reader before left end r =
     let is = subst (λ ended. IsEnd ended left reader.new) c.in-AtLimit.is end in
     let notice : Takes (stream g.W.Write.contents c.finish.new.writer c.write_whole.new.writer) (limit_notice true)
     = subst (λ text. Takes (stream g.W.Write.contents c.finish.new.writer c.write_whole.new.writer) text) c.limit_notice.ensures.text c.in-Ok-write_whole.ensures.written in
-    let has = ends_at_limit g.D.SectorDisk.disk start c.args.store.now c.finish.new.store c.args.service.now reader before (g.W.Write.contents c.args.writer.now)
+    ends_at_limit g.D.SectorDisk.disk start c.args.store.now c.finish.new.store c.args.service.now reader before (g.W.Write.contents c.args.writer.now)
     (g.W.Write.contents c.finish.new.writer) (g.W.Write.contents c.write_whole.new.writer) left c.in-Ok.served r is
-    (c.in-Ok.ensures.ends start r.hearing.asked r.text r.hearing.serving) c.in-Ok.ensures.lines notice in
-    record { has = has; counted = r.hearing.counted }
+    (c.in-Ok.ensures.ends start r.hearing.asked r.text r.hearing.serving) c.in-Ok.ensures.lines notice
 
 pub returns-in-Err-write_whole-clause-ends : goal.returns-in-Err-write_whole-clause-ends
 returns-in-Err-write_whole-clause-ends g c start reader before left end r =

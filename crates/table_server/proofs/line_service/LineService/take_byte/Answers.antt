@@ -1,4 +1,4 @@
-use Rattle.std.proofs.Common.{refl, subst}
+use Rattle.std.proofs.Common.{◌∙◌, refl, subst}
 use Rattle.table_server.specs.Asked.{Asks}
 use Rattle.table_server.proofs.HearingLemmas.{hears_begun, hears_line, heard_line, heard_begun}
 use Rattle.table_server.proofs.FaultLemmas.{no_fault}
