@@ -6,7 +6,7 @@ use Rattle.bridge_cards.specs.CardSet.{has_card}
 use Rattle.bridge_endings.specs.declared.answer.Answer.{Answer}
 use Rattle.bridge_endings.specs.declared.found.Found.{Found}
 use Rattle.bridge_endings.specs.declared.found.Told.{Told}
-use Rattle.bridge_endings.specs.declared.found.Told.TheVariants.{Answer as TheAnswer, Open, Other}
+use Rattle.bridge_endings.specs.declared.found.Told.TheVariants.{Answer as TheAnswer, Open, Like, Other}
 use Rattle.bridge_endings.specs.declared.table.Entry.{Entry}
 use Rattle.bridge_endings.specs.declared.search.Search.{Search}
 use Rattle.bridge_endings.specs.Worth.{dealt, worth_with}
@@ -35,6 +35,7 @@ pub record IsFound (found : Found) : Type 0 where
 abbrev pub Tells : Option Suit → ℕ → ℕ → (Seat → ℕ → Bool) → Seat → Told → Type 0
 Tells trump cards need held leader (TheAnswer answer) = IsAnswer trump cards need answer held leader []
 Tells trump cards need held leader Open = Unit {0}
+Tells trump cards need held leader Like = Unit {0}
 Tells trump cards need held leader Other = Unit {0}
 
 -- a table has some entry, and what was found is true in each

@@ -20,7 +20,9 @@ pub enum Told {
     Answer(Answer),
     /// That it is open: its bounds are true of the hands, and do not settle it.
     Open,
-    /// Nothing: it is of other hands.
+    /// Nothing: it is of other hands that have as many cards of each suit.
+    Like,
+    /// Nothing: it is of others.
     Other,
 }
 
@@ -108,8 +110,11 @@ impl Found {
         requires lengths { lengths ≡ all_lengths hands.now }
         ensures { Tells trump (4 * tricks) need (dealt hands.now) leader result }
     {
-        if !self.is_of(hands, lengths, trump, leader, tricks) {
+        if self.lengths != lengths {
             return Told::Other;
+        }
+        if !self.is_of(hands, lengths, trump, leader, tricks) {
+            return Told::Like;
         }
         if need <= self.bounds.least {
             return Told::Answer(self.answer(true));

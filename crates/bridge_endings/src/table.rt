@@ -1,5 +1,5 @@
 //! The table of a search: what it has found, in lists of what is alike.
-ghost use Rattle.std.specs.Prelude.{◌≡◌, ◌*◌, ◌<◌, [], IfSome};
+ghost use Rattle.std.specs.Prelude.{◌≡◌, ◌*◌, ◌<◌, [], Some, IfSome};
 ghost use Rattle.bridge_endings.specs.Worth.{dealt};
 ghost use Rattle.bridge_endings.specs.Left.{all_lengths};
 ghost use Rattle.bridge_endings.specs.SearchValue.{IsAnswer, IsFound, IsTable, Tells};
@@ -47,6 +47,19 @@ pub struct Known {
     pub best: Option<Card>,
     /// Where an entry stands that is true of the hands and does not tell the answer; 0 where there is none.
     pub place: u32,
+}
+
+impl Known {
+    /// An answer is known.
+    fn answered(answer: Answer) -> Known
+        ensures { result.answer ≡ Some answer }
+    {
+        Known {
+            answer: Some(answer),
+            best: None,
+            place: 0,
+        }
+    }
 }
 
 /// The table in which nothing is found yet.
@@ -99,24 +112,17 @@ pub fn look_up(
             break;
         }
         let found = &table[index].found;
-        if found.lengths == lengths {
-            match found.tells(hands, lengths, trump, leader, tricks, need) {
-                Told::Answer(answer) => {
-                    to_front(table, slot, before, next);
-                    return Known {
-                        answer: Some(answer),
-                        best: None,
-                        place: 0,
-                    };
-                }
-                Told::Open => {
-                    place = next;
-                    best = Some(table[index].found.best);
-                }
-                Told::Other => {
-                    best = best.or(Some(table[index].found.best));
-                }
+        match found.tells(hands, lengths, trump, leader, tricks, need) {
+            Told::Answer(answer) => {
+                to_front(table, slot, before, next);
+                return Known::answered(answer);
             }
+            Told::Open => {
+                place = next;
+                best = Some(found.best);
+            }
+            Told::Like => best = best.or(Some(found.best)),
+            Told::Other => {}
         }
         before = next;
         next = table[index].next;
