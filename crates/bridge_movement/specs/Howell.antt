@@ -55,7 +55,7 @@ gone_on highest round number = if nat_le number highest then (number - 1 + round
 abbrev pub first_number : ℕ → ℕ → ℕ → ℕ
 first_number tables table place = slice_index_or (slice_index_or (first_round tables) table []) place 0
 
--- all pairs but the last go on to where the pair above them was, and so do the sets
+-- each pair but the last goes on to where the pair before it in number was, and the sets go on likewise
 abbrev pub howell_row : ℕ → ℕ → ℕ → Row
 howell_row tables round table = record {
   round = round + 1;

@@ -71,10 +71,10 @@ impl Movement {
         Movement { shape, rows }
     }
 
-    /// The Howell movement of 2 to 6 tables, a round for each opponent of a pair. The last pair stays, all others go on to
-    /// where the next higher pair was, pair 1 following the last of them, and the sets go on likewise. Each pair meets
-    /// each other one once and plays each set once. At two and at three tables, all tables play one set in a round; from
-    /// four on, each has its own.
+    /// The Howell movement of 2 to 6 tables, a round for each opponent of a pair. The last pair stays, each other one goes
+    /// on to where the pair before it in number was, pair 1 following the last of these, and the sets go on likewise. Each
+    /// pair meets each other one once and plays each set once. At two and at three tables, all tables play one set in a
+    /// round; from four on, each has its own.
     pub fn howell(tables: u8) -> Movement
         requires least { 2 ≤ tables }
         requires most { tables ≤ 6 }

@@ -144,3 +144,26 @@ fn a_list_of_too_many_lines(rt: HostRuntime) {
         str::from_utf8(words.as_slice())
     );
 }
+
+/// Whether the evening of so many pairs is drafted, and is read as it was written.
+fn is_read_again(count: usize, movement: NamedMovement) -> bool {
+    let pairs = [pair("A", "B"); 24];
+    let Some(names) = pairs.as_slice().get(..count) else {
+        return false;
+    };
+    let mut written = ArrayVec::<u8, 8192>::new();
+    if let Ok(config) = &draft(names, &wishes(movement)) {
+        let _ = write_config(config, &mut written);
+    }
+    read_config(written.as_slice()).is_ok()
+}
+
+#[test]
+fn evenings_of_each_number_of_pairs(rt: HostRuntime) {
+    for count in 0..25 {
+        let mitchell = is_read_again(count, NamedMovement::Mitchell);
+        let howell = is_read_again(count, NamedMovement::Howell);
+        assert!(&rt; mitchell == (3 <= count), "{count}");
+        assert!(&rt; howell == (3..=12).contains(&count), "{count}");
+    }
+}
