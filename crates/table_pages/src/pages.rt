@@ -1,5 +1,5 @@
 //! The pages, and the lines that they post.
-ghost use Rattle.std.specs.Prelude.{◌≡◌, ◌<◌, ◌⊎◌, ℕ, List, [], true, false, not, length, nat_lt, string_bytes, OnOk, OnErr};
+ghost use Rattle.std.specs.Prelude.{◌≡◌, ◌<◌, ◌⊎◌, ℕ, List, [], true, false, not, length, nat_lt, string_bytes, OnOk, OnErr, if◌then◌else◌};
 ghost use Rattle.http_server.specs.Response.{IsBlank};
 ghost use Rattle.http.specs.Request.{head_of};
 ghost use Rattle.web_requests.specs.Filled.{IsText, IsUnavailable};
@@ -25,6 +25,13 @@ use web_requests::{
 
 mod beside;
 mod telling;
+
+/// One wrong key, or none.
+fn count_of(wrong: bool) -> u64
+    ensures { result ≡ (if wrong then 1 else 0) }
+{
+    if wrong { 1 } else { 0 }
+}
 
 /// A body of so many bytes is too long.
 const TOO_MANY_BYTES: usize = 65_536;
@@ -146,7 +153,7 @@ impl<T: LineServer, K: Seconds> TablePages<T, K> {
         let mut text = ReplyText::new();
         self.server.place(key, &mut text);
         let wrong = self.server.has_wrong_key(key);
-        self.put_told(response, text.as_str().as_bytes(), u64::from(wrong))
+        self.put_told(response, text.as_str().as_bytes(), count_of(wrong))
     }
 
     /// Answers the director's key with what is told of all tables.
@@ -162,7 +169,7 @@ impl<T: LineServer, K: Seconds> TablePages<T, K> {
         let mut text = ReplyText::new();
         self.server.tables(key, &mut text);
         let wrong = self.server.has_wrong_key(key);
-        self.put_told(response, text.as_str().as_bytes(), u64::from(wrong))
+        self.put_told(response, text.as_str().as_bytes(), count_of(wrong))
     }
 
     /// Answers posted lines. Where memory is refused once they were taken, the response says nothing.

@@ -7,7 +7,7 @@ ghost use Rattle.table_server.specs.Serving.{Fits};
 
 use crate::asked::asked_by;
 use crate::held_replies::HeldReplies;
-use crate::wrong_keys::has_wrong_key;
+use crate::wrong_keys::wrong_keys_in;
 use bridge_endings::Cache;
 use bridge_session::Session;
 use line_replies::{LineFeed, MOST_BYTES, ServeFault};
@@ -61,7 +61,7 @@ impl LineService {
             None => Ok(()),
             Some(line) => {
                 let asked = asked_by(line.as_slice());
-                let more = u64::from(has_wrong_key(store.state(), &asked));
+                let more = wrong_keys_in(store.state(), &asked);
                 self.wrong_keys = self.wrong_keys.saturating_add(more);
                 self.held.answer(asked, store, cache, writer)
             }

@@ -1,5 +1,5 @@
 //! Keys that nobody has, as lines have them.
-ghost use Rattle.std.specs.Prelude.{◌≡◌};
+ghost use Rattle.std.specs.Prelude.{◌≡◌, if◌then◌else◌};
 ghost use Rattle.table_server.specs.WrongKeys.{has_wrong_key, key_asked, key_of_question};
 
 use crate::asked::{Asked, Question};
@@ -36,11 +36,18 @@ impl Asked {
 }
 
 /// Whether a line has a key that is nobody's in this session.
-pub(crate) fn has_wrong_key(session: &Session, asked: &Asked) -> bool
+fn has_wrong_key(session: &Session, asked: &Asked) -> bool
     ensures { result ≡ has_wrong_key session.now.configuration asked.now }
 {
     match asked.key() {
         Some(key) => is_nobodys(session.config(), key),
         None => false,
     }
+}
+
+/// How many wrong keys a line has: one, where its key is nobody's in this session.
+pub(crate) fn wrong_keys_in(session: &Session, asked: &Asked) -> u64
+    ensures { result ≡ (if has_wrong_key session.now.configuration asked.now then 1 else 0) }
+{
+    if has_wrong_key(session, asked) { 1 } else { 0 }
 }

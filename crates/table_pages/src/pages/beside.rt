@@ -5,7 +5,7 @@ ghost use Rattle.web_requests.specs.Filled.{IsText};
 ghost use Rattle.table_pages.specs.Stands.{AnswersDesk};
 ghost use Rattle.table_pages.specs.WrongKeys.{with_key, CountsLines};
 
-use super::TablePages;
+use super::{TablePages, count_of};
 use crate::line_server::{LineServer, Replies};
 use crate::seconds::Seconds;
 use http_server::Response;
@@ -32,7 +32,7 @@ impl<T: LineServer, K: Seconds> TablePages<T, K> {
         };
         let is_open = self.opens(key);
         let wrong = self.server.has_wrong_key_at_boards(key);
-        self.put_told(response, text.as_slice(), u64::from(wrong))?;
+        self.put_told(response, text.as_slice(), count_of(wrong))?;
         self.is_open = is_open;
         Ok(())
     }
@@ -55,7 +55,7 @@ impl<T: LineServer, K: Seconds> TablePages<T, K> {
             return Err(AllocError);
         };
         let wrong = self.server.has_wrong_key(key);
-        self.put_told(response, text.as_slice(), u64::from(wrong))
+        self.put_told(response, text.as_slice(), count_of(wrong))
     }
 
     /// Takes what is posted to the desk, and answers it. Where memory is refused once it was taken, the response says nothing.
@@ -67,7 +67,7 @@ impl<T: LineServer, K: Seconds> TablePages<T, K> {
         ensures fixed { (self.new.names ≡ self.old.names) × (self.new.texts ≡ self.old.texts) }
         ensures open { self.new.is_open ≡ self.old.is_open }
     {
-        let wrong_keys = u64::from(self.server.has_wrong_key_at_desk(body));
+        let wrong_keys = count_of(self.server.has_wrong_key_at_desk(body));
         let at = self.clock.seconds();
         match self.server.desk(&mut self.desk, self.alloc, at, body) {
             Some(text) => self.put_replies(response, &Replies { text, wrong_keys }),

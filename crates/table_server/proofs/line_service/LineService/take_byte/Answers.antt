@@ -1,4 +1,5 @@
-use Rattle.std.proofs.Common.{◌∙◌, Bool, cond, ap, refl, subst}
+use Rattle.std.proofs.Common.{◌∙◌, ap, refl, subst}
+use Rattle.session_rules.specs.State.{SessionValue}
 use Rattle.table_server.specs.Asked.{Asks}
 use Rattle.table_server.proofs.HearingLemmas.{hears_begun, hears_line, heard_line, heard_begun}
 use Rattle.table_server.proofs.FaultLemmas.{no_fault}
@@ -20,13 +21,14 @@ returns-in-Some-clause-hears g c start bytes written h =
     let feed = c.take_byte.new.self in
     let one = c.asked_by-asked.result in
     let asks : Asks c.in-Some.line.items one = subst (λ line. Asks line one) c.as_slice.ensures.value c.asked_by-asked.ensures in
-    heard_line disk start c.args.store.now c.answer.new.store bytes self (record { feed = feed; held = c.answer.new.self; wrong_keys = c.saturating_add.result }) c.args.byte one written
+    heard_line disk start c.args.store.now c.answer.new.store bytes self (record { feed = feed; held = c.answer.new.self; wrong_keys = c.saturating_add-self.result }) c.args.byte one written
     _ c.answer.result h
     (hears_line bytes self.feed feed c.in-Some.line.items c.args.byte h.asked one h.hears c.in-Some.ensures.lines c.in-Some.ensures.within asks)
     (c.answer.ensures.serves start h.asked written h.serving) c.answer.ensures.lines
-    (c.saturating_add.ensures
-    ∙ counts_one start.state.configuration c.args.store.now.state.configuration h.asked one self.wrong_keys c.from-more.result self.held.served.lines
-    (configuration_kept disk start h.asked c.args.store.now self.held written h.serving) h.counted (c.from-more.ensures ∙ ap (λ (b : Bool). cond b 1 0) c.has_wrong_key.ensures) h.lines c.requires.few)
+    (c.saturating_add-self.ensures
+    ∙ counts_one start.state.configuration c.state.result.now.configuration h.asked one self.wrong_keys c.wrong_keys_in-more.result self.held.served.lines
+    (ap (λ (s : SessionValue). s.configuration) c.state.ensures.state ∙ configuration_kept disk start h.asked c.args.store.now self.held written h.serving) h.counted
+    c.wrong_keys_in-more.ensures h.lines c.requires.few)
 
 pub returns-in-None-clause-faults : goal.returns-in-None-clause-faults
 returns-in-None-clause-faults g c = no_fault g.D.SectorDisk.disk c.args.store.now
