@@ -274,30 +274,11 @@ impl<T: LineServer, K: Seconds> LastingService for TablePages<T, K> {
 
     ghost offences = { λ pages. pages.wrong };
 
-    ghost waits = { λ pages. 0 };
-
-    ghost wish = { λ pages. [] };
-
-    ghost comes = { λ pages wish has. has ≡ true };
-
     fn lasts(&self) -> bool {
         !self.server.has_failed()
     }
 
     fn offences(&self) -> u64 {
         self.wrong
-    }
-
-    /// No answer is put off.
-    fn waits(&self) -> u64 {
-        0
-    }
-
-    fn wish(&self) -> Option<Vec<u8>> {
-        None
-    }
-
-    fn has_come(&self, _named: &[u8]) -> bool {
-        true
     }
 }
