@@ -8,7 +8,8 @@ use Rattle.session_rules.specs.declared.refused.Refused.{Refused as SessionRefus
 use Rattle.session_rules.specs.declared.refused.Refused.TheVariants.{NotAllowed, NoKey}
 use Rattle.session_rules.specs.declared.seating.Player.{Player}
 use Rattle.session_rules.specs.Answer.{Answer}
-use Rattle.session_rules.specs.State.{SessionValue, acting_player, director_answer, ranking_asker, is_closed, is_nobodys, player_of, stage_to}
+use Rattle.session_rules.specs.State.{SessionValue, acting_player, director_answer, ranking_asker, is_closed, is_nobodys, player_of}
+use Rattle.session_rules.specs.Stage.{stage_to}
 use Rattle.line_replies.specs.declared.short_reply.ShortReply.TheVariants.{Refused, BadLine}
 use Rattle.line_replies.specs.KeyWord.{key_of_word}
 use Rattle.line_replies.specs.ReplyTexts.{short_text}

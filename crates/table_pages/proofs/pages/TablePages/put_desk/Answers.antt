@@ -1,6 +1,6 @@
 use Rattle.std.proofs.Common.{◌≡◌, ℕ, cond, inr, refl, ◌∙◌, ap, Bool}
 use Rattle.table_pages.proofs.Counted.{counts_as}
-use Rattle.table_pages.proofs.pages.beside.TablePages.put_desk.Goals as goal
+use Rattle.table_pages.proofs.pages.TablePages.put_desk.Goals as goal
 
 pub returns-in-Some-clause-counted : goal.returns-in-Some-clause-counted
 returns-in-Some-clause-counted g c =
