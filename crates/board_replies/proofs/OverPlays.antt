@@ -3,6 +3,7 @@ use Rattle.std.proofs.Common.{◌≡◌, ℕ, ◌<◌, Bool, true, false, ◌&&�
 use Rattle.std.specs.Prelude.{flat_map, option_and_then, Contains, All, IfSome}
 use Rattle.std.specs.List.{cons_option}
 use Rattle.std.specs.Option.{option_map, option_map_or}
+use Rattle.std.proofs.lemmas.Bool.{ltb-true}
 use Rattle.std.proofs.lemmas.List.Elements.{All-append, All-nil, All-cons}
 use Rattle.bridge_cards.specs.declared.seat.Side.{Side}
 use Rattle.bridge_movement.specs.declared.row.Row.{Row}
@@ -30,7 +31,7 @@ both false b is = absurd cc
 -- one of two is so
 either : (a : Bool) (x y : ℕ) → (a || nat_lt x y) ≡ true → (a ≡ true) ⊎ (x < y)
 either true x y is = inl refl
-either false x y is = inr (omega (arith, is))
+either false x y is = inr (ltb-true x y is)
 
 module _ (s : SessionValue) (pair : ℕ) (row : Row) (there : Contains s.configuration.movement.rows row) (side : Side) (sat : side_at pair row ≡ Some side) (index : ℕ) where
   -- of a record that was found
