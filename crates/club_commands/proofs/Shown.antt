@@ -1,5 +1,5 @@
 -- Pages that were shown over a store.
-use Rattle.std.proofs.Common.{◌≡◌, ◌⊎◌, ℕ, Bool, true, false, List, [], ◌∷◌, Result, Ok, Err, inl, inr, refl, subst, sym}
+use Rattle.std.proofs.Common.{◌≡◌, ◌⊎◌, ℕ, Bool, true, false, List, [], ◌∷◌, Result, Ok, Err, inl, inr, refl, subst, sym, OnOk}
 use Rattle.std.specs.Prelude.{nat_lt, length, string_bytes}
 use Rattle.http.specs.Request.{head_of, body_of}
 use Rattle.http_server.specs.declared.response.Response.{Response}
@@ -88,6 +88,11 @@ module _ {D : Type 0} (disk : Disk D) where
     pages_ended true shown ended start store requests worked failed is = fails_pages start store ended requests worked failed is
     pages_ended false (Ok _) ended start store requests worked failed is = shows_pages start store ended requests failed (inl is)
     pages_ended false (Err _) ended start store requests worked failed is = shows_pages start store ended requests failed (inr is)
+
+-- what holds holds at Ok
+pub on_ok : {A E P : Type 0} (r : Result A E) → P → OnOk r P
+on_ok (Ok x) p = p
+on_ok (Err e) p = tt
 
 -- the site of pages that were made with the texts of the program and the names of the words
 pub made_site : (web : WebHost) (made texts : PageTexts) (used names : HostNames) → used ≡ names → made ≡ texts
