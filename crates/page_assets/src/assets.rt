@@ -109,7 +109,9 @@ label { display: inline-flex; align-items: center; gap: .4rem; min-height: 2.75r
 #notes { grid-area: note; }
 #notice { margin: 0; padding: .5rem .75rem; color: var(--note-ink); background: var(--note); font-weight: bold; }
 #desk p { margin: 0; overflow-wrap: anywhere; }
+.at-table #desk > :not(:last-child) { display: none; }
 #desk > * { padding: .35rem .75rem; color: var(--note-ink); background: var(--note); border-top: 1px solid var(--edge); }
+.at-table #desk > * { padding: .15rem .75rem; font-size: .9375rem; }
 #desk .row { margin: 0; justify-content: space-between; color: var(--gold-ink); background: var(--gold); }
 #desk .row p { flex: 1 1 16rem; }
 #desk .row button:not(.send) { color: inherit; background: transparent; border-color: currentcolor; }
