@@ -3,3 +3,4 @@ pub mod Legality
 pub mod LastCall
 pub mod LegalLength
 pub mod CallNumbers
+pub mod LessLast

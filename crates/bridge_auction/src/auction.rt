@@ -1,10 +1,10 @@
 //! The auction of one board.
-ghost use Rattle.std.specs.Prelude.{◌≡◌, ◌≤◌, ◌∷◌, ◌++◌, [], ◌↔◌, length, IsOk, OnOk, OnErr, IsSome, IfSome};
+ghost use Rattle.std.specs.Prelude.{◌≡◌, ◌≤◌, ◌∷◌, ◌++◌, [], ◌↔◌, ◌-◌, length, slice_get, IsOk, OnOk, OnErr, IsSome, IfSome};
 ghost use Rattle.bridge_cards.specs.Seat.{clockwise_from};
 ghost use Rattle.bridge_auction.specs.Legal.{is_ended, IsLegal};
 ghost use Rattle.bridge_auction.specs.Answer.{answer_to};
 ghost use Rattle.bridge_auction.specs.Contract.{contract_of};
-ghost use Rattle.bridge_auction.specs.Auction.{bidding, with_call};
+ghost use Rattle.bridge_auction.specs.Auction.{bidding, with_call, without_last_call};
 
 use crate::call::Call;
 use crate::contract::Contract;
@@ -75,6 +75,14 @@ impl Auction {
             self.calls.push(made);
         }
         answer
+    }
+
+    /// Takes back the last call and gives it, or `None` where there is none.
+    pub fn take_back(&mut self) -> Option<Call>
+        ensures last { result ≡ slice_get self.old.calls (length self.old.calls - 1) }
+        ensures rest { self.new ≡ without_last_call self.old }
+    {
+        self.calls.pop()
     }
 
     /// Who dealt the board, and calls first.

@@ -1,5 +1,5 @@
 -- A play stays one over each card, claim and answer to a claim that is taken.
-use Rattle.std.proofs.Common.{◌≡◌, ◌+◌, ◌/◌, ◌%◌, ◌<◌, ◌≤◌, ◌==◌, ℕ, Bool, true, false, not, [], ◌∷◌, length, IsOk, IfSome, refl, sym, ◌∙◌, arith}
+use Rattle.std.proofs.Common.{◌≡◌, ◌+◌, ◌/◌, ◌%◌, ◌<◌, ◌≤◌, ◌==◌, ℕ, Bool, true, false, not, [], ◌∷◌, length, ◌-◌, IsOk, IfSome, refl, sym, ◌∙◌, arith}
 use Rattle.std.specs.Prelude.{Option, Some, None, is_some, ◌||◌}
 use Rattle.std.proofs.lemmas.Bool.{eqb-false}
 use Rattle.std.proofs.lemmas.List.{get_or-set_other}
@@ -11,7 +11,10 @@ use Rattle.bridge_cards.specs.Seat.{seat_number, same_seat}
 use Rattle.bridge_auction.specs.declared.contract.Contract.{Contract}
 use Rattle.bridge_play.specs.declared.claim.Claim.{Claim}
 use Rattle.bridge_play.specs.Claims.{is_asked, has_agreed, all_agreed, consent_to, with_agreed}
-use Rattle.bridge_play.specs.Play.{PlayValue, IsPlay, IsClaimIn, with_card, with_claim, with_agreement, without_claim, is_agreed, card_answer, claim_answer, consent_answer, consent_if}
+use Rattle.bridge_play.specs.Play.{PlayValue, IsPlay, IsClaimIn, with_card, with_claim, with_agreement, without_claim, with_claims, is_agreed, card_answer, claim_answer, consent_answer, consent_if}
+use Rattle.bridge_auction.proofs.LessLast.{each_may_follow-less_last}
+use Rattle.bridge_play.specs.Legal.{MayPlay}
+use Rattle.bridge_play.specs.CardPlay.{CardPlayValue, with_first}
 use Rattle.bridge_play.proofs.Seats.{same_seat-eq}
 use Rattle.bridge_play.proofs.Legality.{card_legal, card_unclaimed}
 use Rattle.bridge_play.proofs.ClaimLegality.{claim_may, ok_asks, ok_current}
@@ -94,6 +97,15 @@ agreement_keeps play seat number is ok = record {
   few = is.few;
   claimed = claimed_agreed play seat play.claim is.claimed
       (ok_current (not (number == play.claims)) (consent_if play.contract play.claim seat) ok).1;
+}
+
+-- the last card is taken back, where no claim stands
+pub back_keeps : (played : CardPlayValue) (claims : ℕ) (claim : Option Claim) → is_some claim ≡ false → IsPlay (with_claims played claims claim)
+    → IsPlay (with_claims (with_first played (length played.cards - 1)) claims claim)
+back_keeps played claims claim none is = record {
+  legal = each_may_follow-less_last (MayPlay played.hands played.contract) played.cards is.legal;
+  few = is.few;
+  claimed = none_claimed claim (IsClaimIn (with_claims (with_first played (length played.cards - 1)) claims claim)) none;
 }
 
 -- a claim that is dropped

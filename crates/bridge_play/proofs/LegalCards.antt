@@ -1,5 +1,5 @@
 -- A legal list has each card once, and so at most 52.
-use Rattle.std.proofs.Common.{◌≡◌, ◌<◌, ◌≤◌, ℕ, zero, suc, Bool, true, false, not, ◌||◌, ◌==◌, List, [], ◌∷◌, ◌++◌, length, take, get_or, refl, sym, subst, arith, inl, inr}
+use Rattle.std.proofs.Common.{◌≡◌, ◌<◌, ◌≤◌, ℕ, zero, suc, Bool, true, false, not, ◌||◌, ◌==◌, List, [], ◌∷◌, ◌++◌, ◌+◌, ◌∙◌, length, take, get_or, add-one, refl, sym, ap, subst, arith, inl, inr}
 use Rattle.std.specs.Prelude.{◌⊎◌}
 use Rattle.std.specs.List.{IsDistinct, AllByRecursion, list_any}
 use Rattle.std.proofs.Math.Seq.{take-suc}
@@ -19,6 +19,11 @@ use Rattle.bridge_cards.specs.Seat.{seat_number}
 use Rattle.bridge_cards.specs.Deal.{hand_at, IsHand, IsDeal}
 use Rattle.bridge_cards.proofs.CardSetLaws.{has_card-beyond}
 use Rattle.bridge_play.specs.Legal.{holds, follows, was_played, may_play, MayPlay, IsLegal}
+
+-- the card at an index, behind those before it
+pub one_more : (cards : List ℕ) (index card : ℕ) → index < length cards → card ≡ get_or cards index card → take (index + 1) cards ≡ take index cards ++ card ∷ []
+one_more cards index card within is =
+    ap (λ n. take n cards) (add-one index) ∙ take-suc cards index card within ∙ ap (λ x. take index cards ++ x ∷ []) (sym is)
 
 -- one number more that differs from each
 apart : (x y : ℕ) → (x == y) ≡ false → (y == x) ≡ false

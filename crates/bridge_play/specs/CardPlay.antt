@@ -1,5 +1,5 @@
 -- The cards of a play, and what is kept beside them.
-use Rattle.std.specs.Prelude.{◌≡◌, ℕ, Bool, nat_eq, List, [], ◌∷◌, ◌++◌}
+use Rattle.std.specs.Prelude.{◌≡◌, ℕ, Bool, nat_eq, List, [], ◌∷◌, ◌++◌, take}
 use Rattle.bridge_cards.specs.declared.seat.Seat.{Seat}
 use Rattle.bridge_cards.specs.declared.seat.Side.TheVariants.{NorthSouth}
 use Rattle.std.specs.Cmp.Lexicographic.{pointwise}
@@ -46,6 +46,10 @@ same_cards =
 -- the same with one card more
 abbrev pub with_next : CardPlayValue → ℕ → CardPlayValue
 with_next played card = record played { cards = played.cards ++ card ∷ [] }
+
+-- the same with the first so many cards alone
+abbrev pub with_first : CardPlayValue → ℕ → CardPlayValue
+with_first played count = record played { cards = take count played.cards }
 
 -- What is kept beside the cards is what they make of it: the cards left in each hand, the leader of the trick that is
 -- not whole, and how many of the whole tricks North and South won.

@@ -6,6 +6,7 @@ use Rattle.bridge_cards.specs.declared.seat.Seat.{Seat}
 use Rattle.bridge_cards.specs.declared.seat.Side.{Side}
 use Rattle.bridge_cards.specs.Seat.{same_seat}
 use Rattle.bridge_auction.specs.declared.contract.Contract.{Contract}
+use Rattle.bridge_auction.specs.Auction.{less_last}
 use Rattle.bridge_play.specs.declared.claim.Claim.{Claim}
 use Rattle.bridge_play.specs.declared.refused.CardRefused.{CardRefused}
 use Rattle.bridge_play.specs.declared.refused.CardRefused.TheVariants.{Over, ClaimStands, NotYourTurn, NotHeld, MustFollow}
@@ -135,6 +136,15 @@ pub record MayAnswer (play : PlayValue) (seat : Seat) (number : ℕ) : Type 0 wh
 -- the same play, where the seat has agreed to the claim
 abbrev pub with_agreement : PlayValue → Seat → PlayValue
 with_agreement play seat = record play { claim = option_map (with_agreed seat) play.claim }
+
+-- of these cards those that are left once the latest thing is taken back: all where that is a claim, or else all but the last
+abbrev pub cards_left_by : Option Claim → List ℕ → List ℕ
+cards_left_by (Some claim) cards = cards
+cards_left_by None cards = less_last cards
+
+-- the same play less the latest thing done in it: the claim that stands or was agreed, or else the last card
+abbrev pub without_latest : PlayValue → PlayValue
+without_latest play = record play { cards = cards_left_by play.claim play.cards; claim = None }
 
 -- the same play, where no claim stands
 abbrev pub without_claim : PlayValue → PlayValue

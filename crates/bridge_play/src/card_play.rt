@@ -1,12 +1,12 @@
 //! The cards of a play, and what is kept beside them.
-ghost use Rattle.std.specs.Prelude.{◌≡◌, ℕ, ◌*◌, ◌<◌, ◌≤◌, ◌&&◌, ◌==◌, not, [], length, take, ◌↔◌, IsSome, IfSome};
+ghost use Rattle.std.specs.Prelude.{◌≡◌, ℕ, ◌*◌, ◌<◌, ◌≤◌, ◌&&◌, ◌==◌, ◌-◌, nat_lt, not, [], length, take, ◌↔◌, IsSome, IfSome};
 ghost use Rattle.bridge_cards.specs.Card.{IsCard};
 ghost use Rattle.bridge_cards.specs.CardSet.{has_card};
 ghost use Rattle.bridge_cards.specs.Deal.{hand_at, IsDeal};
 ghost use Rattle.bridge_cards.specs.Trick.{has_suit};
 ghost use Rattle.bridge_play.specs.Trick.{turn_of, whole_tricks, tricks_won};
 ghost use Rattle.bridge_play.specs.Legal.{holds, follows, may_play, IsLegal};
-ghost use Rattle.bridge_play.specs.CardPlay.{played, with_next};
+ghost use Rattle.bridge_play.specs.CardPlay.{played, with_next, with_first};
 
 use crate::trick::{next_leader, next_won};
 use arrayvec::ArrayVec;
@@ -182,6 +182,32 @@ impl CardPlay {
             left = without(&left, *card);
         }
         left
+    }
+
+    /// The first so many of the cards, the others being in the hands again.
+    fn first(&self, count: usize) -> CardPlay
+        requires { count ≤ length self.now.cards }
+        ensures { result ≡ with_first self.now count }
+    {
+        let (front, _) = self.cards().split_at(count);
+        let mut play = CardPlay::new(&self.deal, self.contract);
+        for card in front {
+            play.push(*card);
+        }
+        play
+    }
+
+    /// Takes back the last card, if there is one, and says whether there was: its hand has it again.
+    pub fn take_back(&mut self) -> bool
+        ensures some { result ≡ nat_lt 0 (length self.old.cards) }
+        ensures rest { self.new ≡ with_first self.old (length self.old.cards - 1) }
+    {
+        let count = self.cards.len();
+        if count == 0 {
+            return false;
+        }
+        *self = self.first(count - 1);
+        true
     }
 
     /// Adds a card, which no hand has then.

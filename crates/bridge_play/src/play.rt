@@ -1,7 +1,7 @@
 //! The play of one board.
-ghost use Rattle.std.specs.Prelude.{◌≡◌, ◌≢◌, ℕ, ◌+◌, ◌*◌, ◌<◌, ◌≤◌, ◌++◌, ◌∷◌, [], ◌↔◌, length, take, IsOk, OnOk, OnErr, IfSome, None, All, IsSome};
+ghost use Rattle.std.specs.Prelude.{◌≡◌, ◌≢◌, ℕ, ◌+◌, ◌*◌, ◌<◌, ◌≤◌, ◌++◌, ◌∷◌, [], ◌↔◌, ◌||◌, nat_lt, is_some, length, take, IsOk, OnOk, OnErr, IfSome, None, All, IsSome};
 ghost use Rattle.std.specs.Bool.{OnFalse};
-ghost use Rattle.bridge_play.specs.Play.{with_card, is_over, is_agreed, card_answer, MayBePlayed, tricks_of, settled_tricks, IsPlay, playing, with_claims, is_claim_in};
+ghost use Rattle.bridge_play.specs.Play.{with_card, without_latest, is_over, is_agreed, card_answer, MayBePlayed, tricks_of, settled_tricks, IsPlay, playing, with_claims, is_claim_in};
 ghost use Rattle.bridge_play.specs.Dummy.{actor_of, dummy_of};
 ghost use Rattle.bridge_play.specs.Trick.{turn_of, whole_tricks, leader_of, tricks_won};
 ghost use Rattle.bridge_play.specs.Legal.{IsLegal, holds};
@@ -214,6 +214,19 @@ impl Play {
             self.card_play.push(played);
         }
         answer
+    }
+
+    /// Takes back the latest thing done: the claim that stands or was agreed, which still counts as made, or else the last card,
+    /// which its hand has again. It says whether there was any.
+    pub fn take_back(&mut self) -> bool
+        ensures some { result ≡ (is_some self.old.claim || nat_lt 0 (length self.old.cards)) }
+        ensures rest { self.new ≡ without_latest self.old }
+    {
+        if self.claim.is_some() {
+            self.claim = None;
+            return true;
+        }
+        self.card_play.take_back()
     }
 
     /// The tricks of a side: the whole tricks that it won, and those of an agreed claim; the tricks left that are not

@@ -1,17 +1,11 @@
-use Rattle.std.proofs.Common.{◌≡◌, ◌∷◌, ◌++◌, [], ℕ, List, take, length, get_or, ◌+◌, ◌<◌, add-one, refl, sym, ap, subst, ◌∙◌, arith}
-use Rattle.std.proofs.Math.Seq.{take-suc}
+use Rattle.std.proofs.Common.{◌≡◌, ◌∷◌, ◌++◌, [], ℕ, List, take, refl, sym, ap, subst, ◌∙◌, arith}
 use Rattle.std.proofs.lemmas.List.{take_all}
 use Rattle.bridge_auction.specs.declared.contract.Contract.{Contract}
 use Rattle.bridge_cards.proofs.FollowLaws.{each_may_follow-next, each_may_follow-push, may_follow_front}
 use Rattle.bridge_play.specs.CardPlay.{CardPlayValue, played, with_next}
 use Rattle.bridge_play.specs.Legal.{IsLegal, MayPlay, may_play}
-use Rattle.bridge_play.proofs.LegalCards.{legal_cards_few, may_play_is, is_may_play}
+use Rattle.bridge_play.proofs.LegalCards.{legal_cards_few, may_play_is, is_may_play, one_more}
 use Rattle.bridge_play.proofs.card_play.CardPlay.from_cards.Goals as goal
-
--- the card at an index, behind those before it
-one_more : (cards : List ℕ) (index card : ℕ) → index < length cards → card ≡ get_or cards index card → take (index + 1) cards ≡ take index cards ++ card ∷ []
-one_more cards index card within is =
-    ap (λ n. take n cards) (add-one index) ∙ take-suc cards index card within ∙ ap (λ x. take index cards ++ x ∷ []) (sym is)
 
 test_of : (play : CardPlayValue) (hands : List ℕ) (contract : Contract) (cards : List ℕ) (card : ℕ) → play ≡ played hands contract cards
     → may_play play.hands play.contract play.cards card ≡ may_play hands contract cards card
