@@ -24,12 +24,17 @@ pub record IsAnswer (trump : Option Suit) (cards need : ℕ) (answer : Answer) (
   pub upward : IsUpward (has_card answer.counts)
   pub settled : Settles trump cards need (has_card answer.counts) answer.yes held leader trick
 
--- the lengths are those of the hands, and the bounds are true of each position that agrees with these hands in the cards that counted
+-- what was found is true of each position that agrees with this one in the cards that counted: its bounds are
+abbrev pub IsTrueAt : Found → Option Suit → ℕ → (Seat → ℕ → Bool) → Seat → Type 0
+IsTrueAt found trump cards held leader =
+    (other : Seat → ℕ → Bool) → IsDealtOut other → Agree (has_card found.counts) held other
+    → IsBounded (worth_with trump cards other leader []) found.bounds
+
+-- the lengths are those of the hands, and what was found is true of them
 pub record IsFound (found : Found) : Type 0 where
   pub upward : IsUpward (has_card found.counts)
   pub lengths : found.lengths ≡ all_lengths found.hands
-  pub bounded : (other : Seat → ℕ → Bool) → IsDealtOut other → Agree (has_card found.counts) (dealt found.hands) other
-      → IsBounded (worth_with found.trump (4 * found.tricks) other found.leader []) found.bounds
+  pub bounded : IsTrueAt found found.trump (4 * found.tricks) (dealt found.hands) found.leader
 
 -- if an answer is told, it is right
 abbrev pub Tells : Option Suit → ℕ → ℕ → (Seat → ℕ → Bool) → Seat → Told → Type 0

@@ -19,6 +19,15 @@ pub struct Answer {
     pub best: Card,
 }
 
+impl Answer {
+    /// The same answer, which that card gave.
+    pub fn by(self, card: Card) -> Answer
+        ensures { result ≡ record self { best = card } }
+    {
+        Answer { best: card, ..self }
+    }
+}
+
 /// The card and those of its suit above it.
 pub fn upwards(card: Card) -> CardSet
     ensures { (other : ℕ) → has_card result other ≡ (same_suit card other && nat_le card other) }

@@ -1,12 +1,8 @@
 //! What a search has found of hands.
-ghost use Rattle.std.specs.Prelude.{◌≡◌, ℕ, ◌*◌, ◌<◌, Bool, [], IsTrue, IfSome};
-ghost use Rattle.bridge_cards.specs.declared.seat.Seat.{Seat};
-ghost use Rattle.bridge_cards.specs.CardSet.{has_card};
-ghost use Rattle.bridge_endings.specs.Worth.{dealt, worth_with};
-ghost use Rattle.bridge_endings.specs.Agree.{IsDealtOut, Agree};
-ghost use Rattle.bridge_endings.specs.Between.{IsBounded};
+ghost use Rattle.std.specs.Prelude.{◌≡◌, ◌*◌, ◌<◌, [], IsTrue, IfSome};
+ghost use Rattle.bridge_endings.specs.Worth.{dealt};
 ghost use Rattle.bridge_endings.specs.Left.{all_lengths};
-ghost use Rattle.bridge_endings.specs.SearchValue.{IsAnswer, IsFound, IsNothing, Tells};
+ghost use Rattle.bridge_endings.specs.SearchValue.{IsAnswer, IsFound, IsNothing, IsTrueAt, Tells};
 
 use crate::answer::Answer;
 use crate::bounds::{Bounds, narrowed};
@@ -174,8 +170,7 @@ impl Found {
     ) -> bool
         requires found { IsFound self.now }
         requires lengths { lengths ≡ all_lengths hands.now }
-        ensures { IsTrue result → (other : Seat → ℕ → Bool) → IsDealtOut other → Agree (has_card self.now.counts) (dealt hands.now) other
-            → IsBounded (worth_with trump (4 * tricks) other leader []) self.now.bounds }
+        ensures { IsTrue result → IsTrueAt self.now trump (4 * tricks) (dealt hands.now) leader }
     {
         if self.lengths != lengths || self.leader != leader {
             return false;

@@ -1,5 +1,5 @@
 //! Whether North and South win at least so many of the tricks left.
-ghost use Rattle.std.specs.Prelude.{◌≡◌, ℕ, ◌-◌, ◌*◌, ◌<◌, ◌≤◌, ◌==◌, length, MatchBool, IsTrue, ◌++◌, ◌∷◌, []};
+ghost use Rattle.std.specs.Prelude.{◌≡◌, ℕ, ◌-◌, ◌*◌, ◌<◌, ◌≤◌, ◌==◌, not, length, MatchBool, IsTrue, ◌++◌, ◌∷◌, []};
 ghost use Rattle.bridge_cards.specs.Seat.{side_of};
 ghost use Rattle.bridge_endings.specs.Worth.{after_playing, dealt, trick_for};
 ghost use Rattle.bridge_endings.specs.Left.{left_to, is_sought, IsForegone};
@@ -148,26 +148,17 @@ impl Search {
         }
         let sought = is_sought(trick.turn());
         let seen = self.seen(hands, left, legal, trick, best);
-        let mut rest = legal;
-        let mut counts = CardSet::new();
-        let mut first = None;
+        let first = next_card(legal, trick, &seen).unwrap_or_default();
+        let (mut rest, mut counts) = (legal, CardSet::new());
         while let Some(card) = next_card(rest, trick, &seen) {
             let answer = self.reaches_with(table, hands, left, trick, card, tricks, need);
             if answer.yes == sought {
-                return Answer {
-                    best: card,
-                    ..answer
-                };
+                return answer.by(card);
             }
             rest = still_to_try(rest, card, answer.counts);
             counts = counts.union(answer.counts);
-            first = first.or(Some(card));
         }
-        Answer {
-            yes: !sought,
-            counts,
-            best: first.unwrap_or_default(),
-        }
+        all_tried(sought, counts, first)
     }
 
     /// Whether they do once the card is played.
@@ -204,6 +195,17 @@ impl Search {
             counts: answer.counts.union(trick.rank_that_counts()),
             best: card,
         }
+    }
+}
+
+/// The answer where none of the cards tried gave the one that is sought.
+fn all_tried(sought: bool, counts: CardSet, best: Card) -> Answer
+    ensures { result ≡ record { yes = not sought; counts = counts; best = best } }
+{
+    Answer {
+        yes: !sought,
+        counts,
+        best,
     }
 }
 

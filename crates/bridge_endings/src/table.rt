@@ -1,5 +1,5 @@
 //! The table of a search: what it has found, in lists of what is alike.
-ghost use Rattle.std.specs.Prelude.{◌≡◌, ◌*◌, ◌<◌, [], Some, IfSome};
+ghost use Rattle.std.specs.Prelude.{◌≡◌, ◌*◌, ◌<◌, [], Some, None, IfSome};
 ghost use Rattle.bridge_endings.specs.Worth.{dealt};
 ghost use Rattle.bridge_endings.specs.Left.{all_lengths};
 ghost use Rattle.bridge_endings.specs.SearchValue.{IsAnswer, IsFound, IsTable, Tells};
@@ -50,6 +50,17 @@ pub struct Known {
 }
 
 impl Known {
+    /// No answer is known.
+    fn open(best: Option<Card>, place: u32) -> Known
+        ensures { result.answer ≡ None }
+    {
+        Known {
+            answer: None,
+            best,
+            place,
+        }
+    }
+
     /// An answer is known.
     fn answered(answer: Answer) -> Known
         ensures { result.answer ≡ Some answer }
@@ -102,10 +113,8 @@ pub fn look_up(
     ensures table { IsTable table.new }
 {
     let slot = slot(lengths, trump, leader, table.len());
-    let mut best = None;
-    let mut place = 0;
-    let mut before = 0;
-    let mut next = table[slot].first;
+    let (mut best, mut place) = (None, 0);
+    let (mut before, mut next) = (0, table[slot].first);
     for _ in 0..LOOKED_AT {
         let index = next as usize;
         if index == 0 || index >= table.len() {
@@ -117,21 +126,14 @@ pub fn look_up(
                 to_front(table, slot, before, next);
                 return Known::answered(answer);
             }
-            Told::Open => {
-                place = next;
-                best = Some(found.best);
-            }
+            Told::Open => (best, place) = (Some(found.best), next),
             Told::Like => best = best.or(Some(found.best)),
             Told::Other => {}
         }
         before = next;
         next = table[index].next;
     }
-    Known {
-        answer: None,
-        best,
-        place,
-    }
+    Known::open(best, place)
 }
 
 /// The entry at that place becomes the first of its list; the other place is that of the entry before it, or 0.

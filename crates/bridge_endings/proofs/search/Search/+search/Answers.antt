@@ -27,10 +27,10 @@ reaches-returns-then-answer-sought-clause-answer t c =
     let told = told_before c.args.self.now c.loop-card.self
     (λ trump. IsAnswer trump (4 * c.args.tricks - length c.args.trick.now.cards - 1) c.args.need c.reaches_with-answer.result (after_playing c.in-Some.card (left_to c.args.hands.now c.args.left)) c.args.trick.now.leader (c.args.trick.now.cards ++ c.in-Some.card ∷ []))
     c.loop-card.invariant.later c.reaches_with-answer.ensures.answer in
-    found c.args.self.now.trump c.args.tricks c.args.need (left_to c.args.hands.now c.args.left) c.requires.given.2
+    rw c.by.ensures (found c.args.self.now.trump c.args.tricks c.args.need (left_to c.args.hands.now c.args.left) c.requires.given.2
     c.args.trick.now.leader c.args.trick.now.cards c.requires.part.0 c.legal_cards-legal.result c.if-is_settled.ensures.cases c.legal_cards-legal.ensures.legal
     c.in-Some.card c.is_sought-sought.result c.reaches_with-answer.result c.in-Some.card (c.loop-card.invariant.answered.among c.in-Some.card c.in-Some.ensures.card.1) (rw (← c.turn.ensures) c.is_sought-sought.ensures) told
-    (same_answer c.reaches_with-answer.result.yes c.is_sought-sought.result c.if-answer-sought.true)
+    (same_answer c.reaches_with-answer.result.yes c.is_sought-sought.result c.if-answer-sought.true))
 
 pub reaches-loop-card-smaller : goal.reaches-loop-card-smaller
 reaches-loop-card-smaller t c =
@@ -53,9 +53,9 @@ reaches-loop-card-preserved t c =
 
 pub reaches-returns-clause-answer : goal.reaches-returns-clause-answer
 reaches-returns-clause-answer t c =
-    none_found c.args.self.now.trump c.args.tricks c.args.need (left_to c.args.hands.now c.args.left) c.requires.given.2
+    rw c.all_tried.ensures (none_found c.args.self.now.trump c.args.tricks c.args.need (left_to c.args.hands.now c.args.left) c.requires.given.2
     c.args.trick.now.leader c.args.trick.now.cards c.requires.part.0 c.legal_cards-legal.result c.if-is_settled.ensures.cases c.legal_cards-legal.ensures.legal
-    (not c.is_sought-sought.result) c.loop-card.rest c.loop-card.counts _ c.if-is_empty.ensures.cards c.loop-card.invariant.answered (c.in_default.ensures.none.0 refl)
+    (not c.is_sought-sought.result) c.loop-card.rest c.loop-card.counts _ c.if-is_empty.ensures.cards c.loop-card.invariant.answered (c.in_default.ensures.none.0 refl))
 
 pub reaches_from-returns-then-is_settled-clause-answer : goal.reaches_from-returns-then-is_settled-clause-answer
 reaches_from-returns-then-is_settled-clause-answer t c =
