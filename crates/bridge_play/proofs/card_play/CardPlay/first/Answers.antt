@@ -17,12 +17,16 @@ loop-card-preserved c =
     record {
       so_far = c.push.ensures ∙ ap (λ (play : CardPlayValue). with_next play card) c.loop-card.invariant.so_far
           ∙ ap (played hands contract) (sym (one_more c.split_at.result.0.now index card c.loop-card-test.true c.card-item.is));
-      few = omega (arith, c.loop-card.invariant.few, ap (λ (play : CardPlayValue). length play.cards) c.push.ensures,
-          length-append c.loop-card.play.cards (card ∷ []));
+      few = omega (
+        arith,
+        c.loop-card.invariant.few,
+        ap (λ (play : CardPlayValue). length play.cards) c.push.ensures,
+        length-append c.loop-card.play.cards (card ∷ []),
+      );
     }
 
 pub returns : goal.returns
 returns c =
     c.loop-card.invariant.so_far
     ∙ ap (played c.args.self.now.hands c.args.self.now.contract)
-        (take_all c.loop-card.card-index c.split_at.result.0.now c.loop-card-test.false ∙ c.split_at.ensures.front ∙ ap (take c.args.count) c.cards.ensures.cards)
+    (take_all c.loop-card.card-index c.split_at.result.0.now c.loop-card-test.false ∙ c.split_at.ensures.front ∙ ap (take c.args.count) c.cards.ensures.cards)
