@@ -41,6 +41,7 @@ by_ruling hands plain (Some contract) (Some (ruling.Tricks tricks)) made shown =
     tricks_show (tricks == tricks_of (playing_in hands plain contract) (side_of contract.declarer)) tricks made shown
 by_ruling hands plain contract (Some ruling.Void) made shown = shown
 by_ruling hands plain contract (Some (ruling.Adjusted ns ew)) made shown = shown
+by_ruling hands plain contract (Some (ruling.Assigned assigned tricks)) made shown = shown
 
 pub shown_stands : (hands : List ℕ) (plain : PlainRecord) (made : Ruling) → ruling_shown (outcome_of plain) (play_of hands plain) ≡ Some made → plain.ruling ≡ Some made
 shown_stands hands plain made shown = by_ruling hands plain (contract_in plain) plain.ruling made shown

@@ -17,7 +17,7 @@ use Rattle.bridge_ranking.specs.Ranking.{result_of}
 use Rattle.session_rules.specs.declared.average.Average.{Average}
 use Rattle.session_rules.specs.Average.{percent_of}
 use Rattle.session_rules.specs.declared.outcome.Outcome.{Outcome}
-use Rattle.session_rules.specs.declared.outcome.Outcome.TheVariants.{Unfinished, PassedOut, Played, Voided, Adjusted}
+use Rattle.session_rules.specs.declared.outcome.Outcome.TheVariants.{Unfinished, PassedOut, Played, Voided, Adjusted, Assigned}
 use Rattle.bridge_results.specs.CardText.{side_words}
 use Rattle.bridge_results.specs.PlayCells.{result_score}
 use Rattle.line_replies.specs.ReplyTexts.{spaced_line}
@@ -87,6 +87,7 @@ result_by PassedOut score = codes "PASS" ∷ score_words score
 result_by (Played contract tricks) score = played_words contract tricks score
 result_by Voided score = codes "VOID" ∷ []
 result_by (Adjusted ns ew) score = average_words ns ew
+result_by (Assigned contract tricks) score = codes "ASSIGNED" ∷ played_words contract tricks score
 
 -- what came of a play of a board
 abbrev pub result_words : ℕ → Outcome → List (List ℕ)

@@ -8,23 +8,24 @@ use Rattle.bridge_auction.specs.declared.contract.Contract.{Contract}
 use Rattle.bridge_movement.specs.declared.row.Row.{Row}
 use Rattle.bridge_play.specs.Play.{PlayValue, tricks_of}
 use Rattle.session_rules.specs.declared.outcome.Outcome.{Outcome}
-use Rattle.session_rules.specs.declared.outcome.Outcome.TheVariants.{Played, Voided, Adjusted}
+use Rattle.session_rules.specs.declared.outcome.Outcome.TheVariants.{Played, Voided, Adjusted, Assigned}
 use Rattle.session_rules.specs.declared.ruling.Ruling.{Ruling}
 use Rattle.session_rules.specs.declared.ruling.Ruling.TheVariants as ruling
 use Rattle.session_rules.specs.State.{SessionValue}
 use Rattle.line_replies.specs.ReplyTexts.{spaced_line}
 use Rattle.board_replies.specs.KnownPlay.{KnownPlay, known_at}
-use Rattle.board_replies.specs.PlayLines.{average_words}
+use Rattle.board_replies.specs.PlayLines.{average_words, played_words}
 
 -- declarer has that many tricks by a ruling, where they are not those that were made
 abbrev pub tricks_ruled : Contract → ℕ → PlayValue → Option Ruling
 tricks_ruled contract tricks play =
     if tricks == tricks_of play (side_of contract.declarer) then None else Some (ruling.Tricks tricks)
 
--- the ruling that a play shows: it is void, adjusted, or has other tricks than were made
+-- the ruling that a play shows: it is void, adjusted, has an assigned score, or other tricks than were made
 abbrev pub ruling_shown : Outcome → Option PlayValue → Option Ruling
 ruling_shown Voided play = Some ruling.Void
 ruling_shown (Adjusted ns ew) play = Some (ruling.Adjusted ns ew)
+ruling_shown (Assigned contract tricks) play = Some (ruling.Assigned contract tricks)
 ruling_shown (Played contract tricks) play = option_and_then (tricks_ruled contract tricks) play
 ruling_shown _ play = None
 
@@ -32,6 +33,7 @@ ruling_shown _ play = None
 abbrev pub ruling_words : Ruling → List (List ℕ)
 ruling_words ruling.Void = codes "VOID" ∷ []
 ruling_words (ruling.Adjusted ns ew) = average_words ns ew
+ruling_words (ruling.Assigned contract tricks) = codes "ASSIGNED" ∷ played_words contract tricks None
 ruling_words (ruling.Tricks tricks) = codes "TRICKS" ∷ decimal tricks ∷ []
 
 -- the line of a ruling: the round, the table, the index in the set, the board, and the ruling

@@ -77,6 +77,19 @@ fn push_passed(text: &mut Vec<u8>, score: Option<i32>) -> Result<(), AllocError>
     push_score(text, score)
 }
 
+/// Adds an assigned score: the contract, declarer's tricks and the score.
+pub(crate) fn push_assigned(
+    text: &mut Vec<u8>,
+    contract: Contract,
+    tricks: u8,
+    score: Option<i32>,
+) -> Result<(), AllocError>
+    ensures { OnOk result (text.new.items ≡ text.old.items ++ each_spaced (codes "ASSIGNED" ∷ played_words contract tricks score)) }
+{
+    push_word(text, "ASSIGNED")?;
+    push_played(text, contract, tricks, score)
+}
+
 /// Adds what came of a play with that score of North and South.
 pub(crate) fn push_result(
     text: &mut Vec<u8>,
@@ -91,6 +104,7 @@ pub(crate) fn push_result(
         Outcome::Played { contract, tricks } => push_played(text, contract, tricks, score),
         Outcome::Voided => push_word(text, "VOID"),
         Outcome::Adjusted { ns, ew } => push_averages(text, ns, ew),
+        Outcome::Assigned { contract, tricks } => push_assigned(text, contract, tricks, score),
     }
 }
 

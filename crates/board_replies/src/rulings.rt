@@ -1,17 +1,18 @@
 //! The rulings that the director has made, as far as they change what came of a play.
-ghost use Rattle.std.specs.Prelude.{◌≡◌, ◌≤◌, ◌∷◌, ◌++◌, [], OnOk, Contains, codes, option_and_then};
+ghost use Rattle.std.specs.Prelude.{◌≡◌, ◌≤◌, ◌∷◌, ◌++◌, [], OnOk, Contains, codes, Some, option_and_then};
 ghost use Rattle.std.specs.Fmt.{decimal};
 ghost use Rattle.std.specs.Option.{option_copied, option_to_list};
 ghost use Rattle.line_text.specs.Lines.{lines_text};
 ghost use Rattle.line_replies.specs.ReplyTexts.{each_spaced};
 ghost use Rattle.session_rules.specs.Numbers.{IsBoardIndex};
+ghost use Rattle.session_rules.specs.declared.ruling.Ruling.TheVariants as ruling;
 ghost use Rattle.session_rules.specs.Outcome.{HasFewTricks};
 ghost use Rattle.session_rules.specs.StateRange.{IsSession};
 ghost use Rattle.board_replies.specs.KnownPlay.{seen_play};
 ghost use Rattle.board_replies.specs.Rulings.{tricks_ruled, ruling_shown, ruling_words, ruled_line, ruled_by, ruled_at, ruled_in, ruled_lines};
 
 use crate::known_play::{KnownPlay, known_at};
-use crate::result_line::push_averages;
+use crate::result_line::{push_assigned, push_averages};
 use crate::text::{push_end, push_number, push_str, push_word};
 use bridge_auction::Contract;
 use bridge_cards::BoardNumber;
@@ -41,7 +42,16 @@ fn tricks_ruled_in(contract: &Contract, tricks: u8, play: Option<&Play>) -> Opti
     tricks_ruled(contract, tricks, play?)
 }
 
-/// The ruling that a play shows: it is void, adjusted, or has other tricks than were made.
+/// A score is assigned.
+fn assigned(contract: Contract, tricks: u8) -> Option<Ruling>
+    requires { tricks ≤ 13 }
+    ensures { result ≡ Some (ruling.Assigned contract tricks) }
+{
+    let tricks = TrickCount::new(tricks).unwrap();
+    Some(Ruling::Assigned { contract, tricks })
+}
+
+/// The ruling that a play shows: it is void, adjusted, has an assigned score, or other tricks than were made.
 fn ruling_shown(outcome: Outcome, play: Option<&Play>) -> Option<Ruling>
     requires { HasFewTricks outcome }
     ensures { result ≡ ruling_shown outcome (option_copied play.entry) }
@@ -49,6 +59,7 @@ fn ruling_shown(outcome: Outcome, play: Option<&Play>) -> Option<Ruling>
     match outcome {
         Outcome::Voided => Some(Ruling::Void),
         Outcome::Adjusted { ns, ew } => Some(Ruling::Adjusted { ns, ew }),
+        Outcome::Assigned { contract, tricks } => assigned(contract, tricks),
         Outcome::Played { contract, tricks } => tricks_ruled_in(&contract, tricks, play),
         _ => None,
     }
@@ -69,6 +80,9 @@ fn push_ruling(text: &mut Vec<u8>, ruling: Ruling) -> Result<(), AllocError>
     match ruling {
         Ruling::Void => push_word(text, "VOID"),
         Ruling::Adjusted { ns, ew } => push_averages(text, ns, ew),
+        Ruling::Assigned { contract, tricks } => {
+            push_assigned(text, contract, tricks.number(), None)
+        }
         Ruling::Tricks(tricks) => push_tricks(text, tricks),
     }
 }

@@ -1,4 +1,5 @@
--- The PBN text of a session: its games, which are the plays that are finished, not void and not adjusted.
+-- The PBN text of a session: its games, which are the plays that are finished, not void and not adjusted, and to which no score is
+-- assigned.
 use Rattle.std.specs.Prelude.{ℕ, ◌-◌, ◌*◌, Bool, true, false, if◌then◌else◌, List, [], ◌∷◌, ◌++◌, codes, flat_map, Option, Some, None, option_and_then}
 use Rattle.std.specs.List.{filter_map, range_with_len}
 use Rattle.bridge_cards.specs.Board.{dealer_of}
@@ -8,7 +9,7 @@ use Rattle.bridge_movement.specs.declared.row.Row.{Row}
 use Rattle.bridge_config.specs.ConfigValue.{ConfigValue}
 use Rattle.session_rules.specs.declared.action.PlayId.{PlayId}
 use Rattle.session_rules.specs.declared.outcome.Outcome.{Outcome}
-use Rattle.session_rules.specs.declared.outcome.Outcome.TheVariants.{Unfinished, PassedOut, Played, Voided, Adjusted}
+use Rattle.session_rules.specs.declared.outcome.Outcome.TheVariants.{Unfinished, PassedOut, Played, Voided, Adjusted, Assigned}
 use Rattle.session_rules.specs.Record.{PlainRecord, play_of}
 use Rattle.session_rules.specs.Outcome.{outcome_of}
 use Rattle.session_rules.specs.State.{SessionValue, deal_on, is_of_set, record_of}
@@ -31,13 +32,14 @@ abbrev pub game_lines : ConfigValue → Row → ℕ → List ℕ → PlainRecord
 game_lines configuration row board hands plain =
     game_lines_by configuration row board hands (outcome_of plain) plain.calls (play_of hands plain)
 
--- whether a play is listed: it is finished, not void and not adjusted
+-- whether a play is listed: it is finished, not void and not adjusted, and no score is assigned to it
 abbrev pub is_listed : Outcome → Bool
 is_listed Unfinished = false
 is_listed PassedOut = true
 is_listed (Played contract tricks) = true
 is_listed Voided = false
 is_listed (Adjusted ns ew) = false
+is_listed (Assigned contract tricks) = false
 
 -- the play of a board by the pairs of a row, if the board is of the row's set
 abbrev pub play_at : ConfigValue → ℕ → Row → Option PlayId

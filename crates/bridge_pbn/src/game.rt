@@ -1,4 +1,4 @@
-//! The games of a session: the plays that are finished, not void and not adjusted.
+//! The games of a session: the plays that are finished, not void and not adjusted, and to which no score is assigned.
 ghost use Rattle.std.specs.Prelude.{◌≡◌, ◌+◌, ◌≤◌, ◌∷◌, ◌++◌, [], Some, None, if◌then◌else◌};
 ghost use Rattle.session_rules.specs.Numbers.{IsRoundNumber, IsTableNumber};
 ghost use Rattle.line_text.specs.Lines.{lines_text};
@@ -28,7 +28,8 @@ fn is_listed(outcome: Outcome) -> bool
     ensures { result ≡ is_listed outcome }
 {
     match outcome {
-        Outcome::Unfinished | Outcome::Voided | Outcome::Adjusted { .. } => false,
+        Outcome::Unfinished | Outcome::Voided => false,
+        Outcome::Adjusted { .. } | Outcome::Assigned { .. } => false,
         Outcome::PassedOut | Outcome::Played { .. } => true,
     }
 }

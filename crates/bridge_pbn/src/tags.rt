@@ -122,6 +122,7 @@ pub fn push_outcome_tags(text: &mut GameText, outcome: Outcome)
         Outcome::Unfinished => push_unplayed(text, ""),
         Outcome::Voided => push_unplayed(text, ""),
         Outcome::Adjusted { .. } => push_unplayed(text, ""),
+        Outcome::Assigned { .. } => push_unplayed(text, ""),
     }
 }
 

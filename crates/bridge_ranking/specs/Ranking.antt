@@ -27,7 +27,7 @@ use Rattle.bridge_ranking.specs.declared.game.PlayResult.TheVariants.{Score, Ave
 use Rattle.session_rules.specs.declared.average.Average.{Average}
 use Rattle.session_rules.specs.Average.{percent_of}
 use Rattle.session_rules.specs.declared.outcome.Outcome.{Outcome}
-use Rattle.session_rules.specs.declared.outcome.Outcome.TheVariants.{PassedOut, Played, Adjusted}
+use Rattle.session_rules.specs.declared.outcome.Outcome.TheVariants.{PassedOut, Played, Adjusted, Assigned}
 use Rattle.session_rules.specs.Answer.{Answer}
 use Rattle.session_rules.specs.declared.refused.Refused.TheVariants.{NoSuchPlay}
 use Rattle.session_rules.specs.Record.{PlainRecord}
@@ -47,10 +47,11 @@ abbrev pub played_score : ℕ → Contract → ℕ → ℤ
 played_score board contract tricks =
     score_for (side_of contract.declarer) (score_of contract (includes_side (vulnerability_on board) (side_of contract.declarer)) tricks)
 
--- what a play is compared by: its score where it is finished and not void, or its averages
+-- what a play is compared by: its score where it is finished and not void, the score that is assigned, or its averages
 abbrev pub result_of : ℕ → Outcome → Option PlayResult
 result_of board PassedOut = Some (Score (pos 0))
 result_of board (Played contract tricks) = Some (Score (played_score board contract tricks))
+result_of board (Assigned contract tricks) = Some (Score (played_score board contract tricks))
 result_of board (Adjusted ns ew) = Some (Averages ns ew)
 result_of board _ = None
 

@@ -38,7 +38,7 @@ impl Default for PlayResult {
     }
 }
 
-/// A play that is compared: finished and not void, or adjusted.
+/// A play that is compared: finished and not void, adjusted, or with an assigned score.
 #[derive(Clone, Copy, Debug, Default, PartialEq, Eq)]
 pub struct Game {
     /// The board's number.
@@ -85,6 +85,10 @@ pub fn result_of(board: BoardNumber, outcome: Outcome) -> Option<PlayResult>
         Outcome::Played { contract, tricks } => {
             let score = played_score(board, &contract, tricks);
             Some(PlayResult::Score(score))
+        }
+        Outcome::Assigned { contract, tricks } => {
+            let assigned = played_score(board, &contract, tricks);
+            Some(PlayResult::Score(assigned))
         }
         Outcome::Adjusted { ns, ew } => Some(PlayResult::Averages { ns, ew }),
     }

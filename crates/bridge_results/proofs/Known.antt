@@ -51,11 +51,13 @@ few_by hands plain None None range few is = passed_few _
 few_by hands plain None (Some (ruling.Tricks tricks)) range few is = tt
 few_by hands plain None (Some ruling.Void) range few is = tt
 few_by hands plain None (Some (ruling.Adjusted ns ew)) range few is = tt
+few_by hands plain None (Some (ruling.Assigned contract tricks)) range few is = range.1
 few_by hands plain (Some contract) None range few is =
     run_few (is_run (course_by plain contract)) contract _ (side_few (playing_in hands plain contract) (side_of contract.declarer) few is)
 few_by hands plain (Some contract) (Some (ruling.Tricks tricks)) range few is = range
 few_by hands plain (Some contract) (Some ruling.Void) range few is = tt
 few_by hands plain (Some contract) (Some (ruling.Adjusted ns ew)) range few is = tt
+few_by hands plain (Some contract) (Some (ruling.Assigned assigned tricks)) range few is = range.1
 
 pub few_tricks : (hands : List ℕ) (plain : PlainRecord) → IfSome plain.ruling IsRulingInRange →
     IfSome (play_of hands plain) (λ (play : PlayValue). length play.cards ≤ 52) → IfSome (play_of hands plain) IsPlay → HasFewTricks (outcome_of plain)

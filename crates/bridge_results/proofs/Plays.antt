@@ -17,7 +17,7 @@ use Rattle.bridge_movement.specs.Fair.{IsDue, IsMovement}
 use Rattle.bridge_ranking.specs.declared.game.Game.{Game}
 use Rattle.bridge_ranking.specs.Ranking.{game_by, game_in, games_in, games_of}
 use Rattle.session_rules.specs.declared.outcome.Outcome.{Outcome}
-use Rattle.session_rules.specs.declared.outcome.Outcome.TheVariants.{Unfinished, PassedOut, Played, Voided, Adjusted}
+use Rattle.session_rules.specs.declared.outcome.Outcome.TheVariants.{Unfinished, PassedOut, Played, Voided, Adjusted, Assigned}
 use Rattle.session_rules.specs.Outcome.{outcome_of}
 use Rattle.session_rules.specs.Record.{PlainRecord}
 use Rattle.session_rules.specs.State.{SessionValue, row_at, row_boards, is_row_within, record_of}
@@ -154,6 +154,7 @@ game_by_play row board PassedOut lead = refl
 game_by_play row board (Played contract tricks) lead = refl
 game_by_play row board Voided lead = refl
 game_by_play row board (Adjusted ns ew) lead = refl
+game_by_play row board (Assigned contract tricks) lead = refl
 
 one_more : (play : Option TablePlay) (plays : List TablePlay) → filter_map game_of (cons_option play plays) ≡ cons_option (option_and_then game_of play) (filter_map game_of plays)
 one_more None plays = refl

@@ -11,26 +11,29 @@ use Rattle.bridge_ranking.specs.declared.game.PlayResult.{PlayResult}
 use Rattle.bridge_ranking.specs.declared.game.PlayResult.TheVariants.{Score, Averages}
 use Rattle.session_rules.specs.Average.{percent_of}
 use Rattle.session_rules.specs.declared.outcome.Outcome.{Outcome}
-use Rattle.session_rules.specs.declared.outcome.Outcome.TheVariants.{Unfinished, PassedOut, Played, Voided, Adjusted}
+use Rattle.session_rules.specs.declared.outcome.Outcome.TheVariants.{Unfinished, PassedOut, Played, Voided, Adjusted, Assigned}
 use Rattle.line_text.specs.Decimals.{tenths_text}
 use Rattle.bridge_results.specs.declared.compare.Comparison.{Comparison}
 
--- the contract of a play, as `4HXX`, or what else came of it
+-- the contract of a play, as `4HXX`, with `*` behind it where the score is assigned; or what else came of it
 abbrev pub contract_cell : Outcome → List ℕ
 contract_cell Unfinished = []
 contract_cell PassedOut = codes "Pass"
 contract_cell (Played contract tricks) = bid_text contract.bid ++ doubling_text contract.doubling
 contract_cell Voided = codes "Void"
 contract_cell (Adjusted ns ew) = codes "Adjusted"
+contract_cell (Assigned contract tricks) = (bid_text contract.bid ++ doubling_text contract.doubling) ++ codes "*"
 
 -- the declarer of a play, as the seat's letter
 abbrev pub declarer_cell : Outcome → List ℕ
 declarer_cell (Played contract tricks) = seat_letter contract.declarer ∷ []
+declarer_cell (Assigned contract tricks) = seat_letter contract.declarer ∷ []
 declarer_cell _ = []
 
 -- declarer's tricks, those of a ruling where there is one
 abbrev pub tricks_cell : Outcome → List ℕ
 tricks_cell (Played contract tricks) = decimal tricks
+tricks_cell (Assigned contract tricks) = decimal tricks
 tricks_cell _ = []
 
 -- the opening lead

@@ -21,7 +21,7 @@ use Rattle.bridge_session.specs.KeptSession.{state_of, StateASession, IsKeptSess
 use Rattle.session_rules.proofs.PlainRecords.{no_contract, other_deal}
 
 -- a record without calls has no play, and is tied to any hands
-without_calls : (hands others : List ℕ) (kept : Record) → IsTied hands kept → kept.auction.calls ≡ [] → IsTied others kept
+pub without_calls : (hands others : List ℕ) (kept : Record) → IsTied hands kept → kept.auction.calls ≡ [] → IsTied others kept
 without_calls hands others kept tied none =
     let dealer = dealer_of kept.board in
     let no : contract_in (plain_of kept) ≡ None = no_contract dealer kept.auction.calls (ap is_ended none) in

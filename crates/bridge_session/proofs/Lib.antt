@@ -1,6 +1,8 @@
 pub mod Acted
 pub mod NewSession
 pub mod Dealt
+pub mod Undealt
+pub mod LegalCalls
 pub mod Rounds
 pub mod Ruled
 pub mod LeftEndings

@@ -5,7 +5,7 @@ use Rattle.std.specs.List.{list_any}
 use Rattle.std.proofs.lemmas.Bool.{eq-eqb}
 use Rattle.std.proofs.lemmas.List.{take-map, drop-map}
 use Rattle.bridge_table.specs.declared.record.Record.{Record}
-use Rattle.session_rules.specs.Record.{is_open}
+use Rattle.session_rules.specs.Record.{PlainRecord, is_open}
 use Rattle.bridge_config.specs.ConfigValue.{ConfigValue}
 use Rattle.session_rules.specs.declared.refused.Refused.{Refused}
 use Rattle.session_rules.specs.declared.refused.Refused.TheVariants.{Closed, Stale, RoundOpen}
@@ -17,7 +17,7 @@ use Rattle.bridge_session.specs.KeptSession.{state_of, StateASession, IsKeptSess
 use Rattle.bridge_table.proofs.Tied.{open_same}
 use Rattle.bridge_table.proofs.Tables.{lists_in}
 
-list_any-map : {X Y : Type 0} (p : Y → Bool) (f : X → Y) (xs : List X) → list_any p (map f xs) ≡ list_any (λ x. p (f x)) xs
+pub list_any-map : {X Y : Type 0} (p : Y → Bool) (f : X → Y) (xs : List X) → list_any p (map f xs) ≡ list_any (λ x. p (f x)) xs
 list_any-map p f [] = refl
 list_any-map p f (x ∷ xs) = ap (λ b. p (f x) || b) (list_any-map p f xs)
 
@@ -50,6 +50,19 @@ open_of_round deals vectors count start tied =
     among (λ (table : Vec Record Global). list_any is_kept_open table.items) count start vectors
     ∙ ap (λ bs. list_any (λ b. b) (take count (drop start bs))) (sym (open_tables deals vectors tied))
     ∙ sym (among (list_any is_open) count start (map (map plain_of) (lists_in vectors)))
+
+-- a test of the records of all tables, as they are kept and as they are seen
+test_of_table : (p : PlainRecord → Bool) (vectors : List (Vec Record Global)) → map (λ (table : Vec Record Global). list_any (λ kept. p (plain_of kept)) table.items) vectors ≡ map (list_any p) (map (map plain_of) (lists_in vectors))
+test_of_table p [] = refl
+test_of_table p (table ∷ vectors) =
+    ap (λ b. b ∷ map (λ (t : Vec Record Global). list_any (λ kept. p (plain_of kept)) t.items) vectors) (sym (list_any-map p plain_of table.items))
+    ∙ ap (λ bs. list_any p (map plain_of table.items) ∷ bs) (test_of_table p vectors)
+
+pub tested_tables : (p : PlainRecord → Bool) (vectors : List (Vec Record Global)) → list_any (λ (table : Vec Record Global). list_any (λ kept. p (plain_of kept)) table.items) vectors ≡ list_any (list_any p) (map (map plain_of) (lists_in vectors))
+tested_tables p vectors =
+    sym (list_any-map (λ b. b) (λ (table : Vec Record Global). list_any (λ kept. p (plain_of kept)) table.items) vectors)
+    ∙ ap (list_any (λ b. b)) (test_of_table p vectors)
+    ∙ list_any-map (λ b. b) (list_any p) (map (map plain_of) (lists_in vectors))
 
 -- the answer to the end of a round none of whose plays is open
 pub next_accepted : (s : SessionValue) → is_closed s.configuration s.round ≡ false → list_any (list_any is_open) (records_of_round s) ≡ false → next_answer s s.round ≡ Ok tt

@@ -57,6 +57,15 @@ All-changed_at P f xs i stays all =
       | inr (past, none) ↦ subst (All P) (sym (changed_at-None f xs i none)) all
     ]
 
+-- the same where it stays of the element that is changed
+pub All-changed_one : {X : Type 0} (P : X → Type 0) (f : X → X) (xs : List X) (i : ℕ) → ((x : X) → slice_get xs i ≡ Some x → P x → P (f x)) → All P xs → All P (changed_at f xs i)
+All-changed_one P f xs i stays all =
+    elim (slice_get_cases xs i).1 [
+      | inl (x, within, is, found) ↦
+          subst (All P) (sym (changed_at-Some f xs i x is)) (All-set P xs i (f x) (stays x is (subst P found (all i x within))) all)
+      | inr (past, none) ↦ subst (All P) (sym (changed_at-None f xs i none)) all
+    ]
+
 -- a ruling leaves a record tied
 pub ruling_tied : (deals : List (Option (List ℕ))) (made : Correction) (kept : Record) → IsTiedIn deals kept → IsTiedIn deals (with_kept_ruling made kept)
 ruling_tied deals made kept tied =

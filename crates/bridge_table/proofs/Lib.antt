@@ -3,3 +3,4 @@ pub mod Among
 pub mod Tables
 pub mod Outcomes
 pub mod Stages
+pub mod LessLatest

@@ -33,7 +33,7 @@ open_same hands kept tied =
     ap (λ course. not (is_ruled_out kept.ruling) && not (is_done kept.auction.calls course)) (sym (course_same hands kept tied))
 
 -- a record of these parts
-abbrev kept_of : ℕ → AuctionValue → Option PlayValue → Option Ruling → Record
+abbrev pub kept_of : ℕ → AuctionValue → Option PlayValue → Option Ruling → Record
 kept_of board auction play ruling = record { board = board; auction = auction; play = play; ruling = ruling }
 
 -- a play that is begun has no cards and no claims
@@ -67,7 +67,7 @@ after_call board auction (Some play) ruling hands seat call tied open_auction =
     absurd cc
 
 -- a change of the play alone
-after_play : (board : ℕ) (auction : AuctionValue) (play : PlayValue) (ruling : Option Ruling) (hands : List ℕ) (f : PlayValue → PlayValue) → IsTied hands (kept_of board auction (Some play) ruling) → ((contract : Contract) → f (playing_in hands (plain_of (kept_of board auction (Some play) ruling)) contract) ≡ playing_in hands (plain_of (kept_of board auction (Some (f play)) ruling)) contract) → IsTied hands (kept_of board auction (Some (f play)) ruling)
+pub after_play : (board : ℕ) (auction : AuctionValue) (play : PlayValue) (ruling : Option Ruling) (hands : List ℕ) (f : PlayValue → PlayValue) → IsTied hands (kept_of board auction (Some play) ruling) → ((contract : Contract) → f (playing_in hands (plain_of (kept_of board auction (Some play) ruling)) contract) ≡ playing_in hands (plain_of (kept_of board auction (Some (f play)) ruling)) contract) → IsTied hands (kept_of board auction (Some (f play)) ruling)
 after_play board auction play ruling hands f tied same =
     let before = plain_of (kept_of board auction (Some play) ruling) in
     let after = plain_of (kept_of board auction (Some (f play)) ruling) in

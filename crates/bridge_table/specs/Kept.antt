@@ -1,12 +1,12 @@
 -- The records that the code keeps, and what contracts see of them.
-use Rattle.std.specs.Prelude.{◌≡◌, ℕ, nat_lt, if◌then◌else◌, Err, Bool, not, ◌&&◌, List, [], ◌∷◌, ◌++◌, Option, None, Some}
+use Rattle.std.specs.Prelude.{◌≡◌, ℕ, nat_lt, if◌then◌else◌, Err, Bool, not, ◌&&◌, ◌||◌, is_some, length, List, [], ◌∷◌, ◌++◌, Option, None, Some}
 use Rattle.std.specs.Option.{option_map, option_map_or}
 use Rattle.bridge_cards.specs.declared.seat.Seat.{Seat}
 use Rattle.bridge_cards.specs.Board.{dealer_of}
 use Rattle.bridge_auction.specs.declared.contract.Contract.{Contract}
-use Rattle.bridge_auction.specs.Auction.{with_call}
+use Rattle.bridge_auction.specs.Auction.{with_call, without_last_call}
 use Rattle.bridge_auction.specs.Contract.{contract_of}
-use Rattle.bridge_play.specs.Play.{PlayValue, with_card, with_claim, with_agreement, without_claim}
+use Rattle.bridge_play.specs.Play.{PlayValue, with_card, with_claim, with_agreement, without_claim, without_latest}
 use Rattle.bridge_score.specs.declared.ranking.Scoring.{Scoring}
 use Rattle.bridge_table.specs.declared.record.Record.{Record}
 use Rattle.session_rules.specs.declared.deed.Deed.{Deed}
@@ -14,6 +14,7 @@ use Rattle.session_rules.specs.declared.deed.Deed.TheVariants as deed
 use Rattle.session_rules.specs.declared.correction.Correction.{Correction}
 use Rattle.session_rules.specs.declared.refused.Refused.TheVariants.{NoSuchPlay, NotYet}
 use Rattle.session_rules.specs.Answer.{Answer}
+use Rattle.session_rules.specs.Back.{back_answer}
 use Rattle.session_rules.specs.Correction.{ruling_by, ruling_answer}
 use Rattle.session_rules.specs.State.{Deals, deal_on, hands_on}
 use Rattle.session_rules.specs.Record.{PlainRecord, Course, course_of, play_of, is_done, is_ruled_out}
@@ -88,3 +89,18 @@ abbrev pub kept_rule_answer : Scoring → ℕ → ℕ → Correction → Option 
 kept_rule_answer scoring now round correction None = Err NoSuchPlay
 kept_rule_answer scoring now round correction (Some kept) =
     if nat_lt now round then Err NotYet else kept_ruling_answer scoring kept correction (nat_lt round now)
+
+-- the record of a play, or of none yet, less the latest thing done in it
+abbrev pub less_in_play : Record → Option PlayValue → Record
+less_in_play kept None = record kept { auction = without_last_call kept.auction; play = None }
+less_in_play kept (Some play) =
+    if is_some play.claim || nat_lt 0 (length play.cards) then record kept { play = Some (without_latest play) }
+    else record kept { auction = without_last_call kept.auction; play = None }
+
+-- the record less the latest thing done: the claim that stands or was agreed, the last card, or the last call
+abbrev pub less_latest_kept : Record → Record
+less_latest_kept kept = less_in_play kept kept.play
+
+-- the answer where it is taken back, in the play of a record that there may be
+abbrev pub kept_back_answer : ℕ → ℕ → Option Record → Answer
+kept_back_answer now round kept = back_answer now round (option_map plain_of kept)

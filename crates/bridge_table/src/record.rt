@@ -4,15 +4,17 @@ ghost use Rattle.bridge_auction.specs.Call.{IsCall};
 ghost use Rattle.session_rules.specs.Record.{is_done, is_ruled_out};
 ghost use Rattle.session_rules.specs.Deed.{call_answer, deed_answer, answer_if_play};
 ghost use Rattle.session_rules.specs.Correction.{ruling_by};
+ghost use Rattle.session_rules.specs.DirectorStep.{is_begun_on, is_ruled_on};
 ghost use Rattle.session_rules.specs.Outcome.{outcome_of_course, outcome_by, HasFewTricks};
+ghost use Rattle.session_rules.specs.declared.outcome.Outcome.TheVariants.{Assigned};
 ghost use Rattle.session_rules.specs.declared.ruling.Ruling.TheVariants as ruling;
 ghost use Rattle.session_rules.specs.Valid.{IsDeed};
 ghost use Rattle.session_rules.specs.StateRange.{IsCorrectionInRange};
-ghost use Rattle.bridge_table.specs.Kept.{new_record, course_kept, is_kept_open, after_deed, after_play, kept_ruling_answer};
+ghost use Rattle.bridge_table.specs.Kept.{plain_of, new_record, course_kept, is_kept_open, after_deed, after_play, kept_ruling_answer};
 ghost use Rattle.session_rules.specs.declared.deed.Deed.TheVariants as deed;
 
 use crate::refusals::{call_result, card_result, claim_result, consent_result};
-use bridge_auction::{Auction, Call};
+use bridge_auction::{Auction, Call, Contract};
 use bridge_cards::{BoardNumber, Card, Deal, Seat, dealer};
 use bridge_play::Play;
 use bridge_score::Scoring;
@@ -29,6 +31,17 @@ pub struct Record {
     pub play: Option<Play>,
     /// The latest ruling, unless it was taken back.
     pub ruling: Option<Ruling>,
+}
+
+/// What came of a play to which the director assigned the score of that contract with that many tricks.
+fn assigned(contract: Contract, tricks: TrickCount) -> Outcome
+    ensures outcome { result ≡ Assigned contract tricks }
+    ensures few { HasFewTricks result }
+{
+    Outcome::Assigned {
+        contract,
+        tricks: tricks.number(),
+    }
 }
 
 impl Record {
@@ -57,7 +70,10 @@ impl Record {
     fn is_ruled_out(&self) -> bool
         ensures { result ≡ is_ruled_out self.now.ruling }
     {
-        matches!(self.ruling, Some(Ruling::Void | Ruling::Adjusted { .. }))
+        matches!(
+            self.ruling,
+            Some(Ruling::Void | Ruling::Adjusted { .. } | Ruling::Assigned { .. })
+        )
     }
 
     /// Whether the play is neither finished, void nor adjusted.
@@ -65,6 +81,20 @@ impl Record {
         ensures { result ≡ is_kept_open self.now }
     {
         !self.is_ruled_out() && !self.is_finished()
+    }
+
+    /// Whether the play is of the board, and a call was made in it.
+    pub fn is_begun_on(&self, board: BoardNumber) -> bool
+        ensures { result ≡ is_begun_on board (plain_of self.now) }
+    {
+        self.board == board && !self.auction.calls().is_empty()
+    }
+
+    /// Whether the play is of the board, and a ruling stands on it.
+    pub fn is_ruled_on(&self, board: BoardNumber) -> bool
+        ensures { result ≡ is_ruled_on board (plain_of self.now) }
+    {
+        self.board == board && self.ruling.is_some()
     }
 
     /// What came of the play but for a ruling.
@@ -109,6 +139,7 @@ impl Record {
             None => self.outcome_of_play(),
             Some(Ruling::Void) => Outcome::Voided,
             Some(Ruling::Adjusted { ns, ew }) => Outcome::Adjusted { ns, ew },
+            Some(Ruling::Assigned { contract, tricks }) => assigned(contract, tricks),
             Some(Ruling::Tricks(tricks)) => self.outcome_ruled(tricks),
         }
     }
@@ -212,7 +243,7 @@ impl Record {
         }
     }
 
-    /// The answer to a ruling, of a play whose round is over or not: all but `Void` may be refused.
+    /// The answer to a ruling, of a play whose round is over or not: all but `Void` and an assigned score may be refused.
     fn ruling_answer(
         &self,
         scoring: Scoring,
@@ -227,7 +258,7 @@ impl Record {
                 Some(play) if !play.is_over() => Err(Refused::NotFinished),
                 Some(_) => Ok(()),
             },
-            Correction::Void => Ok(()),
+            Correction::Void | Correction::Assign { .. } => Ok(()),
             Correction::Adjust { .. } => match scoring {
                 Scoring::MatchPoints => Ok(()),
                 Scoring::Imps => Err(Refused::NotMatchPoints),

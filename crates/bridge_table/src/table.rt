@@ -3,6 +3,7 @@ ghost use Rattle.std.specs.Prelude.{◌≡◌, ◌<◌, length, map, position, u
 ghost use Rattle.std.specs.List.{list_any};
 ghost use Rattle.std.specs.Option.{option_copied};
 ghost use Rattle.session_rules.specs.State.{deal_on, current_index, changed_at};
+ghost use Rattle.session_rules.specs.DirectorStep.{is_begun_on, is_ruled_on};
 ghost use Rattle.session_rules.specs.PlayerStep.{answer_among, acted_among};
 ghost use Rattle.session_rules.specs.Valid.{IsDeed};
 ghost use Rattle.session_rules.specs.StateRange.{IsCorrectionInRange};
@@ -86,4 +87,18 @@ pub fn has_open(table: &[Record]) -> bool
     ensures { result ≡ list_any is_kept_open table.now }
 {
     table.iter().any(|record| record.is_open())
+}
+
+/// Whether a call was made in a play of the board.
+pub fn has_begun(table: &[Record], board: BoardNumber) -> bool
+    ensures { result ≡ list_any (λ kept. is_begun_on board (plain_of kept)) table.now }
+{
+    table.iter().any(|record| record.is_begun_on(board))
+}
+
+/// Whether a ruling stands on a play of the board.
+pub fn has_ruling(table: &[Record], board: BoardNumber) -> bool
+    ensures { result ≡ list_any (λ kept. is_ruled_on board (plain_of kept)) table.now }
+{
+    table.iter().any(|record| record.is_ruled_on(board))
 }

@@ -10,7 +10,7 @@ use Rattle.bridge_config.specs.declared.fields.Key.{Key}
 use Rattle.session_rules.specs.declared.act.Act.{Act}
 use Rattle.session_rules.specs.declared.act.Act.TheVariants as act
 use Rattle.session_rules.specs.declared.action.Action.{Action}
-use Rattle.session_rules.specs.declared.action.Action.TheVariants.{Deal, NextRound}
+use Rattle.session_rules.specs.declared.action.Action.TheVariants.{Deal, Undeal, Back, NextRound}
 use Rattle.session_rules.specs.declared.action.PlayId.{PlayId}
 use Rattle.session_rules.specs.declared.correction.Correction.{Correction}
 use Rattle.session_rules.specs.declared.correction.Correction.TheVariants as correction
@@ -24,6 +24,8 @@ use Rattle.session_rules.specs.StateRange.{IsCorrectionInRange}
 use Rattle.session_rules.proofs.Acts.{action_by, by_its_act}
 use Rattle.session_bytes.specs.ActionRange.{IsKey, IsTurn, IsPlayIdInRange, IsDeedInRange, IsActInRange, IsInRange}
 use Rattle.session_bytes.specs.ActionBytes.{headed, turn_bytes, play_bytes, hand_bytes, deed_kind, deed_bytes, correction_kind, correction_bytes, act_bytes, action_bytes, HasCorrection, HasAct, HasAction, in_range, deed_in, player_action, turn_in, play_in, averages_of, correction_in, ruling_on, ruling_in, hand_in, hands_in, action_in, action_of}
+use Rattle.session_bytes.specs.AssignedBytes.{assigned_byte, assigned_tricks}
+use Rattle.session_bytes.proofs.AssignedLaws.{assigned_back}
 use Rattle.session_store.specs.declared.disk_format.DiskFormat.{DiskFormat}
 use Rattle.session_store.specs.declared.disk_format.DiskFormat.TheVariants.{One, Two}
 
@@ -109,6 +111,11 @@ correction_back format correction.Void is has = refl
 correction_back format correction.Restore is has = refl
 correction_back One (correction.Adjust ns ew) is has = absurd has
 correction_back Two (correction.Adjust ns ew) is has = averages_back ns ew
+correction_back One (correction.Assign contract tricks) is has = absurd has
+correction_back Two (correction.Assign contract tricks) is has =
+    let back = assigned_back contract tricks is.0 is.1 in
+    ap (option_map (λ c. correction.Assign c (assigned_tricks (assigned_byte contract tricks)))) back.0
+    ∙ ap (λ n. Some (correction.Assign contract n)) back.1
 
 of_ruling_kind : (format : DiskFormat) (made : Correction) (key : Key) (rest : List ℕ)
     → action_in format (correction_kind made) key rest ≡ ruling_in format (correction_kind made) key rest
@@ -116,6 +123,7 @@ of_ruling_kind format (correction.Tricks tricks) key rest = refl
 of_ruling_kind format correction.Void key rest = refl
 of_ruling_kind format correction.Restore key rest = refl
 of_ruling_kind format (correction.Adjust ns ew) key rest = refl
+of_ruling_kind format (correction.Assign contract tricks) key rest = refl
 
 has_correction : (format : DiskFormat) (key : Key) (play : PlayId) (made : Correction) → HasAct format (act.Ruling key play made) → HasCorrection format made
 has_correction One key play made has = has
@@ -131,6 +139,11 @@ act_back format (act.Deal key board hands) is has =
     head_back format 1 key (board ∷ flat_map hand_bytes hands) is.0
     ∙ ap (option_and_then (λ b. option_map (Deal key b) (hands_in (flat_map hand_bytes hands)))) (within 1 36 board is.1.0 is.1.1)
     ∙ ap (option_map (Deal key board)) (hands_back hands is.2 is.3)
+act_back One (act.Undeal key board) is has = absurd has
+act_back Two (act.Undeal key board) is has =
+    head_back Two 13 key (board ∷ []) is.0 ∙ ap (option_map (Undeal key)) (within 1 36 board is.1.0 is.1.1)
+act_back One (act.Back key play) is has = absurd has
+act_back Two (act.Back key play) is has = head_back Two 12 key (play_bytes play []) is.0 ∙ ap (option_map (Back key)) (play_back play is.1)
 act_back format (act.RoundEnd key round) is has =
     head_back format 7 key (round ∷ []) is.0 ∙ ap (option_map (NextRound key)) (within 1 12 round is.1.0 is.1.1)
 act_back format (act.Ruling key play made) is has =

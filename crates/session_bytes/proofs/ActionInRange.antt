@@ -18,7 +18,7 @@ use Rattle.session_bytes.specs.ActionBytes.{hand_bytes, deed_bytes, correction_b
 use Rattle.session_store.specs.declared.disk_format.DiskFormat.{DiskFormat}
 use Rattle.session_rules.specs.Valid.{IsDeed, IsAct, IsAction}
 use Rattle.session_bytes.proofs.ReadSteps.{map_is, then_is, if_is, in_range_is, last_is}
-use Rattle.session_bytes.proofs.ActionLaws.{player_is, ruling_is, four_all}
+use Rattle.session_bytes.proofs.ActionLaws.{player_is, ruling_is, back_is, undeal_is, four_all}
 use Rattle.session_bytes.proofs.PartLemmas.{length-flat_fixed}
 
 turn_in_range : (kind : ℕ) (key : Key) (bytes : List ℕ) (a : Action) → IsKey key → turn_in kind key bytes ≡ Some a → IsInRange a
@@ -73,7 +73,13 @@ kind_in_range format kind key bytes a is_key is =
             subst IsInRange found.2 (is_key, (last.1, last.2))
         | inr other ↦ elim (if_is (nat_le kind 6) _ _ (Some a) other.1) [
           | inl here ↦ turn_in_range kind key bytes a is_key here.1
-          | inr other ↦ (ruling_is format kind key bytes a is_key other.1).0
+          | inr other ↦ elim (if_is (kind == 12) _ _ (Some a) other.1) [
+            | inl here ↦ (back_is format key bytes a is_key here.1).0
+            | inr other ↦ elim (if_is (kind == 13) _ _ (Some a) other.1) [
+              | inl here ↦ (undeal_is format key bytes a is_key here.1).0
+              | inr other ↦ (ruling_is format kind key bytes a is_key other.1).0
+            ]
+          ]
         ]
       ]
     ]
@@ -102,6 +108,8 @@ range_is_deed deed.Refuse is = tt
 range_is_act : (a : Act) → IsActInRange a → IsAct a
 range_is_act (act.Player key board at deed) is = range_is_deed deed is.2
 range_is_act (act.Deal key board hands) is = is.1.0
+range_is_act (act.Undeal key board) is = is.1.0
+range_is_act (act.Back key play) is = (is.1.0.0, is.1.1.0, is.1.2.0)
 range_is_act (act.RoundEnd key round) is = is.1.0
 range_is_act (act.Ruling key play made) is = (is.1.0.0, is.1.1.0, is.1.2.0)
 
@@ -121,12 +129,15 @@ few_of_correction (correction.Tricks tricks) = omega arith
 few_of_correction correction.Void = omega arith
 few_of_correction correction.Restore = omega arith
 few_of_correction (correction.Adjust ns ew) = omega arith
+few_of_correction (correction.Assign contract tricks) = omega arith
 
 act_fits : (a : Act) → IsActInRange a → length (act_bytes a) ≤ 480
 act_fits (act.Player key board at deed) is = omega (arith, few_of_deed deed)
 act_fits (act.Deal key board hands) is =
     let long : length (flat_map hand_bytes hands) ≡ length hands * 8 = length-flat_fixed hand_bytes 8 (λ hand. refl) hands in
     omega (arith, long, is.2)
+act_fits (act.Undeal key board) is = omega arith
+act_fits (act.Back key play) is = omega arith
 act_fits (act.RoundEnd key round) is = omega arith
 act_fits (act.Ruling key play made) is = omega (arith, few_of_correction made)
 

@@ -14,7 +14,7 @@ use Rattle.bridge_config.specs.declared.fields.Key.{Key}
 use Rattle.session_rules.specs.declared.act.Act.{Act}
 use Rattle.session_rules.specs.declared.act.Act.TheVariants as act
 use Rattle.session_rules.specs.declared.action.Action.{Action}
-use Rattle.session_rules.specs.declared.action.Action.TheVariants.{Deal, NextRound}
+use Rattle.session_rules.specs.declared.action.Action.TheVariants.{Deal, Undeal, Back, NextRound}
 use Rattle.session_rules.specs.declared.action.PlayId.{PlayId}
 use Rattle.session_rules.specs.declared.correction.Correction.{Correction}
 use Rattle.session_rules.specs.declared.correction.Correction.TheVariants as correction
@@ -28,7 +28,9 @@ use Rattle.session_rules.specs.StateRange.{IsCorrectionInRange}
 use Rattle.session_rules.proofs.Acts.{act_of_player, act_of_ruling}
 use Rattle.session_bytes.proofs.Options.{some_is, not_some}
 use Rattle.session_bytes.specs.ActionRange.{IsKey, IsTurn, IsPlayIdInRange, IsDeedInRange, IsActInRange, IsInRange}
-use Rattle.session_bytes.specs.ActionBytes.{headed, turn_bytes, play_bytes, hand_bytes, deed_kind, deed_bytes, correction_kind, correction_bytes, act_bytes, action_bytes, HasAction, in_range, only_byte, deed_in, player_action, turn_in, play_in, play_with, averages_in, correction_in, ruling_on, ruling_in, hand_in, hands_in, deal_in, action_in, action_of}
+use Rattle.session_bytes.specs.ActionBytes.{headed, turn_bytes, play_bytes, hand_bytes, deed_kind, deed_bytes, correction_kind, correction_bytes, act_bytes, action_bytes, HasAction, in_range, only_byte, deed_in, player_action, turn_in, play_in, play_with, averages_in, assigned_in, correction_in, ruling_on, ruling_in, hand_in, hands_in, deal_in, undeal_in, back_in, action_in, action_of}
+use Rattle.session_bytes.specs.AssignedBytes.{assigned_contract, assigned_tricks}
+use Rattle.session_bytes.proofs.AssignedLaws.{assigned_is}
 use Rattle.session_store.specs.declared.disk_format.DiskFormat.{DiskFormat}
 use Rattle.session_store.specs.declared.disk_format.DiskFormat.TheVariants.{One, Two}
 use Rattle.session_bytes.proofs.ReadSteps.{AreBytes, map_is, then_is, if_is, in_range_is, only_is, end_is, last_is, two_bytes, four_bytes, front_bytes, back_bytes}
@@ -154,6 +156,17 @@ averages_are kind Two (ns ∷ ew ∷ []) made eleven is =
     )
 averages_are kind Two (ns ∷ ew ∷ more ∷ rest) made eleven is = absurd (not_some made is)
 
+-- what is ruled by bytes behind the kind of an assigned score
+assigned_are : (kind : ℕ) (format : DiskFormat) (rest : List ℕ) (made : Correction) → kind ≡ 14 → assigned_in format rest ≡ Some made → IsCorrectionOf kind rest made
+assigned_are kind One rest made is_kind is = absurd (not_some made is)
+assigned_are kind Two [] made is_kind is = absurd (not_some made is)
+assigned_are kind Two (first ∷ []) made is_kind is = absurd (not_some made is)
+assigned_are kind Two (first ∷ second ∷ []) made is_kind is =
+    let found = map_is (λ contract. correction.Assign contract (assigned_tricks second)) (assigned_contract first second) made is in
+    let known = assigned_is first second found.0 found.1 in
+    subst (IsCorrectionOf kind (first ∷ second ∷ [])) found.2 ((known.0, known.2), is_kind, sym known.1)
+assigned_are kind Two (first ∷ second ∷ more ∷ rest) made is_kind is = absurd (not_some made is)
+
 correction_is : (format : DiskFormat) (kind : ℕ) (rest : List ℕ) (made : Correction) → correction_in format kind rest ≡ Some made → IsCorrectionOf kind rest made
 correction_is format kind rest made is =
     elim (if_is (kind == 8) _ _ (Some made) is) [
@@ -171,7 +184,10 @@ correction_is format kind rest made is =
               subst (IsCorrectionOf kind rest) found.1 (tt, eqb-true kind 10 here.0, found.0)
           | inr other ↦ elim (if_is (kind == 11) _ _ (Some made) other.1) [
             | inl here ↦ averages_are kind format rest made (eqb-true kind 11 here.0) here.1
-            | inr other ↦ absurd (not_some made other.1)
+            | inr other ↦ elim (if_is (kind == 14) _ _ (Some made) other.1) [
+              | inl here ↦ assigned_are kind format rest made (eqb-true kind 14 here.0) here.1
+              | inr other ↦ absurd (not_some made other.1)
+            ]
           ]
         ]
       ]
@@ -248,6 +264,25 @@ deal_is key (board ∷ rest) a are is_key is =
     (is_key, (board_is.1, board_is.2), hands.0, hands.1)
     (ap (λ xs. headed 1 key.0 (b.0 ∷ xs)) hands.2 ∙ ap (λ x. headed 1 key.0 (x ∷ rest)) (sym board_is.0))
 
+pub undeal_is : (format : DiskFormat) (key : Key) (bytes : List ℕ) (a : Action) → IsKey key → undeal_in format key bytes ≡ Some a → ReadsAction 13 key bytes a
+undeal_is One key bytes a is_key is = absurd (not_some a is)
+undeal_is Two key bytes a is_key is =
+    let found = map_is (Undeal key) _ a is in
+    let last = last_is 1 36 bytes found.0 found.1 in
+    reads 13 key bytes (act.Undeal key found.0) a (ap act_of (sym found.2)) (is_key, (last.1, last.2)) (ap (headed 13 key.0) (sym last.0))
+
+pub back_is : (format : DiskFormat) (key : Key) (bytes : List ℕ) (a : Action) → IsKey key → back_in format key bytes ≡ Some a → ReadsAction 12 key bytes a
+back_is One key bytes a is_key is = absurd (not_some a is)
+back_is Two key [] a is_key is = absurd (not_some a is)
+back_is Two key (round ∷ []) a is_key is = absurd (not_some a is)
+back_is Two key (round ∷ table ∷ []) a is_key is = absurd (not_some a is)
+back_is Two key (round ∷ table ∷ index ∷ []) a is_key is =
+    let found = map_is (Back key) (play_in round table index) a is in
+    let play = play_is round table index found.0 found.1 in
+    reads 12 key (round ∷ table ∷ index ∷ []) (act.Back key found.0) a (ap act_of (sym found.2)) (is_key, play.0)
+    (ap (λ (q : PlayId). headed 12 key.0 (play_bytes q [])) play.1)
+back_is Two key (round ∷ table ∷ index ∷ more ∷ rest) a is_key is = absurd (not_some a is)
+
 kind_is : (format : DiskFormat) (kind : ℕ) (key : Key) (bytes : List ℕ) (a : Action) → AreBytes bytes → IsKey key → action_in format kind key bytes ≡ Some a
     → ReadsAction kind key bytes a
 kind_is format kind key bytes a are is_key is =
@@ -263,7 +298,17 @@ kind_is format kind key bytes a are is_key is =
             (ap (λ k. headed k key.0 (found.0 ∷ [])) (sym (eqb-true kind 7 here.0)) ∙ ap (headed kind key.0) (sym last.0))
         | inr other ↦ elim (if_is (nat_le kind 6) _ _ (Some a) other.1) [
           | inl here ↦ turn_is kind key bytes a are is_key here.1
-          | inr other ↦ ruling_is format kind key bytes a is_key other.1
+          | inr other ↦ elim (if_is (kind == 12) _ _ (Some a) other.1) [
+            | inl here ↦
+                let known = back_is format key bytes a is_key here.1 in
+                (known.0, known.1 ∙ ap (λ k. headed k key.0 bytes) (sym (eqb-true kind 12 here.0)))
+            | inr other ↦ elim (if_is (kind == 13) _ _ (Some a) other.1) [
+              | inl here ↦
+                  let known = undeal_is format key bytes a is_key here.1 in
+                  (known.0, known.1 ∙ ap (λ k. headed k key.0 bytes) (sym (eqb-true kind 13 here.0)))
+              | inr other ↦ ruling_is format kind key bytes a is_key other.1
+            ]
+          ]
         ]
       ]
     ]

@@ -1,5 +1,6 @@
 pub mod Options
 pub mod ReadSteps
+pub mod AssignedLaws
 pub mod ActionBack
 pub mod ActionLaws
 pub mod PartLemmas

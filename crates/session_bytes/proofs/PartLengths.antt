@@ -79,6 +79,7 @@ ruling_fits None = omega arith
 ruling_fits (Some (ruling.Tricks tricks)) = omega arith
 ruling_fits (Some ruling.Void) = omega arith
 ruling_fits (Some (ruling.Adjusted ns ew)) = omega arith
+ruling_fits (Some (ruling.Assigned contract tricks)) = omega arith
 
 record_fits : (plain : PlainRecord) → length plain.calls ≤ 319 → length plain.cards ≤ 52 → Fits (record_part Two plain)
 record_fits plain calls cards =

@@ -197,6 +197,7 @@ ruling_stands scoring hands plain play None is stands = tt
 ruling_stands scoring hands plain play (Some (ruling.Tricks tricks)) is stands =
     over_stands hands plain (contract_in plain) (ap (λ p. option_map_or is_over p false) (sym is) ∙ stands)
 ruling_stands scoring hands plain play (Some ruling.Void) is stands = tt
+ruling_stands scoring hands plain play (Some (ruling.Assigned contract tricks)) is stands = tt
 ruling_stands scoring hands plain play (Some (ruling.Adjusted ns ew)) is stands = is_matchpoints scoring stands
 
 stands_ruling : (scoring : Scoring) (hands : List ℕ) (plain : PlainRecord) (play : Option PlayValue) (made : Option Ruling) → play ≡ play_of hands plain
@@ -205,6 +206,7 @@ stands_ruling scoring hands plain play None is ruled = refl
 stands_ruling scoring hands plain play (Some (ruling.Tricks tricks)) is ruled =
     ap (λ p. option_map_or is_over p false) is ∙ stands_over hands plain (contract_in plain) ruled
 stands_ruling scoring hands plain play (Some ruling.Void) is ruled = refl
+stands_ruling scoring hands plain play (Some (ruling.Assigned contract tricks)) is ruled = refl
 stands_ruling scoring hands plain play (Some (ruling.Adjusted ns ew)) is ruled = ap is_by_matchpoints ruled
 
 or_right : (a b : Bool) → (a || b) ≡ true → a ≡ false → b ≡ true

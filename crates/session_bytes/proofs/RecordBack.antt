@@ -1,6 +1,6 @@
 -- The record of a play is read back from its part.
-use Rattle.std.proofs.Common.{◌≡◌, ◌+◌, ◌<◌, ◌^◌, ℕ, Bool, List, [], ◌∷◌, ◌++◌, length, get_or, map, take, drop, Option, None, Some, All, refl, ap, ◌∙◌, append_assoc}
-use Rattle.std.specs.Prelude.{IfSome, unwrap_or, option_and_then}
+use Rattle.std.proofs.Common.{◌≡◌, ◌+◌, ◌<◌, ◌≤◌, ◌^◌, ℕ, Bool, List, [], ◌∷◌, ◌++◌, length, get_or, map, take, drop, Option, None, Some, All, refl, ap, ◌∙◌, append_assoc}
+use Rattle.std.specs.Prelude.{IfSome, unwrap_or, option_map, option_and_then}
 use Rattle.std.specs.Option.{option_map_or}
 use Rattle.std.proofs.lemmas.List.{length-map}
 use Rattle.std.proofs.lemmas.Nat.{from_be_bytes-to_be_bytes_2}
@@ -12,16 +12,20 @@ use Rattle.bridge_play.specs.declared.claim.Claim.{Claim}
 use Rattle.session_rules.specs.declared.average.Average.{Average}
 use Rattle.session_rules.specs.declared.ruling.Ruling.{Ruling}
 use Rattle.session_rules.specs.declared.ruling.Ruling.TheVariants as ruling
+use Rattle.bridge_auction.specs.declared.contract.Contract.{Contract}
+use Rattle.bridge_auction.specs.Bid.{bid_number, IsBid}
+use Rattle.session_bytes.specs.AssignedBytes.{assigned_byte, assigned_tricks}
 use Rattle.session_bytes.specs.ClaimRead.{claim_at}
 use Rattle.session_bytes.specs.Parts.{two_bytes, text_bytes, is_agreed_in, claim_bytes, HasRuling, HasRecord, ruling_bytes, record_part}
-use Rattle.session_bytes.specs.PartsRead.{text_in, after_text, call_or_pass, call_count, after_calls, after_cards, claim_in, after_claim, average_or_even, ruling_at_front, record_in}
+use Rattle.session_bytes.specs.PartsRead.{text_in, after_text, call_or_pass, call_count, after_calls, after_cards, claim_in, after_claim, average_or_even, assigned_at_front, ruling_at_front, record_in}
 use Rattle.session_rules.specs.Average.{percent_of}
 use Rattle.session_rules.specs.Record.{PlainRecord, contract_in}
-use Rattle.session_rules.specs.StateRange.{IsOfFourSeats}
+use Rattle.session_rules.specs.StateRange.{IsOfFourSeats, IsRulingInRange}
 use Rattle.session_store.specs.declared.disk_format.DiskFormat.{DiskFormat}
 use Rattle.session_store.specs.declared.disk_format.DiskFormat.TheVariants.{One, Two}
 use Rattle.session_bytes.proofs.Options.{not_some}
 use Rattle.session_bytes.proofs.ActionBack.{average_back}
+use Rattle.session_bytes.proofs.AssignedLaws.{assigned_back}
 use Rattle.session_bytes.proofs.ClaimLaws.{claim_again, unmarked}
 use Rattle.session_bytes.proofs.BytesBack.{take_front, drop_front, all_back, text_back, after_back}
 
@@ -37,21 +41,30 @@ kept_ruling One None = None
 kept_ruling One (Some (ruling.Tricks tricks)) = Some (ruling.Tricks tricks)
 kept_ruling One (Some ruling.Void) = Some ruling.Void
 kept_ruling One (Some (ruling.Adjusted ns ew)) = None
+kept_ruling One (Some (ruling.Assigned contract tricks)) = None
 kept_ruling Two made = made
 
 adjusted_back : (ns ew : Average)
     → Some (ruling.Adjusted (average_or_even (percent_of ns)) (average_or_even (percent_of ew))) ≡ Some (ruling.Adjusted ns ew)
 adjusted_back ns ew = rw (average_back ns, average_back ew) refl
 
-ruling_back : (format : DiskFormat) (made : Option Ruling) → ruling_at_front (ruling_bytes format made) ≡ kept_ruling format made
-ruling_back One None = refl
-ruling_back One (Some (ruling.Tricks tricks)) = refl
-ruling_back One (Some ruling.Void) = refl
-ruling_back One (Some (ruling.Adjusted ns ew)) = refl
-ruling_back Two None = refl
-ruling_back Two (Some (ruling.Tricks tricks)) = refl
-ruling_back Two (Some ruling.Void) = refl
-ruling_back Two (Some (ruling.Adjusted ns ew)) = adjusted_back ns ew
+assigned_back_front : (contract : Contract) (tricks : ℕ) → IsBid contract.bid × (tricks ≤ 13) → assigned_at_front (bid_number contract.bid) (assigned_byte contract tricks) ≡ Some (ruling.Assigned contract tricks)
+assigned_back_front contract tricks is =
+    let back = assigned_back contract tricks is.0 is.1 in
+    ap (option_map (λ c. ruling.Assigned c (assigned_tricks (assigned_byte contract tricks)))) back.0
+    ∙ ap (λ n. Some (ruling.Assigned contract n)) back.1
+
+ruling_back : (format : DiskFormat) (made : Option Ruling) → IfSome made IsRulingInRange → ruling_at_front (ruling_bytes format made) ≡ kept_ruling format made
+ruling_back One None is = refl
+ruling_back One (Some (ruling.Tricks tricks)) is = refl
+ruling_back One (Some ruling.Void) is = refl
+ruling_back One (Some (ruling.Adjusted ns ew)) is = refl
+ruling_back One (Some (ruling.Assigned contract tricks)) is = refl
+ruling_back Two None is = refl
+ruling_back Two (Some (ruling.Tricks tricks)) is = refl
+ruling_back Two (Some ruling.Void) is = refl
+ruling_back Two (Some (ruling.Adjusted ns ew)) is = adjusted_back ns ew
+ruling_back Two (Some (ruling.Assigned contract tricks)) is = assigned_back_front contract tricks is
 
 -- the record with the ruling that the format keeps
 abbrev pub kept_record : DiskFormat → PlainRecord → PlainRecord
@@ -63,6 +76,7 @@ had_ruling One None has = refl
 had_ruling One (Some (ruling.Tricks tricks)) has = refl
 had_ruling One (Some ruling.Void) has = refl
 had_ruling One (Some (ruling.Adjusted ns ew)) has = absurd has
+had_ruling One (Some (ruling.Assigned contract tricks)) has = absurd has
 had_ruling Two made has = refl
 
 has_ruling : (format : DiskFormat) (made : Option Ruling) → kept_ruling format made ≡ made → IfSome made (HasRuling format)
@@ -70,6 +84,7 @@ has_ruling One None same = tt
 has_ruling One (Some (ruling.Tricks tricks)) same = tt
 has_ruling One (Some ruling.Void) same = tt
 has_ruling One (Some (ruling.Adjusted ns ew)) same = not_some (ruling.Adjusted ns ew) same
+has_ruling One (Some (ruling.Assigned contract tricks)) same = not_some (ruling.Assigned contract tricks) same
 has_ruling Two None same = tt
 has_ruling Two (Some made) same = tt
 
@@ -83,11 +98,12 @@ has_record format plain same = has_ruling format plain.ruling (ap (λ (p : Plain
 six_joined : (a b c d e f : List ℕ) → a ++ b ++ c ++ d ++ e ++ f ≡ a ++ (b ++ (c ++ (d ++ (e ++ f))))
 six_joined a b c d e f = simp append_assoc
 
--- the calls are few and known, and a claim is of four seats
+-- the calls are few and known, a claim is of four seats, and a ruling is within its range
 pub record IsWritten (plain : PlainRecord) : Type 0 where
   pub few : length plain.calls < 2 ^ 16
   pub known : All IsCall plain.calls
   pub claim : IfSome plain.claim IsOfFourSeats
+  pub ruled : IfSome plain.ruling IsRulingInRange
 
 pub record_back : (format : DiskFormat) (plain : PlainRecord) → IsWritten plain → record_in plain.board (record_part format plain) ≡ kept_record format plain
 record_back format plain is =
@@ -114,7 +130,7 @@ record_back format plain is =
     let ruling_is : ruling_at_front (after_claim (drop 1 (after_cards part))) ≡ kept_ruling format plain.ruling
     = ap (λ bytes. ruling_at_front (after_claim (drop 1 bytes))) past_cards
     ∙ ap (λ read. ruling_at_front (option_map_or (λ (read : Option Claim × Bool × List ℕ). read.2) read [])) claim
-    ∙ ruling_back format plain.ruling in
+    ∙ ruling_back format plain.ruling is.ruled in
     ap (record_in plain.board) (six_joined (two_bytes n) calls (text_bytes plain.cards) (plain.claims ∷ []) (claim_bytes agreed plain.claim) made)
     ∙ λ i. record {
       board = plain.board;

@@ -1,5 +1,5 @@
 -- A ruling is read back from its bytes in either format, and only from these.
-use Rattle.std.proofs.Common.{◌≡◌, ◌==◌, nat_le, ℕ, List, [], ◌∷◌, Option, Some, None, IfSome, option_map, refl, sym, ap, ◌∙◌, subst, inl, inr}
+use Rattle.std.proofs.Common.{◌≡◌, ◌==◌, ◌≤◌, nat_le, ℕ, List, [], ◌∷◌, Option, Some, None, IfSome, option_map, refl, sym, ap, ◌∙◌, subst, inl, inr}
 use Rattle.std.specs.Prelude.{◌&&◌}
 use Rattle.std.proofs.lemmas.Bool.{and_parts, leb-true, le-leb, eqb-true}
 use Rattle.session_rules.specs.declared.ruling.Ruling.{Ruling}
@@ -7,10 +7,14 @@ use Rattle.session_rules.specs.declared.ruling.Ruling.TheVariants as ruling
 use Rattle.session_rules.specs.declared.average.Average.{Average}
 use Rattle.session_rules.specs.Average.{percent_of, average_of}
 use Rattle.session_rules.specs.StateRange.{IsRulingInRange}
+use Rattle.bridge_auction.specs.declared.contract.Contract.{Contract}
+use Rattle.bridge_auction.specs.Bid.{bid_number, IsBid}
+use Rattle.session_bytes.specs.AssignedBytes.{assigned_byte, assigned_contract, assigned_tricks}
+use Rattle.session_bytes.proofs.AssignedLaws.{assigned_back, assigned_is}
 use Rattle.session_store.specs.declared.disk_format.DiskFormat.{DiskFormat}
 use Rattle.session_store.specs.declared.disk_format.DiskFormat.TheVariants.{One, Two}
 use Rattle.session_bytes.specs.Parts.{HasRuling, ruling_bytes}
-use Rattle.session_bytes.specs.Reading.{tricks_ruling, adjusted_by, short_ruling_at, if_zeros, long_ruling_by, long_ruling_at, ruling_at}
+use Rattle.session_bytes.specs.Reading.{tricks_ruling, adjusted_by, assigned_by, short_ruling_at, if_zeros, long_ruling_by, long_ruling_at, ruling_at}
 use Rattle.session_bytes.proofs.ReadSteps.{map_is, then_is, if_is}
 use Rattle.session_bytes.proofs.ActionBack.{average_back}
 use Rattle.session_bytes.proofs.ActionLaws.{average_is}
@@ -79,6 +83,12 @@ adjusted_take ns ew r is =
       tt,
     )
 
+assigned_take : (first second : ℕ) (r : Option Ruling) → assigned_by first second ≡ Some r → IsOfBytes Two (4 ∷ first ∷ second ∷ []) r
+assigned_take first second r is =
+    let found = map_is (λ contract. Some (ruling.Assigned contract (assigned_tricks second))) (assigned_contract first second) r is in
+    let known = assigned_is first second found.0 found.1 in
+    subst (IsOfBytes Two (4 ∷ first ∷ second ∷ [])) found.2 (ap (λ bytes. 4 ∷ bytes) known.1, (known.0, known.2), tt)
+
 by_take : (kind first second : ℕ) (r : Option Ruling) → long_ruling_by kind first second ≡ Some r → IsOfBytes Two (kind ∷ first ∷ second ∷ []) r
 by_take kind first second r is =
     elim (if_is (kind == 0) _ _ (Some r) is) [
@@ -99,7 +109,12 @@ by_take kind first second r is =
             | inl here ↦
                 let taken = adjusted_take first second r here.1 in
                 (taken.0 ∙ ap (λ n. n ∷ first ∷ second ∷ []) (sym (eqb-true kind 3 here.0)), taken.1, taken.2)
-            | inr other ↦ absurd (not_some r other.1)
+            | inr other ↦ elim (if_is (kind == 4) _ _ (Some r) other.1) [
+              | inl here ↦
+                  let taken = assigned_take first second r here.1 in
+                  (taken.0 ∙ ap (λ n. n ∷ first ∷ second ∷ []) (sym (eqb-true kind 4 here.0)), taken.1, taken.2)
+              | inr other ↦ absurd (not_some r other.1)
+            ]
           ]
         ]
       ]
@@ -119,6 +134,12 @@ ruling_take Two bytes r is = long_take bytes r is
 adjusted_again : (ns ew : Average) → adjusted_by (percent_of ns) (percent_of ew) ≡ Some (Some (ruling.Adjusted ns ew))
 adjusted_again ns ew = rw (average_back ns, average_back ew) refl
 
+assigned_again : (contract : Contract) (tricks : ℕ) → IsBid contract.bid × (tricks ≤ 13) → assigned_by (bid_number contract.bid) (assigned_byte contract tricks) ≡ Some (Some (ruling.Assigned contract tricks))
+assigned_again contract tricks is =
+    let back = assigned_back contract tricks is.0 is.1 in
+    ap (option_map (λ c. Some (ruling.Assigned c (assigned_tricks (assigned_byte contract tricks))))) back.0
+    ∙ ap (λ n. Some (Some (ruling.Assigned contract n))) back.1
+
 pub ruling_again : (format : DiskFormat) (r : Option Ruling) → IfSome r IsRulingInRange → IfSome r (HasRuling format) → ruling_at format (ruling_bytes format r) ≡ Some r
 ruling_again One None few has = refl
 ruling_again One (Some (ruling.Tricks tricks)) few has = rw (le-leb tricks 13 few) refl
@@ -128,3 +149,5 @@ ruling_again Two None few has = refl
 ruling_again Two (Some (ruling.Tricks tricks)) few has = rw (le-leb tricks 13 few) refl
 ruling_again Two (Some ruling.Void) few has = refl
 ruling_again Two (Some (ruling.Adjusted ns ew)) few has = adjusted_again ns ew
+ruling_again One (Some (ruling.Assigned contract tricks)) few has = absurd has
+ruling_again Two (Some (ruling.Assigned contract tricks)) few has = assigned_again contract tricks few

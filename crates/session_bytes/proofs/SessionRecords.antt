@@ -40,4 +40,5 @@ written s is row_index d within index e inside =
       few = omega (arith, few);
       known = λ k call below. (valid.calls k (get_or plain.calls k call) (slice_get-get_or plain.calls k call below)).known;
       claim = range.claim;
+      ruled = range.ruling;
     }

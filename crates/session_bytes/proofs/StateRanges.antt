@@ -1,6 +1,6 @@
 -- What a session holds stays within its ranges.
-use Rattle.std.proofs.Common.{◌≡◌, ◌-◌, ◌*◌, ℕ, true, List, get_or, Option, Some, None, Result, Ok, Err, All, refl, sym, subst, ◌∙◌, length-set}
-use Rattle.std.specs.Prelude.{IfSome, slice_get, slice_set}
+use Rattle.std.proofs.Common.{◌≡◌, ◌-◌, ◌*◌, ◌||◌, ℕ, Bool, true, false, cond, List, length, get_or, Option, Some, None, Result, Ok, Err, All, refl, sym, subst, ◌∙◌, length-set}
+use Rattle.std.specs.Prelude.{IfSome, is_some, nat_lt, slice_get, slice_set}
 use Rattle.std.specs.Option.{option_map, option_map_or}
 use Rattle.std.proofs.lemmas.List.Elements.{All-set, All-map, All-replicate}
 use Rattle.std.proofs.lemmas.Option.{slice_get_within, get_or_from_slice_get}
@@ -21,6 +21,9 @@ use Rattle.session_rules.specs.declared.refused.Refused.{Refused}
 use Rattle.session_rules.specs.declared.seating.Seating.{Seating}
 use Rattle.session_bytes.specs.ActionRange.{IsActInRange, IsInRange}
 use Rattle.session_rules.specs.Act.{act_of}
+use Rattle.bridge_auction.specs.Auction.{less_last}
+use Rattle.bridge_play.specs.Play.{cards_left_by}
+use Rattle.session_rules.specs.Back.{taken_back, less_latest_in}
 use Rattle.session_rules.specs.Deed.{with_deed}
 use Rattle.session_rules.specs.Record.{PlainRecord, empty_record}
 use Rattle.bridge_movement.specs.Shape.{index_of_row}
@@ -66,6 +69,7 @@ ruling_in_range : (made : Correction) (plain : PlainRecord) → IsCorrectionInRa
 ruling_in_range (correction.Tricks tricks) plain few is = record { claim = is.claim; ruling = few }
 ruling_in_range correction.Void plain few is = record { claim = is.claim; ruling = tt }
 ruling_in_range (correction.Adjust ns ew) plain few is = record { claim = is.claim; ruling = tt }
+ruling_in_range (correction.Assign contract tricks) plain few is = record { claim = is.claim; ruling = few }
 ruling_in_range correction.Restore plain few is = record { claim = is.claim; ruling = tt }
 
 pub ruled_in_range : (s : SessionValue) (play : PlayId) (made : Correction) → IsCorrectionInRange made → IsStateInRange s → IsStateInRange (ruled s play made)
@@ -77,6 +81,23 @@ ruled_in_range s play made few is = record {
       is.records;
 }
 
+-- the latest thing that is taken back
+left_in_range : (b : Bool) (plain : PlainRecord) → IsRecordInRange plain → IsRecordInRange (cond b (record plain { cards = cards_left_by plain.claim plain.cards; claim = None }) (record plain { calls = less_last plain.calls; claims = 0 }))
+left_in_range true plain is = record { claim = tt; ruling = is.ruling }
+left_in_range false plain is = record { claim = is.claim; ruling = is.ruling }
+
+back_in_range : (plain : PlainRecord) → IsRecordInRange plain → IsRecordInRange (taken_back plain)
+back_in_range plain is = left_in_range (is_some plain.claim || nat_lt 0 (length plain.cards)) plain is
+
+pub less_latest_in_range : (s : SessionValue) (play : PlayId) → IsStateInRange s → IsStateInRange (less_latest_in s play)
+less_latest_in_range s play is = record {
+  deals = is.deals;
+  records = all_changed (All IsRecordInRange) (λ records. changed_at taken_back records (play.index - 1)) s.records
+      (index_of_row s.configuration.movement.shape play.round play.table)
+      (λ records all. all_changed IsRecordInRange taken_back records (play.index - 1) back_in_range all)
+      is.records;
+}
+
 -- each act
 act_in_range : (a : Act) (s : SessionValue) → IsActInRange a → IsStateInRange s → IsStateInRange (changed_by s a)
 act_in_range (act.Player key board at deed) s ranges is = acted_in_range s deed (seating_of s.configuration s.round key.0) is
@@ -84,6 +105,11 @@ act_in_range (act.Deal key board hands) s ranges is = record {
   deals = All-set AreHandsOrNone s.deals (board - 1) (Some hands) (ranges.2, ranges.3) is.deals;
   records = is.records;
 }
+act_in_range (act.Undeal key board) s ranges is = record {
+  deals = All-set AreHandsOrNone s.deals (board - 1) None tt is.deals;
+  records = is.records;
+}
+act_in_range (act.Back key play) s ranges is = less_latest_in_range s play is
 act_in_range (act.RoundEnd key round) s ranges is = record { deals = is.deals; records = is.records }
 act_in_range (act.Ruling key play made) s ranges is = ruled_in_range s play made ranges.2 is
 

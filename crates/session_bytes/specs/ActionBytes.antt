@@ -1,5 +1,5 @@
--- The bytes of an action, and the action of such bytes. Numbers of more than one byte are big-endian. The formats differ in the
--- averages alone: the first has none.
+-- The bytes of an action, and the action of such bytes. Numbers of more than one byte are big-endian. The first
+-- format has no averages and no assigned scores, and nothing is taken back in it but rulings.
 use Rattle.std.specs.Prelude.{◌==◌, ◌&&◌, nat_le, ℕ, List, [], ◌∷◌, ◌++◌, flat_map, length, take, drop, if◌then◌else◌, Option, Some, None, option_map, option_and_then}
 use Rattle.std.specs.Int.{w16, w32, w64, to_be_bytes, from_be_bytes}
 use Rattle.bridge_auction.specs.Call.{call_number, call_at}
@@ -7,7 +7,7 @@ use Rattle.bridge_config.specs.declared.fields.Key.{Key}
 use Rattle.session_rules.specs.declared.act.Act.{Act}
 use Rattle.session_rules.specs.declared.act.Act.TheVariants as act
 use Rattle.session_rules.specs.declared.action.Action.{Action}
-use Rattle.session_rules.specs.declared.action.Action.TheVariants.{Deal, NextRound}
+use Rattle.session_rules.specs.declared.action.Action.TheVariants.{Deal, Undeal, Back, NextRound}
 use Rattle.session_rules.specs.declared.action.PlayId.{PlayId}
 use Rattle.session_rules.specs.declared.correction.Correction.{Correction}
 use Rattle.session_rules.specs.declared.correction.Correction.TheVariants as correction
@@ -15,6 +15,7 @@ use Rattle.session_rules.specs.declared.deed.Deed.{Deed}
 use Rattle.session_rules.specs.declared.deed.Deed.TheVariants as deed
 use Rattle.session_rules.specs.Act.{act_of, of_player, of_ruling}
 use Rattle.session_rules.specs.Average.{percent_of, average_of}
+use Rattle.session_bytes.specs.AssignedBytes.{assigned_bytes, assigned_contract, assigned_tricks}
 use Rattle.session_store.specs.declared.disk_format.DiskFormat.{DiskFormat}
 use Rattle.session_store.specs.declared.disk_format.DiskFormat.TheVariants.{One, Two}
 
@@ -50,24 +51,28 @@ deed_bytes (deed.Claim tricks) = tricks ∷ []
 deed_bytes deed.Agree = []
 deed_bytes deed.Refuse = []
 
--- rulings are of the kinds 8 to 11
+-- rulings are of the kinds 8 to 11 and 14
 abbrev pub correction_kind : Correction → ℕ
 correction_kind (correction.Tricks tricks) = 8
 correction_kind correction.Void = 9
 correction_kind correction.Restore = 10
 correction_kind (correction.Adjust ns ew) = 11
+correction_kind (correction.Assign contract tricks) = 14
 
--- and end with the tricks, or with the averages of both sides in per cent
+-- and end with the tricks, with the averages of both sides in per cent, or with the two bytes of an assigned score
 abbrev pub correction_bytes : Correction → List ℕ
 correction_bytes (correction.Tricks tricks) = tricks ∷ []
 correction_bytes correction.Void = []
 correction_bytes correction.Restore = []
 correction_bytes (correction.Adjust ns ew) = percent_of ns ∷ percent_of ew ∷ []
+correction_bytes (correction.Assign contract tricks) = assigned_bytes contract tricks
 
 -- the bytes of an act
 abbrev pub act_bytes : Act → List ℕ
 act_bytes (act.Player key board at deed) = headed (deed_kind deed) key.0 (turn_bytes board at (deed_bytes deed))
 act_bytes (act.Deal key board hands) = headed 1 key.0 (board ∷ flat_map hand_bytes hands)
+act_bytes (act.Undeal key board) = headed 13 key.0 (board ∷ [])
+act_bytes (act.Back key play) = headed 12 key.0 (play_bytes play [])
 act_bytes (act.RoundEnd key round) = headed 7 key.0 (round ∷ [])
 act_bytes (act.Ruling key play made) = headed (correction_kind made) key.0 (play_bytes play (correction_bytes made))
 
@@ -78,10 +83,13 @@ action_bytes action = act_bytes (act_of action)
 -- the format has what is ruled
 abbrev pub HasCorrection : DiskFormat → Correction → Type 0
 HasCorrection One (correction.Adjust ns ew) = ⊥
+HasCorrection One (correction.Assign contract tricks) = ⊥
 HasCorrection _ _ = Unit {0}
 
 -- the format has the act
 abbrev pub HasAct : DiskFormat → Act → Type 0
+HasAct One (act.Undeal key board) = ⊥
+HasAct One (act.Back key play) = ⊥
 HasAct One (act.Ruling key play made) = HasCorrection One made
 HasAct _ _ = Unit {0}
 
@@ -144,6 +152,12 @@ abbrev pub averages_in : DiskFormat → List ℕ → Option Correction
 averages_in Two (ns ∷ ew ∷ []) = averages_of ns ew
 averages_in _ _ = None
 
+-- the score that is assigned by the bytes behind the play
+abbrev pub assigned_in : DiskFormat → List ℕ → Option Correction
+assigned_in Two (first ∷ second ∷ []) =
+    option_map (λ contract. correction.Assign contract (assigned_tricks second)) (assigned_contract first second)
+assigned_in _ _ = None
+
 -- what is ruled by the kind of the action, and by the bytes behind the play
 abbrev pub correction_in : DiskFormat → ℕ → List ℕ → Option Correction
 correction_in format kind rest =
@@ -151,6 +165,7 @@ correction_in format kind rest =
     else if kind == 9 then at_end rest correction.Void
     else if kind == 10 then at_end rest correction.Restore
     else if kind == 11 then averages_in format rest
+    else if kind == 14 then assigned_in format rest
     else None
 
 -- the ruling of a play
@@ -179,12 +194,24 @@ abbrev pub deal_in : Key → List ℕ → Option Action
 deal_in key [] = None
 deal_in key (board ∷ rest) = option_and_then (λ b. option_map (Deal key b) (hands_in rest)) (in_range 1 36 board)
 
+-- the deal that is taken back, which the first format does not have
+abbrev pub undeal_in : DiskFormat → Key → List ℕ → Option Action
+undeal_in One key rest = None
+undeal_in Two key rest = option_map (Undeal key) (option_and_then (in_range 1 36) (only_byte rest))
+
+-- the play in which the latest thing is taken back, which the first format does not have
+abbrev pub back_in : DiskFormat → Key → List ℕ → Option Action
+back_in Two key (round ∷ table ∷ index ∷ []) = option_map (Back key) (play_in round table index)
+back_in _ key _ = None
+
 -- the action of that kind, by the bytes behind the key
 abbrev pub action_in : DiskFormat → ℕ → Key → List ℕ → Option Action
 action_in format kind key rest =
     if kind == 1 then deal_in key rest
     else if kind == 7 then option_map (NextRound key) (option_and_then (in_range 1 12) (only_byte rest))
     else if nat_le kind 6 then turn_in kind key rest
+    else if kind == 12 then back_in format key rest
+    else if kind == 13 then undeal_in format key rest
     else ruling_in format kind key rest
 
 -- The action that these bytes are those of on a disk of that format, if they are those of one.

@@ -38,6 +38,8 @@ IsDeedInRange _ = Unit {0}
 abbrev pub IsActInRange : Act → Type 0
 IsActInRange (act.Player key board at deed) = IsKey key × IsTurn board at × IsDeedInRange deed
 IsActInRange (act.Deal key board hands) = IsKey key × IsBoard board × (length hands ≡ 4) × All IsCardSet hands
+IsActInRange (act.Undeal key board) = IsKey key × IsBoard board
+IsActInRange (act.Back key play) = IsKey key × IsPlayIdInRange play
 IsActInRange (act.RoundEnd key round) = IsKey key × IsRoundNumber round
 IsActInRange (act.Ruling key play made) = IsKey key × IsPlayIdInRange play × IsCorrectionInRange made
 

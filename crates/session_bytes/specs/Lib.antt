@@ -1,4 +1,5 @@
 -- The definitions of the bytes.
+pub mod AssignedBytes
 pub mod Parts
 pub mod ClaimRead
 pub mod Reading

@@ -20,6 +20,7 @@ use Rattle.session_rules.specs.Average.{percent_of}
 use Rattle.session_rules.specs.Record.{PlainRecord, empty_record, contract_in}
 use Rattle.session_rules.specs.State.{SessionValue}
 use Rattle.session_rules.specs.StateRange.{IsSession}
+use Rattle.session_bytes.specs.AssignedBytes.{assigned_bytes}
 use Rattle.session_store.specs.declared.disk_format.DiskFormat.{DiskFormat}
 use Rattle.session_store.specs.declared.disk_format.DiskFormat.TheVariants.{One, Two}
 
@@ -98,22 +99,25 @@ abbrev pub claim_bytes : Bool → Option Claim → List ℕ
 claim_bytes agreed None = 0 ∷ []
 claim_bytes agreed (Some claim) = (if agreed then 2 else 1) ∷ seat_number claim.claimer ∷ claim.tricks ∷ agreed_byte claim ∷ []
 
--- the format has the ruling: the first has no averages
+-- the format has the ruling: the first has no averages and no assigned scores
 abbrev pub HasRuling : DiskFormat → Ruling → Type 0
 HasRuling One (ruling.Adjusted ns ew) = ⊥
+HasRuling One (ruling.Assigned contract tricks) = ⊥
 HasRuling _ _ = Unit {0}
 
--- a ruling: 0 where there is none, 1 and the tricks, 2 where the play is void, or 3 and the averages of both sides in per cent; in
--- the second format zeros fill it up to three bytes
+-- a ruling: 0 where there is none, 1 and the tricks, 2 where the play is void, 3 and the averages of both sides in per cent, or 4
+-- and the two bytes of an assigned score; in the second format zeros fill it up to three bytes
 abbrev pub ruling_bytes : DiskFormat → Option Ruling → List ℕ
 ruling_bytes One None = 0 ∷ []
 ruling_bytes One (Some (ruling.Tricks tricks)) = 1 ∷ tricks ∷ []
 ruling_bytes One (Some ruling.Void) = 2 ∷ []
 ruling_bytes One (Some (ruling.Adjusted ns ew)) = []
+ruling_bytes One (Some (ruling.Assigned contract tricks)) = []
 ruling_bytes Two None = 0 ∷ 0 ∷ 0 ∷ []
 ruling_bytes Two (Some (ruling.Tricks tricks)) = 1 ∷ tricks ∷ 0 ∷ []
 ruling_bytes Two (Some ruling.Void) = 2 ∷ 0 ∷ 0 ∷ []
 ruling_bytes Two (Some (ruling.Adjusted ns ew)) = 3 ∷ percent_of ns ∷ percent_of ew ∷ []
+ruling_bytes Two (Some (ruling.Assigned contract tricks)) = 4 ∷ assigned_bytes contract tricks
 
 -- the calls, the cards, how many claims were made, the claim and the ruling
 abbrev pub record_part : DiskFormat → PlainRecord → List ℕ

@@ -1,6 +1,6 @@
 -- The session that parts name. But for a claim it is read without any test: what the parts lack is read as 0, and what is too
 -- much is passed over.
-use Rattle.std.specs.Prelude.{ℕ, ◌+◌, ◌*◌, ◌/◌, ◌%◌, ◌==◌, Bool, if◌then◌else◌, List, [], ◌∷◌, map, take, drop, slice_index, slice_index_or, Option, Some, None, unwrap_or, option_and_then}
+use Rattle.std.specs.Prelude.{ℕ, ◌+◌, ◌*◌, ◌/◌, ◌%◌, ◌==◌, Bool, if◌then◌else◌, List, [], ◌∷◌, map, take, drop, slice_index, slice_index_or, Option, Some, None, unwrap_or, option_map, option_and_then}
 use Rattle.std.specs.Int.{w16, w32, w64, from_be_bytes}
 use Rattle.std.specs.List.{range_with_len}
 use Rattle.std.specs.Option.{option_map_or}
@@ -21,6 +21,7 @@ use Rattle.session_rules.specs.declared.ruling.Ruling.TheVariants as ruling
 use Rattle.session_rules.specs.Average.{average_of}
 use Rattle.session_rules.specs.Record.{PlainRecord}
 use Rattle.session_rules.specs.State.{SessionValue, row_boards}
+use Rattle.session_bytes.specs.AssignedBytes.{assigned_contract, assigned_tricks}
 use Rattle.session_bytes.specs.ClaimRead.{claim_at}
 
 -- the text that bytes begin with, after its length
@@ -140,12 +141,18 @@ after_claim bytes = option_map_or (λ (read : Option Claim × Bool × List ℕ).
 abbrev pub average_or_even : ℕ → Average
 average_or_even percent = unwrap_or (average_of percent) Even
 
--- a ruling: none at 0, the tricks at 1, the averages of both sides at 3, and otherwise a void play
+-- the assigned score of these bytes
+abbrev pub assigned_at_front : ℕ → ℕ → Option Ruling
+assigned_at_front first second =
+    option_map (λ contract. ruling.Assigned contract (assigned_tricks second)) (assigned_contract first second)
+
+-- a ruling: none at 0, the tricks at 1, the averages of both sides at 3, an assigned score at 4, and otherwise a void play
 abbrev pub ruling_at_front : List ℕ → Option Ruling
 ruling_at_front bytes =
     if slice_index bytes 0 == 0 then None
     else if slice_index bytes 0 == 1 then Some (ruling.Tricks (slice_index bytes 1))
     else if slice_index bytes 0 == 3 then Some (ruling.Adjusted (average_or_even (slice_index bytes 1)) (average_or_even (slice_index bytes 2)))
+    else if slice_index bytes 0 == 4 then assigned_at_front (slice_index bytes 1) (slice_index bytes 2)
     else Some ruling.Void
 
 -- the record of the play of a board

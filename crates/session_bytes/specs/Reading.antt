@@ -18,6 +18,7 @@ use Rattle.session_bytes.specs.declared.record_fields.RecordFields.{RecordFields
 use Rattle.session_rules.specs.declared.ruling.Ruling.{Ruling}
 use Rattle.session_rules.specs.declared.ruling.Ruling.TheVariants as ruling
 use Rattle.session_bytes.specs.ActionBytes.{hands_in}
+use Rattle.session_bytes.specs.AssignedBytes.{assigned_contract, assigned_tricks}
 use Rattle.session_bytes.specs.ClaimRead.{claim_at}
 use Rattle.session_rules.specs.Average.{average_of}
 use Rattle.session_rules.specs.Record.{PlainRecord, contract_in, play_of}
@@ -93,13 +94,19 @@ if_zeros first second made = if first == 0 && second == 0 then Some made else No
 abbrev pub adjusted_by : ℕ → ℕ → Option (Option Ruling)
 adjusted_by ns ew = option_and_then (λ n. option_map (λ e. Some (ruling.Adjusted n e)) (average_of ew)) (average_of ns)
 
+-- the assigned score of these numbers
+abbrev pub assigned_by : ℕ → ℕ → Option (Option Ruling)
+assigned_by first second =
+    option_map (λ contract. Some (ruling.Assigned contract (assigned_tricks second))) (assigned_contract first second)
+
 -- the ruling of a kind and two numbers
 abbrev pub long_ruling_by : ℕ → ℕ → ℕ → Option (Option Ruling)
 long_ruling_by kind first second =
     if kind == 0 then if_zeros first second None
     else if kind == 1 then (if second == 0 then tricks_ruling first else None)
     else if kind == 2 then if_zeros first second (Some ruling.Void)
-    else if kind == 3 then adjusted_by first second else None
+    else if kind == 3 then adjusted_by first second
+    else if kind == 4 then assigned_by first second else None
 
 -- the ruling that the second format has: a kind and two numbers always
 abbrev pub long_ruling_at : List ℕ → Option (Option Ruling)
@@ -188,6 +195,7 @@ abbrev pub may_stand : Scoring → Option PlayValue → Option Ruling → Bool
 may_stand scoring play None = true
 may_stand scoring play (Some (ruling.Tricks tricks)) = option_map_or is_over play false
 may_stand scoring play (Some ruling.Void) = true
+may_stand scoring play (Some (ruling.Assigned contract tricks)) = true
 may_stand scoring play (Some (ruling.Adjusted ns ew)) = is_by_matchpoints scoring
 
 -- the ruling may stand, in a later round than the current one nothing has happened, and in an earlier one the play is not open

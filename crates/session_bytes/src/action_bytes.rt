@@ -6,6 +6,7 @@ ghost use Rattle.session_rules.specs.StateRange.{IsCorrectionInRange};
 ghost use Rattle.session_bytes.specs.ActionRange.{IsDeedInRange, IsActInRange, IsInRange, IsKey, IsTurn, IsPlayIdInRange};
 ghost use Rattle.session_bytes.specs.ActionBytes.{headed, turn_bytes, play_bytes, hand_bytes, deed_kind, deed_bytes, correction_kind, correction_bytes, act_bytes, action_bytes};
 
+use crate::assigned_bytes::assigned_byte;
 use arrayvec::ArrayVec;
 use bridge_cards::{BoardNumber, CardSet};
 use bridge_config::Key;
@@ -42,10 +43,15 @@ fn push_act(act: &Act, bytes: &mut ArrayVec<u8, PAYLOAD_BYTES>)
             bytes.push(board.number());
             push_hands(&hands, bytes);
         }
+        Act::Undeal { key, board } => {
+            push_head(13, key, bytes);
+            bytes.push(board.number());
+        }
         Act::RoundEnd { key, round } => {
             push_head(7, key, bytes);
             bytes.push(round.number());
         }
+        Act::Back { key, play } => push_play(12, key, play, bytes),
         Act::Ruling {
             key,
             play,
@@ -93,10 +99,11 @@ fn correction_kind(correction: &Correction) -> u8
         Correction::Void => 9,
         Correction::Restore => 10,
         Correction::Adjust { .. } => 11,
+        Correction::Assign { .. } => 14,
     }
 }
 
-/// Adds the tricks of a ruling, or the averages of both sides in per cent.
+/// Adds the tricks of a ruling, the averages of both sides in per cent, or the two bytes of an assigned score.
 fn push_correction(correction: &Correction, bytes: &mut ArrayVec<u8, PAYLOAD_BYTES>)
     requires { length bytes.old.items + 2 ≤ 480 }
     ensures bytes { bytes.new.items ≡ bytes.old.items ++ correction_bytes correction.now }
@@ -107,6 +114,10 @@ fn push_correction(correction: &Correction, bytes: &mut ArrayVec<u8, PAYLOAD_BYT
         Correction::Adjust { ns, ew } => {
             bytes.push(ns.percent());
             bytes.push(ew.percent());
+        }
+        Correction::Assign { contract, tricks } => {
+            bytes.push(contract.bid.number());
+            bytes.push(assigned_byte(&contract, tricks));
         }
         Correction::Void | Correction::Restore => {}
     }

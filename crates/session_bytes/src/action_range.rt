@@ -35,7 +35,9 @@ fn ranges_of_act(act: Act)
             range_of_deed(deed);
         }
         Act::Deal { key, board, hands } => ranges_of_deal(key, board, &hands),
+        Act::Undeal { key, board } => ranges_of_board(key, board),
         Act::RoundEnd { key, round } => ranges_of_round(key, round),
+        Act::Back { key, play } => ranges_of_play(key, play),
         Act::Ruling {
             key,
             play,
@@ -90,6 +92,11 @@ fn ranges_of_deal(key: Key, board: BoardNumber, hands: &[CardSet; 4])
     range_of_hand(south);
     range_of_hand(west);
 }
+
+/// The board whose deal is taken back.
+fn ranges_of_board(key: Key, board: BoardNumber)
+    ensures { IsKey key × IsBoard board }
+{}
 
 /// A hand is a set of cards.
 fn range_of_hand(hand: CardSet)

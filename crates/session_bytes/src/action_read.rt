@@ -2,8 +2,9 @@
 ghost use Rattle.std.specs.Prelude.{◌≡◌, ◌≢◌, ◌<◌, IfSome, IfNone, List, ℕ, length};
 ghost use Rattle.session_rules.specs.declared.action.Action.{Action as ActionType};
 ghost use Rattle.session_bytes.specs.ActionRange.{IsInRange};
-ghost use Rattle.session_bytes.specs.ActionBytes.{HasAction, action_bytes, action_of, action_in, turn_in, deed_in, ruling_in, correction_in, averages_in, play_in, deal_in, hands_in, hand_in, only_byte, at_end};
+ghost use Rattle.session_bytes.specs.ActionBytes.{HasAction, action_bytes, action_of, action_in, turn_in, deed_in, ruling_in, correction_in, averages_in, assigned_in, play_in, deal_in, undeal_in, back_in, hands_in, hand_in, only_byte, at_end};
 
+use crate::assigned_bytes::{assigned_contract, assigned_tricks};
 use bridge_auction::Call;
 use bridge_cards::{BoardNumber, Card, CardSet};
 use bridge_config::Key;
@@ -37,6 +38,8 @@ fn read_behind_key(format: DiskFormat, kind: u8, key: Key, bytes: &[u8]) -> Opti
             Some(Action::NextRound { key, round })
         }
         0..=6 => read_turn(kind, key, bytes),
+        12 => read_back(format, key, bytes),
+        13 => read_undeal(format, key, bytes),
         _ => read_ruling(format, kind, key, bytes),
     }
 }
@@ -49,6 +52,35 @@ fn read_deal_action(key: Key, bytes: &[u8]) -> Option<Action>
     let board = BoardNumber::new(*board)?;
     let hands = read_hands(rest)?;
     Some(Action::Deal { key, board, hands })
+}
+
+/// The board whose deal is taken back, by the bytes behind the key. The first format has no such action.
+fn read_undeal(format: DiskFormat, key: Key, bytes: &[u8]) -> Option<Action>
+    ensures { result ≡ undeal_in format key bytes.now }
+{
+    match format {
+        DiskFormat::One => None,
+        DiskFormat::Two => {
+            let board = BoardNumber::new(only_byte(bytes)?)?;
+            Some(Action::Undeal { key, board })
+        }
+    }
+}
+
+/// The play in which the latest thing is taken back, by the bytes behind the key. The first format has no such action.
+fn read_back(format: DiskFormat, key: Key, bytes: &[u8]) -> Option<Action>
+    ensures { result ≡ back_in format key bytes.now }
+{
+    match format {
+        DiskFormat::One => None,
+        DiskFormat::Two => match bytes {
+            [round, table, index] => {
+                let play = play_of(*round, *table, *index)?;
+                Some(Action::Back { key, play })
+            }
+            _ => None,
+        },
+    }
 }
 
 /// Four hands.
@@ -124,6 +156,7 @@ fn read_correction(format: DiskFormat, kind: u8, bytes: &[u8]) -> Option<Correct
         9 => at_end(bytes, Correction::Void),
         10 => at_end(bytes, Correction::Restore),
         11 => read_averages(format, bytes),
+        14 => read_assigned(format, bytes),
         _ => None,
     }
 }
@@ -139,6 +172,23 @@ fn read_averages(format: DiskFormat, bytes: &[u8]) -> Option<Correction>
                 let ns = Average::of_percent(*ns)?;
                 let ew = Average::of_percent(*ew)?;
                 Some(Correction::Adjust { ns, ew })
+            }
+            _ => None,
+        },
+    }
+}
+
+/// The contract and the tricks of an assigned score, which the first format does not have.
+fn read_assigned(format: DiskFormat, bytes: &[u8]) -> Option<Correction>
+    ensures { result ≡ assigned_in format bytes.now }
+{
+    match format {
+        DiskFormat::One => None,
+        DiskFormat::Two => match bytes {
+            [first, second] => {
+                let contract = assigned_contract(*first, *second)?;
+                let tricks = assigned_tricks(*second);
+                Some(Correction::Assign { contract, tricks })
             }
             _ => None,
         },

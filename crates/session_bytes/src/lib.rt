@@ -5,6 +5,7 @@
 mod action_bytes;
 mod action_range;
 mod action_read;
+mod assigned_bytes;
 mod config_bytes;
 mod deal_read;
 pub mod head;

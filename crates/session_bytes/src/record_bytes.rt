@@ -7,6 +7,7 @@ ghost use Rattle.bridge_table.specs.Kept.{plain_of};
 ghost use Rattle.session_bytes.specs.Parts.{two_bytes, text_bytes, agreed_byte, is_agreed_in, claim_bytes, ruling_bytes, record_part};
 ghost use Rattle.session_store.specs.declared.disk_format.DiskFormat.TheVariants.{Two};
 
+use crate::assigned_bytes::assigned_byte;
 use crate::part_bytes::{put, value_if};
 use arrayvec::ArrayVec;
 use bridge_auction::Call;
@@ -74,6 +75,12 @@ fn put_ruling(part: &mut ArrayVec<u8, PAYLOAD_BYTES>, ruling: &Option<Ruling>)
         Some(Ruling::Tricks(tricks)) => put(part, &[1, tricks.number(), 0]),
         Some(Ruling::Void) => put(part, &[2, 0, 0]),
         Some(Ruling::Adjusted { ns, ew }) => put(part, &[3, ns.percent(), ew.percent()]),
+        Some(Ruling::Assigned { contract, tricks }) => {
+            put(
+                part,
+                &[4, contract.bid.number(), assigned_byte(contract, *tricks)],
+            )
+        }
     }
 }
 

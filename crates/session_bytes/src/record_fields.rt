@@ -5,8 +5,9 @@ ghost use Rattle.session_rules.specs.Record.{PlainRecord};
 ghost use Rattle.session_bytes.specs.Parts.{HasRecord, record_part};
 ghost use Rattle.session_rules.specs.StateRange.{IsRecordInRange};
 ghost use Rattle.session_bytes.specs.ClaimRead.{seat_numbered, claimed_by, marked_at, claim_at};
-ghost use Rattle.session_bytes.specs.Reading.{AreFieldsOf, fields_in, bytes_at, calls_at, cards_at, tricks_ruling, adjusted_by, short_ruling_at, long_ruling_at, ruling_at, claims_at, fields_at};
+ghost use Rattle.session_bytes.specs.Reading.{AreFieldsOf, fields_in, bytes_at, calls_at, cards_at, tricks_ruling, adjusted_by, assigned_by, short_ruling_at, long_ruling_at, ruling_at, claims_at, fields_at};
 
+use crate::assigned_bytes::{assigned_contract, assigned_tricks};
 use bridge_cards::Seat;
 use bridge_play::Claim;
 use session_rules::{Average, Ruling, TrickCount};
@@ -191,6 +192,7 @@ fn read_long_ruling(bytes: &[u8]) -> Option<Option<Ruling>>
         [1, tricks, 0] => tricks_ruling(*tricks),
         [2, 0, 0] => Some(Some(Ruling::Void)),
         [3, ns, ew] => adjusted_by(*ns, *ew),
+        [4, first, second] => assigned_by(*first, *second),
         _ => None,
     }
 }
@@ -210,4 +212,13 @@ fn adjusted_by(ns: u8, ew: u8) -> Option<Option<Ruling>>
     let ns = Average::of_percent(ns)?;
     let ew = Average::of_percent(ew)?;
     Some(Some(Ruling::Adjusted { ns, ew }))
+}
+
+/// The assigned score of these two bytes, or none where they are of no contract.
+fn assigned_by(first: u8, second: u8) -> Option<Option<Ruling>>
+    ensures { result ≡ assigned_by first second }
+{
+    let contract = assigned_contract(first, second)?;
+    let tricks = assigned_tricks(second);
+    Some(Some(Ruling::Assigned { contract, tricks }))
 }

@@ -131,7 +131,7 @@ fn may_stand(scoring: Scoring, kept: &Record) -> bool
             Scoring::MatchPoints => true,
             Scoring::Imps => false,
         },
-        Some(Ruling::Void) | None => true,
+        Some(Ruling::Void | Ruling::Assigned { .. }) | None => true,
     }
 }
 

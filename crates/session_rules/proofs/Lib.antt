@@ -10,9 +10,13 @@ pub mod ValidRuling
 pub mod ValidRound
 pub mod ValidDeed
 pub mod ValidPlayer
-pub mod ValidStep
+pub mod ValidBack
 pub mod PlainParts
+pub mod LastGone
+pub mod PlainBack
 pub mod PlainStep
+pub mod ValidUndeal
+pub mod ValidStep
 pub mod PlainLaw
 pub mod PlainRecords
 pub mod Decided

@@ -20,7 +20,7 @@ use Rattle.session_rules.specs.Valid.{IsPlayId, IsValid}
 use Rattle.session_rules.specs.Own.{OwnDeed, after_actions, AreAccepted, own_deed_in, round_after, own, plain_record}
 use Rattle.session_rules.proofs.StaysValid.{opening_valid}
 use Rattle.session_rules.proofs.ValidStep.{step_valid}
-use Rattle.session_rules.proofs.PlainParts.{all_done, all_is, board_step}
+use Rattle.session_rules.proofs.PlainBack.{all_happened, happened_board, all_left}
 use Rattle.session_rules.proofs.PlainStep.{perhaps_done, record_step}
 
 -- the configuration stays, and the round is that after the action
@@ -35,24 +35,28 @@ acted_round s deed (Ok seating) = refl
 pub configuration_stays : (a : Act) (s : SessionValue) → (changed_by s a).configuration ≡ s.configuration
 configuration_stays (act.Player key board at deed) s = acted_configuration s deed (seating_of s.configuration s.round key.0)
 configuration_stays (act.Deal key board hands) s = refl
+configuration_stays (act.Undeal key board) s = refl
 configuration_stays (act.RoundEnd key round) s = refl
+configuration_stays (act.Back key play) s = refl
 configuration_stays (act.Ruling key play made) s = refl
 
 round_is : (a : Act) (s : SessionValue) → (changed_by s a).round ≡ round_after s.round a
 round_is (act.Player key board at deed) s = acted_round s deed (seating_of s.configuration s.round key.0)
 round_is (act.Deal key board hands) s = refl
+round_is (act.Undeal key board) s = refl
 round_is (act.RoundEnd key round) s = refl
+round_is (act.Back key play) s = refl
 round_is (act.Ruling key play made) s = refl
 
 same_board : (deed : Option OwnDeed) (x : PlainRecord) → (perhaps_done deed x).board ≡ x.board
 same_board None x = refl
-same_board (Some deed) x = board_step deed x
+same_board (Some deed) x = happened_board deed x
 
-one_more : (deed : Option OwnDeed) (later : List OwnDeed) (x : PlainRecord) → all_done later (perhaps_done deed x) ≡ all_done (cons_option deed later) x
+one_more : (deed : Option OwnDeed) (later : List OwnDeed) (x : PlainRecord) → all_happened later (perhaps_done deed x) ≡ all_happened (cons_option deed later) x
 one_more None later x = refl
 one_more (Some deed) later x = refl
 
-forward : (actions : List Action) (s : SessionValue) (play : PlayId) (board : ℕ) (x : PlainRecord) → IsValid s → IsPlayId play → AreAccepted s actions → record_of s play ≡ Some x → x.board ≡ board → record_of (after_actions s actions) play ≡ Some (all_done (own s.configuration play board s.round actions) x)
+forward : (actions : List Action) (s : SessionValue) (play : PlayId) (board : ℕ) (x : PlainRecord) → IsValid s → IsPlayId play → AreAccepted s actions → record_of s play ≡ Some x → x.board ≡ board → record_of (after_actions s actions) play ≡ Some (all_happened (own s.configuration play board s.round actions) x)
 forward [] s play board x valid id accepted is same = is
 forward (action ∷ actions) s play board x valid id accepted is same =
     let by = act_of action in
@@ -61,11 +65,11 @@ forward (action ∷ actions) s play board x valid id accepted is same =
     let rest = forward actions (changed s action) play board (perhaps_done deed x) (step_valid action s accepted.0 valid accepted.1) id accepted.2 next (same_board deed x ∙ same) in
     let y = perhaps_done deed x in
     rest
-    ∙ ap (λ (k : ConfigValue). Some (all_done (own k play board (changed s action).round actions) y)) (configuration_stays by s)
-    ∙ ap (λ r. Some (all_done (own s.configuration play board r actions) y)) (round_is by s)
+    ∙ ap (λ (k : ConfigValue). Some (all_happened (own k play board (changed s action).round actions) y)) (configuration_stays by s)
+    ∙ ap (λ r. Some (all_happened (own s.configuration play board r actions) y)) (round_is by s)
     ∙ ap Some (one_more deed (own s.configuration play board (round_after s.round by) actions) x)
 
 pub records_plain : (configuration : ConfigValue) (actions : List Action) (play : PlayId) (board : ℕ) → IsConfiguration configuration → IsPlayId play → AreAccepted (opening configuration) actions → record_of (opening configuration) play ≡ Some (empty_record board) → record_of (after_actions (opening configuration) actions) play ≡ Some (plain_record board (own configuration play board 1 actions))
 records_plain configuration actions play board limits id accepted is =
     forward actions (opening configuration) play board (empty_record board) (opening_valid configuration limits) id accepted is refl
-    ∙ ap Some (all_is board (own configuration play board 1 actions))
+    ∙ ap Some (all_left board (own configuration play board 1 actions) [])

@@ -1,4 +1,4 @@
--- What is done in a play, one thing after the other, makes the plain record.
+-- What is done in a play, one thing after the other, makes the record, where nothing but claims is taken back.
 use Rattle.std.proofs.Common.{◌≡◌, ◌+◌, ℕ, Bool, true, false, ◌||◌, cond, List, [], ◌∷◌, ◌++◌, length, map, Option, Some, None, refl, sym, ap, ◌∙◌, subst, arith, append_assoc}
 use Rattle.std.specs.Prelude.{option_and_then, IfSome}
 use Rattle.std.specs.List.{cons_option, filter_map, list_any}
@@ -16,11 +16,12 @@ use Rattle.session_rules.specs.Correction.{ruling_by}
 use Rattle.session_rules.specs.Deed.{with_deed}
 use Rattle.session_rules.specs.Record.{PlainRecord, empty_record}
 use Rattle.session_rules.specs.DirectorStep.{with_ruling}
-use Rattle.session_rules.specs.Own.{OwnDeed, ByPlayer, ByDirector, call_made, card_played, claim_made, is_refusal, agrees, correction_made, last_claim, claim_after, last_correction, plain_record}
+use Rattle.session_rules.specs.Own.{OwnDeed, ByPlayer, ByDirector, TakenBack, call_made, card_played, claim_made, is_refusal, agrees, correction_made, last_claim, claim_after, last_correction, record_made}
 
 abbrev pub done_to : OwnDeed → PlainRecord → PlainRecord
 done_to (ByPlayer seat deed) x = with_deed seat deed x
 done_to (ByDirector made) x = with_ruling made x
+done_to TakenBack x = record x { claim = None }
 
 abbrev pub all_done : List OwnDeed → PlainRecord → PlainRecord
 all_done [] x = x
@@ -35,6 +36,7 @@ board_step (ByPlayer seat (deed.Claim tricks)) x = refl
 board_step (ByPlayer seat deed.Agree) x = refl
 board_step (ByPlayer seat deed.Refuse) x = refl
 board_step (ByDirector made) x = refl
+board_step TakenBack x = refl
 
 board_is : (deeds : List OwnDeed) (x : PlainRecord) → (all_done deeds x).board ≡ x.board
 board_is [] x = refl
@@ -47,8 +49,9 @@ calls_step (ByPlayer seat (deed.Claim tricks)) x rest = refl
 calls_step (ByPlayer seat deed.Agree) x rest = refl
 calls_step (ByPlayer seat deed.Refuse) x rest = refl
 calls_step (ByDirector made) x rest = refl
+calls_step TakenBack x rest = refl
 
-calls_are : (deeds : List OwnDeed) (x : PlainRecord) → (all_done deeds x).calls ≡ x.calls ++ filter_map call_made deeds
+pub calls_are : (deeds : List OwnDeed) (x : PlainRecord) → (all_done deeds x).calls ≡ x.calls ++ filter_map call_made deeds
 calls_are [] x = sym (append-nil x.calls)
 calls_are (deed ∷ later) x = calls_are later (done_to deed x) ∙ calls_step deed x (filter_map call_made later)
 
@@ -59,8 +62,9 @@ cards_step (ByPlayer seat (deed.Claim tricks)) x rest = refl
 cards_step (ByPlayer seat deed.Agree) x rest = refl
 cards_step (ByPlayer seat deed.Refuse) x rest = refl
 cards_step (ByDirector made) x rest = refl
+cards_step TakenBack x rest = refl
 
-cards_are : (deeds : List OwnDeed) (x : PlainRecord) → (all_done deeds x).cards ≡ x.cards ++ filter_map card_played deeds
+pub cards_are : (deeds : List OwnDeed) (x : PlainRecord) → (all_done deeds x).cards ≡ x.cards ++ filter_map card_played deeds
 cards_are [] x = sym (append-nil x.cards)
 cards_are (deed ∷ later) x = cards_are later (done_to deed x) ∙ cards_step deed x (filter_map card_played later)
 
@@ -71,6 +75,7 @@ claims_step (ByPlayer seat (deed.Claim tricks)) x rest = omega arith
 claims_step (ByPlayer seat deed.Agree) x rest = refl
 claims_step (ByPlayer seat deed.Refuse) x rest = refl
 claims_step (ByDirector made) x rest = refl
+claims_step TakenBack x rest = refl
 
 claims_are : (deeds : List OwnDeed) (x : PlainRecord) → (all_done deeds x).claims ≡ x.claims + length (filter_map claim_made deeds)
 claims_are [] x = omega arith
@@ -90,6 +95,7 @@ ruling_step (ByPlayer seat (deed.Claim tricks)) x None = refl
 ruling_step (ByPlayer seat deed.Agree) x None = refl
 ruling_step (ByPlayer seat deed.Refuse) x None = refl
 ruling_step (ByDirector made) x None = refl
+ruling_step TakenBack x None = refl
 
 ruling_is : (deeds : List OwnDeed) (x : PlainRecord) → (all_done deeds x).ruling ≡ ruling_with x.ruling (last_correction deeds)
 ruling_is [] x = refl
@@ -172,6 +178,7 @@ claim_step (ByPlayer seat (deed.Claim tricks)) x later None four = refl
 claim_step (ByPlayer seat deed.Agree) x later None four = ap (λ o. cond (list_any is_refusal later) None o) (agree_step seat x.claim later four)
 claim_step (ByPlayer seat deed.Refuse) x later None four = none_either (list_any is_refusal later)
 claim_step (ByDirector made) x later None four = refl
+claim_step TakenBack x later None four = none_either (list_any is_refusal later)
 
 -- four answers stay
 four_agreed : (seat claimer : Seat) (tricks : ℕ) (a b c e : Bool) → HasFour (with_agreed seat (claim_of claimer tricks a b c e))
@@ -192,6 +199,7 @@ four_step (ByPlayer seat (deed.Claim tricks)) x four = record { a = false; b = f
 four_step (ByPlayer seat deed.Agree) x four = four_by seat x.claim four
 four_step (ByPlayer seat deed.Refuse) x four = tt
 four_step (ByDirector made) x four = four
+four_step TakenBack x four = tt
 
 unclaimed : (before : Option Claim) → IfSome before HasFour → before ≡ option_map (also []) before
 unclaimed None four = refl
@@ -206,7 +214,7 @@ claim_from_none deeds None = none_either (list_any is_refusal deeds)
 claim_from_none deeds (Some last) = refl
 
 -- from nothing
-pub all_is : (board : ℕ) (deeds : List OwnDeed) → all_done deeds (empty_record board) ≡ plain_record board deeds
+pub all_is : (board : ℕ) (deeds : List OwnDeed) → all_done deeds (empty_record board) ≡ record_made board deeds
 all_is board deeds =
     let x = empty_record board in
     let y = all_done deeds x in

@@ -24,20 +24,22 @@ use Rattle.session_rules.specs.Record.{PlainRecord}
 use Rattle.bridge_movement.specs.Shape.{index_of_row}
 use Rattle.session_rules.specs.State.{SessionValue, deal_on, row_at, row_boards, changed_at, current_index, director_answer, seating_of, is_of_set, is_row_within, record_of}
 use Rattle.session_rules.specs.PlayerStep.{seen_by, answer_among, player_answer, acted_at, acted}
+use Rattle.session_rules.specs.Back.{taken_back, back_answer, less_latest_in}
 use Rattle.session_rules.specs.DirectorStep.{rule_answer, with_ruling, ruled}
 use Rattle.session_rules.specs.Step.{act_answer, changed_by}
 use Rattle.session_rules.specs.Valid.{board_of, IsPlayId, IsAct, IsValid}
-use Rattle.session_rules.specs.Own.{OwnDeed, ByPlayer, ByDirector, own_deed_by, same_play, ruled_in, own_deed_in}
+use Rattle.session_rules.specs.Own.{OwnDeed, ByPlayer, ByDirector, TakenBack, own_deed_by, same_play, ruled_in, back_in, own_deed_in}
 use Rattle.session_rules.proofs.Lists.{changed_at-Some, changed_at-None}
 use Rattle.session_rules.proofs.StaysValid.{set_read, set_other, row_found, mapped_from}
+use Rattle.session_rules.proofs.ValidBack.{back_on}
 use Rattle.session_rules.proofs.ValidRuling.{allowed_ok, ruled_on, found_within}
 use Rattle.session_rules.proofs.ValidPlayer.{answer_at, passed, acted_on}
-use Rattle.session_rules.proofs.PlainParts.{done_to}
+use Rattle.session_rules.proofs.PlainBack.{happened}
 
 -- what is done, if anything is
 abbrev pub perhaps_done : Option OwnDeed → PlainRecord → PlainRecord
 perhaps_done None x = x
-perhaps_done (Some deed) x = done_to deed x
+perhaps_done (Some deed) x = happened deed x
 
 -- The records after a change
 
@@ -113,33 +115,44 @@ fields_same : (a b : PlayId) → a.round ≡ b.round → a.table ≡ b.table →
 fields_same a b round table index =
     all_true (a.round == b.round) (a.table == b.table) (a.index == b.index) (eq-eqb a.round b.round round) (eq-eqb a.table b.table table) (eq-eqb a.index b.index index)
 
-ruled_by : (s : SessionValue) (play named : PlayId) (made : Correction) (x : PlainRecord) (same : Bool) → IsPlayId play → IsPlayId named → same_play named play ≡ same → is_row_within s.configuration.movement.shape named.round named.table ≡ true → is_row_within s.configuration.movement.shape play.round play.table ≡ true → slice_get (row_at s.records (index_of_row s.configuration.movement.shape play.round play.table)) (play.index - 1) ≡ Some x → record_of (ruled s named made) play ≡ Some (perhaps_done (cond same (Some (ByDirector made)) None) x)
-ruled_by s play named made x true ranges ranges_named test within_named within is =
+-- a session in which the director changed the record of a play
+abbrev pub directed : SessionValue → PlayId → (PlainRecord → PlainRecord) → SessionValue
+directed s named f = record s {
+  records = changed_at (changes f (λ records. named.index - 1)) s.records (index_of_row s.configuration.movement.shape named.round named.table);
+}
+
+directed_by : (s : SessionValue) (play named : PlayId) (f : PlainRecord → PlainRecord) (x : PlainRecord) (same : Bool) → IsPlayId play → IsPlayId named → same_play named play ≡ same → is_row_within s.configuration.movement.shape named.round named.table ≡ true → is_row_within s.configuration.movement.shape play.round play.table ≡ true → slice_get (row_at s.records (index_of_row s.configuration.movement.shape play.round play.table)) (play.index - 1) ≡ Some x → record_of (directed s named f) play ≡ Some (cond same (f x) x)
+directed_by s play named f x true ranges ranges_named test within_named within is =
     let shape = s.configuration.movement.shape in
     let same = same_fields named play test in
     let row_index : index_of_row shape named.round named.table ≡ index_of_row shape play.round play.table = ap (λ r. index_of_row shape r named.table) same.0 ∙ ap (index_of_row shape play.round) same.1 in
     let at : List PlainRecord → ℕ = λ records. named.index - 1 in
-    let g = changes (with_ruling made) at in
-    record_at s (changed_at g s.records (index_of_row shape named.round named.table)) play (with_ruling made x) within
+    let g = changes f at in
+    record_at s (changed_at g s.records (index_of_row shape named.round named.table)) play (f x) within
     (ap (λ p. slice_get (row_at (changed_at g s.records p) (index_of_row shape play.round play.table)) (play.index - 1)) row_index
-    ∙ here_changed (with_ruling made) at s.records (index_of_row shape play.round play.table) (play.index - 1) x is (ap (λ n. n - 1) same.2))
-ruled_by s play named made x false ranges ranges_named test within_named within is =
+    ∙ here_changed f at s.records (index_of_row shape play.round play.table) (play.index - 1) x is (ap (λ n. n - 1) same.2))
+directed_by s play named f x false ranges ranges_named test within_named within is =
     let shape = s.configuration.movement.shape in
     let mine = index_of_row shape play.round play.table in
     let its = index_of_row shape named.round named.table in
     let at : List PlainRecord → ℕ = λ records. named.index - 1 in
-    let g = changes (with_ruling made) at in
+    let g = changes f at in
     record_at s (changed_at g s.records its) play x within
     (elim (cases_eq mine its) [
       | inr apart ↦ ap (λ rs. slice_get rs (play.index - 1)) (row_apart g s.records its mine apart) ∙ is
       | inl row_index ↦
           ap (λ p. slice_get (row_at (changed_at g s.records p) mine) (play.index - 1)) (sym row_index)
-          ∙ index_apart (with_ruling made) at s.records mine (play.index - 1) x is
+          ∙ index_apart f at s.records mine (play.index - 1) x is
           (λ index.
           let both = one_place shape named.round named.table play.round play.table ranges_named.0 ranges_named.1 (leb-true named.table shape.tables (and_parts _ _ within_named).1) ranges.0 ranges.1 (leb-true play.table shape.tables (and_parts _ _ within).1) (sym row_index) in
           let here : named.index ≡ play.index = omega (arith, ranges.2, ranges_named.2, index) in
           false≢true (sym test ∙ fields_same named play both.0 both.1 here))
     ])
+
+-- the play that is named, or another
+if_named : (deed : OwnDeed) (x : PlainRecord) (same : Bool) → cond same (happened deed x) x ≡ perhaps_done (cond same (Some deed) None) x
+if_named deed x true = refl
+if_named deed x false = refl
 
 pub rule_step : (s : SessionValue) (play named : PlayId) (made : Correction) (x : PlainRecord) → IsPlayId play → IsPlayId named → rule_answer s.configuration.scoring s.round named.round made (record_of s named) ≡ Ok tt → record_of s play ≡ Some x → record_of (ruled s named made) play ≡ Some (perhaps_done (ruled_in play named made) x)
 rule_step s play named made x ranges ranges_named ok is =
@@ -147,12 +160,22 @@ rule_step s play named made x ranges ranges_named ok is =
     let on = ruled_on s.configuration.scoring s.round named.round made (record_of s named) ok in
     let within_named = (found_within (is_row_within shape named.round named.table) (slice_get (row_at s.records (index_of_row shape named.round named.table)) (named.index - 1)) on.plain on.is).0 in
     let found = found_within (is_row_within shape play.round play.table) (slice_get (row_at s.records (index_of_row shape play.round play.table)) (play.index - 1)) x is in
-    ruled_by s play named made x (same_play named play) ranges ranges_named refl within_named found.0 found.1
+    directed_by s play named (with_ruling made) x (same_play named play) ranges ranges_named refl within_named found.0 found.1
+    ∙ ap Some (if_named (ByDirector made) x (same_play named play))
+
+pub back_step : (s : SessionValue) (play named : PlayId) (x : PlainRecord) → IsPlayId play → IsPlayId named → back_answer s.round named.round (record_of s named) ≡ Ok tt → record_of s play ≡ Some x → record_of (less_latest_in s named) play ≡ Some (perhaps_done (back_in play named) x)
+back_step s play named x ranges ranges_named ok is =
+    let shape = s.configuration.movement.shape in
+    let on = back_on s.round named.round (record_of s named) ok in
+    let within_named = (found_within (is_row_within shape named.round named.table) (slice_get (row_at s.records (index_of_row shape named.round named.table)) (named.index - 1)) on.plain on.is).0 in
+    let found = found_within (is_row_within shape play.round play.table) (slice_get (row_at s.records (index_of_row shape play.round play.table)) (play.index - 1)) x is in
+    directed_by s play named taken_back x (same_play named play) ranges ranges_named refl within_named found.0 found.1
+    ∙ ap Some (if_named TakenBack x (same_play named play))
 
 -- Players
 
 -- the boards of a row in order
-board_there : (boards : ℕ) (rows : List Row) (records : List (List PlainRecord)) (row_index index : ℕ) (x : PlainRecord) → map (map board_of) records ≡ map (row_boards boards) rows → slice_get (row_at records row_index) index ≡ Some x → (row : Row) × (slice_get rows row_index ≡ Some row) × (slice_get (row_boards boards row) index ≡ Some x.board)
+pub board_there : (boards : ℕ) (rows : List Row) (records : List (List PlainRecord)) (row_index index : ℕ) (x : PlainRecord) → map (map board_of) records ≡ map (row_boards boards) rows → slice_get (row_at records row_index) index ≡ Some x → (row : Row) × (slice_get rows row_index ≡ Some row) × (slice_get (row_boards boards row) index ≡ Some x.board)
 board_there boards rows records row_index index x same is =
     let own = row_found records row_index index x is in
     let seen : slice_get (map (row_boards boards) rows) row_index ≡ Some (map board_of own.0) =
@@ -160,7 +183,7 @@ board_there boards rows records row_index index x same is =
     let row = mapped_from (row_boards boards) rows row_index (map board_of own.0) seen in
     (row.0, row.1, ap (λ rs. slice_get rs index) row.2 ∙ slice_get-map board_of own.0 index ∙ ap (option_map board_of) (ap (λ rs. slice_get rs index) (sym own.2) ∙ is))
 
-board_number : (live : Bool) (first n index board : ℕ) → slice_get (cond live (range_with_len first n) []) index ≡ Some board → board ≡ first + index
+pub board_number : (live : Bool) (first n index board : ℕ) → slice_get (cond live (range_with_len first n) []) index ≡ Some board → board ≡ first + index
 board_number true first n index board is =
     let within = slice_get_within (range_with_len first n) index board is in
     sym (get_or_from_slice_get (range_with_len first n) index board board is) ∙ get_or-range_with_len first n index board (omega (arith, within, length-range_with_len first n))
@@ -223,6 +246,9 @@ player_step s play key board named at deed x valid ok is own = player_by s play 
 pub record_step : (a : Act) (s : SessionValue) (play : PlayId) (board : ℕ) (x : PlainRecord) → IsAct a → IsPlayId play → IsValid s → act_answer s a ≡ Ok tt → record_of s play ≡ Some x → x.board ≡ board → record_of (changed_by s a) play ≡ Some (perhaps_done (own_deed_in s.configuration play board s.round a) x)
 record_step (act.Player key named at deed) s play board x ranges id valid ok is own = player_step s play key.0 board named at deed x valid ok is own
 record_step (act.Deal key of_board hands) s play board x ranges id valid ok is own = is
+record_step (act.Undeal key of_board) s play board x ranges id valid ok is own = is
 record_step (act.RoundEnd key round) s play board x ranges id valid ok is own = is
+record_step (act.Back key named) s play board x ranges id valid ok is own =
+    back_step s play named x id ranges (allowed_ok (director_answer s.configuration key.0) (back_answer s.round named.round (record_of s named)) ok) is
 record_step (act.Ruling key named made) s play board x ranges id valid ok is own =
     rule_step s play named made x id ranges (allowed_ok (director_answer s.configuration key.0) (rule_answer s.configuration.scoring s.round named.round made (record_of s named)) ok) is

@@ -75,6 +75,7 @@ decided_scoring Imps = inr (λ same. cc)
 decided_ruling : (scoring : Scoring) (course : Option Course) (made : Ruling) → Decided (MayStand scoring course made)
 decided_ruling scoring course (ruling.Tricks tricks) = decided_accepted (tricks_answer course)
 decided_ruling scoring course ruling.Void = inl tt
+decided_ruling scoring course (ruling.Assigned contract tricks) = inl tt
 decided_ruling scoring course (ruling.Adjusted ns ew) = decided_scoring scoring
 
 -- whether nothing was played or claimed

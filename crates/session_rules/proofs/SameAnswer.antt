@@ -53,7 +53,9 @@ player_same own key s t board at deed is agree =
 act_same : (a : Act) (key : ℕ) (s t : SessionValue) → player_in_act a ≡ Some key → AgreeAtTable key s t → act_answer s a ≡ act_answer t a
 act_same (act.Player own board at deed) key s t is agree = player_same own.0 key s t board at deed is agree
 act_same (act.Deal own board hands) key s t is agree = absurd cc
+act_same (act.Undeal own board) key s t is agree = absurd cc
 act_same (act.RoundEnd own round) key s t is agree = absurd cc
+act_same (act.Back own play) key s t is agree = absurd cc
 act_same (act.Ruling own play made) key s t is agree = absurd cc
 
 pub answer_same : (action : Action) (key : ℕ) (s t : SessionValue) → player_key action ≡ Some key → AgreeAtTable key s t → step_answer s action ≡ step_answer t action

@@ -109,6 +109,8 @@ decided_ruling : (made : Ruling) → Decided (IsRulingInRange made)
 decided_ruling (ruling.Tricks tricks) = decided_most tricks 13
 decided_ruling ruling.Void = inl tt
 decided_ruling (ruling.Adjusted ns ew) = inl tt
+decided_ruling (ruling.Assigned contract tricks) =
+    decided_both (decided_both (decided_most 1 contract.bid.level) (decided_most contract.bid.level 7)) (decided_most tricks 13)
 
 -- whether a record is within its ranges
 decided_record_range : (plain : PlainRecord) → Decided (IsRecordInRange plain)

@@ -60,6 +60,7 @@ unruled_by scoring x None void unfinished ruled = refl
 unruled_by scoring x (Some (ruling.Tricks tricks)) void unfinished ruled =
     let over = over_done x.calls (course_in x) ruled in absurd cc
 unruled_by scoring x (Some ruling.Void) void unfinished ruled = absurd cc
+unruled_by scoring x (Some (ruling.Assigned contract tricks)) void unfinished ruled = absurd cc
 unruled_by scoring x (Some (ruling.Adjusted ns ew)) void unfinished ruled = absurd cc
 
 unruled : (scoring : Scoring) (x : PlainRecord) → is_open x ≡ true → IfSome x.ruling (MayStand scoring (course_in x)) → x.ruling ≡ None

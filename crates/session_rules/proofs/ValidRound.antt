@@ -33,7 +33,7 @@ not_either : (a b : Bool) → (a || b) ≡ false → (a ≡ false) × (b ≡ fal
 not_either true b is = absurd cc
 not_either false b is = (refl, is)
 
-none_passes : {A : Type 0} (p : A → Bool) (xs : List A) (i : ℕ) (x : A) → list_any p xs ≡ false → slice_get xs i ≡ Some x → p x ≡ false
+pub none_passes : {A : Type 0} (p : A → Bool) (xs : List A) (i : ℕ) (x : A) → list_any p xs ≡ false → slice_get xs i ≡ Some x → p x ≡ false
 none_passes p [] i x fails is = absurd (none_of i x is)
 none_passes p (y ∷ ys) zero x fails is =
     let same : y ≡ x = cc in
@@ -108,7 +108,7 @@ next_valid s round valid ok =
 -- A board that is dealt
 
 -- a record without calls has no play of any hands
-no_play : (hands : List ℕ) (x : PlainRecord) → x.calls ≡ [] → play_of hands x ≡ None
+pub no_play : (hands : List ℕ) (x : PlainRecord) → x.calls ≡ [] → play_of hands x ≡ None
 no_play hands x none = ap (option_map (playing_in hands x)) (no_contract (dealer_of x.board) x.calls (ap is_ended none))
 
 record_dealt : (scoring : Scoring) (deals : List (Option (List ℕ))) (now round board : ℕ) (hands : List ℕ) (x : PlainRecord) → deal_on deals board ≡ None → IsValidRecord scoring deals now round x → IsValidRecord scoring (slice_set deals (board - 1) (Some hands)) now round x

@@ -46,6 +46,7 @@ closed_after : (scoring : Scoring) (made : Correction) (x : PlainRecord) (over :
 closed_after scoring (correction.Tricks tricks) x over e ok = ap not (over_done x.calls (course_in x) ok)
 closed_after scoring correction.Void x over e ok = refl
 closed_after scoring (correction.Adjust ns ew) x over e ok = refl
+closed_after scoring (correction.Assign contract tricks) x over e ok = refl
 closed_after scoring correction.Restore x over e ok = ap not (restored_done over (is_done x.calls (course_in x)) e ok)
 
 -- averages are of matchpoints
@@ -79,6 +80,15 @@ ruled_valid scoring deals now round (correction.Adjust ns ew) x past ok valid = 
   unplayed = λ none. let before = valid.unplayed none in record { cards = before.cards; claims = before.claims; claim = before.claim };
   play = valid.play;
   ruled = adjusted_matchpoints scoring ok;
+  later = λ less. absurd (omega arith);
+  earlier = λ less. refl;
+}
+ruled_valid scoring deals now round (correction.Assign contract tricks) x past ok valid = record {
+  calls = valid.calls;
+  dealt = valid.dealt;
+  unplayed = λ none. let before = valid.unplayed none in record { cards = before.cards; claims = before.claims; claim = before.claim };
+  play = valid.play;
+  ruled = tt;
   later = λ less. absurd (omega arith);
   earlier = λ less. refl;
 }

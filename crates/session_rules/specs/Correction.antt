@@ -16,6 +16,7 @@ abbrev pub ruling_by : Correction → Option Ruling
 ruling_by (correction.Tricks tricks) = Some (ruling.Tricks tricks)
 ruling_by correction.Void = Some ruling.Void
 ruling_by (correction.Adjust ns ew) = Some (ruling.Adjusted ns ew)
+ruling_by (correction.Assign contract tricks) = Some (ruling.Assigned contract tricks)
 ruling_by correction.Restore = None
 
 -- declarer's tricks can be set once the play is over
@@ -34,5 +35,6 @@ abbrev pub ruling_answer : Scoring → List Call → Option Course → Correctio
 ruling_answer scoring calls course (correction.Tricks tricks) round_is_over = tricks_answer course
 ruling_answer scoring calls course correction.Void round_is_over = Ok tt
 ruling_answer scoring calls course (correction.Adjust ns ew) round_is_over = adjust_answer scoring
+ruling_answer scoring calls course (correction.Assign contract tricks) round_is_over = Ok tt
 ruling_answer scoring calls course correction.Restore round_is_over =
     if round_is_over && not (is_done calls course) then Err NotFinished else Ok tt

@@ -1,11 +1,11 @@
 -- What the director does: the answer, and what changes.
-use Rattle.std.specs.Prelude.{ℕ, ◌-◌, ◌*◌, nat_lt, nat_le, not, ◌==◌, if◌then◌else◌, is_some, List, take, drop, Option, None, Some, Ok, Err}
+use Rattle.std.specs.Prelude.{ℕ, ◌-◌, ◌*◌, nat_lt, nat_le, Bool, not, ◌==◌, ◌&&◌, if◌then◌else◌, is_some, is_none, length, List, take, drop, Option, None, Some, Ok, Err}
 use Rattle.std.specs.List.{list_any}
 use Rattle.bridge_cards.specs.Deal.{is_dealt_out}
 use Rattle.bridge_score.specs.declared.Scoring.{Scoring}
 use Rattle.session_rules.specs.declared.action.PlayId.{PlayId}
 use Rattle.session_rules.specs.declared.correction.Correction.{Correction}
-use Rattle.session_rules.specs.declared.refused.Refused.TheVariants.{Closed, NoSuchPlay, NotYet, Stale, AlreadyDealt, BadDeal, RoundOpen}
+use Rattle.session_rules.specs.declared.refused.Refused.TheVariants.{Closed, NoSuchPlay, NotYet, NotDealt, Stale, AlreadyDealt, BadDeal, RoundOpen, RulingStands, BoardBegun}
 use Rattle.session_rules.specs.Answer.{Answer}
 use Rattle.session_rules.specs.Record.{PlainRecord, course_in, is_open}
 use Rattle.session_rules.specs.Correction.{ruling_by, ruling_answer}
@@ -24,6 +24,24 @@ deal_answer s board hands =
     else if not (nat_le board (s.configuration.movement.shape.sets * s.configuration.boards)) then Err NoSuchPlay
     else if is_some (deal_on s.deals board) then Err AlreadyDealt
     else if not (is_dealt_out hands) then Err BadDeal
+    else Ok tt
+
+-- a call was made in the play, which is of the board
+abbrev pub is_begun_on : ℕ → PlainRecord → Bool
+is_begun_on board plain = plain.board == board && not (length plain.calls == 0)
+
+-- a ruling stands on the play, which is of the board
+abbrev pub is_ruled_on : ℕ → PlainRecord → Bool
+is_ruled_on board plain = plain.board == board && is_some plain.ruling
+
+-- the answer where the deal of the board is taken back
+abbrev pub undeal_answer : SessionValue → ℕ → Answer
+undeal_answer s board =
+    if is_closed s.configuration s.round then Err Closed
+    else if not (nat_le board (s.configuration.movement.shape.sets * s.configuration.boards)) then Err NoSuchPlay
+    else if is_none (deal_on s.deals board) then Err NotDealt
+    else if list_any (list_any (is_begun_on board)) s.records then Err BoardBegun
+    else if list_any (list_any (is_ruled_on board)) s.records then Err RulingStands
     else Ok tt
 
 -- the records of the tables in the current round

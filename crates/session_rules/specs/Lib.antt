@@ -10,6 +10,7 @@ pub mod Correction
 pub mod State
 pub mod PlayerStep
 pub mod DirectorStep
+pub mod Back
 pub mod Step
 pub mod See
 pub mod Stage

@@ -6,7 +6,7 @@ use Rattle.bridge_auction.specs.declared.call.Call.{Call}
 use Rattle.bridge_auction.specs.Legal.{is_ended}
 use Rattle.bridge_play.specs.Play.{tricks_by}
 use Rattle.session_rules.specs.declared.outcome.Outcome.{Outcome}
-use Rattle.session_rules.specs.declared.outcome.Outcome.TheVariants.{Unfinished, PassedOut, Played, Voided, Adjusted}
+use Rattle.session_rules.specs.declared.outcome.Outcome.TheVariants.{Unfinished, PassedOut, Played, Voided, Adjusted, Assigned}
 use Rattle.session_rules.specs.declared.ruling.Ruling.{Ruling}
 use Rattle.session_rules.specs.declared.ruling.Ruling.TheVariants as ruling
 use Rattle.session_rules.specs.Record.{PlainRecord, Course, course_in, is_run}
@@ -25,6 +25,7 @@ outcome_by calls course None = outcome_of_course calls course
 outcome_by calls course (Some (ruling.Tricks tricks)) = option_map_or (λ (c : Course). Played c.contract tricks) course Unfinished
 outcome_by calls course (Some ruling.Void) = Voided
 outcome_by calls course (Some (ruling.Adjusted ns ew)) = Adjusted ns ew
+outcome_by calls course (Some (ruling.Assigned contract tricks)) = Assigned contract tricks
 
 -- what came of the play of a record
 abbrev pub outcome_of : PlainRecord → Outcome
@@ -33,4 +34,5 @@ outcome_of plain = outcome_by plain.calls (course_in plain) plain.ruling
 -- there are 13 tricks in a play
 abbrev pub HasFewTricks : Outcome → Type 0
 HasFewTricks (Played contract tricks) = tricks ≤ 13
+HasFewTricks (Assigned contract tricks) = tricks ≤ 13
 HasFewTricks _ = Unit {0}

@@ -1,6 +1,6 @@
 -- The record of a play as its own actions make it, whatever other tables do in between.
-use Rattle.std.specs.Prelude.{◌≡◌, ℕ, ◌+◌, ◌==◌, Bool, true, false, ◌&&◌, if◌then◌else◌, List, [], ◌∷◌, length, map, option_and_then, Option, Some, None, Result, Ok, Err}
-use Rattle.std.specs.List.{cons_option, filter_map, list_any}
+use Rattle.std.specs.Prelude.{◌≡◌, ℕ, ◌+◌, ◌==◌, Bool, true, false, ◌&&◌, if◌then◌else◌, is_some, List, [], ◌∷◌, ◌++◌, length, map, option_and_then, Option, Some, None, Result, Ok, Err}
+use Rattle.std.specs.List.{cons_option, filter, filter_map, list_any}
 use Rattle.std.specs.Option.{option_map, option_or}
 use Rattle.bridge_cards.specs.declared.seat.Seat.{Seat}
 use Rattle.bridge_cards.specs.declared.seat.Seat.TheVariants.{North, East, South, West}
@@ -40,10 +40,11 @@ AreAccepted s (action ∷ actions) = IsAction action × (step_answer s action �
 
 -- The actions that concern a play
 
--- what is done in a play: by a player in a seat, or by the director
+-- what is done in a play: by a player in a seat, or by the director, who rules or takes back the latest thing done
 pub data OwnDeed : Type 0 where
   ByPlayer : (seat : Seat) (deed : Deed) → OwnDeed
   ByDirector : (made : Correction) → OwnDeed
+  TakenBack : OwnDeed
 
 -- by a player who sits at the table of the play in its round, and names its board
 abbrev pub own_deed_by : ConfigValue → PlayId → ℕ → ℕ → Deed → Result Seating Refused → Option OwnDeed
@@ -59,10 +60,15 @@ same_play a b = (a.round == b.round) && ((a.table == b.table) && (a.index == b.i
 abbrev pub ruled_in : PlayId → PlayId → Correction → Option OwnDeed
 ruled_in play named made = if same_play named play then Some (ByDirector made) else None
 
+-- by the director, who takes back the latest thing done in the play that he names
+abbrev pub back_in : PlayId → PlayId → Option OwnDeed
+back_in play named = if same_play named play then Some TakenBack else None
+
 -- what an act in that round does in the play of the board, if it concerns it
 abbrev pub own_deed_in : ConfigValue → PlayId → ℕ → ℕ → Act → Option OwnDeed
 own_deed_in configuration play board round (act.Player key named at deed) = own_deed_by configuration play board named deed (seating_of configuration round key.0)
 own_deed_in configuration play board round (act.Ruling key named made) = ruled_in play named made
+own_deed_in configuration play board round (act.Back key named) = back_in play named
 own_deed_in configuration play board round _ = None
 
 -- the round after an act: one more after the end of a round
@@ -76,7 +82,7 @@ own configuration play board round [] = []
 own configuration play board round (action ∷ actions) =
     cons_option (own_deed_in configuration play board round (act_of action)) (own configuration play board (round_after round (act_of action)) actions)
 
--- The plain record
+-- What each thing is
 
 -- the call that was made, if it was one
 abbrev pub call_made : OwnDeed → Option CallType
@@ -94,9 +100,10 @@ claim_made (ByPlayer seat (deed.Claim tricks)) =
     Some (record { claimer = seat; tricks = tricks; agreed = false ∷ false ∷ false ∷ false ∷ [] })
 claim_made _ = None
 
--- a claim was refused
+-- a claim was refused, or taken back
 abbrev pub is_refusal : OwnDeed → Bool
 is_refusal (ByPlayer seat deed.Refuse) = true
+is_refusal TakenBack = true
 is_refusal _ = false
 
 -- the seat agrees to the claim
@@ -106,8 +113,8 @@ agrees one _ = false
 
 -- what the director did, if it was the director
 abbrev pub correction_made : OwnDeed → Option Correction
-correction_made (ByPlayer seat deed) = None
 correction_made (ByDirector made) = Some made
+correction_made _ = None
 
 -- the last claim, with what was done after it
 abbrev pub last_claim : List OwnDeed → Option (ClaimType × List OwnDeed)
@@ -125,17 +132,69 @@ abbrev pub last_correction : List OwnDeed → Option Correction
 last_correction [] = None
 last_correction (deed ∷ later) = option_or (last_correction later) (correction_made deed)
 
--- The record of a play of the board that these make: the calls and the cards, the number of claims, the last claim if no refusal
--- follows it, agreed by those who agree after it, and the ruling that the director left last.
-abbrev pub plain_record : ℕ → List OwnDeed → PlainRecord
-plain_record board deeds = record {
+-- the claim that stands, or was agreed
+abbrev pub claim_left : List OwnDeed → Option ClaimType
+claim_left deeds = option_and_then claim_after (last_claim deeds)
+
+-- Less those taken back
+
+-- a call
+abbrev pub is_call : OwnDeed → Bool
+is_call deed = is_some (call_made deed)
+
+-- a card
+abbrev pub is_card : OwnDeed → Bool
+is_card deed = is_some (card_played deed)
+
+-- no claim, and nothing that answers one or takes it back
+abbrev pub is_of_no_claim : OwnDeed → Bool
+is_of_no_claim (ByPlayer seat (deed.Claim tricks)) = false
+is_of_no_claim (ByPlayer seat deed.Agree) = false
+is_of_no_claim (ByPlayer seat deed.Refuse) = false
+is_of_no_claim TakenBack = false
+is_of_no_claim _ = true
+
+-- a list without the last of its elements that pass the test
+abbrev pub without_last : (OwnDeed → Bool) → List OwnDeed → List OwnDeed
+without_last test [] = []
+without_last test (deed ∷ later) =
+    if list_any test later then deed ∷ without_last test later else if test deed then later else deed ∷ later
+
+-- The things done less the latest: where a claim stands or was agreed, it is taken back as by a refusal; or else the last card goes;
+-- or else the last call, and with it all about claims.
+abbrev pub less_latest : List OwnDeed → List OwnDeed
+less_latest deeds =
+    if is_some (claim_left deeds) then deeds ++ TakenBack ∷ []
+    else if list_any is_card deeds then without_last is_card deeds
+    else filter is_of_no_claim (without_last is_call deeds)
+
+-- what is left of the things done before, and one more
+abbrev pub left_with : OwnDeed → List OwnDeed → List OwnDeed
+left_with TakenBack before = less_latest before
+left_with deed before = before ++ deed ∷ []
+
+-- what is left of them and of all that follow
+abbrev pub left_of : List OwnDeed → List OwnDeed → List OwnDeed
+left_of [] before = before
+left_of (deed ∷ later) before = left_of later (left_with deed before)
+
+-- The plain record
+
+-- The record of a play of the board that these make, of which nothing is taken back any more: the calls and the cards, the number
+-- of claims, the last claim if no refusal follows it, agreed by those who agree after it, and the ruling that the director left last.
+abbrev pub record_made : ℕ → List OwnDeed → PlainRecord
+record_made board deeds = record {
   board = board;
   calls = filter_map call_made deeds;
   cards = filter_map card_played deeds;
   claims = length (filter_map claim_made deeds);
-  claim = option_and_then claim_after (last_claim deeds);
+  claim = claim_left deeds;
   ruling = option_and_then ruling_by (last_correction deeds);
 }
+
+-- The record of a play of the board that all things done in it make, less those taken back.
+abbrev pub plain_record : ℕ → List OwnDeed → PlainRecord
+plain_record board deeds = record_made board (left_of deeds [])
 
 -- A play's record is of its own actions: where a play of the board is there at the opening, after any accepted actions its record is
 -- the plain record of those of its own.

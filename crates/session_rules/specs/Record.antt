@@ -79,12 +79,13 @@ is_done calls course = option_map_or is_run course (is_ended calls)
 abbrev pub is_finished : PlainRecord → Bool
 is_finished plain = is_done plain.calls (course_in plain)
 
--- whether a play is void or adjusted, so that no more of it is played
+-- whether a play is void or adjusted, or a score is assigned to it, so that no more of it is played
 abbrev pub is_ruled_out : Option Ruling → Bool
 is_ruled_out (Some ruling.Void) = true
 is_ruled_out (Some (ruling.Adjusted ns ew)) = true
+is_ruled_out (Some (ruling.Assigned contract tricks)) = true
 is_ruled_out _ = false
 
--- whether the play is neither finished, void nor adjusted
+-- whether the play is neither finished, void nor adjusted, and no score is assigned to it
 abbrev pub is_open : PlainRecord → Bool
 is_open plain = not (is_ruled_out plain.ruling) && not (is_finished plain)

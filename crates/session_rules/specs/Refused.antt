@@ -1,7 +1,7 @@
 -- The numbers and names of refusals.
 use Rattle.std.specs.Prelude.{ℕ, List, codes}
 use Rattle.session_rules.specs.declared.refused.Refused.{Refused}
-use Rattle.session_rules.specs.declared.refused.Refused.TheVariants.{NoKey, NotAllowed, Closed, NoSuchPlay, NotYet, SitsOut, NotCurrent, NotDealt, WrongPhase, Stale, NoClaim, ClaimStands, NotAsked, NotYourTurn, MidTrick, TooManyTricks, InsufficientBid, InadmissibleDouble, InadmissibleRedouble, NotHeld, MustFollow, AlreadyDealt, BadDeal, RoundOpen, NoContract, NotFinished, NotAnEnding, ClaimsSpent, NotMatchPoints}
+use Rattle.session_rules.specs.declared.refused.Refused.TheVariants.{NoKey, NotAllowed, Closed, NoSuchPlay, NotYet, SitsOut, NotCurrent, NotDealt, WrongPhase, Stale, NoClaim, ClaimStands, NotAsked, NotYourTurn, MidTrick, TooManyTricks, InsufficientBid, InadmissibleDouble, InadmissibleRedouble, NotHeld, MustFollow, AlreadyDealt, BadDeal, RoundOpen, NoContract, NotFinished, NotAnEnding, ClaimsSpent, NotMatchPoints, NothingToTakeBack, NotThisRound, RulingStands, BoardBegun}
 
 -- the number of a refusal
 abbrev pub refusal_number : Refused → ℕ
@@ -34,6 +34,10 @@ refusal_number NotFinished = 26
 refusal_number NotAnEnding = 27
 refusal_number ClaimsSpent = 28
 refusal_number NotMatchPoints = 29
+refusal_number NothingToTakeBack = 50
+refusal_number NotThisRound = 51
+refusal_number RulingStands = 52
+refusal_number BoardBegun = 53
 
 -- the name of a refusal, in one word
 abbrev pub refusal_name : Refused → List ℕ
@@ -66,3 +70,7 @@ refusal_name NotFinished = codes "NotFinished"
 refusal_name NotAnEnding = codes "NotAnEnding"
 refusal_name ClaimsSpent = codes "ClaimsSpent"
 refusal_name NotMatchPoints = codes "NotMatchPoints"
+refusal_name NothingToTakeBack = codes "NothingToTakeBack"
+refusal_name NotThisRound = codes "NotThisRound"
+refusal_name RulingStands = codes "RulingStands"
+refusal_name BoardBegun = codes "BoardBegun"

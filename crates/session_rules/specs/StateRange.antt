@@ -1,6 +1,7 @@
 -- The ranges of what a session holds.
 use Rattle.std.specs.Prelude.{◌≡◌, ℕ, List, length, Option, IfSome, All}
 use Rattle.bridge_cards.specs.CardSet.{IsCardSet}
+use Rattle.bridge_auction.specs.Bid.{IsBid}
 use Rattle.bridge_play.specs.declared.claim.Claim.{Claim}
 use Rattle.session_rules.specs.declared.correction.Correction.{Correction}
 use Rattle.session_rules.specs.declared.correction.Correction.TheVariants as correction
@@ -23,14 +24,16 @@ AreHandsOrNone deal = IfSome deal AreHands
 abbrev pub IsOfFourSeats : Claim → Type 0
 IsOfFourSeats claim = length claim.agreed ≡ 4
 
--- the tricks of a ruling are at most 13
+-- the tricks of a ruling are at most 13, and its bid is one
 abbrev pub IsRulingInRange : Ruling → Type 0
 IsRulingInRange (ruling.Tricks tricks) = IsTrickCount tricks
+IsRulingInRange (ruling.Assigned contract tricks) = IsBid contract.bid × IsTrickCount tricks
 IsRulingInRange _ = Unit {0}
 
--- a correction sets no more tricks than a board has
+-- a correction sets no more tricks than a board has, and its bid is one
 abbrev pub IsCorrectionInRange : Correction → Type 0
 IsCorrectionInRange (correction.Tricks tricks) = IsTrickCount tricks
+IsCorrectionInRange (correction.Assign contract tricks) = IsBid contract.bid × IsTrickCount tricks
 IsCorrectionInRange _ = Unit {0}
 
 -- the claim and the ruling are within their ranges

@@ -25,6 +25,7 @@ use Rattle.session_rules.specs.State.{SessionValue, Deals, deal_on, row_at, row_
 abbrev pub MayStand : Scoring → Option Course → Ruling → Type 0
 MayStand scoring course (ruling.Tricks tricks) = tricks_answer course ≡ Ok tt
 MayStand scoring course (ruling.Adjusted ns ew) = scoring ≡ MatchPoints
+MayStand scoring course (ruling.Assigned contract tricks) = Unit {0}
 MayStand scoring course ruling.Void = Unit {0}
 
 -- nothing was played or claimed
@@ -82,7 +83,9 @@ IsPlayId play = (1 ≤ play.round) × (1 ≤ play.table) × (1 ≤ play.index)
 abbrev pub IsAct : Act → Type 0
 IsAct (act.Player key board at deed) = IsDeed deed
 IsAct (act.Deal key board hands) = 1 ≤ board
+IsAct (act.Undeal key board) = 1 ≤ board
 IsAct (act.RoundEnd key round) = 1 ≤ round
+IsAct (act.Back key play) = IsPlayId play
 IsAct (act.Ruling key play made) = IsPlayId play
 
 -- and of those that an action names; `ActionRange` has their whole ranges

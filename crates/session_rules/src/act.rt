@@ -26,10 +26,20 @@ pub enum Act {
         board: BoardNumber,
         hands: [CardSet; 4],
     },
+    /// The director takes the deal of a board back.
+    Undeal {
+        key: Key,
+        board: BoardNumber,
+    },
     /// The director ends that round.
     RoundEnd {
         key: Key,
         round: RoundNumber,
+    },
+    /// The director takes back the latest thing done in a play.
+    Back {
+        key: Key,
+        play: PlayId,
     },
     /// The director rules on a play, or takes a ruling back.
     Ruling {
@@ -47,7 +57,9 @@ impl Act {
         match self {
             Act::Player { key, .. } => key,
             Act::Deal { key, .. } => key,
+            Act::Undeal { key, .. } => key,
             Act::RoundEnd { key, .. } => key,
+            Act::Back { key, .. } => key,
             Act::Ruling { key, .. } => key,
         }
     }
@@ -60,6 +72,7 @@ impl Action {
     {
         match self {
             Action::Deal { key, board, hands } => Act::Deal { key, board, hands },
+            Action::Undeal { key, board } => Act::Undeal { key, board },
             Action::Call {
                 key,
                 board,
@@ -81,6 +94,7 @@ impl Action {
             Action::Agree { key, board, at } => player(key, board, at, Deed::Agree),
             Action::Refuse { key, board, at } => player(key, board, at, Deed::Refuse),
             Action::NextRound { key, round } => Act::RoundEnd { key, round },
+            Action::Back { key, play } => Act::Back { key, play },
             Action::Tricks { key, play, tricks } => ruling(key, play, Correction::Tricks(tricks)),
             Action::Void { key, play } => ruling(key, play, Correction::Void),
             Action::Adjust { key, play, ns, ew } => ruling(
@@ -88,6 +102,12 @@ impl Action {
                 play,
                 Correction::Adjust { ns, ew },
             ),
+            Action::Assign {
+                key,
+                play,
+                contract,
+                tricks,
+            } => ruling(key, play, Correction::Assign { contract, tricks }),
             Action::Restore { key, play } => ruling(key, play, Correction::Restore),
         }
     }
@@ -128,6 +148,12 @@ impl Action {
             Correction::Tricks(tricks) => Action::Tricks { key, play, tricks },
             Correction::Void => Action::Void { key, play },
             Correction::Adjust { ns, ew } => Action::Adjust { key, play, ns, ew },
+            Correction::Assign { contract, tricks } => Action::Assign {
+                key,
+                play,
+                contract,
+                tricks,
+            },
             Correction::Restore => Action::Restore { key, play },
         }
     }

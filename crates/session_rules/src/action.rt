@@ -1,7 +1,7 @@
 //! What players and the director do.
 use crate::average::Average;
 use crate::numbers::{BoardIndex, MadeCount, RoundNumber, TableNumber, TrickCount};
-use bridge_auction::Call;
+use bridge_auction::{Call, Contract};
 use bridge_cards::{BoardNumber, Card, CardSet};
 use bridge_config::Key;
 
@@ -25,6 +25,11 @@ pub enum Action {
         key: Key,
         board: BoardNumber,
         hands: [CardSet; 4],
+    },
+    /// The director takes the deal of a board back.
+    Undeal {
+        key: Key,
+        board: BoardNumber,
     },
     /// A player calls, after `at` calls.
     Call {
@@ -81,6 +86,19 @@ pub enum Action {
         play: PlayId,
         ns: Average,
         ew: Average,
+    },
+    /// The director assigns a score to a play: that of the contract with that many tricks for declarer (Law 12C1).
+    Assign {
+        key: Key,
+        play: PlayId,
+        contract: Contract,
+        tricks: TrickCount,
+    },
+    /// The director takes back the latest thing done in a play: the claim that stands or was agreed, or else the last card, or
+    /// else the last call (Laws 25A, 45C, 47 and 69).
+    Back {
+        key: Key,
+        play: PlayId,
     },
     /// The director takes a ruling back.
     Restore {

@@ -6,6 +6,7 @@ ghost use Rattle.session_rules.specs.StateRange.{IsCorrectionInRange};
 use crate::average::Average;
 use crate::numbers::TrickCount;
 use crate::ruling::Ruling;
+use bridge_auction::Contract;
 
 /// What the director does to the ruling on a play.
 #[derive(Clone, Copy, Debug, PartialEq, Eq)]
@@ -15,7 +16,15 @@ pub enum Correction {
     /// The play is taken out.
     Void,
     /// Each side is awarded an average (Law 12C2).
-    Adjust { ns: Average, ew: Average },
+    Adjust {
+        ns: Average,
+        ew: Average,
+    },
+    /// A score is assigned: that of the contract with that many tricks for declarer (Law 12C1).
+    Assign {
+        contract: Contract,
+        tricks: TrickCount,
+    },
     /// The ruling is taken back.
     Restore,
 }
@@ -30,6 +39,7 @@ impl Correction {
             Correction::Tricks(tricks) => Some(Ruling::Tricks(tricks)),
             Correction::Void => Some(Ruling::Void),
             Correction::Adjust { ns, ew } => Some(Ruling::Adjusted { ns, ew }),
+            Correction::Assign { contract, tricks } => Some(Ruling::Assigned { contract, tricks }),
             Correction::Restore => None,
         }
     }

@@ -15,4 +15,6 @@ pub enum Outcome {
     Voided,
     /// The director awarded each side an average, whatever was played (Law 12C2).
     Adjusted { ns: Average, ew: Average },
+    /// The director assigned the score of that contract with that many tricks for declarer, whatever was played (Law 12C1).
+    Assigned { contract: Contract, tricks: u8 },
 }

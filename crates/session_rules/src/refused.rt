@@ -67,13 +67,21 @@ pub enum Refused {
     ClaimsSpent,
     /// Averages are of matchpoints, and the scoring is by IMPs.
     NotMatchPoints,
+    /// Nothing was done in the play that could be taken back.
+    NothingToTakeBack,
+    /// The play's round is not the current one.
+    NotThisRound,
+    /// A ruling stands on the play, or on one of the board's.
+    RulingStands,
+    /// A call was made on the board.
+    BoardBegun,
 }
 
 impl Refused {
-    /// The refusal's number, 1 to 29.
+    /// The refusal's number: 1 to 29, or 50 to 53.
     pub fn number(self) -> u8
         ensures number { result ≡ refusal_number self }
-        ensures most { result ≤ 29 }
+        ensures most { result ≤ 53 }
     {
         match self {
             Refused::NoKey => 1,
@@ -105,6 +113,10 @@ impl Refused {
             Refused::NotAnEnding => 27,
             Refused::ClaimsSpent => 28,
             Refused::NotMatchPoints => 29,
+            Refused::NothingToTakeBack => 50,
+            Refused::NotThisRound => 51,
+            Refused::RulingStands => 52,
+            Refused::BoardBegun => 53,
         }
     }
 
@@ -143,6 +155,10 @@ impl Refused {
             Refused::NotAnEnding => "NotAnEnding",
             Refused::ClaimsSpent => "ClaimsSpent",
             Refused::NotMatchPoints => "NotMatchPoints",
+            Refused::NothingToTakeBack => "NothingToTakeBack",
+            Refused::NotThisRound => "NotThisRound",
+            Refused::RulingStands => "RulingStands",
+            Refused::BoardBegun => "BoardBegun",
         }
     }
 }

@@ -1,5 +1,5 @@
 //! What stands in the cells about a play.
-ghost use Rattle.std.specs.Prelude.{◌≡◌, ◌+◌, ◌≤◌, ◌++◌, length};
+ghost use Rattle.std.specs.Prelude.{◌≡◌, ◌+◌, ◌≤◌, ◌++◌, codes, length};
 ghost use Rattle.std.specs.Fmt.{signed_decimal};
 ghost use Rattle.bridge_auction.specs.Spelling.{bid_text, doubling_text};
 ghost use Rattle.session_rules.specs.declared.outcome.Outcome.TheVariants.{Adjusted};
@@ -27,6 +27,16 @@ fn bid_cell(contract: &Contract) -> CellText
     text
 }
 
+/// The same of an assigned score, with a mark.
+fn assigned_cell(contract: &Contract) -> CellText
+    ensures text { result.bytes ≡ (bid_text contract.now.bid ++ doubling_text contract.now.doubling) ++ codes "*" }
+    ensures short { length result.bytes ≤ 22 }
+{
+    let mut text = bid_cell(contract);
+    text.push_str("*");
+    text
+}
+
 /// A word as a cell.
 fn word_cell(word: &str) -> CellText
     requires { length word.now ≤ 22 }
@@ -48,6 +58,7 @@ pub fn contract_cell(outcome: Outcome) -> CellText
         Outcome::Played { contract, .. } => bid_cell(&contract),
         Outcome::Voided => word_cell("Void"),
         Outcome::Adjusted { .. } => word_cell("Adjusted"),
+        Outcome::Assigned { contract, .. } => assigned_cell(&contract),
     }
 }
 
@@ -58,6 +69,7 @@ pub fn declarer_cell(outcome: Outcome) -> &'static str
 {
     match outcome {
         Outcome::Played { contract, .. } => seat_text(contract.declarer),
+        Outcome::Assigned { contract, .. } => seat_text(contract.declarer),
         _ => "",
     }
 }
@@ -69,6 +81,7 @@ pub fn tricks_cell(outcome: Outcome) -> NumberText
 {
     match outcome {
         Outcome::Played { tricks, .. } => number_text(u32::from(tricks)),
+        Outcome::Assigned { tricks, .. } => number_text(u32::from(tricks)),
         _ => NumberText::new(),
     }
 }

@@ -1,18 +1,20 @@
 //! What players and the director do in a session.
-ghost use Rattle.std.specs.Prelude.{◌≡◌, ◌+◌, ◌<◌, OnOk, OnErr, if◌then◌else◌, Some, take, drop, slice_set, ◌-◌};
+ghost use Rattle.std.specs.Prelude.{◌≡◌, ◌+◌, ◌<◌, OnOk, OnErr, if◌then◌else◌, Some, None, take, drop, slice_set, ◌-◌};
 ghost use Rattle.std.specs.List.{list_any};
 ghost use Rattle.session_rules.specs.Record.{is_open};
 ghost use Rattle.session_rules.specs.State.{director_answer, record_of};
 ghost use Rattle.session_rules.specs.PlayerStep.{seen_by, player_answer, acted};
-ghost use Rattle.session_rules.specs.DirectorStep.{if_allowed, deal_answer, next_answer, records_of_round, rule_answer, ruled};
+ghost use Rattle.session_rules.specs.Back.{back_answer, less_latest_in};
+ghost use Rattle.session_rules.specs.DirectorStep.{if_allowed, deal_answer, is_begun_on, is_ruled_on, undeal_answer, next_answer, records_of_round, rule_answer, ruled};
 ghost use Rattle.session_rules.specs.Step.{act_answer, step_answer, changed_by, changed};
-ghost use Rattle.bridge_table.specs.Kept.{is_kept_open};
+ghost use Rattle.bridge_table.specs.Kept.{plain_of, is_kept_open};
 
 use super::Session;
 use bridge_cards::{BoardNumber, CardSet, Deal};
 use bridge_config::Key;
 use bridge_table::{
-    Record, act_among, check_director, has_open, is_closed, is_of_set, row_of, rule_among, seat_by,
+    Record, act_among, back_among, check_director, has_begun, has_open, has_ruling, is_closed,
+    is_of_set, row_of, rule_among, seat_by,
 };
 use session_rules::{Act, Action, Correction, Deed, MadeCount, PlayId, Refused, RoundNumber};
 
@@ -25,6 +27,24 @@ fn have_open(tables: &[Vec<Record>], start: usize, count: usize) -> bool
         .skip(start)
         .take(count)
         .any(|table| has_open(table.as_slice()))
+}
+
+/// Whether a call was made on the board at one of the tables.
+fn have_begun(tables: &[Vec<Record>], board: BoardNumber) -> bool
+    ensures { result ≡ list_any (λ table. list_any (λ kept. is_begun_on board (plain_of kept)) table.items) tables.now }
+{
+    tables
+        .iter()
+        .any(|table| has_begun(table.as_slice(), board))
+}
+
+/// Whether a ruling stands on a play of the board at one of the tables.
+fn have_ruling(tables: &[Vec<Record>], board: BoardNumber) -> bool
+    ensures { result ≡ list_any (λ table. list_any (λ kept. is_ruled_on board (plain_of kept)) table.items) tables.now }
+{
+    tables
+        .iter()
+        .any(|table| has_ruling(table.as_slice(), board))
 }
 
 impl Session {
@@ -75,6 +95,48 @@ impl Session {
             return Err(Refused::BadDeal);
         };
         self.deals[index] = Some(deal);
+        Ok(())
+    }
+
+    /// Whether a call was made on the board at any table.
+    fn is_begun(&self, board: BoardNumber) -> bool
+        ensures { result ≡ list_any (list_any (is_begun_on board)) self.now.records }
+    {
+        have_begun(self.tables.as_slice(), board)
+    }
+
+    /// Whether a ruling stands on a play of the board.
+    fn is_ruled(&self, board: BoardNumber) -> bool
+        ensures { result ≡ list_any (list_any (is_ruled_on board)) self.now.records }
+    {
+        have_ruling(self.tables.as_slice(), board)
+    }
+
+    /// Takes the deal of a board back. Refused are: `Closed`, `NoSuchPlay` where the session has no such board, `NotDealt`,
+    /// `BoardBegun`, `RulingStands`.
+    fn undeal_board(&mut self, key: Key, board: BoardNumber) -> Result<(), Refused>
+        ensures answer { result ≡ if_allowed (director_answer self.old.configuration key.0) (undeal_answer self.old board) }
+        ensures taken { OnOk result (self.new ≡ record self.old { deals = slice_set self.old.deals (board - 1) None }) }
+        ensures refused { OnErr result (self.new ≡ self.old) }
+    {
+        check_director(&self.config, key)?;
+        if is_closed(&self.config, self.round) {
+            return Err(Refused::Closed);
+        }
+        let index = usize::from(board.number() - 1);
+        if index >= self.deals.len() {
+            return Err(Refused::NoSuchPlay);
+        }
+        if self.deals[index].is_none() {
+            return Err(Refused::NotDealt);
+        }
+        if self.is_begun(board) {
+            return Err(Refused::BoardBegun);
+        }
+        if self.is_ruled(board) {
+            return Err(Refused::RulingStands);
+        }
+        self.deals[index] = None;
         Ok(())
     }
 
@@ -137,6 +199,29 @@ impl Session {
         )
     }
 
+    /// Takes back the latest thing done in a play. Refused are: `NoSuchPlay`, `NotYet`, `NotThisRound`, `RulingStands`,
+    /// `NothingToTakeBack`.
+    fn take_back(&mut self, key: Key, play: PlayId) -> Result<(), Refused>
+        ensures answer { result ≡ if_allowed (director_answer self.old.configuration key.0) (back_answer self.old.round play.round (record_of self.old play)) }
+        ensures taken { OnOk result (self.new ≡ less_latest_in self.old play) }
+        ensures refused { OnErr result (self.new ≡ self.old) }
+    {
+        let PlayId {
+            round,
+            table,
+            index,
+        } = play;
+        let of_round = round.number();
+        let at = usize::from(index.number() - 1);
+        check_director(&self.config, key)?;
+        let Some(index) = row_of(&self.config, round, table) else {
+            return Err(Refused::NoSuchPlay);
+        };
+        let now = self.round;
+        let records = &mut self.tables[index];
+        back_among(records.as_mut_slice(), at, now, of_round)
+    }
+
     /// Takes an action by who does what.
     fn take(&mut self, act: Act) -> Result<(), Refused>
         ensures answer { result ≡ act_answer self.old act }
@@ -151,7 +236,9 @@ impl Session {
                 deed,
             } => self.act(key, board, at, deed),
             Act::Deal { key, board, hands } => self.deal_board(key, board, hands),
+            Act::Undeal { key, board } => self.undeal_board(key, board),
             Act::RoundEnd { key, round } => self.end_round(key, round),
+            Act::Back { key, play } => self.take_back(key, play),
             Act::Ruling {
                 key,
                 play,
@@ -167,9 +254,10 @@ impl Session {
     /// `InsufficientBid`, `InadmissibleDouble` and `InadmissibleRedouble`; of a card `ClaimStands`, `NotYourTurn`,
     /// `NotHeld` and `MustFollow`; of a claim `ClaimStands`, `NotYourTurn`, `MidTrick`, `TooManyTricks` and
     /// `ClaimsSpent`; of an answer to a claim `NoClaim` and `NotAsked`. Of a deal `Closed`, `NoSuchPlay`,
-    /// `AlreadyDealt` and `BadDeal`; of the end of a round `Closed`, `Stale` and `RoundOpen`; of a ruling `NoSuchPlay`
-    /// and `NotYet`, and then of `Tricks` `NoContract` and `NotFinished`, of averages `NotMatchPoints`, of `Restore`
-    /// `NotFinished`.
+    /// `AlreadyDealt` and `BadDeal`; where a deal is taken back `Closed`, `NoSuchPlay`, `NotDealt`, `BoardBegun` and
+    /// `RulingStands`; of the end of a round `Closed`, `Stale` and `RoundOpen`; of a ruling `NoSuchPlay` and `NotYet`,
+    /// and then of `Tricks` `NoContract` and `NotFinished`, of averages `NotMatchPoints`, of `Restore` `NotFinished`;
+    /// where the latest thing is taken back `NoSuchPlay`, `NotYet`, `NotThisRound`, `RulingStands` and `NothingToTakeBack`.
     pub fn step(&mut self, action: &Action) -> Result<(), Refused>
         ensures answer { result ≡ step_answer self.old action.now }
         ensures taken { OnOk result (self.new ≡ changed self.old action.now) }

@@ -14,3 +14,6 @@ returns-in-Voided-clause-lines c = rw c.in-Voided.is c.push_unplayed-in-Voided.e
 
 pub returns-in-Adjusted-clause-lines : goal.returns-in-Adjusted-clause-lines
 returns-in-Adjusted-clause-lines c = rw c.in-Adjusted.is c.push_unplayed-in-Adjusted.ensures.lines
+
+pub returns-in-Assigned-clause-lines : goal.returns-in-Assigned-clause-lines
+returns-in-Assigned-clause-lines c = rw c.in-Assigned.is c.push_unplayed-in-Assigned.ensures.lines
