@@ -3,6 +3,9 @@
 mod action_bytes;
 mod disk;
 mod faults;
+mod holder;
+mod mended;
+mod mends;
 mod old_disk;
 mod parts;
 mod random_actions;
@@ -11,6 +14,7 @@ mod restored;
 mod results;
 mod script;
 mod story;
+mod taken_back;
 mod twin;
 
 use std::fmt::Debug;

@@ -1,6 +1,6 @@
 //! Actions that a sequence of numbers picks: most are what the rules ask for at a table, and some are anything.
 use super::twin::Twin;
-use bridge_auction::{Bid, Call, Denomination, Level};
+use bridge_auction::{Bid, Call, Contract, Denomination, Doubling, Level};
 use bridge_cards::{BoardNumber, Card, CardSet, Seat, deal_board};
 use bridge_config::Key;
 use bridge_movement::Row;
@@ -53,6 +53,16 @@ fn any_play(state: &mut u32) -> Option<PlayId> {
     })
 }
 
+/// A play of that round, which may not be there.
+fn play_in(state: &mut u32, round: u8) -> Option<PlayId> {
+    let other = any_play(state)?;
+    Some(PlayId {
+        round: RoundNumber::new(round)?,
+        table: other.table,
+        index: other.index,
+    })
+}
+
 /// Four hands: a deal, or one in which North's cards are East's too.
 fn any_hands(state: &mut u32, board: BoardNumber) -> [CardSet; 4] {
     let deal = deal_board(&[small(state, 200); 32], board);
@@ -74,6 +84,18 @@ fn any_average(state: &mut u32) -> Average {
     }
 }
 
+fn any_contract(state: &mut u32) -> Option<Contract> {
+    Some(Contract {
+        bid: Bid::from_number(small(state, 35))?,
+        doubling: match next(state, 3) {
+            0 => Doubling::Undoubled,
+            1 => Doubling::Doubled,
+            _ => Doubling::Redoubled,
+        },
+        declarer: Seat::North.clockwise(usize::from(small(state, 4))),
+    })
+}
+
 /// What the director may do.
 fn ruling(state: &mut u32, round: u8) -> Option<Action> {
     let key = if next(state, 10) == 0 {
@@ -81,7 +103,21 @@ fn ruling(state: &mut u32, round: u8) -> Option<Action> {
     } else {
         Key(100)
     };
-    match next(state, 5) {
+    match next(state, 8) {
+        7 => Some(Action::Back {
+            key,
+            play: play_in(state, round)?,
+        }),
+        6 => Some(Action::Assign {
+            key,
+            play: any_play(state)?,
+            contract: any_contract(state)?,
+            tricks: TrickCount::new(small(state, 14))?,
+        }),
+        5 => Some(Action::Undeal {
+            key,
+            board: BoardNumber::new(small(state, 8).saturating_add(1))?,
+        }),
         4 => Some(Action::Adjust {
             key,
             play: any_play(state)?,

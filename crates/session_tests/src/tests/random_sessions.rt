@@ -120,7 +120,7 @@ fn long_random_sessions_are_answered_alike(rt: HostRuntime) -> Result<(), Fail> 
     let text = format!(in rt.alloc(); "{before}IMP\nBOARDS 1{after}")?;
     let (mut state, mut closed) = (2, 0u32);
     for _ in 0..10 {
-        let (session, _) = run_session(&rt, rt.alloc(), text.as_str(), &mut state, 1200)?;
+        let (session, _) = run_session(&rt, rt.alloc(), text.as_str(), &mut state, 1800)?;
         if session.see(Key(11)).err() == Some(Refused::Closed) {
             closed = closed.saturating_add(1);
         }

@@ -1,5 +1,5 @@
 //! What was done in one play, and the answer to what a player does next.
-use bridge_auction::{Auction, Call, CallRefused};
+use bridge_auction::{Auction, Call, CallRefused, Contract};
 use bridge_cards::{BoardNumber, Card, Deal, Seat, dealer};
 use bridge_play::Play;
 use bridge_session::{Action, Average, Outcome, Refused};
@@ -13,6 +13,7 @@ pub struct Story {
     pub ruled_tricks: Option<u8>,
     pub is_void: bool,
     pub averages: Option<(Average, Average)>,
+    pub assigned: Option<(Contract, u8)>,
 }
 
 impl Story {
@@ -25,6 +26,7 @@ impl Story {
             ruled_tricks: None,
             is_void: false,
             averages: None,
+            assigned: None,
         }
     }
 
@@ -33,6 +35,7 @@ impl Story {
         match *action {
             Action::Deal { board, hands, .. } if board == self.board => self.deal =
                 Deal::from_hands(hands).ok(),
+            Action::Undeal { board, .. } if board == self.board => self.deal = None,
             Action::Call { call, .. } if seat.is_some() => self.call(call),
             _ => {
                 if let Some(seat) = seat {
@@ -49,10 +52,44 @@ impl Story {
             Action::Adjust { ns, ew, .. } => Some((*ns, *ew)),
             _ => None,
         };
+        self.assigned = match action {
+            Action::Assign {
+                contract,
+                tricks,
+                ..
+            } => Some((*contract, tricks.number())),
+            _ => None,
+        };
         self.ruled_tricks = match action {
             Action::Tricks { tricks, .. } => Some(tricks.number()),
             _ => None,
         };
+    }
+
+    /// Whether a ruling stands.
+    pub fn is_ruled(&self) -> bool {
+        self.is_ruled_out() || self.ruled_tricks.is_some()
+    }
+
+    /// Whether the play is void or adjusted, or has an assigned score.
+    pub fn is_ruled_out(&self) -> bool {
+        self.is_void || self.averages.is_some() || self.assigned.is_some()
+    }
+
+    /// Takes back the latest thing done: the auction and the play are made anew without it.
+    pub fn back(&mut self) {
+        let left = match (&self.play, &self.deal) {
+            (Some(play), Some(deal)) => less_in_play(play, deal),
+            _ => None,
+        };
+        if left.is_none() {
+            let calls = self.auction.calls();
+            let (front, _) = calls.split_at(calls.len().saturating_sub(1));
+            if let Some(auction) = Auction::from_calls(dealer(self.board), front) {
+                self.auction = auction;
+            }
+        }
+        self.play = left;
     }
 
     fn call(&mut self, call: Call) {
@@ -91,6 +128,9 @@ impl Story {
         if let Some((ns, ew)) = self.averages {
             return Outcome::Adjusted { ns, ew };
         }
+        if let Some((contract, tricks)) = self.assigned {
+            return Outcome::Assigned { contract, tricks };
+        }
         let tricks = match (self.ruled_tricks, &self.play) {
             (Some(tricks), _) => tricks,
             (None, Some(play)) => play.tricks(play.contract().declarer.side()),
@@ -125,6 +165,18 @@ impl Story {
             _ => Ok(()),
         }
     }
+}
+
+/// The play without its claim, or else without its last card, if there is one.
+fn less_in_play(play: &Play, deal: &Deal) -> Option<Play> {
+    let cards = play.cards();
+    let kept = if play.claim().is_some() {
+        cards.len()
+    } else {
+        cards.len().checked_sub(1)?
+    };
+    let (front, _) = cards.split_at(kept);
+    Play::from_parts(deal, *play.contract(), front, play.claims(), None)
 }
 
 fn call_answer(auction: &mut Auction, seat: Seat, at: u16, call: Call) -> Result<(), Refused> {

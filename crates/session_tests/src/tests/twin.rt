@@ -1,4 +1,5 @@
 //! A second reading of a session: it keeps every action that was taken, and works each answer out from all of them.
+use super::holder::{Holder, holder_of};
 use super::story::Story;
 use bridge_cards::{BoardNumber, CardSet, Deal, Seat};
 use bridge_config::{Config, Key};
@@ -13,34 +14,6 @@ pub struct Twin {
     pub taken: Vec<Action>,
 }
 
-/// Whose a key is.
-#[derive(Clone, Copy)]
-pub enum Holder {
-    Nobody,
-    Director,
-    Player { pair: u8, first: bool },
-}
-
-pub fn holder_of(config: &Config, key: Key) -> Holder {
-    let fields = config.fields();
-    if fields.director == key {
-        return Holder::Director;
-    }
-    let mut pair = 0u8;
-    for players in fields.pairs.as_slice() {
-        pair = pair.saturating_add(1);
-        for (index, held) in players.keys.iter().enumerate() {
-            if *held == key {
-                return Holder::Player {
-                    pair,
-                    first: index == 0,
-                };
-            }
-        }
-    }
-    Holder::Nobody
-}
-
 /// The row of a round that two pairs play, one of them this one.
 pub fn row_of_pair(config: &Config, round: usize, pair: u8) -> Option<Row> {
     let rows = config.fields().movement.rows();
@@ -53,7 +26,7 @@ pub fn row_of_pair(config: &Config, round: usize, pair: u8) -> Option<Row> {
 }
 
 /// The row of a round and table, if two pairs play there.
-fn row_of_play(config: &Config, play: PlayId) -> Option<Row> {
+pub fn row_of_play(config: &Config, play: PlayId) -> Option<Row> {
     let rows = config.fields().movement.rows();
     rows.iter().copied().find(|row| {
         row.round == play.round.number()
@@ -61,6 +34,13 @@ fn row_of_play(config: &Config, play: PlayId) -> Option<Row> {
             && row.ns != 0
             && row.ew != 0
     })
+}
+
+/// Whether it is the play of that index in the row.
+fn is_play(play: PlayId, row: Row, index: u8) -> bool {
+    play.round.number() == row.round
+        && play.table.number() == row.table
+        && play.index.number() == index
 }
 
 /// Where a pair's player sits: the first North or East, the second South or West.
@@ -85,7 +65,7 @@ impl Twin {
         round
     }
 
-    fn is_closed(&self) -> bool {
+    pub fn is_closed(&self) -> bool {
         self.round() > usize::from(self.config.fields().movement.shape().rounds)
     }
 
@@ -111,14 +91,10 @@ impl Twin {
                 Action::Tricks { play, .. }
                 | Action::Void { play, .. }
                 | Action::Adjust { play, .. }
-                | Action::Restore { play, .. } => {
-                    if play.round.number() == row.round
-                        && play.table.number() == row.table
-                        && play.index.number() == index
-                    {
-                        story.rule(action);
-                    }
-                }
+                | Action::Assign { play, .. }
+                | Action::Restore { play, .. }
+                    if is_play(play, row, index) => story.rule(action),
+                Action::Back { play, .. } if is_play(play, row, index) => story.back(),
                 _ => {
                     let seat = self.seat_of(action, row, round, story.board);
                     story.tell(action, seat);
@@ -159,7 +135,7 @@ impl Twin {
     pub fn current(&self, row: Row) -> Option<Story> {
         for index in 1..4 {
             let story = self.story(row, index)?;
-            if !story.is_over() && !story.is_void && story.averages.is_none() {
+            if !story.is_over() && !story.is_ruled_out() {
                 return Some(story);
             }
         }
@@ -167,7 +143,7 @@ impl Twin {
     }
 
     /// The hands of a board, if it was dealt.
-    fn deal(&self, board: BoardNumber) -> Option<Deal> {
+    pub fn deal(&self, board: BoardNumber) -> Option<Deal> {
         let mut story = Story::new(board);
         for action in self.taken.as_slice() {
             story.tell(action, None);
@@ -273,6 +249,14 @@ impl Twin {
                 self.check_director(key)?;
                 self.deal_answer(board, hands)
             }
+            Action::Undeal { key, board } => {
+                self.check_director(key)?;
+                self.undeal_answer(board)
+            }
+            Action::Back { key, play } => {
+                self.check_director(key)?;
+                self.back_answer(play)
+            }
             Action::NextRound { key, round } => {
                 self.check_director(key)?;
                 self.next_answer(round.number())
@@ -280,6 +264,7 @@ impl Twin {
             Action::Tricks { key, play, .. }
             | Action::Void { key, play }
             | Action::Adjust { key, play, .. }
+            | Action::Assign { key, play, .. }
             | Action::Restore { key, play } => {
                 self.check_director(key)?;
                 self.ruling_answer(action, play)
