@@ -38,6 +38,8 @@ pub enum Route {
     Results,
     /// `POST /desk`: what its body asks of the desk is to be answered, beside the session.
     Desk,
+    /// `POST /wait`: it is to be answered once what is told to the key that its body begins with is another text than the rest of it.
+    Wait,
     /// Nothing that is here.
     Refused(Refusal),
 }
@@ -87,6 +89,7 @@ pub fn route_of(host: &str, alias: &str, request: &Request<Bytes>) -> Route
         "/boards" => posting(request, Route::Boards),
         "/results" => posting(request, Route::Results),
         "/desk" => posting(request, Route::Desk),
+        "/wait" => posting(request, Route::Wait),
         _ => Route::Refused(Refusal::NotFound),
     }
 }
