@@ -1,10 +1,12 @@
 //! One client of the server.
-ghost use Rattle.std.specs.Prelude.{◌≡◌};
+ghost use Rattle.std.specs.Prelude.{◌≡◌, true, false};
 ghost use Rattle.web_loop.specs.Turns.{LeadsTo, TakesTurn};
+ghost use Rattle.web_loop.specs.Waiting.{is_late, HoldsAnew, IsFree, IsOnHold, IsPutOff, StaysPutOff};
 
-use crate::offenders::Offenders;
+use crate::offenders::{Offenders, millis};
 use crate::service::LastingService;
 use crate::turn::{Turn, take_turn};
+use bytes::Bytes;
 use http_server::Connection;
 use std::io::{Read, Write};
 use std::net::IpAddr;
@@ -12,6 +14,35 @@ use std::time::{Duration, Instant};
 
 /// After so many seconds of silence a connection is closed.
 const PATIENCE: u64 = 20;
+
+/// For so many milliseconds an answer is put off at most.
+const LONGEST_HOLD: u64 = 15_000;
+
+/// An answer that is put off.
+#[derive(Drop)]
+pub struct Held {
+    /// What its request wishes for.
+    pub(crate) wish: Bytes,
+    /// Since when.
+    pub(crate) since: Instant,
+}
+
+impl Held {
+    /// Whether it was put off for as long as may be.
+    fn is_late(&self, now: Instant) -> bool
+        ensures { result ≡ is_late self.now.since now }
+    {
+        LONGEST_HOLD <= millis(self.since, now)
+    }
+
+    /// Whether it is put off no longer: 15 seconds have passed, or it is looked at and what it wishes for has come.
+    fn is_over<S: LastingService>(&self, service: &S, looks: bool, now: Instant) -> bool
+        ensures held { result ≡ false → StaysPutOff S.stays looks now service.now self.now }
+        ensures free { result ≡ true → ¬ (StaysPutOff S.stays looks now service.now self.now) }
+    {
+        self.is_late(now) || (looks && service.has_come(self.wish.as_slice()))
+    }
+}
 
 /// A connection with the two handles of its socket, one to read at and one to write at.
 #[derive(Drop)]
@@ -24,8 +55,10 @@ pub struct Client<T> {
     writer: T,
     /// Where it came from.
     address: IpAddr,
-    /// When it last read or wrote.
+    /// When it last read or wrote, or waited for what it wished.
     heard: Instant,
+    /// The answer that is put off, if one is.
+    held: Option<Held>,
 }
 
 impl<T: Read + Write + Drop> Client<T> {
@@ -43,12 +76,13 @@ impl<T: Read + Write + Drop> Client<T> {
             writer,
             address,
             heard: now,
+            held: None,
         }
     }
 
-    /// Whether an answer to it is not sent yet.
+    /// Whether an answer to it is to be sent and not sent yet. One that is put off is not to be sent.
     pub fn is_pending(&self) -> bool {
-        self.connection.wants_write()
+        self.held.is_none() && self.connection.wants_write()
     }
 
     /// Where it came from.
@@ -56,32 +90,68 @@ impl<T: Read + Write + Drop> Client<T> {
         self.address
     }
 
-    /// When it last read or wrote.
+    /// When it last read or wrote, or waited for what it wished.
     pub fn heard(&self) -> Instant {
         self.heard
     }
 
-    /// Takes its turn, unless its address waits. It closes once it has been silent for 20 seconds, but not while its address
-    /// waits.
+    /// Has the answer sent that is put off, if one is.
+    pub fn release(&mut self) {
+        self.held = None;
+    }
+
+    /// Whether no answer is put off any longer.
+    fn goes_on<S: LastingService>(&self, service: &S, looks: bool, now: Instant) -> bool
+        ensures held { result ≡ false → IsOnHold S.stays looks now service.now self.now.held }
+        ensures free { result ≡ true → ¬ (IsOnHold S.stays looks now service.now self.now.held) }
+    {
+        match &self.held {
+            Some(held) => held.is_over(service, looks, now),
+            None => true,
+        }
+    }
+
+    /// Puts the answer off, for what the last request wishes; where memory is refused it is sent.
+    fn hold<S: LastingService>(&mut self, service: &S, now: Instant)
+        ensures held { HoldsAnew (S.wish service.now) now self.new.held }
+        ensures connection { self.new.connection ≡ self.old.connection }
+        ensures reader { self.new.reader ≡ self.old.reader }
+    {
+        self.held = match service.wish() {
+            Some(wish) => match wish.clone() {
+                Ok(wish) => Some(Held { wish, since: now }),
+                Err(_) => None,
+            },
+            None => None,
+        };
+    }
+
+    /// Takes its turn, unless its address waits or its answer is put off. It closes once it has been silent for 20 seconds, but not
+    /// while its address waits.
+    ///
+    /// The answer to a request that waits is put off until 15 seconds have passed, or what it wishes for has come and it `looks`,
+    /// which it need not where nothing has changed since it did. While it is put off nothing is read, answered or sent.
     pub fn take_turn<S: LastingService>(
         &mut self,
         service: &mut S,
         offenders: &mut Offenders,
+        looks: bool,
         now: Instant,
     ) -> Turn
         ensures leads { LeadsTo S.answers service.old service.new }
         ensures turn { TakesTurn S.answers T.remaining self.old self.new service.old service.new }
+        ensures held { IsOnHold S.stays looks now service.old self.old.held → IsPutOff self.old self.new service.old service.new }
+        ensures free { IsFree S.stays looks now self.old offenders.old service.old → HoldsAnew (S.wish service.new) now self.new.held }
     {
         if offenders.waits(self.address, now) {
             return Turn::Waits { moved: false };
         }
+        if !self.goes_on(service, looks, now) {
+            self.heard = now;
+            return Turn::Waits { moved: false };
+        }
         let before = service.offences();
-        let turn = take_turn(
-            &mut self.connection,
-            service,
-            &mut self.reader,
-            &mut self.writer,
-        );
+        let turn = self.take_turn_now(service, now);
         if turn != (Turn::Waits { moved: false }) {
             self.heard = now;
             let wrong = service.offences().saturating_sub(before);
@@ -93,5 +163,24 @@ impl<T: Read + Write + Drop> Client<T> {
         } else {
             Turn::Closes
         }
+    }
+
+    /// Takes its turn, and puts the answer off that is to be.
+    fn take_turn_now<S: LastingService>(&mut self, service: &mut S, now: Instant) -> Turn
+        ensures leads { LeadsTo S.answers service.old service.new }
+        ensures turn { TakesTurn S.answers T.remaining self.old self.new service.old service.new }
+        ensures held { HoldsAnew (S.wish service.new) now self.new.held }
+    {
+        self.held = None;
+        let turn = take_turn(
+            &mut self.connection,
+            service,
+            &mut self.reader,
+            &mut self.writer,
+        );
+        if turn == Turn::Holds {
+            self.hold(service, now);
+        }
+        turn
     }
 }

@@ -14,7 +14,7 @@ use std::hash::RandomState;
 use std::io;
 use std::io::{Read, Write};
 use std::net::{IpAddr, OpenStream};
-use std::time::Instant;
+use std::time::{Duration, Instant};
 
 /// The most clients at once.
 pub const MOST_CLIENTS: usize = 128;
@@ -35,6 +35,10 @@ pub struct Clients<T> {
     connected: Slab<Client<T>>,
     /// The addresses from which offences came.
     offenders: Offenders,
+    /// Whether any of them did something in the last turns.
+    moved: bool,
+    /// When each of them was last looked at for what it wishes.
+    looked: Instant,
 }
 
 impl<T: Read + Write + OpenStream + Drop> Clients<T> {
@@ -47,6 +51,8 @@ impl<T: Read + Write + OpenStream + Drop> Clients<T> {
             config,
             connected: Slab::new(alloc),
             offenders: Offenders::new(begun),
+            moved: false,
+            looked: begun,
         }
     }
 
@@ -136,31 +142,85 @@ impl<T: Read + Write + OpenStream + Drop> Clients<T> {
         }
     }
 
-    /// A turn of each client whose address does not wait, and whether any of them read or wrote. The service is called for what
-    /// these clients sent, and for nothing else.
+    /// Has the answers sent that are put off.
+    pub fn release(&mut self) {
+        for key in 0..self.connected.capacity() {
+            self.release_at(key);
+        }
+    }
+
+    /// Has the answer sent that is put off for the client under a key, if there is one.
+    fn release_at(&mut self, key: usize) {
+        if let Some(client) = self.connected.get_mut(key) {
+            client.release();
+        }
+    }
+
+    /// Whether each client is looked at for what it wishes, as after turns in which something was done, and each second.
+    fn looks(&mut self, now: Instant) -> bool
+        ensures { self.new.connected ≡ self.old.connected }
+    {
+        let looks = self.moved || now.duration_since(self.looked) >= Duration::from_secs(1);
+        if looks {
+            self.looked = now;
+        }
+        looks
+    }
+
+    /// A turn of each client whose address does not wait, and whether any of them read, wrote or closed. The service is called for
+    /// what these clients sent, and for nothing else.
     pub fn take_turns<S: LastingService>(&mut self, service: &mut S, now: Instant) -> bool
+        ensures leads { LeadsTo S.answers service.old service.new }
+        ensures turns { TurnsOf S.answers T.remaining (get self.old.connected) self.old.connected.capacity service.old service.new }
+    {
+        let looks = self.looks(now);
+        let moved = self.take_each_turn(service, looks, now);
+        self.moved = moved;
+        moved
+    }
+
+    /// A turn of each client, of which those are looked at for what they wish that come after one that did something, or all.
+    fn take_each_turn<S: LastingService>(
+        &mut self,
+        service: &mut S,
+        looks: bool,
+        now: Instant,
+    ) -> bool
         ensures leads { LeadsTo S.answers service.old service.new }
         ensures turns { TurnsOf S.answers T.remaining (get self.old.connected) self.old.connected.capacity service.old service.new }
     {
         let mut moved = false;
         for key in 0..self.connected.capacity() {
-            moved |= self.take_turn_at(key, service, now);
+            moved |= self.take_turn_at(key, service, looks || moved, now);
         }
         moved
     }
 
-    /// The turn of the client under a key, if there is one, and whether it read or wrote. It goes where it closes.
-    fn take_turn_at<S: LastingService>(&mut self, key: usize, service: &mut S, now: Instant) -> bool
+    /// The turn of the client under a key, if there is one, and whether it read, wrote or closed. It goes where it closes.
+    fn take_turn_at<S: LastingService>(
+        &mut self,
+        key: usize,
+        service: &mut S,
+        looks: bool,
+        now: Instant,
+    ) -> bool
         ensures leads { LeadsTo S.answers service.old service.new }
         ensures turn { TurnsIf S.answers T.remaining (get self.old.connected key) service.old service.new }
         ensures others { (other : ℕ) → other ≢ key → get self.new.connected other ≡ get self.old.connected other }
     {
-        match turn_at(&mut self.connected, &mut self.offenders, key, service, now) {
+        match turn_at(
+            &mut self.connected,
+            &mut self.offenders,
+            key,
+            service,
+            looks,
+            now,
+        ) {
             Turn::Waits { moved } => moved,
-            Turn::GoesOn => true,
+            Turn::GoesOn | Turn::Holds => true,
             Turn::Closes => {
                 self.connected.try_remove(key);
-                false
+                true
             }
         }
     }
@@ -172,6 +232,7 @@ fn turn_at<T: Read + Write + Drop, S: LastingService>(
     offenders: &mut Offenders,
     key: usize,
     service: &mut S,
+    looks: bool,
     now: Instant,
 ) -> Turn
     ensures leads { LeadsTo S.answers service.old service.new }
@@ -179,7 +240,7 @@ fn turn_at<T: Read + Write + Drop, S: LastingService>(
     ensures others { (other : ℕ) → other ≢ key → get connected.new other ≡ get connected.old other }
 {
     match connected.get_mut(key) {
-        Some(client) => client.take_turn(service, offenders, now),
+        Some(client) => client.take_turn(service, offenders, looks, now),
         None => Turn::Waits { moved: false },
     }
 }

@@ -31,7 +31,7 @@ fn address_number(address: IpAddr) -> u128
 }
 
 /// The milliseconds from one time to another.
-fn millis(from: Instant, to: Instant) -> u64
+pub(crate) fn millis(from: Instant, to: Instant) -> u64
     ensures { result ≡ millis from to }
 {
     to.duration_since(from)

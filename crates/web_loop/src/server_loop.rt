@@ -58,7 +58,7 @@ where
     Ok(())
 }
 
-/// Gives clients their turns until nothing is pending, for about a second at most.
+/// Gives clients their turns until nothing is pending, for about a second at most. No answer is put off any longer.
 fn send_pending<N: Net + Clock, S: LastingService>(
     rt: &N,
     readiness: &mut Readiness,
@@ -70,6 +70,7 @@ fn send_pending<N: Net + Clock, S: LastingService>(
     let begun = Instant::now(rt)?;
     for _ in 0..LAST_ROUNDS {
         let now = Instant::now(rt)?;
+        clients.release();
         let moved = clients.take_turns(service, now);
         let is_late = now.duration_since(begun) >= Duration::from_secs(LAST_SECONDS);
         if is_late || !clients.has_pending() {

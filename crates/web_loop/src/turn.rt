@@ -3,9 +3,10 @@ ghost use Rattle.std.specs.Prelude.{◌≡◌, if◌then◌else◌};
 ghost use Rattle.http_server.specs.Connection.{history};
 ghost use Rattle.http_server.specs.Exchange.{Calls};
 ghost use Rattle.web_loop.specs.Turns.{Receives, Sends};
+ghost use Rattle.web_loop.specs.Waiting.{StepHolds, TurnHolds};
 
 use crate::service::LastingService;
-use http_server::{Connection, Service};
+use http_server::Connection;
 use std::io::{ErrorKind, Read, Write};
 
 /// The most reads and writes of one turn.
@@ -21,6 +22,8 @@ pub enum Turn {
     },
     /// It took as many steps as a turn may, or answered an offence, and has more to do.
     GoesOn,
+    /// It answered a request that waits, of which nothing is sent yet.
+    Holds,
     /// It is done, or its peer is gone.
     Closes,
 }
@@ -32,6 +35,8 @@ enum Step {
     Moved,
     /// The peer gives or takes nothing now.
     Blocked,
+    /// It answered a request that waits.
+    Held,
     /// It is done, or its peer is gone.
     Closed,
 }
@@ -72,8 +77,9 @@ fn read_once<R: Read>(connection: &mut Connection, reader: &mut R) -> Step
     }
 }
 
-/// Answers what was received, and then writes once if something is pending, or else reads once.
-fn take_step<S: Service, R: Read, W: Write>(
+/// Answers what was received, and then writes once if something is pending, or else reads once; but nothing behind the answer to
+/// a request that waits.
+fn take_step<S: LastingService, R: Read, W: Write>(
     connection: &mut Connection,
     service: &mut S,
     reader: &mut R,
@@ -82,10 +88,14 @@ fn take_step<S: Service, R: Read, W: Write>(
     ensures read { Receives (history connection.old) (history connection.new) (R.remaining reader.old) (R.remaining reader.new) }
     ensures written { Sends (history connection.old) (history connection.new) (W.contents writer.old) (W.contents writer.new) }
     ensures calls { Calls S.answers service.old service.new (history connection.old).calls (history connection.new).calls }
+    ensures holds { StepHolds result (S.waits service.old) (S.waits service.new) }
 {
+    let before = service.waits();
     connection.advance(service);
     if connection.is_done() {
         Step::Closed
+    } else if service.waits() != before {
+        Step::Held
     } else if connection.wants_write() {
         write_once(connection, writer)
     } else {
@@ -107,7 +117,8 @@ fn cut_short(done: bool) -> Turn
 /// while something is pending.
 ///
 /// It waits where the reader or the writer would block, and closes where it is done, at any other error than an interruption,
-/// and where the writer takes nothing. Where an offence was answered, it ends once the answer is sent.
+/// and where the writer takes nothing. Where an offence was answered, it ends once the answer is sent, and where a request that
+/// waits was answered, before any of that answer is sent.
 pub fn take_turn<S: LastingService, R: Read, W: Write>(
     connection: &mut Connection,
     service: &mut S,
@@ -117,12 +128,14 @@ pub fn take_turn<S: LastingService, R: Read, W: Write>(
     ensures read { Receives (history connection.old) (history connection.new) (R.remaining reader.old) (R.remaining reader.new) }
     ensures written { Sends (history connection.old) (history connection.new) (W.contents writer.old) (W.contents writer.new) }
     ensures calls { Calls S.answers service.old service.new (history connection.old).calls (history connection.new).calls }
+    ensures holds { TurnHolds result (S.waits service.old) (S.waits service.new) }
 {
     let before = service.offences();
     for steps in 0..MOST_STEPS {
         match take_step(connection, service, reader, writer) {
             Step::Moved => {}
             Step::Blocked => return Turn::Waits { moved: steps > 0 },
+            Step::Held => return Turn::Holds,
             Step::Closed => return Turn::Closes,
         }
         if service.offences() != before && !connection.wants_write() {

@@ -1,3 +1,4 @@
+use Rattle.std.proofs.Common.{◌∙◌}
 use Rattle.http_server.specs.Connection.{history}
 use Rattle.http_server.proofs.StreamLemmas.{Calls-then}
 use Rattle.web_loop.proofs.TurnLemmas.{Receives-then, Sends-then}
@@ -19,8 +20,13 @@ loop-steps-preserved g c =
       Receives-then old here new (g.R.Read.remaining c.args.reader.now) (g.R.Read.remaining c.loop-steps.reader) (g.R.Read.remaining c.take_step.new.reader) c.loop-steps.invariant.0 c.in-Moved.ensures.read,
       Sends-then old here new (g.W.Write.contents c.args.writer.now) (g.W.Write.contents c.loop-steps.writer) (g.W.Write.contents c.take_step.new.writer) c.loop-steps.invariant.1 c.in-Moved.ensures.written,
       Calls-then g.S.Service.answers _ _ _ _ _ _ c.loop-steps.invariant.2 c.in-Moved.ensures.calls,
+      c.in-Moved.ensures.holds ∙ c.loop-steps.invariant.3,
     )
 
 pub returns-then-not-wants_write-clause-calls : goal.returns-then-not-wants_write-clause-calls
 returns-then-not-wants_write-clause-calls g c =
     Calls-then g.S.Service.answers _ _ _ _ _ _ c.loop-steps.invariant.2 c.in-Moved.ensures.calls
+
+pub returns-in-Held-clause-calls : goal.returns-in-Held-clause-calls
+returns-in-Held-clause-calls g c =
+    Calls-then g.S.Service.answers _ _ _ _ _ _ c.loop-steps.invariant.2 c.in-Held.ensures.calls

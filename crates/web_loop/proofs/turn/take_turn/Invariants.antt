@@ -1,3 +1,4 @@
+use Rattle.std.proofs.Common.{◌≡◌}
 use Rattle.http_server.specs.Connection.{history}
 use Rattle.http_server.specs.Exchange.{Calls}
 use Rattle.web_loop.specs.Turns.{Receives, Sends}
@@ -8,3 +9,4 @@ invariant-loop-steps g l =
     Receives (history l.fn.connection) (history l.connection) (g.R.Read.remaining l.fn.reader) (g.R.Read.remaining l.reader)
     × Sends (history l.fn.connection) (history l.connection) (g.W.Write.contents l.fn.writer) (g.W.Write.contents l.writer)
     × Calls g.S.Service.answers l.fn.service l.service (history l.fn.connection).calls (history l.connection).calls
+    × (g.S.LastingService.waits l.service ≡ g.S.LastingService.waits l.fn.service)

@@ -1,7 +1,7 @@
 use Rattle.std.proofs.Common.{◌≡◌, ◌≤◌, ℕ}
 use Rattle.slab.specs.Slab.{get}
 use Rattle.web_loop.specs.Turns.{LeadsTo, TurnsOf}
-use Rattle.web_loop.proofs.clients.Clients.take_turns.Given as goal
+use Rattle.web_loop.proofs.clients.Clients.take_each_turn.Given as goal
 
 abbrev pub invariant-loop-key : goal.invariant-loop-key
 invariant-loop-key g l =
