@@ -21,11 +21,16 @@ lines_append (x ∷ xs) ys =
 pub two_added : (xs ys : List (List ℕ)) (a b c : List ℕ) → b ≡ a ++ lines_text xs → c ≡ b ++ lines_text ys → c ≡ a ++ lines_text (xs ++ ys)
 two_added xs ys a b c first second = rw (second, first, lines_append xs ys) (append_assoc a (lines_text xs) (lines_text ys))
 
--- what stands around three lists of lines
-pub listed_three : (xs ys zs : List (List ℕ)) (a b c d e f : List ℕ) → b ≡ a ++ codes "OK\n" → c ≡ b ++ lines_text xs → d ≡ c ++ lines_text ys → e ≡ d ++ lines_text zs
-    → f ≡ e ++ codes ".\n" → f ≡ a ++ listed_text (xs ++ (ys ++ zs))
-listed_three xs ys zs a b c d e f one two three four five =
-    rw (five, four, three, two, one, lines_append (xs ++ (ys ++ zs)) (codes "." ∷ []), lines_append xs (ys ++ zs), lines_append ys zs) (simp append_assoc)
+-- three lists of lines that were added
+pub three_added : (xs ys zs : List (List ℕ)) (a b c d : List ℕ) → a ≡ [] → b ≡ a ++ lines_text xs → c ≡ b ++ lines_text ys → d ≡ c ++ lines_text zs → d ≡ lines_text (xs ++ (ys ++ zs))
+three_added xs ys zs a b c d empty one two three =
+    rw (three, two, one, empty, lines_append xs (ys ++ zs), lines_append ys zs) (append_assoc (lines_text xs) (lines_text ys) (lines_text zs))
+
+-- what stands around a line and others
+pub listed_more : (x : List ℕ) (xs : List (List ℕ)) (a b c d e more : List ℕ) → b ≡ a ++ codes "OK\n" → c ≡ b ++ (x ++ 10 ∷ []) → more ≡ lines_text xs → d ≡ c ++ more
+    → e ≡ d ++ codes ".\n" → e ≡ a ++ listed_text (x ∷ xs)
+listed_more x xs a b c d e more one two is three four =
+    rw (four, three, is, two, one, lines_append (x ∷ xs) (codes "." ∷ [])) (simp append_assoc)
 
 -- the lines of one element more
 pub one_more : {X : Type 0} (lines : X → List (List ℕ)) (all : List X) (i : ℕ) (d : X) (a b c : List ℕ) → i < length all → b ≡ a ++ lines_text (flat_map lines (take i all))

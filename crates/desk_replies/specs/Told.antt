@@ -1,5 +1,5 @@
 -- What is told of the desk: to a player what concerns his table, to the director all calls.
-use Rattle.std.specs.Prelude.{ℕ, ◌-◌, ◌*◌, ◌==◌, if◌then◌else◌, List, [], ◌∷◌, ◌++◌, codes, flat_map, Option, Some, None, Result, Ok, Err}
+use Rattle.std.specs.Prelude.{ℕ, ◌+◌, ◌*◌, ◌==◌, min, if◌then◌else◌, List, [], ◌∷◌, ◌++◌, codes, flat_map, Option, Some, None, Result, Ok, Err}
 use Rattle.std.specs.Fmt.{decimal}
 use Rattle.line_text.specs.Refusal.{refusal_line}
 use Rattle.bridge_config.specs.ConfigValue.{Pair, player_name}
@@ -27,25 +27,25 @@ abbrev pub notice_lines : Option (List ℕ) → List (List ℕ)
 notice_lines None = []
 notice_lines (Some text) = spaced_line (codes "NOTICE") (text ∷ []) ∷ []
 
--- how many seconds of a clock are left
-abbrev pub seconds_left : ℕ → RoundClock → ℕ
-seconds_left at clock = 60 * clock.minutes - (at - clock.begun)
+-- the second of the server at which a clock ends, as far as 32 bits count
+abbrev pub end_of_clock : RoundClock → ℕ
+end_of_clock clock = min (clock.begun + 60 * clock.minutes) 4294967295
 
--- the seconds left of the round's clock, if there is one
-abbrev pub clock_lines : ℕ → Option RoundClock → List (List ℕ)
-clock_lines at None = []
-clock_lines at (Some clock) = spaced_line (codes "CLOCK") (decimal (seconds_left at clock) ∷ []) ∷ []
+-- when the round's clock ends, if there is one
+abbrev pub clock_lines : Option RoundClock → List (List ℕ)
+clock_lines None = []
+clock_lines (Some clock) = spaced_line (codes "CLOCK") (decimal (end_of_clock clock) ∷ []) ∷ []
 
--- the table, for how many seconds it has called, the pair and the name of the player who called, and what he said
-abbrev pub call_line : List Pair → ℕ → TableCall → List ℕ
-call_line pairs at call =
+-- the table, the second since which it calls, the pair and the name of the player who called, and what he said
+abbrev pub call_line : List Pair → TableCall → List ℕ
+call_line pairs call =
     spaced_line (codes "CALL")
-    (decimal call.table ∷ decimal (at - call.since) ∷ decimal call.player.pair ∷ player_name pairs call.player.pair call.player.first ∷ call.text ∷ [])
+    (decimal call.table ∷ decimal call.since ∷ decimal call.player.pair ∷ player_name pairs call.player.pair call.player.first ∷ call.text ∷ [])
 
 -- a call, if there is one
-abbrev pub call_lines : List Pair → ℕ → Option TableCall → List (List ℕ)
-call_lines pairs at None = []
-call_lines pairs at (Some call) = call_line pairs at call ∷ []
+abbrev pub call_lines : List Pair → Option TableCall → List (List ℕ)
+call_lines pairs None = []
+call_lines pairs (Some call) = call_line pairs call ∷ []
 
 -- what was said
 abbrev pub said_line : Statement → List ℕ
@@ -58,9 +58,9 @@ said_lines (Some claim) None = []
 said_lines (Some claim) (Some statement) = if is_said_with claim (Some statement) then said_line statement ∷ [] else []
 
 -- the call of the table where a player sits
-abbrev pub own_call_lines : List Pair → Desk → ℕ → Result Seating SessionRefused → List (List ℕ)
-own_call_lines pairs desk at (Err refused) = []
-own_call_lines pairs desk at (Ok seating) = call_lines pairs at (call_at desk seating.table)
+abbrev pub own_call_lines : List Pair → Desk → Result Seating SessionRefused → List (List ℕ)
+own_call_lines pairs desk (Err refused) = []
+own_call_lines pairs desk (Ok seating) = call_lines pairs (call_at desk seating.table)
 
 -- what was said with the claim that he is shown there
 abbrev pub own_said_lines : Desk → Result SeenClaim SessionRefused → List (List ℕ)
@@ -68,25 +68,30 @@ own_said_lines desk (Err refused) = []
 own_said_lines desk (Ok seen) = said_lines seen.claim (statement_at desk seen.table)
 
 -- what is told of his own table to the player of the key
-abbrev pub own_lines : SessionValue → Desk → ℕ → ℕ → List (List ℕ)
-own_lines s desk at key =
-    own_call_lines s.configuration.pairs desk at (seating_of s.configuration s.round key) ++ own_said_lines desk (claim_to s key)
+abbrev pub own_lines : SessionValue → Desk → ℕ → List (List ℕ)
+own_lines s desk key =
+    own_call_lines s.configuration.pairs desk (seating_of s.configuration s.round key) ++ own_said_lines desk (claim_to s key)
 
 -- what the director is told: the calls of all tables, by table
-abbrev pub all_call_lines : SessionValue → Desk → ℕ → List (List ℕ)
-all_call_lines s desk at = flat_map (call_lines s.configuration.pairs at) desk.calls
+abbrev pub all_call_lines : SessionValue → Desk → List (List ℕ)
+all_call_lines s desk = flat_map (call_lines s.configuration.pairs) desk.calls
 
--- what concerns the holder of a key: his table, or the director all
-abbrev pub concerns : SessionValue → Desk → ℕ → ℕ → List (List ℕ)
-concerns s desk at key = if key == s.configuration.director then all_call_lines s desk at else own_lines s desk at key
+-- what concerns the holder of a key
+abbrev pub concerns : SessionValue → Desk → ℕ → List (List ℕ)
+concerns s desk key = if key == s.configuration.director then all_call_lines s desk else own_lines s desk key
 
--- what is told to the holder of a key: the notice and the clock, as everybody is, and what concerns him
-abbrev pub lines_to : SessionValue → Desk → ℕ → ℕ → List (List ℕ)
-lines_to s desk at key = notice_lines desk.notice ++ (clock_lines at desk.clock ++ concerns s desk at key)
+-- The standing lines, told to the holder of a key: the notice and the clock, as to everybody, and what concerns him. They are
+-- the same at every second.
+abbrev pub standing_lines : SessionValue → Desk → ℕ → List (List ℕ)
+standing_lines s desk key = notice_lines desk.notice ++ (clock_lines desk.clock ++ concerns s desk key)
 
--- the same as a text
+-- the second of the server
+abbrev pub now_line : ℕ → List ℕ
+now_line at = spaced_line (codes "NOW") (decimal at ∷ [])
+
+-- the second, and the standing lines
 abbrev pub standing_text : SessionValue → Desk → ℕ → ℕ → List ℕ
-standing_text s desk at key = listed_text (lines_to s desk at key)
+standing_text s desk at key = listed_text (now_line at ∷ standing_lines s desk key)
 
 -- the line of a refusal
 abbrev pub refused_text : DeskRefused → List ℕ

@@ -47,9 +47,9 @@ fn push_answer(
 
 /// Takes what these bytes ask for at a second, counted since the server began, and gives what is answered.
 ///
-/// A key alone is answered by what stands: `OK`, the notice, the seconds left of the clock, the call of the player's own table and
-/// what was said with the claim that he is shown, or all calls where the key is the director's, each as far as there is one, and a
-/// full stop. So is what is taken: of the director `NOTICE` and a text, or alone, which takes it down, `CLOCK` and minutes, or
+/// A key alone is answered by what stands: `OK`, the second, the notice, the second at which the clock ends, the call of the
+/// player's own table and what was said with the claim that he is shown, or all calls where the key is the director's, each as far
+/// as there is one, and a full stop. So is what is taken: of the director `NOTICE` and a text, or alone, which takes it down, `CLOCK` and minutes, or
 /// alone, and `ANSWERED` and a table; of a player `CALL` and a text, or alone, for his own table, and `STATEMENT` and a text, for
 /// his own claim while it stands. A second call of a table and a second statement with a claim leave the first.
 ///

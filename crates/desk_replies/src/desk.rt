@@ -1,5 +1,5 @@
 //! The desk: what stands beside the session.
-ghost use Rattle.std.specs.Prelude.{◌≡◌, ◌<◌, ◌-◌, Some, None};
+ghost use Rattle.std.specs.Prelude.{◌≡◌, ◌<◌, ◌-◌, length, Some, None};
 ghost use Rattle.std.specs.Option.{option_copied};
 ghost use Rattle.session_rules.specs.Numbers.{IsTableNumber};
 ghost use Rattle.desk_replies.specs.Desk.{new_desk, call_at, statement_at, is_soon, with_notice, without_notice, with_clock, set_call, with_call, is_said_with, with_statement};
@@ -99,7 +99,8 @@ impl Desk {
 
     /// The calls of all tables, by the tables' numbers.
     pub(crate) fn calls(&self) -> &[Option<TableCall>]
-        ensures { result.now ≡ self.now.calls }
+        ensures calls { result.now ≡ self.now.calls }
+        ensures twelve { length result.now ≡ TABLES }
     {
         &self.calls
     }

@@ -117,9 +117,10 @@ impl PlainText {
         }
     }
 
-    /// The text.
+    /// The text, of at most 800 bytes.
     pub fn as_str(&self) -> &str
-        ensures { result.now ≡ self.now }
+        ensures text { result.now ≡ self.now }
+        ensures short { length result.now ≤ TEXT_BYTES }
     {
         self.kept.as_str()
     }
