@@ -6,3 +6,5 @@ pub mod Drafted
 pub mod Names
 pub mod NamesView
 pub mod NamesFaultText
+pub mod ShownNames
+pub mod Wishing

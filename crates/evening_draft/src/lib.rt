@@ -10,6 +10,7 @@
 
 mod ascii;
 mod boards;
+mod day;
 mod drafting;
 mod fault;
 mod form;
@@ -21,12 +22,16 @@ mod pairs;
 mod person;
 pub mod refused;
 mod rows;
+mod seed;
+mod shown;
 #[cfg(test)]
 mod tests;
 mod text;
 pub mod wishes;
+mod wishing;
 
 pub use ascii::ascii_name;
+pub use day::{DateText, date_at};
 pub use drafting::draft;
 pub use fault::write_names_fault;
 pub use form::{MovementForm, form_of};
@@ -34,5 +39,8 @@ pub use keys::draw_keys;
 pub use names::read_names;
 pub use names_refused::{NamesFault, NamesRefused};
 pub use refused::DraftRefused;
+pub use seed::read_seed;
+pub use shown::shown_name;
 pub use text::write_config;
 pub use wishes::{PERSON_BYTES, PairNames, PersonName, Wishes};
+pub use wishing::{WishWords, draft_evening};

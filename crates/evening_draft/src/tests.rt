@@ -1,5 +1,8 @@
 //! An evening of three pairs, as it was written by hand from the first words of ChaCha20 under a key of zeros.
-use crate::{PairNames, Wishes, ascii_name, draft, read_names, write_config, write_names_fault};
+use crate::{
+    PairNames, WishWords, Wishes, ascii_name, date_at, draft, draft_evening, read_names, read_seed,
+    shown_name, write_config, write_names_fault,
+};
 use arrayvec::{ArrayString, ArrayVec};
 use bridge_config::read_config;
 use bridge_movement::NamedMovement;
@@ -166,4 +169,65 @@ fn evenings_of_each_number_of_pairs(rt: HostRuntime) {
         assert!(&rt; mitchell == (3 <= count), "{count}");
         assert!(&rt; howell == (3..=12).contains(&count), "{count}");
     }
+}
+
+#[test]
+fn dates_of_days(rt: HostRuntime) {
+    let rows = [
+        (0, Some("1970.01.01")),
+        (951_782_400, Some("2000.02.29")),
+        (1_773_532_799, Some("2026.03.14")),
+        (1_773_532_800, Some("2026.03.15")),
+        (253_402_300_799, Some("9999.12.31")),
+        (253_402_300_800, None),
+    ];
+    for (seconds, date) in rows {
+        let told = date_at(seconds);
+        assert!(&rt;
+            told.as_ref().map(|text| text.as_str()) == date,
+            "{seconds}"
+        );
+    }
+}
+
+#[test]
+fn an_evening_of_words(rt: HostRuntime) {
+    let digits = "00000000000000000000000000000000000000000000000000000000000000fF";
+    let seed = read_seed(digits).unwrap_or([1; 32]);
+    assert!(&rt; seed[0] == 0 && seed[31] == 255);
+    assert!(&rt; read_seed("0").is_none());
+    let words = WishWords {
+        movement: None,
+        boards: 24,
+        scoring: Scoring::MatchPoints,
+        event: "Club-Night",
+        site: "Town-Hall",
+        date: "2026.03.14",
+        seed: [0; 32],
+    };
+    // Three pairs play a Howell of two tables: each meets the others once, and sits out once.
+    let rounds = draft_evening(&names(), &words).map(|config| config
+        .fields()
+        .movement
+        .shape()
+        .rounds);
+    assert!(&rt; rounds == Ok(3));
+    let mitchell = WishWords {
+        movement: Some(NamedMovement::Mitchell),
+        ..words
+    };
+    let mut written = ArrayVec::<u8, 1024>::new();
+    if let Ok(config) = &draft_evening(&names(), &mitchell) {
+        let _ = write_config(config, &mut written);
+    }
+    assert!(&rt; written.as_slice() == EVENING.as_bytes());
+}
+
+#[test]
+fn names_that_are_shown(rt: HostRuntime) {
+    let names = names();
+    assert!(&rt; shown_name(Some(names.as_slice()), &[], 1, true) == "José García");
+    assert!(&rt; shown_name(Some(names.as_slice()), &[], 3, false) == "Bob");
+    assert!(&rt; shown_name(Some(names.as_slice()), &[], 4, false).is_empty());
+    assert!(&rt; shown_name(None, &[], 1, true).is_empty());
 }
