@@ -3,7 +3,7 @@
 #
 #     packaging/deb.sh [FOLDER]     (where the package goes; the present folder when left out)
 #
-# It has the program, its manual page and completions, a systemd unit, documents, examples, tools, the licences, and a file BUILD with
+# It has the program, its manual page and completions, a systemd unit, documents, examples, the licences, and a file BUILD with
 # checksums and the line of `rt version`. PROGRAM names a program that was built before; else it is proved and built.
 set -eu
 top=$(cd "$(dirname "$0")/.." && pwd)
@@ -40,9 +40,6 @@ for document in README.md docs/CLUB.md docs/NETWORK.md docs/FORMATS.md docs/RULE
 done
 for example in evening.txt mitchell.txt howell_3_tables.txt howell_4_tables.txt howell_5_tables.txt howell_6_tables.txt; do
     install -D -m 644 "$top/examples/$example" "$docs/examples/$example"
-done
-for tool in draw_keys.sh slips.sh; do
-    install -D -m 755 "$top/tools/$tool" "$docs/tools/$tool"
 done
 sed -n '/^```nginx$/,/^```$/p' "$top/docs/NETWORK.md" | sed '/^```/d' > "$docs/examples/nginx.conf"
 [ -s "$docs/examples/nginx.conf" ]

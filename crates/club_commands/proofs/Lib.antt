@@ -1,4 +1,3 @@
-pub mod Reading
 pub mod Counted
 pub mod Connected
 pub mod Served

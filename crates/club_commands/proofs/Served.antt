@@ -10,7 +10,6 @@ use Rattle.club_disk.specs.Stored.{StoreOn, ClubDisk, ClubStore, OpensSession}
 use Rattle.club_commands.specs.declared.work.Service.{Service}
 use Rattle.club_commands.specs.declared.work.Work.{Work}
 use Rattle.club_commands.specs.Ended.{Ended}
-use Rattle.club_commands.specs.ConfigFile.{OfFound, OfReader, OfFile}
 use Rattle.club_commands.specs.Works.{ServesWith, ServesDisk, WorksFound, HasWorked}
 
 -- what was served of streams, all or up to a fault
@@ -27,16 +26,6 @@ serves_disk (Ok _) service d left start input output ended opened leads =
     inl (start, opened, (leads.0, leads.1, inl leads.2))
 serves_disk (Err _) service d left start input output ended opened lacks =
     inl (start, opened, (start, lacks.1, inr (lacks.0, refl)))
-
--- what came of a file is what came of some text
-pub of_file : {F E : Type 0} (remaining : F → Option (List ℕ)) (P : Option (List ℕ) → Type 0) (found : Result F E)
-    → OfFound remaining P found → OfFile P
-of_file remaining P (Ok file) came = of came.1
-  where
-    of : OfReader P (stream remaining file came.0) → OfFile P
-    of (inl none) = inl none
-    of (inr read) = inr (read.0, read.1.few, read.2)
-of_file remaining P (Err _) none = inl none
 
 -- a work over a disk that was found, or over none, was done
 pub has_worked : {E : Type 0} (work : Work) (found : Result ClubDisk E) (left : Option ClubDisk) (input output : Stream) (ended : Ended)

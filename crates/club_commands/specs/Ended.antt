@@ -1,7 +1,8 @@
 -- How a command ends: what stands on its output then, and the line on standard error and the exit status that a fault has.
 use Rattle.std.specs.Prelude.{◌≡◌, ◌⊎◌, ◌++◌, ℕ, true, false, List, codes, Result, Err, IfErr, IsErrAnd}
-use Rattle.club_commands.specs.Basis.{Stream, Takes, TakesPrefix, Written, IsUntouched, Disk, Rose, StoreOn, decimal, ConfigFault, StoreFault, TooSmall, DiskFault, NotFormatted, Damaged, EpochsSpent, NoMemory, ServeFault, Read, Write, RunFault, StreamFault, System, Config, Store}
-use Rattle.bridge_config.specs.Refused.{refusal_name}
+use Rattle.club_commands.specs.Basis.{Stream, Takes, TakesPrefix, Written, IsUntouched, Disk, Rose, StoreOn, decimal, StoreFault, TooSmall, DiskFault, NotFormatted, Damaged, EpochsSpent, NoMemory, ServeFault, Read, Write, RunFault, StreamFault, System, Config, Store}
+use Rattle.club_commands.specs.declared.fault.RunFault.TheVariants.{Evening}
+use Rattle.evening_commands.specs.Fault.{config_line, evening_line}
 
 -- how a command ended
 abbrev pub Ended : Type 0
@@ -32,10 +33,6 @@ abbrev pub stream_line : ServeFault → List ℕ
 stream_line Write = codes "cannot write output\n"
 stream_line _ = codes "cannot read input\n"
 
--- the number of the configuration's line, and what is wrong with it
-abbrev pub config_line : ConfigFault → List ℕ
-config_line fault = (((codes "config line " ++ decimal fault.line) ++ codes ": ") ++ refusal_name fault.cause) ++ codes "\n"
-
 -- the line of a disk or a store
 abbrev pub store_line : StoreFault → List ℕ
 store_line TooSmall = codes "disk too small\n"
@@ -50,6 +47,7 @@ abbrev pub fault_line : RunFault → List ℕ
 fault_line (StreamFault fault) = stream_line fault
 fault_line (System fault) = stream_line Read
 fault_line (Config fault) = config_line fault
+fault_line (Evening fault) = evening_line fault
 fault_line (Store fault) = store_line fault
 
 -- the exit status at a fault: 4 where the disk holds no session, and 3 otherwise

@@ -3,6 +3,7 @@ pub use Rattle.club_disk.specs.Stored
 pub mod Basis
 pub mod Ended
 pub mod ConfigFile
+pub mod Evenings
 pub mod Results
 pub mod Checked
 pub mod Serving

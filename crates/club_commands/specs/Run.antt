@@ -6,7 +6,7 @@ use Rattle.bridge_cards.specs.Board.{dealer_of}
 use Rattle.auction_command.specs.Heard.{AnswersAll, StopsAt}
 use Rattle.command_line.specs.Words.{club_app, AsksCommand}
 use Rattle.command_line.specs.declared.command.Command.{Command}
-use Rattle.command_line.specs.declared.command.Command.TheVariants.{Auction, Format, Script, Serve, Web, Rank, Pbn, Results, Check, Plan, Version}
+use Rattle.command_line.specs.declared.command.Command.TheVariants.{Auction, Format, Script, Serve, Web, Rank, Pbn, Results, Check, Plan, Draft, Slips, Version}
 use Rattle.command_line.specs.declared.command.WordsFault.{WordsFault}
 use Rattle.command_line.specs.declared.command.WordsFault.TheVariants.{Usage, Memory}
 use Rattle.table_pages.specs.declared.page_texts.PageTexts.{PageTexts}
@@ -14,6 +14,7 @@ use Rattle.club_commands.specs.declared.release.TheConstants.{VERSION, KIT}
 use Rattle.club_commands.specs.declared.work.Service.TheVariants as service
 use Rattle.club_commands.specs.declared.work.Work.TheVariants as work
 use Rattle.club_commands.specs.ConfigFile.{OfFile, Plans}
+use Rattle.club_commands.specs.Evenings.{HasDrafted, HasSlips}
 use Rattle.club_commands.specs.Ended.{Ended, Writes, store_line, fault_line, fault_status}
 use Rattle.club_commands.specs.Works.{HasWorked, HasFormatted}
 
@@ -38,6 +39,8 @@ Runs texts (Pbn disk) input output ended = HasWorked input output ended (work.Te
 Runs texts (Results disk html) input output ended = HasWorked input output ended (work.Results html)
 Runs texts (Check disk) input output ended = HasWorked input output ended work.Check
 Runs texts (Plan config) input output ended = OfFile (Plans output ended) × IsUntouched input
+Runs texts (Draft names wishes) input output ended = HasDrafted wishes output ended × IsUntouched input
+Runs texts (Slips config slips) input output ended = HasSlips slips output ended × IsUntouched input
 Runs texts Version input output ended = Writes output version_line ended × IsUntouched input
 
 -- How a command ended, and with which exit status: it was done, and nothing stands on standard error; or it stopped at a fault,

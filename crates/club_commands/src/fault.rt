@@ -1,5 +1,6 @@
 //! Why a command stops.
 use bridge_config::ConfigFault;
+use evening_commands::{EveningFault, NoRead};
 use session_store::StoreFault;
 use table_server::ServeFault;
 
@@ -25,6 +26,8 @@ pub enum RunFault {
     System(SystemFault),
     /// The configuration is refused.
     Config(ConfigFault),
+    /// No evening is made of a list of names, or no slips.
+    Evening(EveningFault),
     /// The disk is refused or has failed, or memory is refused.
     Store(StoreFault),
 }
@@ -48,5 +51,17 @@ impl From<ConfigFault> for RunFault {
 
     fn from(cause: ConfigFault) -> RunFault {
         RunFault::Config(cause)
+    }
+}
+
+impl From<NoRead> for RunFault {
+    ghost use Rattle.std.specs.Prelude.{◌≡◌};
+    ghost use Rattle.club_commands.specs.declared.fault.RunFault.TheVariants.{Stream as StreamFailed};
+    ghost use Rattle.line_replies.specs.declared.fault.ServeFault.TheVariants.{Read as ReadFailed};
+
+    ghost from_gives = { λ cause fault. fault ≡ StreamFailed ReadFailed };
+
+    fn from(_cause: NoRead) -> RunFault {
+        RunFault::Stream(ServeFault::Read)
     }
 }

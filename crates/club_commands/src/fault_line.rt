@@ -1,10 +1,9 @@
 //! The line of standard error and the exit status that a fault has.
 ghost use Rattle.std.specs.Prelude.{◌≡◌, ◌≤◌, length};
-ghost use Rattle.club_commands.specs.Ended.{stream_line, config_line, store_line, fault_line, fault_status};
+ghost use Rattle.club_commands.specs.Ended.{stream_line, store_line, fault_line, fault_status};
 
 use crate::fault::RunFault;
-use arrayvec::ArrayString;
-use bridge_config::ConfigFault;
+use evening_commands::{FAULT_LINE_BYTES, FaultLine, config_line, evening_line};
 use itoa::Buffer;
 use session_store::StoreFault;
 use table_server::ServeFault;
@@ -15,14 +14,8 @@ pub const FAULT: u8 = 3;
 /// The disk holds no session.
 pub const NO_SESSION: u8 = 4;
 
-/// The most bytes of a line.
-const FAULT_LINE_BYTES: usize = 40;
-
 /// The line where the system does not give what a command wants.
 const SYSTEM_LINE: &str = "cannot read input\n";
-
-/// The line of a fault.
-pub type FaultLine = ArrayString<FAULT_LINE_BYTES>;
 
 /// The exit status at a fault: 4 where the disk is too small, not formatted or damaged, and 3 otherwise.
 pub fn fault_status(fault: RunFault) -> u8
@@ -32,6 +25,7 @@ pub fn fault_status(fault: RunFault) -> u8
         RunFault::Stream(_) => FAULT,
         RunFault::System(_) => FAULT,
         RunFault::Config(_) => FAULT,
+        RunFault::Evening(_) => FAULT,
         RunFault::Store(fault) => store_status(fault),
     }
 }
@@ -54,6 +48,7 @@ pub fn fault_line(fault: RunFault) -> FaultLine
         RunFault::Stream(fault) => stream_line(fault),
         RunFault::System(_) => line_of(SYSTEM_LINE),
         RunFault::Config(fault) => config_line(fault),
+        RunFault::Evening(fault) => evening_line(fault),
         RunFault::Store(fault) => store_line(fault),
     }
 }
@@ -75,18 +70,6 @@ fn stream_line(fault: ServeFault) -> FaultLine
         ServeFault::Read | ServeFault::Accept => line_of("cannot read input\n"),
         ServeFault::Write => line_of("cannot write output\n"),
     }
-}
-
-fn config_line(fault: ConfigFault) -> FaultLine
-    ensures { result.bytes ≡ config_line fault }
-{
-    let mut line = FaultLine::new();
-    line.push_str("config line ");
-    line.push_str(Buffer::new().format(fault.line));
-    line.push_str(": ");
-    line.push_str(fault.cause.name());
-    line.push_str("\n");
-    line
 }
 
 fn store_line(fault: StoreFault) -> FaultLine

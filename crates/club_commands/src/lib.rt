@@ -10,6 +10,7 @@
 mod check;
 mod config_file;
 mod counts;
+mod evenings;
 mod fault;
 mod fault_line;
 mod formatting;

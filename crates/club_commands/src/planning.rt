@@ -7,9 +7,9 @@ ghost use Rattle.evening_plan.specs.FaultText.{fault_text};
 ghost use Rattle.club_commands.specs.Ended.{Writes};
 ghost use Rattle.club_commands.specs.ConfigFile.{OfReader, OfFound, OfFile, Plans};
 
-use crate::config_file::{Text, read_text};
 use crate::fault::RunFault;
 use bridge_config::{Config, ConfigFault, read_config};
+use evening_commands::{Text, read_text};
 use evening_plan::{write_fault, write_plan};
 use std::fs::File;
 use std::io::{self, Read, Write};

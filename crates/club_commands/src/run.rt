@@ -7,6 +7,7 @@ ghost use Rattle.club_commands.specs.Run.{HoldsAuction, Runs, EndsWith, RefusesW
 ghost use Rattle.club_commands.specs.Works.{HasWorked};
 ghost use Rattle.club_commands.specs.declared.work.Work.TheVariants.{Serve, Tell};
 
+use crate::evenings::{make_draft, make_slips};
 use crate::fault::RunFault;
 use crate::fault_line::{fault_line, fault_status};
 use crate::formatting::run_format;
@@ -40,7 +41,7 @@ const NOT_TEXT: &str = "a word of the command line is not UTF-8\n";
 ///
 /// 0: done. 2: the words are no command, or call for help; what clap says of them goes to `errors`, and no clause speaks of
 /// that text. At 3 and 4 `errors` takes the line that names the fault, or a prefix of it where it fails itself. 3: `cannot
-/// read input`, `cannot write output`, `config line N: Name`, `disk fault`, `epochs spent` or `no memory`. 4: the disk holds
+/// read input`, `cannot write output`, `config line N: Name`, `names line N: Name`, `evening: Name`, `disk fault`, `epochs spent` or `no memory`. 4: the disk holds
 /// no session, being `disk too small`, `not formatted` or `damaged sector N`.
 pub fn run_words_with<S: Machine, R: Read, W: Write, E: Write>(
     rt: &S,
@@ -134,6 +135,8 @@ fn do_command<S: Machine, R: Read, W: Write>(
         }
         Command::Check { disk } => run_over(rt, alloc, disk, &Work::Check, input, output),
         Command::Plan { config } => run_plan(rt, config, output),
+        Command::Draft { names, wishes } => make_draft(rt, names, &wishes, output),
+        Command::Slips { config, slips } => make_slips(rt, config, &slips, output),
         Command::Version => run_version(output),
     }
 }

@@ -1,6 +1,7 @@
 //! The words of the command line, and runs of the commands over files, streams and connections.
 mod accepting;
 mod connections;
+mod drafting;
 mod evening;
 mod refused;
 mod script;
@@ -125,7 +126,7 @@ fn words_of(alloc: Global, text: &str) -> Result<Vec<&str>, AllocError> {
 
 /// Each command with its words. Numbers are taken from the least to the most, a sign and zeros before them too, and the
 /// options before, between and behind the other words.
-const COMMANDS: [&str; 23] = [
+const COMMANDS: [&str; 28] = [
     "auction 1",
     "auction 36",
     "auction +7",
@@ -148,6 +149,11 @@ const COMMANDS: [&str; 23] = [
     "results --html club.disk",
     "check club.disk",
     "plan club.txt",
+    "draft names.txt",
+    "draft names.txt --movement howell --boards 36 --scoring imp --event A --site B --date 2026.03.14 --seed 0f",
+    "draft --boards=1 names.txt",
+    "slips club.txt",
+    "slips club.txt --names names.txt --address http://a:1 --text",
     "version",
 ];
 
@@ -162,7 +168,7 @@ fn words_of_commands_are_taken(rt: HostRuntime) -> Result<(), Fail> {
 }
 
 /// Words, and behind `: ` how what is written of them begins.
-const OTHER_WORDS: [&str; 23] = [
+const OTHER_WORDS: [&str; 25] = [
     "format club.disk: error: the following required arguments were not provided:\n  <CONFIG>\n",
     "rank: error: the following required arguments were not provided:\n  <DISK>\n",
     "auction: error: the following required arguments were not provided:\n  <BOARD>\n",
@@ -182,6 +188,8 @@ const OTHER_WORDS: [&str; 23] = [
     "web club.disk 4000 1 --address a --address b: error: the argument '--address <IP>' cannot be used multiple times\n",
     "auction 0: error: invalid value '0' for '<BOARD>': 0 is not in 1..=36\n",
     "auction 37: error: invalid value '37' for '<BOARD>': 37 is not in 1..=36\n",
+    "draft: error: the following required arguments were not provided:\n  <NAMES>\n",
+    "draft a --boards 37: error: invalid value '37' for '--boards <N>': 37 is not in 1..=36\n",
     "auctions 1: error: unrecognized subcommand 'auctions'\n",
     ": error: 'bridge_club' requires a subcommand but one was not provided\n",
     "--help: The server of a duplicate bridge club\n",

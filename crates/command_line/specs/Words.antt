@@ -7,8 +7,10 @@ use Rattle.clap.specs.Words.{App, Row, Rule, Text, new_app, new_rule, with_rule,
 use Rattle.clap.specs.declared.builder.action.ArgAction.TheVariants.{SetTrue}
 use Rattle.clap.specs.declared.builder.value_parser.ValueParser.TheVariants as parser
 use Rattle.command_line.specs.declared.command.Command.{Command}
-use Rattle.command_line.specs.declared.command.Command.TheVariants.{Auction, Format, Script, Serve, Web, Rank, Pbn, Results, Check, Plan, Version}
+use Rattle.command_line.specs.declared.command.Command.TheVariants.{Auction, Format, Script, Serve, Web, Rank, Pbn, Results, Check, Plan, Draft, Slips, Version}
 use Rattle.command_line.specs.declared.command.WebHost.{WebHost}
+use Rattle.command_line.specs.declared.command.DraftWords.{DraftWords}
+use Rattle.command_line.specs.declared.command.SlipWords.{SlipWords}
 use Rattle.command_line.specs.declared.command.WordsFault.{WordsFault}
 use Rattle.command_line.specs.declared.command.WordsFault.TheVariants.{Usage, Memory}
 
@@ -108,6 +110,64 @@ check_app = disk_app (codes "check")
 abbrev pub plan_app : App
 plan_app = with_rule (new_app (codes "plan")) config_rule
 
+-- the argument NAMES, which is required
+abbrev pub names_rule : Rule
+names_rule = record (new_rule (codes "NAMES")) { required = true }
+
+-- the option `--movement NAME`
+abbrev pub movement_rule : Rule
+movement_rule = option_rule (codes "movement")
+
+-- the option `--boards N`: a number from 1 to 36, and 24 where none is given
+abbrev pub boards_rule : Rule
+boards_rule = record (option_rule (codes "boards")) { parser = Some (parser.Signed (pos 1) (pos 36)); defaults = codes "24" ∷ [] }
+
+-- the option `--scoring NAME`, with `mp` where none is given
+abbrev pub scoring_rule : Rule
+scoring_rule = record (option_rule (codes "scoring")) { defaults = codes "mp" ∷ [] }
+
+-- the option `--event TEXT`, with `Evening` where none is given
+abbrev pub event_rule : Rule
+event_rule = record (option_rule (codes "event")) { defaults = codes "Evening" ∷ [] }
+
+-- the option `--site TEXT`, with `Club` where none is given
+abbrev pub site_rule : Rule
+site_rule = record (option_rule (codes "site")) { defaults = codes "Club" ∷ [] }
+
+-- the option `--date DATE`
+abbrev pub date_rule : Rule
+date_rule = option_rule (codes "date")
+
+-- the option `--seed HEX`
+abbrev pub seed_rule : Rule
+seed_rule = option_rule (codes "seed")
+
+-- the command `draft NAMES`, with what is played
+abbrev pub plain_draft_app : App
+plain_draft_app =
+    with_rule (with_rule (with_rule (with_rule (new_app (codes "draft")) names_rule) movement_rule) boards_rule) scoring_rule
+
+-- with its other options or without
+abbrev pub draft_app : App
+draft_app = with_rule (with_rule (with_rule (with_rule plain_draft_app event_rule) site_rule) date_rule) seed_rule
+
+-- the option `--names NAMES`
+abbrev pub names_option_rule : Rule
+names_option_rule = option_rule (codes "names")
+
+-- the option `--address URL`
+abbrev pub url_rule : Rule
+url_rule = option_rule (codes "address")
+
+-- the flag `--text`
+abbrev pub text_rule : Rule
+text_rule = flag_rule (codes "text")
+
+-- the command `slips CONFIG`, with those options and that flag or without
+abbrev pub slips_app : App
+slips_app =
+    with_rule (with_rule (with_rule (with_rule (new_app (codes "slips")) config_rule) names_option_rule) url_rule) text_rule
+
 -- the command `version`
 abbrev pub version_app : App
 version_app = new_app (codes "version")
@@ -124,7 +184,7 @@ bare_app = record named_app { top = record named_app.top { no_binary_name = true
 abbrev pub command_apps : List App
 command_apps =
     auction_app ∷ format_app ∷ script_app ∷ serve_app ∷ web_app ∷ rank_app ∷ pbn_app ∷ results_app ∷ check_app ∷ plan_app
-    ∷ version_app ∷ []
+    ∷ draft_app ∷ slips_app ∷ version_app ∷ []
 
 -- a program with these commands, one after another
 abbrev pub with_commands : App → List App → App
@@ -159,6 +219,18 @@ HasHost rows host = HasNumber 16 rows (codes "PORT") host.port
     × HasOption rows (codes "address") host.address × HasOption rows (codes "name") host.name
     × HasFlag rows (codes "open-boards") host.open_boards
 
+-- the options of `draft`
+abbrev pub HasWishes : List Row → DraftWords → Type 0
+HasWishes rows wishes = HasOption rows (codes "movement") wishes.movement
+    × HasNumber 8 rows (codes "boards") wishes.boards × HasText rows (codes "scoring") wishes.scoring.now
+    × HasText rows (codes "event") wishes.event.now × HasText rows (codes "site") wishes.site.now
+    × HasOption rows (codes "date") wishes.date × HasOption rows (codes "seed") wishes.seed
+
+-- the options of `slips`
+abbrev pub HasSlips : List Row → SlipWords → Type 0
+HasSlips rows slips = HasOption rows (codes "names") slips.names
+    × HasOption rows (codes "address") slips.address × HasFlag rows (codes "text") slips.text
+
 -- the arguments are those of a command
 abbrev pub HasWords : List Row → Command → Type 0
 HasWords rows (Auction board) = HasNumber 8 rows (codes "BOARD") board
@@ -173,6 +245,8 @@ HasWords rows (Pbn disk) = HasText rows (codes "DISK") disk.now
 HasWords rows (Results disk html) = HasText rows (codes "DISK") disk.now × HasFlag rows (codes "html") html
 HasWords rows (Check disk) = HasText rows (codes "DISK") disk.now
 HasWords rows (Plan config) = HasText rows (codes "CONFIG") config.now
+HasWords rows (Draft names wishes) = HasText rows (codes "NAMES") names.now × HasWishes rows wishes
+HasWords rows (Slips config slips) = HasText rows (codes "CONFIG") config.now × HasSlips rows slips
 HasWords rows Version = Unit {0}
 
 -- the name of a command
@@ -187,6 +261,8 @@ name_of (Pbn disk) = codes "pbn"
 name_of (Results disk html) = codes "results"
 name_of (Check disk) = codes "check"
 name_of (Plan config) = codes "plan"
+name_of (Draft names wishes) = codes "draft"
+name_of (Slips config slips) = codes "slips"
 name_of Version = codes "version"
 
 -- the command of that name, with these arguments

@@ -65,6 +65,21 @@ pub enum Command<'a> {
         /// CONFIG, the name of the configuration's file.
         config: &'a str,
     },
+    /// `draft NAMES [--movement mitchell|howell] [--boards N] [--scoring mp|imp] [--event TEXT] [--site TEXT] [--date DATE]
+    /// [--seed HEX]`: the configuration of an evening for the pairs in a list of names.
+    Draft {
+        /// NAMES, the name of the list's file.
+        names: &'a str,
+        /// What is wished of the evening.
+        wishes: DraftWords<'a>,
+    },
+    /// `slips CONFIG [--names NAMES] [--address URL] [--text]`: a slip to cut out for the director and each player.
+    Slips {
+        /// CONFIG, the name of the configuration's file.
+        config: &'a str,
+        /// How slips are written.
+        slips: SlipWords<'a>,
+    },
     /// `version`: the program's name, its version, and the kit that proved it.
     Version,
 }
@@ -80,6 +95,36 @@ pub struct WebHost<'a> {
     pub name: Option<&'a str>,
     /// Whether players are told of other tables from the start.
     pub open_boards: bool,
+}
+
+/// What is wished of an evening.
+#[derive(Clone, Copy, Debug, PartialEq, Eq)]
+pub struct DraftWords<'a> {
+    /// The name of the movement that is played, in place of the one that suits the number of pairs. It may be no name.
+    pub movement: Option<&'a str>,
+    /// How many boards each pair is to play, about: from 1 to 36.
+    pub boards: u8,
+    /// The name of how scores are compared. It may be no name.
+    pub scoring: &'a str,
+    /// The name of the event. It may be no name.
+    pub event: &'a str,
+    /// The name of the site, likewise.
+    pub site: &'a str,
+    /// The date, in place of today's. It may be no date.
+    pub date: Option<&'a str>,
+    /// What keys are drawn from, in place of random bytes. It may be no seed.
+    pub seed: Option<&'a str>,
+}
+
+/// How slips are written.
+#[derive(Clone, Copy, Debug, PartialEq, Eq)]
+pub struct SlipWords<'a> {
+    /// The file with the names as people write them, in place of the configuration's names.
+    pub names: Option<&'a str>,
+    /// Where the pages are.
+    pub address: Option<&'a str>,
+    /// Whether `--text` is among the words.
+    pub text: bool,
 }
 
 /// Why the words ask for no command.

@@ -8,6 +8,7 @@ use crate::arguments::{
     address_argument, board_argument, config_argument, count_argument, disk_argument,
     html_argument, minutes_argument, name_argument, open_boards_argument, port_argument,
 };
+use crate::evening_declaration::{draft_command, slips_command};
 use std::alloc::{AllocError, Global};
 
 /// The program's command line: its commands, in the order in which the usage lists them.
@@ -25,6 +26,8 @@ pub fn club_command<'a>(alloc: Global) -> Result<clap::Command<'a>, AllocError>
         .subcommand(results_command(alloc)?)?
         .subcommand(check_command(alloc)?)?
         .subcommand(plan_command(alloc)?)?
+        .subcommand(draft_command(alloc)?)?
+        .subcommand(slips_command(alloc)?)?
         .subcommand(version_command(alloc))
 }
 

@@ -9,7 +9,10 @@
 mod arguments;
 mod command;
 mod declaration;
+mod evening_arguments;
+mod evening_declaration;
+mod evening_read;
 mod read;
 
-pub use command::{Command, WebHost, WordsFault};
+pub use command::{Command, DraftWords, SlipWords, WebHost, WordsFault};
 pub use read::read_words;

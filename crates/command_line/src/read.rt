@@ -5,6 +5,7 @@ ghost use Rattle.command_line.specs.Words.{HasNumber, HasFlag, HasOption, HasHos
 
 use crate::command::{Command, WebHost, WordsFault};
 use crate::declaration::club_command;
+use crate::evening_read::{draft_of, slips_of};
 use bridge_cards::BoardNumber;
 use clap::ArgMatches;
 use clap::error::ErrorKind;
@@ -49,6 +50,8 @@ fn asked<'a>(matches: &ArgMatches<'a>) -> Option<Command<'a>>
         ("results", found) => results_of(found),
         ("check", found) => check_of(found),
         ("plan", found) => plan_of(found),
+        ("draft", found) => draft_of(found),
+        ("slips", found) => slips_of(found),
         ("version", _) => Some(Command::Version),
         // clap's checks leave no other name. The contract allows the answer of memory refused alone here.
         _ => None,
@@ -121,7 +124,7 @@ fn host_of<'a>(found: &ArgMatches<'a>) -> Option<WebHost<'a>>
 }
 
 /// The text that an option has, where it is given.
-fn option_of<'a>(found: &ArgMatches<'a>, name: &str) -> Option<&'a str>
+pub fn option_of<'a>(found: &ArgMatches<'a>, name: &str) -> Option<&'a str>
     ensures { HasOption (rows_of (found_of found.now)) name.now result }
 {
     found.get_str(name)
@@ -161,7 +164,7 @@ fn results_of<'a>(found: &ArgMatches<'a>) -> Option<Command<'a>>
 }
 
 /// Whether a flag is given.
-fn has_flag(found: &ArgMatches<'_>, name: &str) -> bool
+pub fn has_flag(found: &ArgMatches<'_>, name: &str) -> bool
     ensures { HasFlag (rows_of (found_of found.now)) name.now result }
 {
     found.get_flag(name)

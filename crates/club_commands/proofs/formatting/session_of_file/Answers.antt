@@ -1,5 +1,5 @@
 use Rattle.club_commands.specs.ConfigFile.{Begins}
-use Rattle.club_commands.proofs.Served.{of_file}
+use Rattle.evening_commands.proofs.Files.{of_file}
 use Rattle.club_commands.proofs.formatting.session_of_file.Goals as goal
 
 pub returns : goal.returns

@@ -1,6 +1,6 @@
 use Rattle.line_text.specs.Streams.{stream}
 use Rattle.club_commands.specs.ConfigFile.{Plans}
-use Rattle.club_commands.proofs.Served.{of_file}
+use Rattle.evening_commands.proofs.Files.{of_file}
 use Rattle.club_commands.proofs.planning.run_plan.Goals as goal
 
 pub returns : goal.returns

@@ -31,5 +31,11 @@ returns-in-Check g c = rw c.in-Check.is c.run_over-in-Check.ensures
 pub returns-in-Plan : goal.returns-in-Plan
 returns-in-Plan g c = rw c.in-Plan.is (c.run_plan.ensures, Keeps-refl _)
 
+pub returns-in-Draft : goal.returns-in-Draft
+returns-in-Draft g c = rw c.in-Draft.is (c.make_draft.ensures, Keeps-refl _)
+
+pub returns-in-Slips : goal.returns-in-Slips
+returns-in-Slips g c = rw c.in-Slips.is (c.make_slips.ensures, Keeps-refl _)
+
 pub returns-in-Version : goal.returns-in-Version
 returns-in-Version g c = rw c.in-Version.is (c.run_version.ensures, Keeps-refl _)

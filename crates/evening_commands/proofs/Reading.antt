@@ -3,7 +3,7 @@ use Rattle.std.proofs.Common.{ℕ, Bool, List, Option, subst, sym}
 use Rattle.std.specs.Io.KnownBytes.{Consumes}
 use Rattle.std.proofs.KnownBytes.{Consumes-trans}
 use Rattle.line_text.specs.Streams.{between}
-use Rattle.club_commands.specs.ConfigFile.{ReadsOn}
+use Rattle.evening_commands.specs.TextFile.{ReadsOn}
 
 -- a reader that gave a text, and then a piece more, gave the longer text
 pub reads_on : (a b c : Option (List ℕ)) (old new : List ℕ) (some : Bool) → Consumes a b old → ReadsOn (between b c) old new some → Consumes a c new

@@ -1,0 +1,4 @@
+pub mod TextFile
+pub mod Fault
+pub mod NamesView
+pub mod Evenings
