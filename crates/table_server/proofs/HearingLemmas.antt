@@ -17,7 +17,8 @@ use Rattle.table_server.specs.declared.asked.Asked.{Asked}
 use Rattle.line_replies.specs.declared.fault.ServeFault.{ServeFault}
 use Rattle.table_server.specs.declared.line_service.LineService.{LineService}
 use Rattle.table_server.specs.Answered.{AskAll}
-use Rattle.table_server.specs.Asked.{Asks, AsksBy}
+use Rattle.table_server.specs.declared.line_set.LineSet.{LineSet}
+use Rattle.table_server.specs.Asked.{AsksIn, AsksBy}
 use Rattle.table_server.specs.Hearing.{Hears, Hearing, HearsOn, IsCutShort}
 use Rattle.line_replies.specs.LineFeed.{kept_lines}
 use Rattle.table_server.specs.Serving.{Serves}
@@ -25,55 +26,55 @@ use Rattle.table_server.specs.WrongKeys.{wrong_keys}
 use Rattle.table_server.proofs.ServesLemmas.{stopped_after}
 
 -- what is kept of a line asks for what the line does
-kept_asks : (line : List ℕ) (asked : Asked) → Asks (take 129 line) asked → Asks line asked
-kept_asks line asked asks = on (nat_lt 128 (length line)) refl
+kept_asks : (set : LineSet) (line : List ℕ) (asked : Asked) → AsksIn set (take 129 line) asked → AsksIn set line asked
+kept_asks set line asked asks = on (nat_lt 128 (length line)) refl
   where
-    on : (b : Bool) → nat_lt 128 (length line) ≡ b → Asks line asked
+    on : (b : Bool) → nat_lt 128 (length line) ≡ b → AsksIn set line asked
     on true long =
         let more = ltb-true 128 (length line) long in
         let count : length (take 129 line) ≡ 129 = length-take-le 129 line (omega (arith, more)) in
         let kept : is_long (take 129 line) ≡ true = lt-ltb 128 (length (take 129 line)) (omega (arith, count)) in
-        subst (λ b. AsksBy b line asked) (sym long) (subst (λ b. AsksBy b (take 129 line) asked) kept asks)
+        subst (λ b. AsksBy set b line asked) (sym long) (subst (λ b. AsksBy set b (take 129 line) asked) kept asks)
     on false short =
         let few = ltb-false 128 (length line) short in
-        subst (λ kept. Asks kept asked) (take_all 129 line (omega (arith, few))) asks
+        subst (λ kept. AsksIn set kept asked) (take_all 129 line (omega (arith, few))) asks
 
 -- and so for all lines
-pub kept_ask_all : (lines : List (List ℕ)) (asked : List Asked) → AskAll (map (take 129) lines) asked → AskAll lines asked
-kept_ask_all [] [] ask = ask
-kept_ask_all [] (one ∷ more) ask = ask
-kept_ask_all (line ∷ lines) [] ask = ask
-kept_ask_all (line ∷ lines) (one ∷ more) ask = (kept_asks line one ask.0, kept_ask_all lines more ask.1)
+pub kept_ask_all : (set : LineSet) (lines : List (List ℕ)) (asked : List Asked) → AskAll set (map (take 129) lines) asked → AskAll set lines asked
+kept_ask_all set [] [] ask = ask
+kept_ask_all set [] (one ∷ more) ask = ask
+kept_ask_all set (line ∷ lines) [] ask = ask
+kept_ask_all set (line ∷ lines) (one ∷ more) ask = (kept_asks set line one ask.0, kept_ask_all set lines more ask.1)
 
 -- the complete lines of bytes ask for what those that are kept do
-pub hears_asks : (bytes begun : List ℕ) (asked : List Asked) → Hears bytes asked begun → AskAll (complete_lines bytes) asked
-hears_asks bytes begun asked h = kept_ask_all (complete_lines bytes) asked h.asks
+pub hears_asks : (set : LineSet) (bytes begun : List ℕ) (asked : List Asked) → Hears set bytes asked begun → AskAll set (complete_lines bytes) asked
+hears_asks set bytes begun asked h = kept_ask_all set (complete_lines bytes) asked h.asks
 
 -- lines and one more
-ask_one : (lines : List (List ℕ)) (asked : List Asked) (line : List ℕ) (one : Asked) → AskAll lines asked → Asks line one → AskAll (lines ++ line ∷ []) (asked ++ one ∷ [])
-ask_one [] [] line one ask asks = (asks, tt)
-ask_one [] (other ∷ more) line one ask asks = absurd ask
-ask_one (first ∷ lines) [] line one ask asks = absurd ask
-ask_one (first ∷ lines) (other ∷ more) line one ask asks = (ask.0, ask_one lines more line one ask.1 asks)
+ask_one : (set : LineSet) (lines : List (List ℕ)) (asked : List Asked) (line : List ℕ) (one : Asked) → AskAll set lines asked → AsksIn set line one → AskAll set (lines ++ line ∷ []) (asked ++ one ∷ [])
+ask_one set [] [] line one ask asks = (asks, tt)
+ask_one set [] (other ∷ more) line one ask asks = absurd ask
+ask_one set (first ∷ lines) [] line one ask asks = absurd ask
+ask_one set (first ∷ lines) (other ∷ more) line one ask asks = (ask.0, ask_one set lines more line one ask.1 asks)
 
 -- nothing is kept of a line that has begun
 kept_begun : (begun : List ℕ) → list_all is_within_line begun ≡ true → kept_lines (begun ++ []) ≡ []
 kept_begun begun within = ap kept_lines (append-nil begun) ∙ ap (map (take 129)) (lines_none begun within)
 
 -- what one byte more adds to the lines
-step_lines : (bytes begun new : List ℕ) (byte : ℕ) (asked : List Asked) (opt : List (List ℕ)) → Hears bytes asked begun
+step_lines : (set : LineSet) (bytes begun new : List ℕ) (byte : ℕ) (asked : List Asked) (opt : List (List ℕ)) → Hears set bytes asked begun
     → ((rest : List ℕ) → kept_lines (begun ++ byte ∷ rest) ≡ opt ++ kept_lines (new ++ rest)) → list_all is_within_line new ≡ true
     → kept_lines (bytes ++ byte ∷ []) ≡ kept_lines bytes ++ opt
-step_lines bytes begun new byte asked opt h step within =
+step_lines set bytes begun new byte asked opt h step within =
     h.joins (byte ∷ []) ∙ ap (λ (more : List (List ℕ)). kept_lines bytes ++ more)
     (step [] ∙ ap (λ (more : List (List ℕ)). opt ++ more) (kept_begun new within) ∙ append-nil opt)
 
 -- one byte more was heard
-hears_step : (bytes begun new : List ℕ) (byte : ℕ) (asked after : List Asked) (opt : List (List ℕ)) → Hears bytes asked begun
+hears_step : (set : LineSet) (bytes begun new : List ℕ) (byte : ℕ) (asked after : List Asked) (opt : List (List ℕ)) → Hears set bytes asked begun
     → ((rest : List ℕ) → kept_lines (begun ++ byte ∷ rest) ≡ opt ++ kept_lines (new ++ rest)) → list_all is_within_line new ≡ true
-    → AskAll (kept_lines bytes ++ opt) after → Hears (bytes ++ byte ∷ []) after new
-hears_step bytes begun new byte asked after opt h step within ask =
-    let lines = step_lines bytes begun new byte asked opt h step within in record {
+    → AskAll set (kept_lines bytes ++ opt) after → Hears set (bytes ++ byte ∷ []) after new
+hears_step set bytes begun new byte asked after opt h step within ask =
+    let lines = step_lines set bytes begun new byte asked opt h step within in record {
       asks = rw lines ask;
       joins = λ rest.
           ap kept_lines (append_assoc bytes (byte ∷ []) rest) ∙ h.joins (byte ∷ rest)
@@ -84,23 +85,23 @@ hears_step bytes begun new byte asked after opt h step within ask =
     }
 
 -- one that completes no line
-pub hears_begun : (bytes begun new : List ℕ) (byte : ℕ) (asked : List Asked) → Hears bytes asked begun
+pub hears_begun : (set : LineSet) (bytes begun new : List ℕ) (byte : ℕ) (asked : List Asked) → Hears set bytes asked begun
     → ((rest : List ℕ) → kept_lines (begun ++ byte ∷ rest) ≡ kept_lines (new ++ rest)) → list_all is_within_line new ≡ true
-    → Hears (bytes ++ byte ∷ []) asked new
-hears_begun bytes begun new byte asked h step within =
-    hears_step bytes begun new byte asked asked [] h step within (rw (append-nil (kept_lines bytes)) h.asks)
+    → Hears set (bytes ++ byte ∷ []) asked new
+hears_begun set bytes begun new byte asked h step within =
+    hears_step set bytes begun new byte asked asked [] h step within (rw (append-nil (kept_lines bytes)) h.asks)
 
 -- one that completes a line
-pub hears_line : (bytes begun new line : List ℕ) (byte : ℕ) (asked : List Asked) (one : Asked) → Hears bytes asked begun
+pub hears_line : (set : LineSet) (bytes begun new line : List ℕ) (byte : ℕ) (asked : List Asked) (one : Asked) → Hears set bytes asked begun
     → ((rest : List ℕ) → kept_lines (begun ++ byte ∷ rest) ≡ (line ∷ []) ++ kept_lines (new ++ rest)) → list_all is_within_line new ≡ true
-    → Asks line one → Hears (bytes ++ byte ∷ []) (asked ++ one ∷ []) new
-hears_line bytes begun new line byte asked one h step within asks =
-    hears_step bytes begun new byte asked (asked ++ one ∷ []) (line ∷ []) h step within (ask_one (kept_lines bytes) asked line one h.asks asks)
+    → AsksIn set line one → Hears set (bytes ++ byte ∷ []) (asked ++ one ∷ []) new
+hears_line set bytes begun new line byte asked one h step within asks =
+    hears_step set bytes begun new byte asked (asked ++ one ∷ []) (line ∷ []) h step within (ask_one set (kept_lines bytes) asked line one h.asks asks)
 
 module _ {D : Type 0} (disk : Disk D) where
   -- a line was answered
   pub heard_line : (start store new : StoreValue D SessionValue Action) (bytes : List ℕ) (old service : LineService) (byte : ℕ) (one : Asked) (written : List ℕ) (writer : Stream) (result : Result (Unit {0}) ServeFault)
-      → (h : Hearing disk start bytes store old written) → Hears (bytes ++ byte ∷ []) (h.asked ++ one ∷ []) service.feed
+      → (h : Hearing disk start bytes store old written) → Hears service.set (bytes ++ byte ∷ []) (h.asked ++ one ∷ []) service.feed
       → Serves disk start (h.asked ++ one ∷ []) new service.held written writer result
       → service.held.served.lines ≡ old.held.served.lines + 1
       → service.wrong_keys ≡ wrong_keys start.state.configuration (h.asked ++ one ∷ [])
@@ -123,14 +124,14 @@ module _ {D : Type 0} (disk : Disk D) where
       unheard = [];
       all = sym (append-nil (bytes ++ byte ∷ []));
       asked = h.asked ++ one ∷ [];
-      asks = hears_asks (bytes ++ byte ∷ []) service.feed (h.asked ++ one ∷ []) hears;
+      asks = hears_asks service.set (bytes ++ byte ∷ []) service.feed (h.asked ++ one ∷ []) hears;
       stopped = serves.1;
     },
   )
 
   -- no line was complete
   pub heard_begun : (start store : StoreValue D SessionValue Action) (bytes : List ℕ) (old service : LineService) (byte : ℕ) (written : List ℕ) (before : Option (List ℕ))
-      → (h : Hearing disk start bytes store old written) → Hears (bytes ++ byte ∷ []) h.asked service.feed → service.held ≡ old.held
+      → (h : Hearing disk start bytes store old written) → Hears service.set (bytes ++ byte ∷ []) h.asked service.feed → service.held ≡ old.held
       → service.wrong_keys ≡ old.wrong_keys
       → HearsOn disk start (bytes ++ byte ∷ []) store service written (between before before) (Ok tt)
   heard_begun start store bytes old service byte written before h hears same keys = (
@@ -167,9 +168,9 @@ module _ {D : Type 0} (disk : Disk D) where
   )
 
   -- of more bytes the first were heard, as a write failed
-  pub cut_before : (start store : StoreValue D SessionValue Action) (bytes more : List ℕ) (written : List ℕ) (writer : Stream)
-      → IsCutShort disk start bytes store written writer → IsCutShort disk start (bytes ++ more) store written writer
-  cut_before start store bytes more written writer cut = record {
+  pub cut_before : (set : LineSet) (start store : StoreValue D SessionValue Action) (bytes more : List ℕ) (written : List ℕ) (writer : Stream)
+      → IsCutShort disk set start bytes store written writer → IsCutShort disk set start (bytes ++ more) store written writer
+  cut_before set start store bytes more written writer cut = record {
     heard = cut.heard;
     unheard = cut.unheard ++ more;
     all = ap (λ (xs : List ℕ). xs ++ more) cut.all ∙ append_assoc cut.heard cut.unheard more;

@@ -12,6 +12,7 @@ use Rattle.session_rules.specs.State.{SessionValue}
 use Rattle.line_text.specs.Streams.{Stream, between, TakesPrefix}
 use Rattle.line_replies.specs.declared.fault.ServeFault.{ServeFault}
 use Rattle.table_server.specs.declared.line_service.LineService.{LineService}
+use Rattle.table_server.specs.declared.line_set.LineSet.{LineSet}
 use Rattle.table_server.specs.declared.served.Served.{Served}
 use Rattle.table_server.specs.Hearing.{Hearing, HearsOn}
 use Rattle.line_replies.specs.Limit.{byte_limit, limit_notice}
@@ -64,7 +65,7 @@ module _ {D : Type 0} (disk : Disk D) where
   pub stops_more : (start store new : StoreValue D SessionValue Action) (old service : LineService) (given rest rest' before written written' : Option (List ℕ)) (left : ℕ) (piece : List ℕ) (fault : ServeFault)
       → (r : HasRead disk start store old (between given rest) (between before written) left) → length piece ≤ left → Consumes rest rest' piece
       → HearsOn disk start (r.bytes ++ piece) new service r.text (between written written') (Err fault)
-      → StopsReplying disk start new (between given rest') (between before written')
+      → StopsReplying disk service.set start new (between given rest') (between before written')
   stops_more start store new old service given rest rest' before written written' left piece fault r few consumed on = record {
     bytes = r.bytes ++ piece;
     few = omega (arith, few, r.count, length-append r.bytes piece);
@@ -88,7 +89,7 @@ module _ {D : Type 0} (disk : Disk D) where
   pub ends_stopped : (start store new : StoreValue D SessionValue Action) (service : LineService) (reader : Stream) (before now after : Option (List ℕ)) (left : ℕ) (fault : ServeFault)
       → (r : HasRead disk start store service reader (between before now) left)
       → Ends disk start r.hearing.asked new r.text (between now after) (Err fault)
-      → StopsServing disk start new reader (between before after) fault
+      → StopsServing disk service.set start new reader (between before after) fault
   ends_stopped start store new service reader before now after left fault r e = rw e.0 (inl (record {
     bytes = r.bytes;
     few = omega (arith, r.count);
@@ -98,7 +99,7 @@ module _ {D : Type 0} (disk : Disk D) where
       unheard = [];
       all = sym (append-nil r.bytes);
       asked = r.hearing.asked;
-      asks = hears_asks r.bytes service.feed r.hearing.asked r.hearing.hears;
+      asks = hears_asks service.set r.bytes service.feed r.hearing.asked r.hearing.hears;
       stopped = stopped_after disk start new r.hearing.asked [] r.text before now after r.wrote e.1;
     };
   }))
@@ -107,7 +108,7 @@ module _ {D : Type 0} (disk : Disk D) where
   pub ends_at_end : (start store new : StoreValue D SessionValue Action) (service : LineService) (reader : Stream) (before now after : Option (List ℕ)) (left : ℕ) (result : Served)
       → (r : HasRead disk start store service reader (between before now) left) → 0 < left → IsAtEnd reader.new
       → Ends disk start r.hearing.asked new r.text (between now after) (Ok result) → result.lines ≡ service.held.served.lines
-      → HasCounted disk start new reader (between before after) (record { served = result; wrong_keys = service.wrong_keys })
+      → HasCounted disk service.set start new reader (between before after) (record { served = result; wrong_keys = service.wrong_keys })
   ends_at_end start store new service reader before now after left result r some end e lines =
       let below : nat_le byte_limit (length r.bytes) ≡ false = lt-leb byte_limit (length r.bytes) (omega (arith, r.count, some)) in record {
         has = record {
@@ -116,7 +117,7 @@ module _ {D : Type 0} (disk : Disk D) where
           given = r.given;
           whole = whole_read reader.old reader.new r.bytes left r.count r.given (λ it. end);
           asked = r.hearing.asked;
-          asks = hears_asks r.bytes service.feed r.hearing.asked r.hearing.hears;
+          asks = hears_asks service.set r.bytes service.feed r.hearing.asked r.hearing.hears;
           text = r.text ++ e.0;
           wrote = rw (below, append-nil (r.text ++ e.0)) (Appends-trans before now after r.text e.0 r.wrote e.1);
           served = e.2;
@@ -130,7 +131,7 @@ module _ {D : Type 0} (disk : Disk D) where
   pub ends_at_limit : (start store new : StoreValue D SessionValue Action) (service : LineService) (reader : Stream) (before now mid after : Option (List ℕ)) (left : ℕ) (result : Served)
       → (r : HasRead disk start store service reader (between before now) left) → left ≡ 0
       → Ends disk start r.hearing.asked new r.text (between now mid) (Ok result) → result.lines ≡ service.held.served.lines
-      → Appends mid after (limit_notice true) → HasCounted disk start new reader (between before after) (record { served = result; wrong_keys = service.wrong_keys })
+      → Appends mid after (limit_notice true) → HasCounted disk service.set start new reader (between before after) (record { served = result; wrong_keys = service.wrong_keys })
   ends_at_limit start store new service reader before now mid after left result r none e lines notice =
       let reached : nat_le byte_limit (length r.bytes) ≡ true = le-leb byte_limit (length r.bytes) (omega (arith, r.count, none)) in
       let wrote = Appends-trans before now mid r.text e.0 r.wrote e.1 in record {
@@ -140,7 +141,7 @@ module _ {D : Type 0} (disk : Disk D) where
           given = r.given;
           whole = whole_read reader.old reader.new r.bytes left r.count r.given (λ some. absurd (omega (arith, some, none)));
           asked = r.hearing.asked;
-          asks = hears_asks r.bytes service.feed r.hearing.asked r.hearing.hears;
+          asks = hears_asks service.set r.bytes service.feed r.hearing.asked r.hearing.hears;
           text = r.text ++ e.0;
           wrote = rw reached (Appends-trans before mid after (r.text ++ e.0) (limit_notice true) wrote notice);
           served = e.2;
@@ -154,14 +155,14 @@ module _ {D : Type 0} (disk : Disk D) where
   pub ends_in_notice : (start store new : StoreValue D SessionValue Action) (service : LineService) (reader : Stream) (before now mid after : Option (List ℕ)) (left : ℕ) (result : Served)
       → (r : HasRead disk start store service reader (between before now) left) → left ≡ 0
       → Ends disk start r.hearing.asked new r.text (between now mid) (Ok result)
-      → TakesPrefix (between mid after) (limit_notice true) → StopsNoticing disk start new reader (between before after)
+      → TakesPrefix (between mid after) (limit_notice true) → StopsNoticing disk service.set start new reader (between before after)
   ends_in_notice start store new service reader before now mid after left result r none e prefix =
       let wrote = Appends-trans before now mid r.text e.0 r.wrote e.1 in record {
         bytes = r.bytes;
         limit = omega (arith, r.count, none);
         given = r.given;
         asked = r.hearing.asked;
-        asks = hears_asks r.bytes service.feed r.hearing.asked r.hearing.hears;
+        asks = hears_asks service.set r.bytes service.feed r.hearing.asked r.hearing.hears;
         text = r.text ++ e.0;
         begun = prefix.0;
         unwritten = prefix.1;
@@ -175,13 +176,13 @@ module _ {D : Type 0} (disk : Disk D) where
   pub ends_at_fault : (start store new : StoreValue D SessionValue Action) (service : LineService) (reader : Stream) (before now after : Option (List ℕ)) (left : ℕ) (result : Served)
       → (r : HasRead disk start store service reader (between before now) left) → 0 < left
       → Ends disk start r.hearing.asked new r.text (between now after) (Ok result)
-      → StopsReading disk start new reader (between before after)
+      → StopsReading disk service.set start new reader (between before after)
   ends_at_fault start store new service reader before now after left result r some e = record {
     bytes = r.bytes;
     few = omega (arith, r.count, some);
     given = r.given;
     asked = r.hearing.asked;
-    asks = hears_asks r.bytes service.feed r.hearing.asked r.hearing.hears;
+    asks = hears_asks service.set r.bytes service.feed r.hearing.asked r.hearing.hears;
     text = r.text ++ e.0;
     wrote = Appends-trans before now after r.text e.0 r.wrote e.1;
     actions = result.accepted;
@@ -201,22 +202,31 @@ module _ {D : Type 0} (disk : Disk D) where
   }
 
   -- nothing is pending once lines were served, where the store works
-  pub counted_ready : (start store : StoreValue D SessionValue Action) (reader writer : Stream) (result : Result ServedKeys ServeFault)
-      → EndsCounting disk start store reader writer result → store.failed ≡ false → store.pending ≡ []
-  counted_ready start store reader writer (Ok result) s works = (s.has.served.works works).1
-  counted_ready start store reader writer (Err Read) s works = (s.served.works works).1
-  counted_ready start store reader writer (Err Write) (inl s) works = (s.cut.stopped.served.works works).1
-  counted_ready start store reader writer (Err Write) (inr s) works = (s.served.works works).1
-  counted_ready start store reader writer (Err Accept) s works = absurd s
+  pub counted_ready : (set : LineSet) (start store : StoreValue D SessionValue Action) (reader writer : Stream) (result : Result ServedKeys ServeFault)
+      → EndsCounting disk set start store reader writer result → store.failed ≡ false → store.pending ≡ []
+  counted_ready set start store reader writer (Ok result) s works = (s.has.served.works works).1
+  counted_ready set start store reader writer (Err Read) s works = (s.served.works works).1
+  counted_ready set start store reader writer (Err Write) (inl s) works = (s.cut.stopped.served.works works).1
+  counted_ready set start store reader writer (Err Write) (inr s) works = (s.served.works works).1
+  counted_ready set start store reader writer (Err Accept) s works = absurd s
+
+  -- the same of the same set
+  pub counting_as : (one set : LineSet) (start store : StoreValue D SessionValue Action) (reader writer : Stream) (result : Result ServedKeys ServeFault)
+      → one ≡ set → EndsCounting disk one start store reader writer result → EndsCounting disk set start store reader writer result
+  counting_as one set start store reader writer result same e = subst (λ (s : LineSet). EndsCounting disk s start store reader writer result) same e
+
+  pub replying_as : (one set : LineSet) (start store : StoreValue D SessionValue Action) (reader writer : Stream)
+      → one ≡ set → StopsReplying disk one start store reader writer → StopsReplying disk set start store reader writer
+  replying_as one set start store reader writer same stops = subst (λ (s : LineSet). StopsReplying disk s start store reader writer) same stops
 
   -- what was served, where the end answers Ok
-  pub ends_ok : (start store : StoreValue D SessionValue Action) (reader writer : Stream) (result : Result ServedKeys ServeFault) → EndsCounting disk start store reader writer result
-      → IfOk result (HasCounted disk start store reader writer)
-  ends_ok start store reader writer (Ok it) e = e
-  ends_ok start store reader writer (Err fault) e = tt
+  pub ends_ok : (set : LineSet) (start store : StoreValue D SessionValue Action) (reader writer : Stream) (result : Result ServedKeys ServeFault) → EndsCounting disk set start store reader writer result
+      → IfOk result (HasCounted disk set start store reader writer)
+  ends_ok set start store reader writer (Ok it) e = e
+  ends_ok set start store reader writer (Err fault) e = tt
 
   -- and where it does not
-  pub ends_err : (start store : StoreValue D SessionValue Action) (reader writer : Stream) (result : Result ServedKeys ServeFault) → EndsCounting disk start store reader writer result
-      → IfErr result (StopsServing disk start store reader writer)
-  ends_err start store reader writer (Ok it) e = tt
-  ends_err start store reader writer (Err fault) e = e
+  pub ends_err : (set : LineSet) (start store : StoreValue D SessionValue Action) (reader writer : Stream) (result : Result ServedKeys ServeFault) → EndsCounting disk set start store reader writer result
+      → IfErr result (StopsServing disk set start store reader writer)
+  ends_err set start store reader writer (Ok it) e = tt
+  ends_err set start store reader writer (Err fault) e = e

@@ -7,6 +7,7 @@ use Rattle.session_rules.specs.State.{SessionValue}
 use Rattle.line_text.specs.Streams.{stream}
 use Rattle.line_replies.specs.declared.fault.ServeFault.{ServeFault}
 use Rattle.line_replies.specs.declared.fault.ServeFault.TheVariants.{Read, Write, Accept}
+use Rattle.table_server.specs.declared.line_set.LineSet.TheVariants.{Protocol}
 use Rattle.table_server.specs.declared.served.Served.{Served}
 use Rattle.table_server.specs.ServedStreams.{HasServed, StopsServing}
 
@@ -22,12 +23,12 @@ module _ {D : Type 0} (disk : Disk D) {S : Type 0} (remaining contents : S → O
   -- the lines that came in at a connection were served, and answered there
   pub record HasServedOne (start store : StoreValue D SessionValue Action) (result : Served) : Type 0 where
     pub sides : Sides S
-    pub served : HasServed disk start store (stream remaining sides.reader_old sides.reader_new) (stream contents sides.writer_old sides.writer_new) result
+    pub served : HasServed disk Protocol start store (stream remaining sides.reader_old sides.reader_new) (stream contents sides.writer_old sides.writer_new) result
 
   -- the lines that came in at a connection were served up to this fault of it
   pub record StopsServingOne (start store : StoreValue D SessionValue Action) (fault : ServeFault) : Type 0 where
     pub sides : Sides S
-    pub stops : StopsServing disk start store (stream remaining sides.reader_old sides.reader_new) (stream contents sides.writer_old sides.writer_new) fault
+    pub stops : StopsServing disk Protocol start store (stream remaining sides.reader_old sides.reader_new) (stream contents sides.writer_old sides.writer_new) fault
 
   -- what holds at a fault; where no connection was had, the store is as it was
   abbrev pub StopsAccepting : StoreValue D SessionValue Action → StoreValue D SessionValue Action → ServeFault → Type 0

@@ -5,7 +5,8 @@ use Rattle.table_server.specs.declared.asked.Asked.{Asked}
 use Rattle.table_server.specs.declared.asked.Asked.TheVariants.{Change, Told, BadLine, LongLine}
 use Rattle.line_replies.specs.declared.short_reply.ShortReply.TheVariants as short
 use Rattle.line_replies.specs.ReplyTexts.{short_text}
-use Rattle.table_server.specs.Asked.{Asks}
+use Rattle.table_server.specs.declared.line_set.LineSet.{LineSet}
+use Rattle.table_server.specs.Asked.{AsksIn}
 use Rattle.table_server.specs.Standing.{Standing, change_reply, after_change, accepted_change}
 use Rattle.table_server.specs.Told.{Tells}
 
@@ -46,12 +47,12 @@ AreReplies standing [] text = text ≡ []
 AreReplies standing (asked ∷ more) text = (reply : List ℕ) × (rest : List ℕ)
     × IsReply standing asked reply × AreReplies (after_asked standing asked) more rest × (text ≡ reply ++ rest)
 
--- these lines ask for these
-abbrev pub AskAll : List (List ℕ) → List Asked → Type 0
-AskAll [] [] = Unit {0}
-AskAll [] (asked ∷ more) = ⊥
-AskAll (line ∷ lines) [] = ⊥
-AskAll (line ∷ lines) (asked ∷ more) = Asks line asked × AskAll lines more
+-- these lines of a set ask for these
+abbrev pub AskAll : LineSet → List (List ℕ) → List Asked → Type 0
+AskAll set [] [] = Unit {0}
+AskAll set [] (asked ∷ more) = ⊥
+AskAll set (line ∷ lines) [] = ⊥
+AskAll set (line ∷ lines) (asked ∷ more) = AsksIn set line asked × AskAll set lines more
 
 -- changes and bad lines are held, 64 at most, and questions are not
 abbrev pub is_held : Asked → Bool

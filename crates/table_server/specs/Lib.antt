@@ -1,5 +1,6 @@
 pub mod LineWords
 pub mod LineCommand
+pub mod CorrectionLine
 pub mod Asked
 pub mod PbnReply
 pub mod Standing

@@ -2,10 +2,12 @@
 ghost use Rattle.std.specs.Prelude.{◌≡◌, [], false, IfOk, IfErr};
 ghost use Rattle.line_text.specs.Streams.{stream};
 ghost use Rattle.table_server.specs.ServedStreams.{ReadsTo, StopsReads, EndsReading, HasCounted, HasServed, StopsServing};
+ghost use Rattle.table_server.specs.declared.line_set.LineSet.TheVariants.{Protocol};
 ghost use Rattle.table_server.specs.Faulted.{FailsWithDisk};
 ghost use Rattle.table_server.specs.Serving.{Fits};
 
 use crate::line_service::LineService;
+use crate::line_set::LineSet;
 use crate::served::{Served, ServedKeys};
 use bridge_endings::Cache;
 use bridge_session::Session;
@@ -38,6 +40,7 @@ fn read_lines<D: SectorDisk + Drop, R: Read, W: Write>(
 ) -> Result<Ended, ServeFault>
     requires fits { Fits service.old.held }
     requires none { service.old.held.served.lines ≡ 0 }
+    ensures set { service.new.set ≡ service.old.set }
     ensures fits { Fits service.new.held }
     ensures read { IfOk result (ReadsTo D.disk store.old service.old store.new service.new
         (stream R.remaining reader.old reader.new) (stream W.contents writer.old writer.new)) }
@@ -104,34 +107,35 @@ pub fn serve<D: SectorDisk + Drop, R: Read, W: Write>(
     writer: &mut W,
 ) -> Result<Served, ServeFault>
     requires { store.old.failed ≡ false → store.old.pending ≡ [] }
-    ensures ok { IfOk result (HasServed D.disk store.old store.new
+    ensures ok { IfOk result (HasServed D.disk Protocol store.old store.new
         (stream R.remaining reader.old reader.new) (stream W.contents writer.old writer.new)) }
-    ensures fault { IfErr result (StopsServing D.disk store.old store.new
+    ensures fault { IfErr result (StopsServing D.disk Protocol store.old store.new
         (stream R.remaining reader.old reader.new) (stream W.contents writer.old writer.new)) }
     ensures ready { store.new.failed ≡ false → store.new.pending ≡ [] }
     ensures faults { FailsWithDisk D.disk store.old store.new }
 {
-    let lines = serve_counting(store, cache, reader, writer)?;
+    let lines = serve_lines(LineSet::Protocol, store, cache, reader, writer)?;
     Ok(lines.served)
 }
 
-/// The same, and counts the lines that had a key that is nobody's.
-pub fn serve_counting<D: SectorDisk + Drop, R: Read, W: Write>(
+/// The same of the lines of that set, and counts those that had a key that is nobody's.
+pub fn serve_lines<D: SectorDisk + Drop, R: Read, W: Write>(
+    set: LineSet,
     store: &mut Store<D, Session>,
     cache: Option<&mut Cache>,
     reader: &mut R,
     writer: &mut W,
 ) -> Result<ServedKeys, ServeFault>
     requires { store.old.failed ≡ false → store.old.pending ≡ [] }
-    ensures ok { IfOk result (HasCounted D.disk store.old store.new
+    ensures ok { IfOk result (HasCounted D.disk set store.old store.new
         (stream R.remaining reader.old reader.new) (stream W.contents writer.old writer.new)) }
-    ensures fault { IfErr result (StopsServing D.disk store.old store.new
+    ensures fault { IfErr result (StopsServing D.disk set store.old store.new
         (stream R.remaining reader.old reader.new) (stream W.contents writer.old writer.new)) }
     ensures ready { store.new.failed ≡ false → store.new.pending ≡ [] }
     ensures faults { FailsWithDisk D.disk store.old store.new }
 {
     let mut cache = cache;
-    let mut service = LineService::begin(store);
+    let mut service = LineService::begin(set, store);
     match read_lines(&mut service, store, &mut cache, reader, writer) {
         Err(fault) => Err(fault),
         Ok(ended) => end_lines(&mut service, ended, store, writer),

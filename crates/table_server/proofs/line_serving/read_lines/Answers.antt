@@ -1,12 +1,16 @@
-use Rattle.std.proofs.Common.{◌-◌, [], take, refl, arith, rules, subst}
+use Rattle.std.proofs.Common.{◌-◌, [], take, refl, arith, rules, subst, ◌∙◌}
 use Rattle.std.specs.Io.KnownBytes.{Consumes}
 use Rattle.std.proofs.lemmas.List.{length-take-le}
+use Rattle.line_text.specs.Streams.{between}
+use Rattle.table_server.specs.declared.line_set.LineSet.{LineSet}
+use Rattle.table_server.specs.ServedStreams.{StopsReplying}
 use Rattle.table_server.proofs.StreamLemmas.{read_nothing, read_more, stops_more, read_kept, read_none}
 use Rattle.table_server.proofs.FaultLemmas.{no_fault, fails_on}
 use Rattle.table_server.proofs.line_serving.read_lines.Goals as goal
 
 pub loop-left-init : goal.loop-left-init
 loop-left-init g c = record {
+  set = refl;
   fits = c.requires.fits;
   few = omega (arith, c.requires.none);
   room = refl;
@@ -41,16 +45,19 @@ returns-in-Err-clause-fault g c start h =
     let taken = length-take-le c.in-Ok.taken c.read_piece.new.piece c.in-Ok.ensures.bound.1 in
     let on = c.in-Err.ensures.hears start r.bytes r.text r.hearing in (
       on.0,
-      stops_more g.D.SectorDisk.disk start c.loop-left.store c.take.new.store c.loop-left.service c.take.new.self (g.R.Read.remaining c.args.reader.now)
+      subst (λ (set : LineSet). StopsReplying g.D.SectorDisk.disk set start c.take.new.store (between (g.R.Read.remaining c.args.reader.now) (g.R.Read.remaining c.read_piece.new.reader)) (between (g.W.Write.contents c.args.writer.now) (g.W.Write.contents c.take.new.writer)))
+          (c.take.ensures.set ∙ c.loop-left.invariant.set)
+          (stops_more g.D.SectorDisk.disk start c.loop-left.store c.take.new.store c.loop-left.service c.take.new.self (g.R.Read.remaining c.args.reader.now)
           (g.R.Read.remaining c.loop-left.reader) (g.R.Read.remaining c.read_piece.new.reader) (g.W.Write.contents c.args.writer.now)
           (g.W.Write.contents c.loop-left.writer) (g.W.Write.contents c.take.new.writer) c.loop-left.left piece c.in-Err.fault r
-          (omega (arith, taken, c.in-Ok.ensures.bound.0)) c.in-Ok.ensures.ok on,
+          (omega (arith, taken, c.in-Ok.ensures.bound.0)) c.in-Ok.ensures.ok on),
     )
 
 pub loop-left-preserved : goal.loop-left-preserved
 loop-left-preserved g c =
     let piece = take c.in-Ok.taken c.read_piece.new.piece in
     let taken = length-take-le c.in-Ok.taken c.read_piece.new.piece c.in-Ok.ensures.bound.1 in record {
+      set = c.take.ensures.set ∙ c.loop-left.invariant.set;
       fits = c.in_default-take.ensures.fits;
       few = omega (arith, taken, c.in-Ok.ensures.bound.0, c.in_default-take.ensures.lines, c.loop-left.invariant.few);
       room = search rules;

@@ -11,6 +11,7 @@ use Rattle.table_server.proofs.line_serving.read_lines.Given as goal
 
 abbrev pub invariant-loop-left : goal.invariant-loop-left
 invariant-loop-left g l = record {
+  set : l.service.set ≡ l.fn.service.set;
   fits : Fits l.service.held;
   few : l.service.held.served.lines + l.left ≤ 65536;
   room : length l.piece ≡ 4096;

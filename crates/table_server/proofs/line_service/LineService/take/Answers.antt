@@ -1,4 +1,4 @@
-use Rattle.std.proofs.Common.{◌≡◌, ◌+◌, ◌∙◌, [], ◌∷◌, ◌++◌, take, slice_index_or, Ok, Err, sym, ap, subst, arith, append_assoc, append-nil}
+use Rattle.std.proofs.Common.{◌≡◌, ◌+◌, ◌∙◌, [], ◌∷◌, ◌++◌, take, slice_index_or, Ok, Err, refl, sym, ap, subst, arith, append_assoc, append-nil}
 use Rattle.std.proofs.KnownBytes.{Appends-nil}
 use Rattle.std.proofs.lemmas.List.{take_more, take_all, take-append-drop}
 use Rattle.std.specs.Prelude.{drop}
@@ -10,6 +10,7 @@ use Rattle.table_server.proofs.line_service.LineService.take.Goals as goal
 
 pub loop-byte-init : goal.loop-byte-init
 loop-byte-init g c = record {
+  set = refl;
   fits = c.requires.fits;
   lines = omega arith;
   hears = λ start bytes written h.
@@ -36,12 +37,13 @@ returns-in-Err-clause-hears g c start bytes written h =
     = ap (λ xs. xs ++ drop (i + 1) piece) (append_assoc bytes (take i piece) (byte ∷ []) ∙ ap (λ xs. bytes ++ xs) (sym more))
     ∙ append_assoc bytes (take (i + 1) piece) (drop (i + 1) piece) ∙ ap (λ xs. bytes ++ xs) (take-append-drop (i + 1) piece) in (
       cut.0,
-      subst (λ xs. IsCutShort disk start xs c.take_byte.new.store written (stream g.W.Write.contents c.args.writer.now c.take_byte.new.writer)) all
-          (cut_before disk start c.take_byte.new.store (heard ++ byte ∷ []) (drop (i + 1) piece) written _ cut.1),
+      subst (λ xs. IsCutShort disk c.take_byte.new.self.set start xs c.take_byte.new.store written (stream g.W.Write.contents c.args.writer.now c.take_byte.new.writer)) all
+          (cut_before disk c.take_byte.new.self.set start c.take_byte.new.store (heard ++ byte ∷ []) (drop (i + 1) piece) written _ cut.1),
     )
 
 pub loop-byte-preserved : goal.loop-byte-preserved
 loop-byte-preserved g c = record {
+  set = c.take_byte.ensures.set ∙ c.loop-byte.invariant.set;
   fits = c.in_default.ensures.fits;
   lines = omega (arith, c.in_default.ensures.lines, c.loop-byte.invariant.lines);
   hears = λ start bytes written h.

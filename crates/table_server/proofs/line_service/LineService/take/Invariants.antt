@@ -1,4 +1,4 @@
-use Rattle.std.proofs.Common.{◌+◌, ◌≤◌, ℕ, List, ◌++◌, take}
+use Rattle.std.proofs.Common.{◌≡◌, ◌+◌, ◌≤◌, ℕ, List, ◌++◌, take}
 use Rattle.session_store.specs.Value.{StoreValue}
 use Rattle.session_rules.specs.declared.action.Action.{Action}
 use Rattle.session_rules.specs.State.{SessionValue}
@@ -10,6 +10,7 @@ use Rattle.table_server.proofs.line_service.LineService.take.Given as goal
 
 abbrev pub invariant-loop-byte : goal.invariant-loop-byte
 invariant-loop-byte g l = record {
+  set : l.self.set ≡ l.fn.self.set;
   fits : Fits l.self.held;
   lines : l.self.held.served.lines ≤ l.fn.self.held.served.lines + l.byte-index;
   hears : (start : StoreValue g.row.D.Denot SessionValue Action) (bytes : List ℕ) (written : List ℕ) → Hearing g.D.SectorDisk.disk start bytes l.fn.store l.fn.self written
