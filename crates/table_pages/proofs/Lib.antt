@@ -1,3 +1,6 @@
 pub mod Answered
 pub mod Counted
 pub mod Shown
+mod BodyLines
+mod SameWaits
+mod ToldNow

@@ -14,7 +14,10 @@ use Rattle.board_replies.specs.Told.{boards_text, opened_by}
 use Rattle.desk_replies.specs.declared.desk.Desk.{Desk}
 use Rattle.desk_replies.specs.Asked.{has_wrong_key as asks_wrongly}
 use Rattle.desk_replies.specs.Told.{desk_text, desk_after}
+use Rattle.line_replies.specs.declared.short_reply.ShortReply.{ShortReply}
+use Rattle.table_pages.specs.Waits.{wait_reply, IsToldStill}
 use Rattle.table_server.specs.declared.asked.Asked.{Asked}
+use Rattle.table_server.specs.declared.line_set.LineSet.{LineSet}
 use Rattle.line_replies.specs.declared.fault.ServeFault.{ServeFault}
 use Rattle.table_server.specs.Answered.{AskAll}
 use Rattle.table_server.specs.Faulted.{FailsWithDisk}
@@ -44,10 +47,10 @@ boards_told store is_open key = boards_text store.state is_open key
 abbrev pub opens_told : {D : Type 0} → StoreValue D SessionValue Action → Bool → List ℕ → Bool
 opens_told store is_open key = opened_by store.state is_open key
 
--- over the session of a store: so many of the complete lines of these bytes have a key that is nobody's
-abbrev pub CountsKeys : {D : Type 0} → StoreValue D SessionValue Action → List ℕ → ℕ → Type 0
-CountsKeys store body count =
-    (asked : List Asked) × AskAll (complete_lines body) asked × (count ≡ wrong_keys store.state.configuration asked)
+-- over the session of a store: so many of the complete lines of these bytes, of a set, have a key that is nobody's
+abbrev pub CountsKeys : {D : Type 0} → LineSet → StoreValue D SessionValue Action → List ℕ → ℕ → Type 0
+CountsKeys set store body count =
+    (asked : List Asked) × AskAll set (complete_lines body) asked × (count ≡ wrong_keys store.state.configuration asked)
 
 -- whether these bytes are one
 abbrev pub wrong_key_told : {D : Type 0} → StoreValue D SessionValue Action → List ℕ → Bool
@@ -69,11 +72,19 @@ desks_told store desk at body = desk_text store.state desk at body
 abbrev pub stands_told : {D : Type 0} → StoreValue D SessionValue Action → Desk → ℕ → List ℕ → Desk
 stands_told store desk at body = desk_after store.state desk at body
 
-module _ {D : Type 0} (disk : Disk D) where
-  -- All complete lines of a body were served over a store, and the text is the replies to them.
+-- over the session of a store: how a request to wait is answered
+abbrev pub wait_told : {D : Type 0} → StoreValue D SessionValue Action → List ℕ → ShortReply
+wait_told store body = wait_reply store.state.configuration body
+
+-- and whether what such a body says was told is told still
+abbrev pub IsStill : {D : Type 0} → StoreValue D SessionValue Action → Desk → List ℕ → Type 0
+IsStill store desk body = IsToldStill store.state desk body
+
+module _ {D : Type 0} (disk : Disk D) (set : LineSet) where
+  -- All complete lines of a body, of a set, were served over a store, and the text is the replies to them.
   pub record IsAnswered (start : StoreValue D SessionValue Action) (body text : List ℕ) (store : StoreValue D SessionValue Action) : Type 0 where
     pub asked : List Asked
-    pub asks : AskAll (complete_lines body) asked
+    pub asks : AskAll set (complete_lines body) asked
     pub actions : ℕ
     pub served : IsServed disk start asked store text actions
 
@@ -84,7 +95,7 @@ module _ {D : Type 0} (disk : Disk D) where
     pub writer : Stream
     pub empty : writer.old ≡ Some []
     pub fault : ServeFault
-    pub stops : StopsServing disk start store reader writer fault
+    pub stops : StopsServing disk set start store reader writer fault
 
   -- a body was answered by a text, or memory was refused for it
   abbrev pub AnswersBody : StoreValue D SessionValue Action → List ℕ → Option (List ℕ) → StoreValue D SessionValue Action → Type 0

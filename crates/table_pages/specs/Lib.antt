@@ -6,3 +6,6 @@ pub mod Site
 pub mod WrongKeys
 pub mod Opened
 pub mod Stands
+pub mod Waits
+pub mod FirstLine
+pub mod Keeping

@@ -5,11 +5,15 @@ use Rattle.http.specs.Request.{head_of, body_of}
 use Rattle.http_server.specs.declared.response.Response.{Response}
 use Rattle.web_requests.specs.declared.kind.Kind.TheVariants as kind
 use Rattle.web_requests.specs.declared.route.Route.{Route}
-use Rattle.web_requests.specs.declared.route.Route.TheVariants.{Page, TextsScript, SharedScript, TableScript, BoardsScript, DeskScript, DirectorScript, Style, Lines, Place, Tables, Boards, Results, Desk, Refused}
+use Rattle.web_requests.specs.declared.route.Route.TheVariants.{Page, TextsScript, SharedScript, TableScript, BoardsScript, DeskScript, DirectorScript, Style, Lines, Correct, Place, Tables, Boards, Results, Desk, Wait, Refused}
 use Rattle.web_requests.specs.declared.route.Refusal.TheVariants.{TooLong}
 use Rattle.web_requests.specs.Route.{route_for}
 use Rattle.web_requests.specs.Filled.{IsText, IsRefused, IsUnavailable}
 use Rattle.desk_replies.specs.declared.desk.Desk.{Desk as DeskType}
+use Rattle.line_replies.specs.declared.short_reply.ShortReply.{ShortReply}
+use Rattle.line_replies.specs.ReplyTexts.{short_text}
+use Rattle.table_server.specs.declared.line_set.LineSet.{LineSet}
+use Rattle.table_server.specs.declared.line_set.LineSet.TheVariants.{Protocol, Corrections}
 use Rattle.table_pages.specs.declared.page_texts.PageTexts.{PageTexts}
 use Rattle.table_pages.specs.Refused.{TellsRefused}
 use Rattle.table_pages.specs.Site.{Site}
@@ -27,7 +31,9 @@ module _ {T : Type 0} (answers : T → List ℕ → Option (List ℕ) → T → 
   TellsShort true old body response new = TellsLines old body response new
   TellsShort false old body response new = IsRefused TooLong response × (new ≡ old)
 
-  module _ (places tables : T → List ℕ → List ℕ) (boards : T → Bool → List ℕ → List ℕ) (desks : T → DeskType → ℕ → List ℕ → List ℕ) (results : T → List ℕ → List ℕ → Type 0) where
+-- over a server of lines of either set
+module _ {T : Type 0} (answers : LineSet → T → List ℕ → Option (List ℕ) → T → Type 0) where
+  module _ (places tables : T → List ℕ → List ℕ) (waits : T → List ℕ → ShortReply) (boards : T → Bool → List ℕ → List ℕ) (desks : T → DeskType → ℕ → List ℕ → List ℕ) (results : T → List ℕ → List ℕ → Type 0) where
     module _ (texts : PageTexts) where
       -- the response to a request on this route: the text of the page, script or style that the pages were made with, the
       -- replies to its lines, or what is told to the holder of the key that it has
@@ -40,13 +46,15 @@ module _ {T : Type 0} (answers : T → List ℕ → Option (List ℕ) → T → 
       Responds DeskScript old body response new = IsText kind.Script texts.desk_script.now response × (new ≡ old)
       Responds DirectorScript old body response new = IsText kind.Script texts.director_script.now response × (new ≡ old)
       Responds Style old body response new = IsText kind.Style texts.style.now response × (new ≡ old)
-      Responds Lines old body response new = TellsShort (nat_lt (length body) 65536) old body response new
+      Responds Lines old body response new = TellsShort (answers Protocol) (nat_lt (length body) 65536) old body response new
+      Responds Correct old body response new = TellsShort (answers Corrections) (nat_lt (length body) 65536) old body response new
       Responds Place old body response new = IsText kind.Lines (places old body) response × (new ≡ old)
       Responds Tables old body response new = IsText kind.Lines (tables old body) response × (new ≡ old)
       Responds Boards old body response new = ((is_open : Bool) × IsText kind.Lines (boards old is_open body) response) × (new ≡ old)
       Responds Results old body response new = ((text : List ℕ) × results old body text × IsText kind.Lines text response) × (new ≡ old)
       Responds Desk old body response new =
           ((desk : DeskType) × (at : ℕ) × (IsText kind.Lines (desks old desk at body) response ⊎ IsUnavailable response)) × (new ≡ old)
+      Responds Wait old body response new = IsText kind.Lines (short_text (waits old body)) response × (new ≡ old)
       Responds (Refused why) old body response new = TellsRefused texts why response × (new ≡ old)
 
     -- the response to a request at this site

@@ -1,39 +1,42 @@
 //! Lines that came in one request, answered over a store.
 ghost use Rattle.std.specs.Prelude.{◌≡◌, ◌<◌, [], false, length, option_map, IfSome};
 ghost use Rattle.table_server.specs.Faulted.{FailsWithDisk};
-ghost use Rattle.table_pages.specs.Answered.{AnswersBody, AnswersLines, CountsKeys, is_settled, wrong_key_told, wrong_key_at_boards, wrong_key_at_desk, place_told, tables_told, boards_told, opens_told, desks_told, stands_told};
+ghost use Rattle.table_pages.specs.Answered.{AnswersBody, AnswersLines, CountsKeys, is_settled, wrong_key_told, wrong_key_at_boards, wrong_key_at_desk, place_told, tables_told, boards_told, opens_told, desks_told, stands_told, wait_told, IsStill};
 ghost use Rattle.page_replies.specs.ToldResults.{results_told};
 
 use crate::line_server::{LineServer, Replies};
+use crate::waiting;
 use board_replies::{opened_by, told_boards};
 use bridge_endings::Cache;
 use bridge_session::Session;
 use desk_replies::{Desk, answer_desk};
+use line_replies::ShortReply;
 use page_replies::{is_wrong_key, push_place, push_tables, told_results};
 use sector_disk::SectorDisk;
 use session_store::Store;
 use std::alloc::Global;
-use table_server::{ReplyText, serve_counting};
+use table_server::{LineSet, ReplyText, serve_lines};
 
-/// Answers the lines of a body of fewer than 65,536 bytes by what `serve` writes for them, and counts their wrong keys: what was accepted is confirmed
-/// on the disk before its reply stands in the text, and nothing is left pending in a store that works. `None` where memory
-/// was refused for the text.
+/// Answers the lines of a body of fewer than 65,536 bytes, which are of that set, by what `serve_lines` writes for them, and counts
+/// their wrong keys: what was accepted is confirmed on the disk before its reply stands in the text, and nothing is left pending in
+/// a store that works. `None` where memory was refused for the text.
 pub fn answer_lines<D: SectorDisk + Drop>(
     store: &mut Store<D, Session>,
+    set: LineSet,
     alloc: Global,
     cache: &mut Cache,
     body: &[u8],
 ) -> Option<Replies>
     requires settled { store.old.failed ≡ false → store.old.pending ≡ [] }
     requires short { length body.now < 65536 }
-    ensures answered { AnswersBody D.disk store.old body.now (option_map (λ replies. replies.text.items) result) store.new }
-    ensures counted { IfSome result (λ replies. CountsKeys store.old body.now replies.wrong_keys) }
+    ensures answered { AnswersBody D.disk set store.old body.now (option_map (λ replies. replies.text.items) result) store.new }
+    ensures counted { IfSome result (λ replies. CountsKeys set store.old body.now replies.wrong_keys) }
     ensures settled { store.new.failed ≡ false → store.new.pending ≡ [] }
     ensures faults { FailsWithDisk D.disk store.old store.new }
 {
     let mut unread = body;
     let mut text = Vec::new(alloc);
-    match serve_counting(store, Some(cache), &mut unread, &mut text) {
+    match serve_lines(set, store, Some(cache), &mut unread, &mut text) {
         Ok(lines) => Some(Replies {
             text,
             wrong_keys: lines.wrong_keys,
@@ -47,9 +50,9 @@ impl<D: SectorDisk + Drop> LineServer for Store<D, Session> {
 
     ghost failed = { λ store. store.failed };
 
-    ghost answers = { λ old body text new. AnswersLines D.disk old body text new };
+    ghost answers = { λ set old body text new. AnswersLines D.disk set old body text new };
 
-    ghost counts = { λ store body count. CountsKeys store body count };
+    ghost counts = { λ set store body count. CountsKeys set store body count };
 
     ghost wrong_key = { λ store key. wrong_key_told store key };
 
@@ -69,10 +72,20 @@ impl<D: SectorDisk + Drop> LineServer for Store<D, Session> {
 
     ghost stands = { λ store desk at body. stands_told store desk at body };
 
+    ghost waits = { λ store body. wait_told store body };
+
+    ghost stays = { λ store desk body. IsStill store desk body };
+
     ghost results = { λ store key text. results_told store key text };
 
-    fn answer(&mut self, alloc: Global, cache: &mut Cache, body: &[u8]) -> Option<Replies> {
-        answer_lines(self, alloc, cache, body)
+    fn answer(
+        &mut self,
+        set: LineSet,
+        alloc: Global,
+        cache: &mut Cache,
+        body: &[u8],
+    ) -> Option<Replies> {
+        answer_lines(self, set, alloc, cache, body)
     }
 
     fn has_wrong_key(&self, key: &[u8]) -> bool {
@@ -105,6 +118,14 @@ impl<D: SectorDisk + Drop> LineServer for Store<D, Session> {
 
     fn desk(&self, desk: &mut Desk, alloc: Global, at: u32, body: &[u8]) -> Option<Vec<u8>> {
         answer_desk(self.state(), desk, alloc, at, body)
+    }
+
+    fn wait(&self, body: &[u8]) -> ShortReply {
+        waiting::wait_reply(self.state(), body)
+    }
+
+    fn is_still(&self, desk: &Desk, body: &[u8]) -> bool {
+        waiting::is_told_still(self.state(), desk, body)
     }
 
     fn results(&self, alloc: Global, key: &[u8]) -> Option<Vec<u8>> {

@@ -9,15 +9,18 @@
 
 mod answering;
 mod host_names;
+mod laws;
 mod line_server;
 mod page_texts;
 mod pages;
 mod refused;
 mod seconds;
 mod showing;
+mod waiting;
 
 pub use answering::answer_lines;
 pub use host_names::HostNames;
+pub use laws::waits_tell_of_their_own_table;
 pub use line_server::{LineServer, Replies};
 pub use page_texts::PageTexts;
 pub use pages::TablePages;

@@ -1,11 +1,14 @@
 //! What answers lines.
-ghost use Rattle.std.specs.Prelude.{◌≡◌, ◌<◌, ℕ, Bool, true, List, [], Option, IfSome, length, option_map};
+ghost use Rattle.std.specs.Prelude.{◌≡◌, ◌<◌, ℕ, Bool, true, false, List, [], Option, IfSome, length, option_map};
 ghost use Rattle.desk_replies.specs.declared.desk.Desk.{Desk as DeskType};
+ghost use Rattle.table_server.specs.declared.line_set.LineSet.{LineSet as LineSetType};
+ghost use Rattle.line_replies.specs.declared.short_reply.ShortReply.{ShortReply as ShortReplyType};
 
 use bridge_endings::Cache;
 use desk_replies::Desk;
+use line_replies::ShortReply;
 use std::alloc::Global;
-use table_server::ReplyText;
+use table_server::{LineSet, ReplyText};
 
 /// The replies to posted lines, and how many of the lines had a key that is nobody's.
 #[derive(Drop)]
@@ -16,7 +19,7 @@ pub struct Replies {
     pub wrong_keys: u64,
 }
 
-/// What answers the lines of the protocol, as a store of a session does.
+/// What answers lines, as a store of a session does.
 pub trait LineServer: Drop {
     // it can take lines, as it can between two requests
     ghost is_ready: { Self → Bool };
@@ -24,11 +27,12 @@ pub trait LineServer: Drop {
     // it has failed
     ghost failed: { Self → Bool };
 
-    // from the first state, these bytes were answered by the text, or memory for the text was refused, and left the second state
-    ghost answers: { Self → List ℕ → Option (List ℕ) → Self → Type 0 };
+    // from the first state, these lines of a set were answered by the text, or memory for the text was refused, and left the second
+    // state
+    ghost answers: { LineSetType → Self → List ℕ → Option (List ℕ) → Self → Type 0 };
 
-    // so many of the lines of these bytes have a key that is nobody's
-    ghost counts: { Self → List ℕ → ℕ → Type 0 };
+    // so many of these lines of a set have a key that is nobody's
+    ghost counts: { LineSetType → Self → List ℕ → ℕ → Type 0 };
 
     // whether these bytes are a key that is nobody's
     ghost wrong_key: { Self → List ℕ → Bool };
@@ -57,16 +61,28 @@ pub trait LineServer: Drop {
     // and what stands on it from then on
     ghost stands: { Self → DeskType → ℕ → List ℕ → DeskType };
 
+    // how a request to wait with this body is answered
+    ghost waits: { Self → List ℕ → ShortReplyType };
+
+    // what was told last, as such a body says, is told still
+    ghost stays: { Self → DeskType → List ℕ → Type 0 };
+
     // the text is what is told of the results to the holder of the key that these bytes are
     ghost results: { Self → List ℕ → List ℕ → Type 0 };
 
-    /// Answers the lines of a body of fewer than 65,536 bytes. `None` where memory was refused for the text; lines may have
-    /// been taken then.
-    fn answer(&mut self, alloc: Global, cache: &mut Cache, body: &[u8]) -> Option<Replies>
+    /// Answers the lines of a body of fewer than 65,536 bytes, which are of that set. `None` where memory was refused for the
+    /// text; lines may have been taken then.
+    fn answer(
+        &mut self,
+        set: LineSet,
+        alloc: Global,
+        cache: &mut Cache,
+        body: &[u8],
+    ) -> Option<Replies>
         requires ready { is_ready self.old ≡ true }
         requires short { length body.now < 65536 }
-        ensures answers { answers self.old body.now (option_map (λ replies. replies.text.items) result) self.new }
-        ensures counts { IfSome result (λ replies. counts self.old body.now replies.wrong_keys) }
+        ensures answers { answers set self.old body.now (option_map (λ replies. replies.text.items) result) self.new }
+        ensures counts { IfSome result (λ replies. counts set self.old body.now replies.wrong_keys) }
         ensures ready { is_ready self.new ≡ true };
 
     /// Whether these bytes are a key that is nobody's.
@@ -105,6 +121,15 @@ pub trait LineServer: Drop {
     fn desk(&self, desk: &mut Desk, alloc: Global, at: u32, body: &[u8]) -> Option<Vec<u8>>
         ensures text { IfSome result (λ text. text.items ≡ desks self.now desk.old at body.now) }
         ensures desk { desk.new ≡ stands self.now desk.old at body.now };
+
+    /// How a request to wait with this body is answered.
+    fn wait(&self, body: &[u8]) -> ShortReply
+        ensures { result ≡ waits self.now body.now };
+
+    /// Whether what was told last, as such a body says, is told still.
+    fn is_still(&self, desk: &Desk, body: &[u8]) -> bool
+        ensures still { result ≡ true → stays self.now desk.now body.now }
+        ensures other { result ≡ false → ¬ (stays self.now desk.now body.now) };
 
     /// What is told of the results to the holder of the key that these bytes are. `None` where memory was refused for it.
     fn results(&self, alloc: Global, key: &[u8]) -> Option<Vec<u8>>

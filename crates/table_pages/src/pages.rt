@@ -9,7 +9,6 @@ ghost use Rattle.table_pages.specs.WrongKeys.{with_key, with_more, CountsLines};
 use crate::host_names::HostNames;
 use crate::line_server::{LineServer, Replies};
 use crate::page_texts::PageTexts;
-use crate::refused::put_refused;
 use crate::seconds::Seconds;
 use bridge_endings::Cache;
 use bytes::Bytes;
@@ -17,14 +16,16 @@ use desk_replies::Desk;
 use http::Request;
 use http_server::{Response, Service};
 use std::alloc::{AllocError, Global};
-use table_server::ReplyText;
+use table_server::{LineSet, ReplyText};
 use web_loop::LastingService;
-use web_requests::{
-    Kind, Refusal, Route, put_refusal, put_static, put_text, put_unavailable, route_of,
-};
+use web_requests::{Kind, Refusal, Route, put_refusal, put_text, put_unavailable, route_of};
 
 mod beside;
+mod routes;
 mod telling;
+mod wishes;
+
+use wishes::Wishes;
 
 /// One wrong key, or none.
 fn count_of(wrong: bool) -> u64
@@ -52,6 +53,8 @@ pub struct TablePages<T: LineServer, K: Seconds> {
     desk: Desk,
     /// What tells the time.
     clock: K,
+    /// What requests wish for.
+    wishes: Wishes,
     ghost ready: { T.is_ready server ≡ true },
 }
 
@@ -86,6 +89,7 @@ impl<T: LineServer, K: Seconds> TablePages<T, K> {
             is_open: false,
             desk: Desk::new(),
             clock,
+            wishes: Wishes::new(),
         }
     }
 
@@ -123,17 +127,22 @@ impl<T: LineServer, K: Seconds> TablePages<T, K> {
         self.is_open = true;
     }
 
-    /// Answers posted lines, if they are fewer than 65,536 bytes.
-    fn call_lines(&mut self, body: &[u8], response: &mut Response) -> Result<(), AllocError>
+    /// Answers posted lines of that set, if they are fewer than 65,536 bytes.
+    fn call_lines(
+        &mut self,
+        set: LineSet,
+        body: &[u8],
+        response: &mut Response,
+    ) -> Result<(), AllocError>
         requires { IsBlank response.old }
-        ensures lines { OnOk result (TellsShort T.answers (nat_lt (length body.now) 65536) self.old.server body.now response.new self.new.server) }
-        ensures counted { OnOk result (CountsLines (T.counts self.old.server body.now) self.old.wrong response.new self.new.wrong) }
-        ensures fixed { (self.new.names ≡ self.old.names) × (self.new.texts ≡ self.old.texts) }
+        ensures lines { OnOk result (TellsShort (T.answers set) (nat_lt (length body.now) 65536) self.old.server body.now response.new self.new.server) }
+        ensures counted { OnOk result (CountsLines (T.counts set self.old.server body.now) self.old.wrong response.new self.new.wrong) }
+        ensures fixed { (self.new.names ≡ self.old.names) × (self.new.texts ≡ self.old.texts) × (self.new.wishes ≡ self.old.wishes) }
         ensures beside { (self.new.is_open ≡ self.old.is_open) × (self.new.desk ≡ self.old.desk) }
         ensures err { OnErr result (self.new ≡ self.old) }
     {
         if body.len() < TOO_MANY_BYTES {
-            self.put_lines(body, response);
+            self.put_lines(set, body, response);
             Ok(())
         } else {
             put_refusal(response, Refusal::TooLong)
@@ -146,7 +155,7 @@ impl<T: LineServer, K: Seconds> TablePages<T, K> {
         ensures told { OnOk result (IsText Kind.Lines (T.places self.old.server key.now) response.new) }
         ensures counted { OnOk result (self.new.wrong ≡ with_key self.old.wrong (T.wrong_key self.old.server key.now)) }
         ensures server { self.new.server ≡ self.old.server }
-        ensures fixed { (self.new.names ≡ self.old.names) × (self.new.texts ≡ self.old.texts) }
+        ensures fixed { (self.new.names ≡ self.old.names) × (self.new.texts ≡ self.old.texts) × (self.new.wishes ≡ self.old.wishes) }
         ensures beside { (self.new.is_open ≡ self.old.is_open) × (self.new.desk ≡ self.old.desk) }
         ensures err { OnErr result (self.new ≡ self.old) }
     {
@@ -162,7 +171,7 @@ impl<T: LineServer, K: Seconds> TablePages<T, K> {
         ensures told { OnOk result (IsText Kind.Lines (T.tables self.old.server key.now) response.new) }
         ensures counted { OnOk result (self.new.wrong ≡ with_key self.old.wrong (T.wrong_key self.old.server key.now)) }
         ensures server { self.new.server ≡ self.old.server }
-        ensures fixed { (self.new.names ≡ self.old.names) × (self.new.texts ≡ self.old.texts) }
+        ensures fixed { (self.new.names ≡ self.old.names) × (self.new.texts ≡ self.old.texts) × (self.new.wishes ≡ self.old.wishes) }
         ensures beside { (self.new.is_open ≡ self.old.is_open) × (self.new.desk ≡ self.old.desk) }
         ensures err { OnErr result (self.new ≡ self.old) }
     {
@@ -172,16 +181,16 @@ impl<T: LineServer, K: Seconds> TablePages<T, K> {
         self.put_told(response, text.as_str().as_bytes(), count_of(wrong))
     }
 
-    /// Answers posted lines. Where memory is refused once they were taken, the response says nothing.
-    fn put_lines(&mut self, body: &[u8], response: &mut Response)
+    /// Answers posted lines of that set. Where memory is refused once they were taken, the response says nothing.
+    fn put_lines(&mut self, set: LineSet, body: &[u8], response: &mut Response)
         requires blank { IsBlank response.old }
         requires short { length body.now < 65536 }
-        ensures lines { TellsLines T.answers self.old.server body.now response.new self.new.server }
-        ensures counted { CountsLines (T.counts self.old.server body.now) self.old.wrong response.new self.new.wrong }
-        ensures fixed { (self.new.names ≡ self.old.names) × (self.new.texts ≡ self.old.texts) }
+        ensures lines { TellsLines (T.answers set) self.old.server body.now response.new self.new.server }
+        ensures counted { CountsLines (T.counts set self.old.server body.now) self.old.wrong response.new self.new.wrong }
+        ensures fixed { (self.new.names ≡ self.old.names) × (self.new.texts ≡ self.old.texts) × (self.new.wishes ≡ self.old.wishes) }
         ensures beside { (self.new.is_open ≡ self.old.is_open) × (self.new.desk ≡ self.old.desk) }
     {
-        match self.server.answer(self.alloc, &mut self.cache, body) {
+        match self.server.answer(set, self.alloc, &mut self.cache, body) {
             Some(replies) => self.put_replies(response, &replies),
             None => put_unavailable(response),
         }
@@ -193,7 +202,7 @@ impl<T: LineServer, K: Seconds> TablePages<T, K> {
         ensures text { IsText Kind.Lines replies.now.text.items response.new ⊎ IsUnavailable response.new }
         ensures counted { CountsLines (λ count. count ≡ replies.now.wrong_keys) self.old.wrong response.new self.new.wrong }
         ensures server { self.new.server ≡ self.old.server }
-        ensures fixed { (self.new.names ≡ self.old.names) × (self.new.texts ≡ self.old.texts) }
+        ensures fixed { (self.new.names ≡ self.old.names) × (self.new.texts ≡ self.old.texts) × (self.new.wishes ≡ self.old.wishes) }
         ensures beside { (self.new.is_open ≡ self.old.is_open) × (self.new.desk ≡ self.old.desk) }
     {
         let text = replies.text.as_slice();
@@ -213,7 +222,7 @@ impl<T: LineServer, K: Seconds> TablePages<T, K> {
         ensures told { OnOk result (IsText Kind.Lines text.now response.new) }
         ensures counted { OnOk result (self.new.wrong ≡ with_more self.old.wrong wrong_keys) }
         ensures server { self.new.server ≡ self.old.server }
-        ensures fixed { (self.new.names ≡ self.old.names) × (self.new.texts ≡ self.old.texts) }
+        ensures fixed { (self.new.names ≡ self.old.names) × (self.new.texts ≡ self.old.texts) × (self.new.wishes ≡ self.old.wishes) }
         ensures beside { (self.new.is_open ≡ self.old.is_open) × (self.new.desk ≡ self.old.desk) }
         ensures err { OnErr result (self.new ≡ self.old) }
     {
@@ -231,41 +240,29 @@ impl<T: LineServer, K: Seconds> Service for TablePages<T, K> {
     ghost use Rattle.web_requests.specs.Route.{route_for};
     ghost use Rattle.table_pages.specs.Responses.{Answering};
     ghost use Rattle.table_pages.specs.Site.{site_of};
+    ghost use Rattle.table_pages.specs.Waits.{wish_of};
+    ghost use Rattle.table_pages.specs.Keeping.{Keeps};
     ghost use Rattle.table_pages.specs.WrongKeys.{Counts};
 
     ghost answers = { λ old request response new.
-        Answering T.answers T.places T.tables T.boards T.desks T.results (site_of old.texts old.names) old.server request response new.server
+        Answering T.answers T.places T.tables T.waits T.boards T.desks T.results (site_of old.texts old.names) old.server request response new.server
         × (new.names ≡ old.names) × (new.texts ≡ old.texts)
         × Counts T.counts T.wrong_key T.wrong_at_boards T.wrong_at_desk (route_for (string_bytes old.names.host) (string_bytes old.names.alias) (head_of request))
         old.server (body_of request) old.wrong response new.wrong
         × Opens T.boards T.opens (route_for (string_bytes old.names.host) (string_bytes old.names.alias) (head_of request)) old.server old.is_open (body_of request) response new.is_open
-        × Stands T.desks T.stands (route_for (string_bytes old.names.host) (string_bytes old.names.alias) (head_of request)) old.server old.desk (body_of request) response new.desk };
+        × Stands T.desks T.stands (route_for (string_bytes old.names.host) (string_bytes old.names.alias) (head_of request)) old.server old.desk (body_of request) response new.desk
+        × Keeps (wish_of T.waits (route_for (string_bytes old.names.host) (string_bytes old.names.alias) (head_of request)) old.server (body_of request)) old.wishes new.wishes };
 
     fn call(
         &mut self,
         request: &Request<Bytes>,
         response: &mut Response,
     ) -> Result<(), AllocError> {
-        match self.route(request) {
-            Route::Page => put_static(response, Kind::Page, self.texts.page),
-            Route::TextsScript => put_static(response, Kind::Script, self.texts.texts_script),
-            Route::SharedScript => put_static(response, Kind::Script, self.texts.shared_script),
-            Route::TableScript => put_static(response, Kind::Script, self.texts.table_script),
-            Route::BoardsScript => put_static(response, Kind::Script, self.texts.boards_script),
-            Route::DeskScript => put_static(response, Kind::Script, self.texts.desk_script),
-            Route::DirectorScript => put_static(response, Kind::Script, self.texts.director_script),
-            Route::Style => put_static(response, Kind::Style, self.texts.style),
-            Route::Lines => self.call_lines(request.body().as_slice(), response),
-            Route::Place => self.put_place(request.body().as_slice(), response),
-            Route::Tables => self.put_tables(request.body().as_slice(), response),
-            Route::Boards => self.put_boards(request.body().as_slice(), response),
-            Route::Results => self.put_results(request.body().as_slice(), response),
-            Route::Desk => {
-                self.put_desk(request.body().as_slice(), response);
-                Ok(())
-            }
-            Route::Refused(refusal) => put_refused(&self.texts, refusal, response),
-        }
+        let route = self.route(request);
+        let wish = self.wish_of(route, request.body())?;
+        self.answer(route, request.body().as_slice(), response)?;
+        self.wishes.keep(wish);
+        Ok(())
     }
 }
 
@@ -274,11 +271,29 @@ impl<T: LineServer, K: Seconds> LastingService for TablePages<T, K> {
 
     ghost offences = { λ pages. pages.wrong };
 
+    ghost waits = { λ pages. pages.wishes.waits };
+
+    ghost wish = { λ pages. pages.wishes.wish };
+
+    ghost stays = { λ pages wish. T.stays pages.server pages.desk wish };
+
     fn lasts(&self) -> bool {
         !self.server.has_failed()
     }
 
     fn offences(&self) -> u64 {
         self.wrong
+    }
+
+    fn waits(&self) -> u64 {
+        self.wishes.waits
+    }
+
+    fn wish(&self) -> Option<&Bytes> {
+        self.wishes.wish.as_ref()
+    }
+
+    fn has_come(&self, wanted: &[u8]) -> bool {
+        !self.server.is_still(&self.desk, wanted)
     }
 }

@@ -28,6 +28,8 @@ pub enum Route {
     Style,
     /// `POST /lines`: lines of the protocol are to be answered.
     Lines,
+    /// `POST /correct`: the director's corrections are to be answered.
+    Correct,
     /// `POST /place`: the place of the player whose key is its body is to be told.
     Place,
     /// `POST /tables`: all tables are to be told to the director whose key is its body.
@@ -84,6 +86,7 @@ pub fn route_of(host: &str, alias: &str, request: &Request<Bytes>) -> Route
         "/director.js" => reading(request, Route::DirectorScript),
         "/table.css" => reading(request, Route::Style),
         "/lines" => posting(request, Route::Lines),
+        "/correct" => posting(request, Route::Correct),
         "/place" => posting(request, Route::Place),
         "/tables" => posting(request, Route::Tables),
         "/boards" => posting(request, Route::Boards),

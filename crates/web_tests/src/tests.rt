@@ -6,6 +6,7 @@ mod peer;
 mod posted;
 mod requests;
 mod turns;
+mod waiting;
 
 use std::fmt::Debug;
 use std::process::Abort;

@@ -4,7 +4,7 @@ use Rattle.table_pages.proofs.pages.TablePages.put_lines.Goals as goal
 
 pub returns-in-Some-clause-counted : goal.returns-in-Some-clause-counted
 returns-in-Some-clause-counted g c =
-    counts_as (g.T.LineServer.counts c.args.self.now.server c.args.body.now) c.in-Some.replies.wrong_keys c.args.self.now.wrong c.put_replies.new.response _
+    counts_as (g.T.LineServer.counts c.args.set c.args.self.now.server c.args.body.now) c.in-Some.replies.wrong_keys c.args.self.now.wrong c.put_replies.new.response _
     c.in-Some.ensures.counts c.put_replies.ensures.counted
 
 pub returns-in-None-clause-counted : goal.returns-in-None-clause-counted
