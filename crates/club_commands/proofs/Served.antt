@@ -4,8 +4,9 @@ use Rattle.line_text.specs.Streams.{Stream, stream, TakesPrefix}
 use Rattle.sector_disk.specs.Disk.{Disk}
 use Rattle.sector_disk.specs.File.{file_disk}
 use Rattle.line_replies.specs.declared.fault.ServeFault.{ServeFault}
-use Rattle.table_server.specs.declared.served.Served.{Served}
-use Rattle.table_server.specs.ServedStreams.{HasServed, StopsServing, EndsServing}
+use Rattle.table_server.specs.declared.line_set.LineSet.{LineSet}
+use Rattle.table_server.specs.declared.served.ServedKeys.{ServedKeys}
+use Rattle.table_server.specs.ServedStreams.{HasCounted, StopsServing, EndsCounting}
 use Rattle.club_disk.specs.Stored.{StoreOn, ClubDisk, ClubStore, OpensSession}
 use Rattle.club_commands.specs.declared.work.Service.{Service}
 use Rattle.club_commands.specs.declared.work.Work.{Work}
@@ -13,11 +14,11 @@ use Rattle.club_commands.specs.Ended.{Ended}
 use Rattle.club_commands.specs.Works.{ServesWith, ServesDisk, WorksFound, HasWorked}
 
 -- what was served of streams, all or up to a fault
-pub ends_serving : {D : Type 0} (disk : Disk D) (start store : StoreOn D) (input output : Stream) (result : Result Served ServeFault)
-    → IfOk result (HasServed disk start store input output) → IfErr result (StopsServing disk start store input output)
-    → EndsServing disk start store input output result
-ends_serving disk start store input output (Ok _) served stops = served
-ends_serving disk start store input output (Err _) served stops = stops
+pub ends_serving : {D : Type 0} (disk : Disk D) (set : LineSet) (start store : StoreOn D) (input output : Stream) (result : Result ServedKeys ServeFault)
+    → IfOk result (HasCounted disk set start store input output) → IfErr result (StopsServing disk set start store input output)
+    → EndsCounting disk set start store input output result
+ends_serving disk set start store input output (Ok _) served stops = served
+ends_serving disk set start store input output (Err _) served stops = stops
 
 -- lines were answered over a session that was opened on a disk, or there was no memory for a cache
 pub serves_disk : {C X : Type 0} (cache : Result C X) (service : Service) (d left : ClubDisk) (start : ClubStore) (input output : Stream) (ended : Ended)

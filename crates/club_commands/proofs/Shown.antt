@@ -10,11 +10,13 @@ use Rattle.session_rules.specs.declared.action.Action.{Action}
 use Rattle.session_rules.specs.State.{SessionValue}
 use Rattle.table_server.specs.Faulted.{FailsWithDisk}
 use Rattle.table_server.proofs.FaultLemmas.{same_store, fails_on, met_none, met_one}
+use Rattle.table_server.specs.declared.line_set.LineSet.{LineSet}
+use Rattle.table_server.specs.declared.line_set.LineSet.TheVariants.{Protocol, Corrections}
 use Rattle.web_loop.specs.Turns.{LeadsTo}
 use Rattle.web_requests.specs.Route.{route_for}
 use Rattle.web_requests.specs.declared.route.Route.{Route}
-use Rattle.web_requests.specs.declared.route.Route.TheVariants.{Page, TextsScript, SharedScript, TableScript, BoardsScript, DeskScript, DirectorScript, Style, Lines, Place, Tables, Boards, Results, Desk, Refused}
-use Rattle.table_pages.specs.Answered.{AnswersLines, place_told, tables_told, boards_told, desks_told}
+use Rattle.web_requests.specs.declared.route.Route.TheVariants.{Page, TextsScript, SharedScript, TableScript, BoardsScript, DeskScript, DirectorScript, Style, Lines, Correct, Place, Tables, Boards, Results, Desk, Wait, Refused}
+use Rattle.table_pages.specs.Answered.{AnswersLines, place_told, tables_told, wait_told, boards_told, desks_told}
 use Rattle.page_replies.specs.ToldResults.{results_told}
 use Rattle.table_pages.specs.declared.host_names.HostNames.{HostNames}
 use Rattle.table_pages.specs.declared.page_texts.PageTexts.{PageTexts}
@@ -30,15 +32,15 @@ use Rattle.club_commands.specs.Web.{host_at, alias_at, site_at, ended_by, IsUnsh
 
 module _ {D : Type 0} (disk : Disk D) where
   -- over one body of lines
-  lines : (short : Bool) (old : StoreValue D SessionValue Action) (body : List ℕ) (response : Response) (new : StoreValue D SessionValue Action)
-      → TellsShort (AnswersLines disk) short old body response new → FailsWithDisk disk old new
-  lines true old body response new (inl told) = told.1.1
-  lines true old body response new (inr silent) = silent.0.1.1
-  lines false old body response new refused = same_store disk old new refused.1
+  lines : (set : LineSet) (short : Bool) (old : StoreValue D SessionValue Action) (body : List ℕ) (response : Response) (new : StoreValue D SessionValue Action)
+      → TellsShort (AnswersLines disk set) short old body response new → FailsWithDisk disk old new
+  lines set true old body response new (inl told) = told.1.1
+  lines set true old body response new (inr silent) = silent.0.1.1
+  lines set false old body response new refused = same_store disk old new refused.1
 
   -- over one request
   one : (texts : PageTexts) (route : Route) (old : StoreValue D SessionValue Action) (body : List ℕ) (response : Response) (new : StoreValue D SessionValue Action)
-      → Responds (AnswersLines disk) place_told tables_told boards_told desks_told results_told texts route old body response new → FailsWithDisk disk old new
+      → Responds (AnswersLines disk) place_told tables_told wait_told boards_told desks_told results_told texts route old body response new → FailsWithDisk disk old new
   one texts Page old body response new x = same_store disk old new x.1
   one texts TextsScript old body response new x = same_store disk old new x.1
   one texts SharedScript old body response new x = same_store disk old new x.1
@@ -47,25 +49,27 @@ module _ {D : Type 0} (disk : Disk D) where
   one texts DeskScript old body response new x = same_store disk old new x.1
   one texts DirectorScript old body response new x = same_store disk old new x.1
   one texts Style old body response new x = same_store disk old new x.1
-  one texts Lines old body response new x = lines (nat_lt (length body) 65536) old body response new x
+  one texts Lines old body response new x = lines Protocol (nat_lt (length body) 65536) old body response new x
+  one texts Correct old body response new x = lines Corrections (nat_lt (length body) 65536) old body response new x
   one texts Place old body response new x = same_store disk old new x.1
   one texts Tables old body response new x = same_store disk old new x.1
   one texts Boards old body response new x = same_store disk old new x.1
   one texts Results old body response new x = same_store disk old new x.1
   one texts Desk old body response new x = same_store disk old new x.1
+  one texts Wait old body response new x = same_store disk old new x.1
   one texts (Refused why) old body response new x = same_store disk old new x.1
 
   module _ (site : Site) where
     -- over requests, one after another
     all : (calls : List Call) (old new : StoreValue D SessionValue Action)
-        → Chain (Answering (AnswersLines disk) place_told tables_told boards_told desks_told results_told site) old calls new → FailsWithDisk disk old new
+        → Chain (Answering (AnswersLines disk) place_told tables_told wait_told boards_told desks_told results_told site) old calls new → FailsWithDisk disk old new
     all [] old new same = same_store disk old new same
     all (c ∷ calls) old new x =
         fails_on disk old x.0 new (one site.texts (route_for site.host site.alias (head_of c.0)) old (body_of c.0) c.1 x.0 x.1) (all calls x.0 new x.2)
 
     -- pages were shown until an end, and the store works
     shows_pages : (start store : StoreValue D SessionValue Action) (ended : Ended)
-        → LeadsTo (Answering (AnswersLines disk) place_told tables_told boards_told desks_told results_told site) start store
+        → LeadsTo (Answering (AnswersLines disk) place_told tables_told wait_told boards_told desks_told results_told site) start store
         → store.failed ≡ false → (ended ≡ Ok tt) ⊎ (ended ≡ Err (System Clock)) → ShowsPages disk site start store ended
     shows_pages start store ended requests works way = record {
       requests = requests;
@@ -74,7 +78,7 @@ module _ {D : Type 0} (disk : Disk D) where
 
     -- or the store failed
     fails_pages : (start store : StoreValue D SessionValue Action) (ended : Ended)
-        → LeadsTo (Answering (AnswersLines disk) place_told tables_told boards_told desks_told results_told site) start store
+        → LeadsTo (Answering (AnswersLines disk) place_told tables_told wait_told boards_told desks_told results_told site) start store
         → start.failed ≡ false → store.failed ≡ true → ended ≡ Err (Store DiskFault) → ShowsPages disk site start store ended
     fails_pages start store ended requests worked failed is = record {
       requests = requests;
@@ -83,7 +87,7 @@ module _ {D : Type 0} (disk : Disk D) where
 
     -- pages were shown until the store failed, or the clock told an end or nothing
     pub pages_ended : {E : Type 0} (failed : Bool) (shown : Result (Unit {0}) E) (ended : Ended) (start store : StoreValue D SessionValue Action)
-        → LeadsTo (Answering (AnswersLines disk) place_told tables_told boards_told desks_told results_told site) start store
+        → LeadsTo (Answering (AnswersLines disk) place_told tables_told wait_told boards_told desks_told results_told site) start store
         → start.failed ≡ false → store.failed ≡ failed → ended ≡ ended_by failed shown → ShowsPages disk site start store ended
     pages_ended true shown ended start store requests worked failed is = fails_pages start store ended requests worked failed is
     pages_ended false (Ok _) ended start store requests worked failed is = shows_pages start store ended requests failed (inl is)

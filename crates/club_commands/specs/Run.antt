@@ -6,11 +6,12 @@ use Rattle.bridge_cards.specs.Board.{dealer_of}
 use Rattle.auction_command.specs.Heard.{AnswersAll, StopsAt}
 use Rattle.command_line.specs.Words.{club_app, AsksCommand}
 use Rattle.command_line.specs.declared.command.Command.{Command}
-use Rattle.command_line.specs.declared.command.Command.TheVariants.{Auction, Format, Script, Serve, Web, Rank, Pbn, Results, Check, Plan, Draft, Slips, Version}
+use Rattle.command_line.specs.declared.command.Command.TheVariants.{Auction, Format, Script, Correct, Serve, Web, Rank, Pbn, Results, Check, Plan, Draft, Slips, Version}
 use Rattle.command_line.specs.declared.command.WordsFault.{WordsFault}
 use Rattle.command_line.specs.declared.command.WordsFault.TheVariants.{Usage, Memory}
 use Rattle.table_pages.specs.declared.page_texts.PageTexts.{PageTexts}
 use Rattle.club_commands.specs.declared.release.TheConstants.{VERSION, KIT}
+use Rattle.table_server.specs.declared.line_set.LineSet.TheVariants.{Protocol, Corrections}
 use Rattle.club_commands.specs.declared.work.Service.TheVariants as service
 use Rattle.club_commands.specs.declared.work.Work.TheVariants as work
 use Rattle.club_commands.specs.ConfigFile.{OfFile, Plans}
@@ -31,7 +32,8 @@ version_line = (((codes "bridge_club " ++ VERSION.now) ++ codes ", proved with "
 abbrev pub Runs : PageTexts → Command → Stream → Stream → Ended → Type 0
 Runs texts (Auction board) input output ended = HoldsAuction board input output ended
 Runs texts (Format disk config) input output ended = HasFormatted input output ended
-Runs texts (Script disk) input output ended = HasWorked input output ended (work.Serve service.Input)
+Runs texts (Script disk) input output ended = HasWorked input output ended (work.Serve (service.Input Protocol))
+Runs texts (Correct disk) input output ended = HasWorked input output ended (work.Serve (service.Input Corrections))
 Runs texts (Serve disk port count) input output ended = HasWorked input output ended (work.Serve (service.Connections port count))
 Runs texts (Web disk host minutes) input output ended = HasWorked input output ended (work.Serve (service.Pages texts host minutes))
 Runs texts (Rank disk) input output ended = HasWorked input output ended (work.Tell Ranking)

@@ -2,14 +2,16 @@
 use Rattle.std.specs.Prelude.{◌≡◌, ◌<◌, ◌≤◌, ◌⊎◌, ℕ, zero, suc, false, List, Option, None, Result, Ok, Err, MatchResult}
 use Rattle.club_commands.specs.Basis.{Stream, Disk, file_disk, StoreOn, ClubStore, ServeFault, Accept, Served, StreamFault, System, Listener}
 use Rattle.std.specs.declared.net.tcp.TcpStream.{TcpStream}
-use Rattle.table_server.specs.ServedStreams.{EndsServing}
+use Rattle.table_server.specs.declared.line_set.LineSet.{LineSet}
+use Rattle.table_server.specs.declared.served.ServedKeys.{ServedKeys}
+use Rattle.table_server.specs.ServedStreams.{EndsCounting}
 use Rattle.table_server.specs.Accepting.{HasServedOne, StopsServingOne}
 use Rattle.club_commands.specs.Ended.{Ended, EndsOver}
 
 module _ {D : Type 0} (disk : Disk D) where
-  -- all lines of a stream were answered, or those up to a fault of the streams, by which the run ends
-  abbrev pub Scripts : StoreOn D → StoreOn D → Stream → Stream → Ended → Type 0
-  Scripts start store input output ended = (served : Result Served ServeFault) × EndsServing disk start store input output served
+  -- all lines of a stream, of a set, were answered, or those up to a fault of the streams, by which the run ends
+  abbrev pub Scripts : LineSet → StoreOn D → StoreOn D → Stream → Stream → Ended → Type 0
+  Scripts set start store input output ended = (served : Result ServedKeys ServeFault) × EndsCounting disk set start store input output served
       × EndsOver disk (λ way. MatchResult served (λ _. way ≡ Ok tt) (λ fault. way ≡ Err (StreamFault fault))) start store ended
 
   -- over a net: which bytes a connection still gives, and which it has taken

@@ -48,7 +48,7 @@ Formats made left session output ended = (file_disk.count made ≡ sector_count)
 module _ (input output : Stream) (ended : Ended) where
   -- lines were answered, from the store that opening gave to the last, up to the end or a fault
   abbrev pub Serves : Service → ClubStore → ClubStore → Type 0
-  Serves Input start last = Scripts file_disk start last input output ended
+  Serves (Input set) start last = Scripts file_disk set start last input output ended
   Serves (Connections port count) start last = ServesPort count start last ended × IsUntouched input × IsUntouched output
   Serves (Pages texts host minutes) start last = ShowsOver texts host output ended start last × IsUntouched input
 

@@ -5,6 +5,7 @@ ghost use Rattle.line_replies.specs.declared.fault.ServeFault.TheVariants.{Read 
 ghost use Rattle.club_commands.specs.Ended.{stream_line, store_line, fault_line, fault_status};
 ghost use Rattle.club_commands.specs.Run.{HoldsAuction, Runs, EndsWith, RefusesWords, IsUsage, HasRun, HasFailed};
 ghost use Rattle.club_commands.specs.Works.{HasWorked};
+ghost use Rattle.club_commands.specs.declared.work.Service.TheVariants.{Input};
 ghost use Rattle.club_commands.specs.declared.work.Work.TheVariants.{Serve, Tell};
 
 use crate::evenings::{make_draft, make_slips};
@@ -25,7 +26,7 @@ use std::alloc::Global;
 use std::fmt::Write as _;
 use std::io::{ErrorKind, Read, Write};
 use table_pages::PageTexts;
-use table_server::{ServeFault, run_auction};
+use table_server::{LineSet, ServeFault, run_auction};
 
 /// The command was done.
 pub const DONE: u8 = 0;
@@ -115,7 +116,15 @@ fn do_command<S: Machine, R: Read, W: Write>(
     match *command {
         Command::Auction(board) => hold_auction(board, input, output),
         Command::Format { disk, config } => run_format(rt, alloc, disk, config, input, output),
-        Command::Script { disk } => serve(rt, alloc, disk, Service::Input, input, output),
+        Command::Script { disk } => serve_set(rt, alloc, disk, LineSet::Protocol, input, output),
+        Command::Correct { disk } => serve_set(
+            rt,
+            alloc,
+            disk,
+            LineSet::Corrections,
+            input,
+            output,
+        ),
         Command::Serve { disk, port, count } => {
             let service = Service::Connections { port, count };
             serve(rt, alloc, disk, service, input, output)
@@ -139,6 +148,21 @@ fn do_command<S: Machine, R: Read, W: Write>(
         Command::Slips { config, slips } => make_slips(rt, config, &slips, output),
         Command::Version => run_version(output),
     }
+}
+
+/// Opens the session that the disk in a file holds, and answers the lines of the input, which are of that set, over it.
+fn serve_set<S: Machine, R: Read, W: Write>(
+    rt: &S,
+    alloc: Global,
+    disk: &str,
+    set: LineSet,
+    input: &mut R,
+    output: &mut W,
+) -> Result<(), RunFault>
+    ensures { HasWorked (stream R.remaining input.old input.new) (stream W.contents output.old output.new) result
+        (Serve (Input set)) }
+{
+    serve(rt, alloc, disk, Service::Input(set), input, output)
 }
 
 /// Opens the session that the disk in a file holds, and answers lines over it.

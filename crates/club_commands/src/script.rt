@@ -1,4 +1,4 @@
-//! Lines served over a store, as the command `script` serves them.
+//! Lines served over a store, as the commands `script` and `correct` serve them.
 ghost use Rattle.std.specs.Prelude.{◌≡◌, [], false};
 ghost use Rattle.line_text.specs.Streams.{stream};
 ghost use Rattle.club_commands.specs.Serving.{Scripts};
@@ -9,10 +9,11 @@ use bridge_session::Session;
 use sector_disk::SectorDisk;
 use session_store::{Store, StoreFault};
 use std::io::{Read, Write};
-use table_server::serve;
+use table_server::{LineSet, serve_lines};
 
-/// Serves the lines of the input over a store that works.
+/// Serves the lines of the input, which are of that set, over a store that works.
 pub fn serve_store<D: SectorDisk + Drop, R: Read, W: Write>(
+    set: LineSet,
     store: &mut Store<D, Session>,
     cache: &mut Cache,
     input: &mut R,
@@ -20,10 +21,10 @@ pub fn serve_store<D: SectorDisk + Drop, R: Read, W: Write>(
 ) -> Result<(), RunFault>
     requires works { store.old.failed ≡ false }
     requires none_pending { store.old.pending ≡ [] }
-    ensures { Scripts D.disk store.old store.new (stream R.remaining input.old input.new)
+    ensures { Scripts D.disk set store.old store.new (stream R.remaining input.old input.new)
         (stream W.contents output.old output.new) result }
 {
-    let served = serve(store, Some(cache), input, output);
+    let served = serve_lines(set, store, Some(cache), input, output);
     if store.has_failed() {
         return Err(RunFault::Store(StoreFault::Disk));
     }

@@ -67,8 +67,8 @@ fn serve_with<S: Host, R: Read, W: Write>(
     };
     let mut store = store;
     match *service {
-        Service::Input => {
-            let ended = serve_store(&mut store, &mut cache, input, output);
+        Service::Input(set) => {
+            let ended = serve_store(set, &mut store, &mut cache, input, output);
             with_disk(store, ended)
         }
         Service::Connections { port, count } => {

@@ -5,12 +5,13 @@ ghost use Rattle.club_commands.specs.declared.work.Service.TheVariants.{Pages};
 use bridge_session::Session;
 use command_line::WebHost;
 use table_pages::PageTexts;
+use table_server::LineSet;
 
 /// To whom the lines of a session are answered.
 #[derive(Clone, Copy, Debug)]
 pub enum Service<'a> {
-    /// To standard input.
-    Input,
+    /// To standard input, of that set.
+    Input(LineSet),
     /// To connections at a port of 127.0.0.1, one after the other.
     Connections {
         /// The port, from 1 to 65535.

@@ -7,7 +7,7 @@ use Rattle.clap.specs.Words.{App, Row, Rule, Text, new_app, new_rule, with_rule,
 use Rattle.clap.specs.declared.builder.action.ArgAction.TheVariants.{SetTrue}
 use Rattle.clap.specs.declared.builder.value_parser.ValueParser.TheVariants as parser
 use Rattle.command_line.specs.declared.command.Command.{Command}
-use Rattle.command_line.specs.declared.command.Command.TheVariants.{Auction, Format, Script, Serve, Web, Rank, Pbn, Results, Check, Plan, Draft, Slips, Version}
+use Rattle.command_line.specs.declared.command.Command.TheVariants.{Auction, Format, Script, Correct, Serve, Web, Rank, Pbn, Results, Check, Plan, Draft, Slips, Version}
 use Rattle.command_line.specs.declared.command.WebHost.{WebHost}
 use Rattle.command_line.specs.declared.command.DraftWords.{DraftWords}
 use Rattle.command_line.specs.declared.command.SlipWords.{SlipWords}
@@ -41,6 +41,10 @@ disk_app name = with_rule (new_app name) disk_rule
 -- the command `script DISK`
 abbrev pub script_app : App
 script_app = disk_app (codes "script")
+
+-- the command `correct DISK`
+abbrev pub correct_app : App
+correct_app = disk_app (codes "correct")
 
 -- the argument PORT, which is required: a number from 1 to 65535
 abbrev pub port_rule : Rule
@@ -184,7 +188,7 @@ bare_app = record named_app { top = record named_app.top { no_binary_name = true
 abbrev pub command_apps : List App
 command_apps =
     auction_app ∷ format_app ∷ script_app ∷ serve_app ∷ web_app ∷ rank_app ∷ pbn_app ∷ results_app ∷ check_app ∷ plan_app
-    ∷ draft_app ∷ slips_app ∷ version_app ∷ []
+    ∷ correct_app ∷ draft_app ∷ slips_app ∷ version_app ∷ []
 
 -- a program with these commands, one after another
 abbrev pub with_commands : App → List App → App
@@ -236,6 +240,7 @@ abbrev pub HasWords : List Row → Command → Type 0
 HasWords rows (Auction board) = HasNumber 8 rows (codes "BOARD") board
 HasWords rows (Format disk config) = HasText rows (codes "DISK") disk.now × HasText rows (codes "CONFIG") config.now
 HasWords rows (Script disk) = HasText rows (codes "DISK") disk.now
+HasWords rows (Correct disk) = HasText rows (codes "DISK") disk.now
 HasWords rows (Serve disk port count) = HasText rows (codes "DISK") disk.now
     × HasNumber 16 rows (codes "PORT") port × HasNumber 16 rows (codes "COUNT") count
 HasWords rows (Web disk host minutes) = HasText rows (codes "DISK") disk.now
@@ -254,6 +259,7 @@ abbrev pub name_of : Command → Text
 name_of (Auction board) = codes "auction"
 name_of (Format disk config) = codes "format"
 name_of (Script disk) = codes "script"
+name_of (Correct disk) = codes "correct"
 name_of (Serve disk port count) = codes "serve"
 name_of (Web disk host minutes) = codes "web"
 name_of (Rank disk) = codes "rank"

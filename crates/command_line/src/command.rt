@@ -18,6 +18,11 @@ pub enum Command<'a> {
         /// DISK, the name of the disk's file.
         disk: &'a str,
     },
+    /// `correct DISK`: corrections of the director from standard input, served likewise.
+    Correct {
+        /// DISK, the name of the disk's file.
+        disk: &'a str,
+    },
     /// `serve DISK PORT COUNT`: so many connections at a port, served one after the other over the session that a disk
     /// holds.
     Serve {

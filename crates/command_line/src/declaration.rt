@@ -2,7 +2,7 @@
 ghost use Rattle.std.specs.Prelude.{◌≡◌, IfOk, false};
 ghost use Rattle.clap.specs.Words.{app_of, shape_of};
 ghost use Rattle.clap.specs.declared.builder.command.Command.TheViews.{out-Command as fields_of};
-ghost use Rattle.command_line.specs.Words.{auction_app, format_app, script_app, serve_app, plain_web_app, web_app, rank_app, pbn_app, results_app, check_app, plan_app, bare_app, version_app, club_app};
+ghost use Rattle.command_line.specs.Words.{auction_app, format_app, script_app, serve_app, plain_web_app, web_app, rank_app, pbn_app, results_app, check_app, plan_app, correct_app, bare_app, version_app, club_app};
 
 use crate::arguments::{
     address_argument, board_argument, config_argument, count_argument, disk_argument,
@@ -26,6 +26,7 @@ pub fn club_command<'a>(alloc: Global) -> Result<clap::Command<'a>, AllocError>
         .subcommand(results_command(alloc)?)?
         .subcommand(check_command(alloc)?)?
         .subcommand(plan_command(alloc)?)?
+        .subcommand(correct_command(alloc)?)?
         .subcommand(draft_command(alloc)?)?
         .subcommand(slips_command(alloc)?)?
         .subcommand(version_command(alloc))
@@ -70,6 +71,18 @@ fn script_command<'a>(alloc: Global) -> Result<clap::Command<'a>, AllocError>
 {
     clap::Command::new(alloc, "script")
         .about("Answers lines from standard input over the session on a disk")
+        .arg(disk_argument(alloc))
+}
+
+/// The command `correct DISK`.
+fn correct_command<'a>(alloc: Global) -> Result<clap::Command<'a>, AllocError>
+    ensures shape { IfOk result (λ command. shape_of command ≡ correct_app.top) }
+    ensures local { IfOk result (λ command. (fields_of command).has_globals ≡ false) }
+{
+    clap::Command::new(alloc, "correct")
+        .about(
+            "Takes calls, cards, claims and deals back, and assigns scores, by lines from standard input",
+        )
         .arg(disk_argument(alloc))
 }
 

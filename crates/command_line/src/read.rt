@@ -50,6 +50,7 @@ fn asked<'a>(matches: &ArgMatches<'a>) -> Option<Command<'a>>
         ("results", found) => results_of(found),
         ("check", found) => check_of(found),
         ("plan", found) => plan_of(found),
+        ("correct", found) => correct_of(found),
         ("draft", found) => draft_of(found),
         ("slips", found) => slips_of(found),
         ("version", _) => Some(Command::Version),
@@ -81,6 +82,14 @@ fn script_of<'a>(found: &ArgMatches<'a>) -> Option<Command<'a>>
 {
     let disk = found.get_str("DISK")?;
     Some(Command::Script { disk })
+}
+
+/// The command `correct` with its disk.
+fn correct_of<'a>(found: &ArgMatches<'a>) -> Option<Command<'a>>
+    ensures { IfSome result (IsNamed (codes "correct") (rows_of (found_of found.now))) }
+{
+    let disk = found.get_str("DISK")?;
+    Some(Command::Correct { disk })
 }
 
 /// The command `serve` with its disk and its numbers.

@@ -8,10 +8,13 @@ pub returns-in-Format : goal.returns-in-Format
 returns-in-Format g c = rw c.in-Format.is c.run_format.ensures
 
 pub returns-in-Script : goal.returns-in-Script
-returns-in-Script g c = rw c.in-Script.is c.serve.ensures
+returns-in-Script g c = rw c.in-Script.is c.serve_set.ensures
+
+pub returns-in-Correct : goal.returns-in-Correct
+returns-in-Correct g c = rw c.in-Correct.is c.serve_set-in-Correct.ensures
 
 pub returns-in-Serve : goal.returns-in-Serve
-returns-in-Serve g c = rw c.in-Serve.is c.serve-in-Serve.ensures
+returns-in-Serve g c = rw c.in-Serve.is c.serve.ensures
 
 pub returns-in-Web : goal.returns-in-Web
 returns-in-Web g c = rw c.in-Web.is (rw c.pages-service.ensures at c.serve-in-Web.ensures)

@@ -8,10 +8,10 @@ pub returns-then-has_failed : goal.returns-then-has_failed
 returns-then-has_failed g c =
     let disk = g.D.SectorDisk.disk in
     let start = c.args.store.now in
-    let last = c.serve-served.new.store in
+    let last = c.serve_lines-served.new.store in
     let failed = sym c.has_failed.ensures ∙ c.if-has_failed.true in (
-      c.serve-served.result,
-      ends_serving disk start last (stream g.R.Read.remaining c.args.input.now c.serve-served.new.reader)
-          (stream g.W.Write.contents c.args.output.now c.serve-served.new.writer) c.serve-served.result c.serve-served.ensures.ok c.serve-served.ensures.fault,
-      inr (failed, met_one disk start last c.serve-served.ensures.faults c.requires.works failed, refl),
+      c.serve_lines-served.result,
+      ends_serving disk c.args.set start last (stream g.R.Read.remaining c.args.input.now c.serve_lines-served.new.reader)
+          (stream g.W.Write.contents c.args.output.now c.serve_lines-served.new.writer) c.serve_lines-served.result c.serve_lines-served.ensures.ok c.serve_lines-served.ensures.fault,
+      inr (failed, met_one disk start last c.serve_lines-served.ensures.faults c.requires.works failed, refl),
     )

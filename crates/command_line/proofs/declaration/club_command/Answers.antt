@@ -1,4 +1,4 @@
-use Rattle.command_line.specs.Words.{auction_app, format_app, script_app, serve_app, web_app, rank_app, pbn_app, results_app, check_app, plan_app, draft_app, slips_app, version_app}
+use Rattle.command_line.specs.Words.{auction_app, format_app, script_app, serve_app, web_app, rank_app, pbn_app, results_app, check_app, plan_app, correct_app, draft_app, slips_app, version_app}
 use Rattle.command_line.proofs.Adding.{adds, adds_last}
 use Rattle.command_line.proofs.declaration.club_command.Goals as goal
 
@@ -15,6 +15,7 @@ returns c =
     let with_results = adds _ _ _ _ results_app.top with_pbn c.in_ok-results_command.ensures.shape c.in_ok-results_command.ensures.local c.in_ok-subcommand-8.ensures in
     let with_check = adds _ _ _ _ check_app.top with_results c.in_ok-check_command.ensures.shape c.in_ok-check_command.ensures.local c.in_ok-subcommand-9.ensures in
     let with_plan = adds _ _ _ _ plan_app.top with_check c.in_ok-plan_command.ensures.shape c.in_ok-plan_command.ensures.local c.in_ok-subcommand-10.ensures in
-    let with_draft = adds _ _ _ _ draft_app.top with_plan c.in_ok-draft_command.ensures.shape c.in_ok-draft_command.ensures.local c.in_ok-subcommand-11.ensures in
-    let with_slips = adds _ _ _ _ slips_app.top with_draft c.in_ok-slips_command.ensures.shape c.in_ok-slips_command.ensures.local c.in_ok-subcommand-12.ensures in
-    adds_last _ _ c.subcommand-13.result _ version_app.top with_slips c.version_command.ensures.shape c.version_command.ensures.local c.subcommand-13.ensures
+    let with_correct = adds _ _ _ _ correct_app.top with_plan c.in_ok-correct_command.ensures.shape c.in_ok-correct_command.ensures.local c.in_ok-subcommand-11.ensures in
+    let with_draft = adds _ _ _ _ draft_app.top with_correct c.in_ok-draft_command.ensures.shape c.in_ok-draft_command.ensures.local c.in_ok-subcommand-12.ensures in
+    let with_slips = adds _ _ _ _ slips_app.top with_draft c.in_ok-slips_command.ensures.shape c.in_ok-slips_command.ensures.local c.in_ok-subcommand-13.ensures in
+    adds_last _ _ c.subcommand-14.result _ version_app.top with_slips c.version_command.ensures.shape c.version_command.ensures.local c.subcommand-14.ensures
