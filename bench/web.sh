@@ -1,5 +1,6 @@
 #!/bin/sh
-# Looks by a browser's requests: 28 clients that ask once a second, and 28 without pause, beside a server that only answers.
+# Looks by a browser's requests: 28 clients that ask once a second, and 28 without pause, beside a server that only answers. Then how
+# soon what one player does is told to the others, by sockets and, where there is Debian's chromium, in pages; and 28 that wait.
 #
 #     bench/web.sh [SECONDS]     (10 when left out)
 #
@@ -11,4 +12,8 @@ work=$(mktemp -d)
 trap 'rm -rf "$work"' EXIT
 . "$top/bench/build.sh"
 club_program
-python3 "$top/bench/web/measure.py" "$program" "$top/examples/rows.txt" "$work" "${1:-10}"
+PYTHONDONTWRITEBYTECODE=1 python3 "$top/bench/web/measure.py" "$program" "$top/examples/rows.txt" "$work" "${1:-10}"
+PYTHONDONTWRITEBYTECODE=1 python3 "$top/bench/web/told.py" "$program" "$top/examples/rows.txt" "$work" "${1:-10}"
+if command -v chromium > /dev/null; then
+    PYTHONDONTWRITEBYTECODE=1 python3 "$top/bench/web/pages.py" "$program" "$top/examples/rows.txt" "$work"
+fi

@@ -15,6 +15,7 @@ function readResult(words) {
   if (words[0] === "VOID") return { taken: true };
   if (words[0] === "AVERAGE") return { average: { NS: words[1], EW: words[2] } };
   if (words[0] === "PASS") return { passed: true, score: 0 };
+  if (words[0] === "ASSIGNED") return { ...readResult(words.slice(1)), assigned: true };
   return { bid: words[0], declarer: words[1], tricks: Number(words[2]), score: Number(words[3]) };
 }
 
@@ -105,7 +106,7 @@ function resultNodes(result, seat) {
   if (result.average) return [TEXTS.average(result.average.NS, result.average.EW)];
   if (result.passed) return [TEXTS.passedOut];
   const by = seat === undefined ? [" " + result.declarer] : [" " + TEXTS.by(result.declarer, result.declarer === seat)];
-  return [make("span", { className: "contract" }, ...callNodes(result.bid)), ...by];
+  return [make("span", { className: "contract" }, ...callNodes(result.bid)), ...by, ...(result.assigned ? [" " + TEXTS.assigned] : [])];
 }
 
 const isScored = (result) => result.score !== undefined;

@@ -2,15 +2,12 @@
 // What stands beside the session: the director's notice, the round's clock, calls for the director, and what was said with a
 // claim. The server keeps it for as long as it runs.
 
-// Milliseconds between two looks, of players and of the director; and how many seconds left of the clock are said.
-const DESK_LOOK = 2000;
-const DIRECTORS_LOOK = 1000;
+// How many seconds left of the clock are said.
 const CLOCK_SAID = [300, 60];
 const SECOND = 1000;
 
-const nothingStands = () => ({ notice: "", clock: null, calls: [], said: "", at: 0 });
+const nothingStands = () => ({ notice: "", clock: null, calls: [], said: "", now: 0, at: 0 });
 let desk = nothingStands();
-let deskTimer = 0;
 let clockTimer = 0;
 // What is on the page of it; and the reason that is chosen while the director is being called, or null.
 let deskShown = "";
@@ -20,11 +17,12 @@ let reason = null;
 const wordsFrom = (line, count) => line.split(" ").slice(count).join(" ");
 
 const DESK_LINES = {
+  NOW: (found, line) => { found.now = Number(wordsFrom(line, 1)); },
   NOTICE: (found, line) => { found.notice = wordsFrom(line, 1); },
-  CLOCK: (found, line) => { found.clock = Number(wordsFrom(line, 1)); },
+  CLOCK: (found, line) => { found.clock = Number(wordsFrom(line, 1)) - found.now; },
   CALL: (found, line) => {
-    const [, table, seconds, pair, name] = line.split(" ");
-    found.calls.push({ table, minutes: Math.floor(Number(seconds) / 60), pair, name, text: wordsFrom(line, 5) });
+    const [, table, since, pair, name] = line.split(" ");
+    found.calls.push({ table, minutes: Math.floor((found.now - Number(since)) / 60), pair, name, text: wordsFrom(line, 5) });
   },
   STATEMENT: (found, line) => { found.said = wordsFrom(line, 1); },
 };
@@ -39,36 +37,30 @@ function readDesk(reply) {
   return found;
 }
 
-const isDirector = () => document.body.className === "director";
+const isDirector = () => role.isDirector;
 
-// Looks at the desk, or asks something of it and shows what stands then.
+// Shows what an answer says that stands.
+function takeDesk(reply) {
+  if (refusal(reply)) return;
+  desk = readDesk(reply);
+  showDesk();
+}
+
+// Asks something of the desk, and shows what stands then.
 async function askDesk(order) {
   const asked = key;
-  clearTimeout(deskTimer);
   if (asked === null) return;
-  const reply = await ask("/desk", order ? asked + " " + order : asked);
+  const reply = await ask("/desk", asked + " " + order);
   if (key !== asked) return;
-  if (reply !== null && !refusal(reply)) {
-    desk = readDesk(reply);
-    showDesk();
-  } else if (order) {
-    const why = reply === null ? TEXTS.unknownDone : TEXTS.refusals[refusal(reply)] || reply;
-    if (isDirector()) tell(why);
-    else say("notice", why);
-  }
-  clearTimeout(deskTimer);
-  deskTimer = setTimeout(askDesk, document.hidden ? HIDDEN_LOOK : isDirector() ? DIRECTORS_LOOK : DESK_LOOK);
+  if (reply !== null && !refusal(reply)) return takeDesk(reply);
+  const why = reply === null ? TEXTS.unknownDone : TEXTS.refusals[refusal(reply)] || reply;
+  if (isDirector()) tell(why);
+  else say("notice", why);
 }
 
-// A player or the director has sat down, and has left.
-function openDesk() {
-  if (deskTimer === 0) deskTimer = setTimeout(askDesk, 0);
-}
-
+// Whoever sat here has left.
 function leaveDesk() {
-  clearTimeout(deskTimer);
   clearTimeout(clockTimer);
-  deskTimer = 0;
   desk = nothingStands();
   closeCall();
   showDesk();
@@ -96,9 +88,12 @@ const whoCalls = ({ pair, name }) => TEXTS.ofPair(name, pair);
 
 function callNodesOf(call) {
   if (!isDirector()) return [make("p", null, make("b", null, TEXTS.directorCalled), " ", call.text ? call.text + ". " : "", TEXTS.waitForDirector)];
-  const open = () => { const state = lastTables && lastTables.tables.find((one) => one.number === call.table); if (state) openTable(state); };
+  const stateOf = (number) => lastTables && lastTables.tables.find((one) => one.number === number);
+  const open = () => { const state = stateOf(call.table); if (state) openTable(state); };
+  const grant = (number) => { const state = stateOf(number); if (state) grantBack(state); };
   return [make("div", { className: "row" }, make("p", null, make("b", null, TEXTS.tableCalls(call.table)), " ", call.text ? call.text + ". " : "",
     whoCalls(call) + ", " + TEXTS.minutesAgo(call.minutes) + "."),
+  ...(call.text === TEXTS.slip ? [make("button", { type: "button", id: "grant-" + call.table, onclick: () => grant(call.table) }, TEXTS.grant)] : []),
   make("button", { type: "button", id: "answered-" + call.table, onclick: () => askDesk("ANSWERED " + call.table) }, TEXTS.answered),
   make("button", { type: "button", id: "go-" + call.table, className: "send", onclick: open }, TEXTS.openTable(call.table)))];
 }

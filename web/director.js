@@ -38,7 +38,7 @@ function tell(text) {
 function confirmFirst(box, question, act, ...more) {
   const close = () => box.replaceChildren();
   tell("");
-  for (const id of ["end-question", "rule-question", "deal-question"]) at(id).replaceChildren();
+  for (const id of ["end-question", "rule-question", "deal-question", "back-question"]) if (at(id)) at(id).replaceChildren();
   box.replaceChildren(make("p", null, question), ...more.map((words) => make("p", null, ...[].concat(words))),
     make("div", { className: "row" },
       button(TEXTS.no, "", "no", true, close), button(TEXTS.yes, TEXTS.yesTo(question), "yes", true, () => { close(); act(); })));
@@ -46,8 +46,9 @@ function confirmFirst(box, question, act, ...more) {
   at("no").focus();
 }
 
-// Sends lines without the key, each of a keyword and words; gives the replies, or null, also while other lines are out.
-async function order(lines) {
+// Sends lines without the key, each of a keyword and words, of the protocol or corrections; gives the replies, or null, also while
+// other lines are out.
+async function order(lines, isCorrection = false) {
   if (ordered) {
     tell(TEXTS.answerAwaited);
     return null;
@@ -56,14 +57,14 @@ async function order(lines) {
   tell("");
   const body = lines.map((line) => line.replace(/^(\S+)\s*/,
     (_all, word) => (word === "SYNC" ? word : word + " " + key + " ")).trim() + "\n").join("");
-  const reply = await ask("/lines", body);
+  const reply = await (isCorrection ? ask("/correct", body) : ask("/lines", body));
   ordered = false;
   if (reply === null) tell(TEXTS.unknownDone);
   return reply;
 }
 
-async function doOne(line, what) {
-  const reply = await order([line]);
+async function doOne(line, what, isCorrection = false) {
+  const reply = await order([line], isCorrection);
   if (reply !== null) tell(TEXTS.becameOf(what, outcome(reply)));
   look();
 }
@@ -197,7 +198,7 @@ async function showOpened() {
     tell(TEXTS.becameOf(TEXTS.playOf(...wanted.words.slice(0, 2), TEXTS.boardInPlace(wanted.words[2])), outcome(text)));
     return CLOSED();
   }
-  const board = readBoards(text).boards[0];
+  const board = { ...readBoards(text).boards[0], text };
   at("opened").replaceChildren(...openedNodes(board, wanted.words));
   for (const [field, value] of [["round", wanted.words[0]], ["table", wanted.words[1]],
     ["board", board.number]]) at("rule-" + field).value = String(value);
@@ -211,10 +212,45 @@ function openedNodes(board, words) {
     node.setAttribute("aria-pressed", String(first + i === board.number));
     return node;
   });
+  const latest = latestOf(board);
+  const back = button(latest ? TEXTS.takeBackOf(latest) : TEXTS.nothingDone, "", "opened-back", latest !== "", () => takeLatestBack(board, words));
   return [make("div", { className: "row" },
     make("h2", null, TEXTS.openedAt(words[1], words[0])), ...others,
     make("button", { type: "button", id: "opened-close", onclick: CLOSED }, TEXTS.close)),
-    bandNode(board), make("div", { className: "parts" }, steppedNode(board, "S", board.cards.length, () => {}), playedNode(board, "S", board.cards.length))];
+    make("div", { className: "row" }, back), make("div", { id: "back-question" }), bandNode(board), make("div", { className: "parts" }, steppedNode(board, "S", board.cards.length, () => {}), playedNode(board, "S", board.cards.length))];
+}
+
+// ---- corrections of what players did
+
+// The latest thing done in a play, in words: a claim, a card or a call; empty where nothing was done.
+function latestOf(board) {
+  const card = board.cards[board.cards.length - 1];
+  const count = board.calls.length;
+  if (board.claim) return TEXTS.claimBy(SEAT_NAMES[board.claim.seat], board.claim.tricks);
+  if (card) return TEXTS.doneBy(SEAT_NAMES[card.seat], cardName(card.card));
+  if (count === 0) return "";
+  return TEXTS.doneBy(SEAT_NAMES[SEATS[(SEATS.indexOf(dealerOf(board.number)) + count - 1) % 4]], callName(board.calls[count - 1]));
+}
+
+// Does something to a play once the question is answered, if the play is still what it was when it was asked.
+function onceUnchanged(box, words, seen, question, act, ...more) {
+  confirmFirst(box, question, async () => {
+    const now = await askPlay(words);
+    if (now !== seen) return tell(now === null ? TEXTS.noAnswer : TEXTS.changedSince);
+    return act();
+  }, ...more);
+}
+
+function takeLatestBack(board, words) {
+  const what = TEXTS.onBoard(TEXTS.takeBackOf(latestOf(board)), board.number);
+  onceUnchanged(at("back-question"), words, board.text, TEXTS.asks(what), () => doOne("BACK " + words.join(" "), what, true),
+    [TEXTS.playedBy(board.names)]);
+}
+
+// The play at a table that asks for its latest call or card back, and the question whether it goes.
+async function grantBack(table) {
+  await openTable(table);
+  if (opened && at("opened-back") && !at("opened-back").disabled) at("opened-back").onclick();
 }
 
 // ---- deals
@@ -307,6 +343,9 @@ function playWords(prefix) {
   return [round, table, placeInSet(board)];
 }
 
+// All bids, the lowest first.
+const ALL_BIDS = [1, 2, 3, 4, 5, 6, 7].flatMap((level) => ["C", "D", "H", "S", "NT"].map((strain) => level + strain));
+
 const placeInSet = (board) => ((board - 1) % boardsOfSet) + 1;
 
 // The play by its round, its table, and its board; where it was not seen which boards were played there, by that board's place.
@@ -332,9 +371,8 @@ function beforeAndAfter(board, after) {
     [TEXTS.playedBy(board.names)]];
 }
 
-// Rules on the play of the fields, once the question is answered, if the play is still what it was when it was asked: a keyword,
-// what follows the play, and what the result becomes.
-async function rule(what, word, rest, after) {
+// Rules on the play of the fields: a keyword, what follows the play, what the result becomes, and whether it is a correction.
+async function rule(what, word, rest, after, isCorrection = false) {
   if (!isFilledIn("ruling")) return;
   const words = playWords("rule");
   if (words === null) return;
@@ -342,11 +380,8 @@ async function rule(what, word, rest, after) {
   const seen = await askPlay(words);
   if (seen === null) return tell(TEXTS.noAnswer);
   const board = refusal(seen) ? null : readBoards(seen).boards[0];
-  confirmFirst(at("rule-question"), TEXTS.asks(name), async () => {
-    const now = await askPlay(words);
-    if (now !== seen) return tell(now === null ? TEXTS.noAnswer : TEXTS.changedSince);
-    return doOne([word, ...words, rest].join(" ").trim(), name);
-  }, ...(board && board.names ? beforeAndAfter(board, after) : []));
+  const line = [word, ...words, rest].join(" ").trim();
+  onceUnchanged(at("rule-question"), words, seen, TEXTS.asks(name), () => doOne(line, name, isCorrection), ...(board && board.names ? beforeAndAfter(board, after) : []));
 }
 
 // What a number of tricks makes of the contract of a play.
@@ -360,10 +395,18 @@ function rulingNodes() {
     TEXTS.setTricksTo(tricks), "TRICKS", String(tricks), (board) => withTricks(board, tricks)); };
   const average = () => { const [ns, ew] = [at("rule-ns").value, at("rule-ew").value]; rule(
     TEXTS.award(ns, ew), "ADJUST", ns + " " + ew, () => TEXTS.average(ns, ew)); };
+  const assign = () => {
+    const [contract, declarer, tricks] = [at("assign-bid").value + at("assign-doubled").value, at("assign-declarer").value, numberAt("assign-tricks")];
+    const score = TEXTS.assignedAs(callName(contract), SEAT_NAMES[declarer], TEXTS.made(tricks - 6 - Number(contract[0])));
+    rule(TEXTS.assignScore, "ASSIGN", [contract, declarer, tricks].join(" "), () => score, true);
+  };
   const show = () => { if (isFilledIn("ruling")) { const words = playWords("rule"); if (words) openPlay(words); } };
   return [playFields("rule"), make("div", { className: "row" }, button(TEXTS.openPlay, "", "rule-open", true, show)),
     make("div", { className: "row" },
       numberField("rule-tricks", TEXTS.declarersTricks, 0, 13, 7), button(TEXTS.setTricks, "", "rule-set", true, setTricks)),
+    make("div", { className: "row" }, choice("assign-bid", TEXTS.contract, ALL_BIDS.map((bid) => [bid, callName(bid)])),
+      choice("assign-doubled", TEXTS.double, TEXTS.doublings), choice("assign-declarer", TEXTS.declarer, SEATS.map((seat) => [seat, SEAT_NAMES[seat]])),
+      numberField("assign-tricks", TEXTS.declarersTricks, 0, 13, 7), button(TEXTS.assignScore, "", "rule-assign", true, assign)),
     make("div", { className: "row" }, choice("rule-ns", TEXTS.northSouthPer, TEXTS.per), choice("rule-ew", TEXTS.eastWestPer, TEXTS.per),
       button(TEXTS.awardAverages, "", "rule-average", true, average)),
     make("div", { className: "row" }, button(TEXTS.takeOut, "", "rule-void", true, () => rule(TEXTS.takeOut, "VOID", "", () => TEXTS.takenOut)),
@@ -444,6 +487,12 @@ function linesNodes() {
   return [make("label", { for: "box" }, TEXTS.linesLabel), box, button(TEXTS.send, "", "send", true, send), replies];
 }
 
+function undeal() {
+  if (!isFilledIn("dealing")) return;
+  const board = numberAt("undeal-board");
+  confirmFirst(at("deal-question"), TEXTS.asks(TEXTS.undealOf(board)), () => doOne("UNDEAL " + board, TEXTS.undealOf(board), true));
+}
+
 function dealNodes() {
   const file = make("input", { id: "deal-file", type: "file", onchange: async () => { at("deal-text").value = await file.files[0].text(); } });
   return [
@@ -453,7 +502,8 @@ function dealNodes() {
     make("div", { className: "row" }, make("label", { for: "deal-file" }, TEXTS.dealFile), file),
     make("label", { for: "deal-text" }, TEXTS.dealText),
     make("textarea", { id: "deal-text", spellcheck: false }),
-    button(TEXTS.deal, "", "deal", true, () => dealText(at("deal-text").value)), make("div", { id: "deal-question" })];
+    button(TEXTS.deal, "", "deal", true, () => dealText(at("deal-text").value)), make("div", { id: "deal-question" }),
+    make("div", { className: "row" }, numberField("undeal-board", TEXTS.boardField, 1, MOST_BOARDS, 1), button(TEXTS.undeal, "", "undeal", true, undeal))];
 }
 
 function directorNodes() {
@@ -478,11 +528,7 @@ function directorNodes() {
 }
 
 // Shows the director's page, built once, with its tables as they are now.
-async function showDirector(asked, mine) {
-  const reply = await ask("/tables", asked);
-  if (mine !== turn) return;
-  if (reply === null) return unreachable();
-  if (refusal(reply)) return leave();
+async function showDirector(reply, asked, mine) {
   at("title").textContent = TEXTS.director;
   at("below").textContent = "";
   at("chip").hidden = true;
@@ -493,6 +539,7 @@ async function showDirector(asked, mine) {
     opened = null;
     showRulings.shown = "";
     at("main").replaceChildren(...directorNodes());
+    showTables(state);
     at("shuffle-last").value = state.all;
     standingsAt = 0;
     at("ranking").open = typeof matchMedia === "function" && matchMedia("(min-width: 80em)").matches;

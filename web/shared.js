@@ -5,17 +5,22 @@
 const SEATS = ["N", "E", "S", "W"];
 const SEAT_NAMES = TEXTS.seats;
 const LOGIN = "login";
-// Milliseconds: an answer that comes later is none; how often the page looks, where another player is in turn, and where it is
-// hidden.
+// Milliseconds: an answer that comes later is none, or later than this where it is put off until there is news; how often the page
+// looks where it is hidden, where news cannot be waited for, and after one look and more that had no answer.
 const LATE = 8000;
-const LOOK = 1000;
-const SOON = 300;
+const NEWS_LATE = 25000;
 const HIDDEN_LOOK = 5000;
+const LOOK = 1000;
+const AGAIN = [500, 1000, 2000, 4000, 8000];
 // Milliseconds after which the page says that no answer has come.
 const SLOW = 3000;
-let pace = LOOK;
-// The key of the player who was shown a table last.
-let seen = null;
+// Whose page this is, once his key is known to be somebody's.
+let role = { key: null, isDirector: false };
+// What the last look was told, or null where it had no answer; what the page waits with for news of it, since when, and how many
+// looks in turn had no answer.
+let lastTold = null;
+let awaited = { text: null, at: 0 };
+let missed = 0;
 
 const at = (id) => document.getElementById(id);
 let key = sessionStorage.getItem("key");
@@ -46,9 +51,9 @@ function say(id, text) {
   if (node && node.textContent !== text) node.textContent = text;
 }
 
-async function ask(path, body) {
+async function ask(path, body, patience = LATE) {
   const stop = new AbortController();
-  const late = setTimeout(() => stop.abort(), LATE);
+  const late = setTimeout(() => stop.abort(), patience);
   try {
     const response = await fetch(path, {
       method: "POST",
@@ -144,7 +149,8 @@ function showLogin() {
 
 function leave() {
   key = null;
-  seen = null;
+  role = { key: null, isDirector: false };
+  awaited = { text: null, at: 0 };
   turn += 1;
   sessionStorage.removeItem("key");
   say("notice", "");
@@ -158,50 +164,90 @@ function unreachable() {
   at("status").className = "lost";
 }
 
-// Looks once, and again after a while.
+// Looks once, and again once there is news. While a line is out nothing is looked at: its answer is followed by a look.
 async function look() {
   clearTimeout(timer);
   const asked = key;
   if (asked === null) return showLogin();
-  pace = LOOK;
-  if (!busy) {
-    const mine = turn + 1;
-    const slow = setTimeout(unreachable, SLOW);
-    // What is no answer of this server, as that of a network's own login page, cannot be read.
-    await lookOnce(asked).catch(unreachable);
-    clearTimeout(slow);
-    // After a later look, an act or Leave those go on.
-    if (turn !== mine) return;
-  }
-  clearTimeout(timer);
-  if (key !== null) timer = setTimeout(look, document.hidden ? HIDDEN_LOOK : pace);
+  if (busy) return;
+  const mine = turn + 1;
+  const before = lastTold;
+  const slow = setTimeout(unreachable, SLOW);
+  // What is no answer of this server, as that of a network's own login page, cannot be read.
+  await lookOnce(asked).catch(unreachable);
+  clearTimeout(slow);
+  // After a later look, an act or Leave those go on.
+  if (turn === mine && key !== null) lookLater(lastTold !== before);
 }
+
+function lookAfter(wait) {
+  clearTimeout(timer);
+  timer = setTimeout(look, wait);
+}
+
+function lookLater(isNew) {
+  if (lastTold === null) {
+    lookAfter(AGAIN[Math.min(missed, AGAIN.length - 1)]);
+    missed += 1;
+    return;
+  }
+  missed = 0;
+  if (document.hidden) lookAfter(HIDDEN_LOOK);
+  else if (unsure) lookAfter(LOOK);
+  else if (!isNew && Date.now() - awaited.at < LOOK) lookAfter(LOOK);
+  else awaitNews(key + "\n" + lastTold);
+}
+
+// Looks as soon as the server would tell something else than this; and soon where it does not say so.
+async function awaitNews(text) {
+  if (awaited.text === text) return;
+  awaited = { text, at: Date.now() };
+  const reply = await ask("/wait", text, NEWS_LATE);
+  if (awaited.text !== text) return;
+  awaited.text = null;
+  if (reply !== null && !refusal(reply)) look();
+  else lookAfter(LOOK);
+}
+
+// What an answer of the desk tells that is not of the clock's hand.
+const standing = (reply) => reply.split("\n").slice(2, -2).map((line) => line + "\n").join("");
 
 async function lookOnce(asked) {
   turn += 1;
   const mine = turn;
-  // Where a player was shown a table last, his place and what he sees are asked for at once.
-  const [place, view] = await Promise.all([ask("/place", asked), seen === asked ? ask("/lines", "SEE " + asked + "\n") : undefined]);
-  if (mine !== turn) return;
-  if (place === null) return unreachable();
-  const refused = refusal(place);
-  if (refused === "NotAllowed") {
+  lastTold = null;
+  let place;
+  // A key that may be nobody's is asked with once.
+  if (role.key !== asked) {
+    place = await ask("/place", asked);
+    if (mine !== turn) return;
+    if (place === null) return unreachable();
+    const refused = refusal(place);
+    if (refused && refused !== "NotAllowed") return refuse(refused);
+    role = { key: asked, isDirector: refused === "NotAllowed" };
     enter(asked);
-    return showDirector(asked, mine);
   }
-  if (refused) {
-    leave();
-    return say("notice", TEXTS.refusals[refused] || TEXTS.noKey);
-  }
-  enter(asked);
-  return showPlayer(place, asked, mine, view);
+  const told = role.isDirector ? [ask("/tables", asked)] : [place || ask("/place", asked), ask("/lines", "SEE " + asked + "\n")];
+  const replies = await Promise.all([...told, ask("/desk", asked)]);
+  if (mine !== turn) return;
+  if (replies.includes(null)) return unreachable();
+  const refused = refusal(replies[0]);
+  if (refused) return refuse(refused);
+  const stands = replies.pop();
+  takeDesk(stands);
+  await (role.isDirector ? showDirector(replies[0], asked, mine) : showPlayer(...replies, asked, mine));
+  if (mine === turn) lastTold = replies.join("") + standing(stands);
+}
+
+function refuse(refused) {
+  leave();
+  say("notice", TEXTS.refusals[refused] || TEXTS.noKey);
 }
 
 function enter(asked) {
   sessionStorage.setItem("key", asked);
   sayLeave();
   at("menu").hidden = false;
-  openDesk();
 }
 
 // Leave is asked: it wants a second press within some seconds.
@@ -221,6 +267,7 @@ at("leave").onclick = () => {
   if (again) leave();
 };
 window.addEventListener("online", () => look());
+window.addEventListener("offline", unreachable);
 document.addEventListener("visibilitychange", () => { if (!document.hidden) look(); });
 // Once the scripts of both pages are there.
 document.addEventListener("DOMContentLoaded", () => look());

@@ -725,7 +725,6 @@ function showView(placeReply, reply) {
   if (marked && !marked.line.startsWith(marked.what.startsWith("card-") ? "CARD " + key + " " + view.board + " " + view.made.cards + " " : "CALL " + key + " " + view.board + " " + view.made.calls + " ")) marked = null;
   const mine = isMine(place, view);
   turnTitle(mine);
-  if (!mine) pace = SOON;
   const said = news(view);
   if (said) say("heard", said);
   if (showLeaf(place, (mine ? TEXTS.nextYours : TEXTS.nextBoard)(view.board))) return;
@@ -786,15 +785,22 @@ function finalNodes(place, both) {
 }
 
 // Shows where a player sits, and the play there, or what came of the session.
-async function showPlayer(place, asked, mine, early) {
+async function showPlayer(place, view, asked, mine) {
   const where = readPlace(place);
-  seen = where.round > where.rounds ? null : asked;
-  if (seen === null) return showClosed(place, asked, mine);
-  const view = early === undefined ? await ask("/lines", "SEE " + asked + "\n") : early;
-  if (mine !== turn) return;
-  if (view === null) return unreachable();
+  if (where.round > where.rounds) return showClosed(place, asked, mine);
   await lookAtBoards(asked, where, refusal(view) ? null : readView(view).board);
-  if (mine === turn) showView(place, view);
+  if (mine !== turn) return;
+  lastPlace = place;
+  showView(place, view);
+}
+
+// What his place was when a player was shown it last, and whether a view may be shown over it: the same board goes on, and no
+// contract has been made since.
+let lastPlace = "";
+function goesOn(view) {
+  if (before === null || !view.startsWith("OK\n")) return false;
+  const now = readView(view);
+  return now.board === before.board && now.playing === before.playing;
 }
 
 // The line that had no answer; what has become of it the next view tells, where it is of the same board.
@@ -820,7 +826,8 @@ async function act(line) {
   say("notice", "");
   for (const node of at("main").querySelectorAll("button")) node.disabled = true;
   const slow = setTimeout(() => say("notice", TEXTS.slow), SLOW);
-  const reply = await ask("/lines", line + "\n");
+  // The answer, and what there is to see then.
+  const reply = await ask("/lines", line + "\nSEE " + asked + "\n");
   clearTimeout(slow);
   busy = false;
   if (at("notice").textContent === TEXTS.slow) say("notice", "");
@@ -830,6 +837,8 @@ async function act(line) {
   unsureAt = Date.now();
   if (reply === null) say("notice", TEXTS.unknownFate);
   else if (refusal(reply)) say("notice", TEXTS.refusals[refusal(reply)] || reply);
+  const view = reply === null ? "" : reply.slice(reply.indexOf("\n") + 1);
+  if (/^C(ALL|ARD) /.test(line) && goesOn(view)) showView(lastPlace, view);
   await look();
   return reply !== null && !refusal(reply);
 }

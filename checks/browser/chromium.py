@@ -70,11 +70,12 @@ class Browser:
 
 
 class Window:
-    """One window."""
+    """One window, as of a browser of its own: it shares no connection with others."""
 
     def __init__(self, browser, address, width=1024, height=900):
         self.browser = browser
-        target = browser.ask("Target.createTarget", url="about:blank")["targetId"]
+        own = browser.ask("Target.createBrowserContext")["browserContextId"]
+        target = browser.ask("Target.createTarget", url="about:blank", browserContextId=own)["targetId"]
         self.session = browser.ask("Target.attachToTarget", targetId=target, flatten=True)["sessionId"]
         for domain in ["Page", "Runtime", "Log"]:
             self.ask(domain + ".enable")

@@ -367,6 +367,7 @@ def other_round(evening, page, round_):
 
 def rankings(page):
     page.open("ranking")
+    page.window.value("document.getElementById('rankings').replaceChildren()")
     page.window.click("#rank")
     page.window.wait("document.querySelectorAll('#rankings table').length === 2")
     time.sleep(0.5)

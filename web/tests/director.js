@@ -23,18 +23,19 @@ const played = (other = {}) => ["OK", "OTHERS SHUT", ...Object.entries({
 }).map(([word, rest]) => `${word} ${rest}`), ".", ""].join("\n");
 
 // A page at which the director has logged in; lines are answered so, and a play is told so.
-async function opened(told, done = "OK\n", play = played()) {
+async function opened(told, done = "OK\n", play = played(), stands = undefined) {
   const page = new Page((where, body) => {
     if (where === "/place") return "ERR 2 NotAllowed\n";
     if (where === "/boards") return typeof play === "function" ? play(body) : play;
     return where === "/tables" ? told : typeof done === "function" ? done(where, body) : done;
   }, { key: KEY });
+  if (stands) page.stands = stands;
   await page.settle();
   assert.deepStrictEqual(page.asked, [`/place ${KEY}`, `/tables ${KEY}`, `/results ${KEY}`]);
   return page;
 }
 
-const LOOKS = [`/place ${KEY}`, `/tables ${KEY}`];
+const LOOKS = [`/tables ${KEY}`];
 
 function fill(page, values) {
   for (const [id, value] of Object.entries(values)) page.at(id).value = value;
@@ -201,6 +202,45 @@ run({
     assert.ok(page.text("others").includes("shown"));
   },
 
+  "the latest claim, card or call of a play is taken back, if it is still the latest": async () => {
+    for (const [other, latest] of [
+      [{ CLAIM: "E 6" }, "East's claim of 6 tricks"], [{}, "East's 2 of diamonds"],
+      [{ CARDS: "-" }, "North's pass"], [{ CARDS: "-", CALLS: "1C X" }, "South's double"],
+    ]) {
+      const page = await opened(tables(AT_PLAY), "OK\n", played(other));
+      await page.click("open-2");
+      assert.deepStrictEqual(await page.click("opened-back"), []);
+      assert.ok(page.text("back-question").startsWith(`Take back ${latest} on board 6?North Cat, East Eve, South Dan, West Fay.`), page.text("back-question"));
+      assert.deepStrictEqual((await page.click("yes")).slice(0, 2), [`/boards ${KEY} 2 2 3`, `/correct BACK ${KEY} 2 2 3\n`]);
+      assert.strictEqual(page.text("told"), `Take back ${latest} on board 6: done.`);
+      await page.click("opened-back");
+      page.answer = (where) => (where === "/boards" ? played({ ...other, RESULT: "VOID" }) : "OK\n");
+      assert.deepStrictEqual(await page.click("yes"), [`/boards ${KEY} 2 2 3`]);
+      assert.match(page.text("told"), /has changed since/);
+    }
+    const none = await opened(tables(AT_PLAY), "OK\n", played({ CARDS: "-", CALLS: "" }));
+    await none.click("open-2");
+    assert.ok(none.at("opened-back").disabled);
+  },
+
+  "a slip that a table calls for is taken back": async () => {
+    const page = await opened(tables(AT_PLAY), "OK\n", played(), "OK\nNOW 9\nCALL 2 5 2 Dan I did not mean my last call or card\nCALL 1 7 8 Fay Claim\n.\n");
+    assert.strictEqual(page.at("grant-1"), null);
+    assert.deepStrictEqual(await page.click("grant-2"), [`/boards ${KEY} 2 2 3`]);
+    assert.match(page.text("back-question"), /^Take back East's 2 of diamonds on board 6\?/);
+    assert.ok((await page.click("yes")).includes(`/correct BACK ${KEY} 2 2 3\n`));
+  },
+
+  "a score is assigned, and a deal is taken back": async () => {
+    const page = await opened(tables(AT_PLAY));
+    fill(page, { "rule-round": "2", "rule-table": "2", "rule-board": "6", "assign-bid": "4S", "assign-doubled": "X", "assign-declarer": "W", "assign-tricks": "8" });
+    const asked = [`/boards ${KEY} 2 2 3`];
+    const became = "Now: 3NT E, one down. Then: 4 spades doubled by West, two down.";
+    assert.strictEqual(await sent(page, "rule-assign", new RegExp(`Assign a score, round 2, table 2, board 6\\?${became}`), asked), `/correct ASSIGN ${KEY} 2 2 3 4SX W 8\n`);
+    fill(page, { "undeal-board": "7" });
+    assert.strictEqual(await sent(page, "undeal", /Take back the deal of board 7\?/), `/correct UNDEAL ${KEY} 7\n`);
+  },
+
   "averages are chosen for each side": async () => {
     const page = await opened(tables(AT_PLAY));
     const label = (id) => page.document.root.all().find((element) => element.tag === "label" && element.getAttribute("for") === id).textContent;
@@ -225,15 +265,15 @@ run({
   },
 
   "a table that calls is shown, opened and answered": async () => {
-    const page = await opened(tables(AT_PLAY), "OK\nCALL 1 130 2 Dan Slow play\n.\n");
-    assert.deepStrictEqual(await page.pass(0), [`/desk ${KEY}`]);
+    const page = await opened(tables(AT_PLAY), "OK\nNOW 200\n.\n", played(), "OK\nNOW 200\nCALL 1 70 2 Dan Slow play\n.\n");
+    assert.deepStrictEqual(page.waits.map((wait) => wait.body), [`${KEY}\n${tables(AT_PLAY)}CALL 1 70 2 Dan Slow play\n`]);
     assert.match(page.text("desk"), /^Table 1 calls: Slow play\. Dan.*pair 2, 2 minutes ago\./);
     assert.match((await page.click("go-1"))[0], new RegExp(`^/boards ${KEY} 2 1 \\d$`));
     assert.deepStrictEqual(await page.click("answered-1"), [`/desk ${KEY} ANSWERED 1`]);
   },
 
   "all tables are told, and the clock is set": async () => {
-    const page = await opened(tables(AT_PLAY), "OK\nCLOCK 1190\n.\n");
+    const page = await opened(tables(AT_PLAY), "OK\nNOW 10\nCLOCK 1200\n.\n");
     fill(page, { "tell-text": "Tea after round 4", "clock-minutes": "20" });
     assert.deepStrictEqual(await page.click("tell-all"), [`/desk ${KEY} NOTICE Tea after round 4`]);
     assert.deepStrictEqual(await page.click("take-down"), [`/desk ${KEY} NOTICE`]);

@@ -9,7 +9,7 @@ const { readPage } = require("./document.js");
 
 const WEB = path.join(__dirname, "..");
 // What may be asked, and how.
-const PATHS = ["/lines", "/place", "/tables", "/results", "/boards", "/desk"];
+const PATHS = ["/lines", "/place", "/tables", "/results", "/boards", "/desk", "/wait", "/correct"];
 const TYPE = "application/x-table-lines";
 
 // The random bytes of the test: 1, 2, 3 ..
@@ -22,6 +22,9 @@ class Page {
   constructor(answer, kept = {}) {
     this.asked = [];
     this.answer = answer;
+    // What the desk tells at a look, and what is waited with; they are not among what is asked.
+    this.stands = "OK\nNOW 0\n.\n";
+    this.waits = [];
     this.kept = new Map(Object.entries(kept));
     this.timers = new Map();
     this.listeners = new Map();
@@ -62,11 +65,17 @@ class Page {
     assert.ok(PATHS.includes(where), `asked at ${where}`);
     assert.strictEqual(method, "POST");
     assert.strictEqual(headers["content-type"], TYPE);
-    this.asked.push(`${where} ${body}`);
     const late = new Promise((_resolve, reject) => { signal.addEventListener("abort", () => reject(new Error("too late"))); });
-    const text = await Promise.race([this.answer(where, body), late]);
+    const text = await Promise.race([this.answerTo(where, body), late]);
     if (text === null) throw new Error("no answer");
     return { ok: true, text: async () => text };
+  }
+
+  answerTo(where, body) {
+    if (where === "/wait") return new Promise((release) => { this.waits.push({ body, release }); });
+    if (where === "/desk" && !body.includes(" ")) return this.stands;
+    this.asked.push(`${where} ${body}`);
+    return this.answer(where, body);
   }
 
   // Waits until nothing more comes by itself.
@@ -91,9 +100,16 @@ class Page {
     return this.asks(() => due[0][1].act());
   }
 
-  // Lets the time of the next look come: sooner where another player is in turn.
+  // Lets the next look come: by its time, or because there is news.
   async look() {
-    return this.pass([...this.timers.values()].some((timer) => timer !== null && timer.wait === 300) ? 300 : 1000);
+    const due = [500, 1000].find((wait) => [...this.timers.values()].some((timer) => timer !== null && timer.wait === wait));
+    return due === undefined ? this.news() : this.pass(due);
+  }
+
+  // Lets what is waited for come, or this answer.
+  async news(answer = "OK\n") {
+    this.now += 1000;
+    return this.asks(() => this.waits.splice(0).pop().release(answer));
   }
 
   at(id) {

@@ -38,22 +38,28 @@ const board = (other = {}) => Object.entries({
 const boards = (...some) => ["OK", "OTHERS SHUT", ...some, ".", ""].join("\n");
 
 // A page at which a player has logged in; what is done is answered so, and then the same is seen.
-async function seated(placed, seen, done = "OK\n", over = boards()) {
+async function seated(placed, seen, done = "OK\n", over = boards(), stands = undefined) {
   const page = new Page((where, body) => {
     if (where === "/place") return placed;
     if (where === "/boards") return over;
     return body.startsWith("SEE ") ? seen : done;
   }, { key: KEY });
+  if (stands) page.stands = stands;
   await page.settle();
-  assert.deepStrictEqual(page.asked, [`/place ${KEY}`, `/lines SEE ${KEY}\n`, `/boards ${KEY}`]);
+  assert.deepStrictEqual(page.asked, [...LOOKS, `/boards ${KEY}`]);
   return page;
 }
 
-// What is sent first at a click; a look follows it.
+// What a look asks for; what each line is followed by.
+const LOOKS = [`/place ${KEY}`, `/lines SEE ${KEY}\n`];
+const THEN = `SEE ${KEY}\n`;
+
+// The line that is sent at a click; a look follows it.
 async function sent(page, id) {
   const [first, ...rest] = await page.click(id);
-  assert.deepStrictEqual(rest, [`/place ${KEY}`, `/lines SEE ${KEY}\n`]);
-  return first;
+  assert.deepStrictEqual(rest, LOOKS);
+  assert.ok(first.endsWith(THEN));
+  return first.slice(0, -THEN.length);
 }
 
 const enabled = (page, prefix) => page.document.root.all().filter((element) => element.id.startsWith(prefix) && !element.disabled).map((element) => element.id.slice(prefix.length));
@@ -231,14 +237,14 @@ run({
     assert.deepStrictEqual(await page.click("call-2C"), []);
     assert.strictEqual(page.at("call-1H").getAttribute("aria-pressed"), "false");
     page.now += 250;
-    assert.deepStrictEqual((await page.click("call-2C"))[0], `/lines CALL ${KEY} 4 2 2C\n`);
+    assert.deepStrictEqual((await page.click("call-2C"))[0], `/lines CALL ${KEY} 4 2 2C\n${THEN}`);
     page = await twice(play(), place({ CONTRACT: "1H E" }));
     assert.ok(page.at("confirm").disabled);
     assert.deepStrictEqual(await page.click("card-HQ"), []);
     page.document.listeners.get("keydown")({ key: "Escape" });
     assert.strictEqual(page.at("card-HQ").getAttribute("aria-pressed"), "false");
     assert.deepStrictEqual(await page.click("card-HJ"), []);
-    assert.deepStrictEqual((await page.click("confirm"))[0], `/lines CARD ${KEY} 4 0 HJ\n`);
+    assert.deepStrictEqual((await page.click("confirm"))[0], `/lines CARD ${KEY} 4 0 HJ\n${THEN}`);
     await page.click("menu");
     assert.ok(page.at("sent-twice").checked && page.at("suits-two").checked && page.at("light-device").checked);
     page.at("sent-once").onchange();
@@ -254,12 +260,12 @@ run({
     const page = await seated(place(), view());
     assert.deepStrictEqual(await page.click("call-1H", "touch"), []);
     page.now += 400;
-    assert.deepStrictEqual((await page.click("call-1H", "touch"))[0], `/lines CALL ${KEY} 4 2 1H\n`);
+    assert.deepStrictEqual((await page.click("call-1H", "touch"))[0], `/lines CALL ${KEY} 4 2 1H\n${THEN}`);
   },
 
   "the last card plays itself": async () => {
     const page = await seated(place({ CONTRACT: "1H E" }), play({ AT: "7 50 0", HAND: "..A.", TRICK: "N D2 D3", TRICKS: "6 6" }));
-    assert.deepStrictEqual((await page.pass(700))[0], `/lines CARD ${KEY} 4 50 DA\n`);
+    assert.deepStrictEqual((await page.pass(700))[0], `/lines CARD ${KEY} 4 50 DA\n${THEN}`);
   },
 
   "what comes is said": async () => {
@@ -276,20 +282,55 @@ run({
     assert.strictEqual(page.text("heard"), "South: queen of hearts. West: 2 of hearts. North: 3 of hearts. East: 4 of hearts. Trick to South");
   },
 
-  "where another player is in turn the page looks sooner": async () => {
-    const page = await seated(place(), view({ TURN: "W" }));
-    assert.deepStrictEqual(await page.pass(300), [`/place ${KEY}`, `/lines SEE ${KEY}\n`]);
+  "the page waits for news of what it was told, and looks where there is some": async () => {
+    const seen = view({ TURN: "W" });
+    const page = await seated(place(), seen, "OK\n", boards(), "OK\nNOW 7\nNOTICE Tea\nCLOCK 90\n.\n");
+    const text = `${KEY}\n${place()}${seen}NOTICE Tea\nCLOCK 90\n`;
+    assert.deepStrictEqual(page.waits.map((wait) => wait.body), [text]);
+    page.stands = "OK\nNOW 8\nNOTICE Tea\nCLOCK 90\n.\n";
+    assert.deepStrictEqual(await page.asks(page.listeners.get("online")), LOOKS);
+    assert.deepStrictEqual(page.waits.map((wait) => wait.body), [text]);
     page.answer = (where) => (where === "/place" ? place() : view());
-    await page.pass(300);
-    assert.deepStrictEqual(await page.pass(1000), [`/place ${KEY}`, `/lines SEE ${KEY}\n`]);
+    assert.deepStrictEqual(await page.news(), LOOKS);
+    assert.strictEqual(page.text("status"), "Your turn to call");
+    assert.deepStrictEqual(page.waits.map((wait) => wait.body), [`${KEY}\n${place()}${view()}NOTICE Tea\nCLOCK 90\n`]);
+  },
+
+  "where news cannot be waited for the page looks every second": async () => {
+    const page = await seated(place(), view());
+    assert.deepStrictEqual(await page.news(null), []);
+    assert.deepStrictEqual(await page.pass(1000), LOOKS);
+    page.waits.pop().release("OK\n");
+    await page.settle();
+    assert.deepStrictEqual(await page.pass(1000), LOOKS);
+  },
+
+  "where no look has an answer the page looks again after longer and longer": async () => {
+    const page = await seated(place(), view());
+    page.answer = () => null;
+    await page.news();
+    for (const wait of [500, 1000, 2000, 4000, 8000, 8000]) assert.deepStrictEqual(await page.pass(wait), LOOKS, wait);
+    assert.match(page.text("status"), /does not answer/);
+    page.answer = (where) => (where === "/place" ? place() : where === "/boards" ? boards() : view());
+    await page.pass(8000);
+    assert.strictEqual(page.text("status"), "Your turn to call");
+    assert.strictEqual(page.waits.length, 1);
+  },
+
+  "what a call makes of the table is shown by its answer": async () => {
+    const page = await seated(place(), view(), "OK\n" + view({ AT: "3 0 0", TURN: "W", CALLS: "PASS PASS 1C" }));
+    page.answerTo = (where, body) => (body.startsWith("CALL") ? page.answer(where, body) : new Promise(() => {}));
+    page.at("call-1C").click();
+    await page.settle();
+    assert.strictEqual(page.text("status"), "West is to call.");
   },
 
   "in the box keys choose": async () => {
     const page = await seated(place(), view());
     const press = (key) => page.asks(() => page.at("dock").onkeydown({ key, currentTarget: page.at("dock"), preventDefault() {} }));
     assert.deepStrictEqual(await press("3"), []);
-    assert.deepStrictEqual((await press("n"))[0], `/lines CALL ${KEY} 4 2 3NT\n`);
-    assert.deepStrictEqual((await press("p"))[0], `/lines CALL ${KEY} 4 2 PASS\n`);
+    assert.deepStrictEqual((await press("n"))[0], `/lines CALL ${KEY} 4 2 3NT\n${THEN}`);
+    assert.deepStrictEqual((await press("p"))[0], `/lines CALL ${KEY} 4 2 PASS\n${THEN}`);
     assert.deepStrictEqual(await press("x"), []);
   },
 
@@ -297,7 +338,7 @@ run({
     const page = await seated(place({ CONTRACT: "1H E" }), play());
     const press = (key) => page.asks(() => page.at("hand").onkeydown({ key, currentTarget: page.at("hand"), preventDefault() {} }));
     assert.deepStrictEqual(await press("d"), []);
-    assert.deepStrictEqual((await press("1"))[0], `/lines CARD ${KEY} 4 0 DT\n`);
+    assert.deepStrictEqual((await press("1"))[0], `/lines CARD ${KEY} 4 0 DT\n${THEN}`);
     assert.deepStrictEqual(await press("k"), []);
     page.at("card-SA").focus();
     await press("ArrowRight");
@@ -359,7 +400,7 @@ run({
     const page = await seated(place(), view(), null);
     await page.click("call-PASS");
     assert.match(page.text("notice"), /No answer came/);
-    assert.deepStrictEqual(await page.look(), [`/place ${KEY}`, `/lines SEE ${KEY}\n`]);
+    assert.deepStrictEqual(await page.look(), LOOKS);
     page.answer = () => null;
     await page.look();
     assert.match(page.text("status"), /does not answer/);
@@ -370,7 +411,7 @@ run({
     page.answer = () => new Promise(() => {});
     await page.asks(() => { page.at("call-PASS").click(); });
     page.answer = (where) => (where === "/place" ? place() : view());
-    assert.deepStrictEqual(await page.pass(8000), [`/place ${KEY}`, `/lines SEE ${KEY}\n`]);
+    assert.deepStrictEqual(await page.pass(8000), LOOKS);
     assert.match(page.text("notice"), /No answer came/);
   },
 
@@ -395,16 +436,16 @@ run({
 
   "once the network is back it looks at once": async () => {
     const page = await seated(place(), view());
-    assert.deepStrictEqual(await page.asks(page.listeners.get("online")), [`/place ${KEY}`, `/lines SEE ${KEY}\n`]);
+    assert.deepStrictEqual(await page.asks(page.listeners.get("online")), LOOKS);
   },
 
   "where the page is hidden it looks every 5 seconds, and at once when it is shown": async () => {
     const page = await seated(place(), view());
     page.document.hidden = true;
     await page.look();
-    assert.deepStrictEqual(await page.pass(5000), [`/place ${KEY}`, `/lines SEE ${KEY}\n`]);
+    assert.deepStrictEqual(await page.pass(5000), LOOKS);
     page.document.hidden = false;
-    assert.deepStrictEqual(await page.asks(page.document.listeners.get("visibilitychange")), [`/place ${KEY}`, `/lines SEE ${KEY}\n`]);
+    assert.deepStrictEqual(await page.asks(page.document.listeners.get("visibilitychange")), LOOKS);
   },
 
   "one click, one line": async () => {
@@ -413,7 +454,7 @@ run({
       page.at("call-1C").click();
       assert.throws(() => page.at("call-1D").click(), /cannot be clicked/);
     });
-    assert.deepStrictEqual(asked.filter((one) => one.includes("CALL")), [`/lines CALL ${KEY} 4 2 1C\n`]);
+    assert.deepStrictEqual(asked.filter((one) => one.includes("CALL")), [`/lines CALL ${KEY} 4 2 1C\n${THEN}`]);
   },
 
   "once the session is closed each field stands under its heading, and the results are asked for again after a minute": async () => {
@@ -423,10 +464,11 @@ run({
     const page = new Page((where, body) => {
       if (where === "/place") return closed;
       if (where === "/boards") return boards(board({ RESULT: "3NT E 8 -50" }));
+      if (body.startsWith("SEE ")) return "ERR 3 Closed\n";
       return where === "/results" ? RESULTS : ranks[body.trim().split(" ")[2]];
     }, { key: KEY });
     await page.settle();
-    const asked = [`/place ${KEY}`, `/lines RANK ${KEY} 1\n`, `/lines RANK ${KEY} 2\n`];
+    const asked = [...LOOKS, `/lines RANK ${KEY} 1\n`, `/lines RANK ${KEY} 2\n`];
     assert.deepStrictEqual(page.asked, [...asked, `/results ${KEY}`, `/boards ${KEY}`]);
     const titles = ["Place", "Pair", "Names", "Score", "Per cent"];
     assert.deepStrictEqual(page.rows(page.named("Ranking of field 1")), [titles, ["1", "2", "Cy and Di", "6.0/8.0", "75.00"], ["2", "1", "Ann and Bob", "2.0/8.0", "25.00"]]);
@@ -451,7 +493,7 @@ run({
     assert.strictEqual(page.text("onward"), "Next: board 5, your turn");
     await page.look();
     assert.ok(page.at("band"));
-    assert.deepStrictEqual(await page.click("onward"), [`/place ${KEY}`, `/lines SEE ${KEY}\n`]);
+    assert.deepStrictEqual(await page.click("onward"), LOOKS);
     assert.strictEqual(page.at("band"), null);
     assert.strictEqual(page.text("title"), "Board 5");
   },
@@ -538,21 +580,20 @@ run({
   "the director is called with a reason or without, and all see it": async () => {
     for (const [words, order] of [["Out of turn", " CALL Out of turn"], ["", " CALL"]]) {
       const page = await seated(place(), view());
-      assert.deepStrictEqual(await page.pass(0), [`/desk ${KEY}`]);
       assert.deepStrictEqual(await page.click("bell"), []);
       if (words) page.button(words).click();
-      page.answer = () => `OK\nCALL 2 0 2 Dan ${words}\n.\n`;
+      const { answer } = page;
+      page.answer = () => `OK\nNOW 7\nCALL 2 7 2 Dan ${words}\n.\n`;
       assert.deepStrictEqual(await page.click("call-director"), [`/desk ${KEY}${order}`]);
       assert.strictEqual(page.text("desk"), `Director called. ${words ? words + ". " : ""}Please wait, play nothing.`);
-      page.answer = () => "OK\n.\n";
-      await page.pass(2000);
+      page.answer = answer;
+      await page.look();
       assert.strictEqual(page.text("desk"), "");
     }
   },
 
   "the notice and the clock of the round are shown": async () => {
-    const page = await seated(place(), view(), "OK\nNOTICE Tea after round 4\nCLOCK 301\n.\n");
-    await page.pass(0);
+    const page = await seated(place(), view(), "OK\n", boards(), "OK\nNOW 20\nNOTICE Tea after round 4\nCLOCK 321\n.\n");
     assert.strictEqual(page.text("desk"), "The director: Tea after round 4");
     assert.strictEqual(page.text("clock"), "5:01left");
     page.now += 1000;
@@ -571,8 +612,7 @@ run({
     };
     assert.deepStrictEqual((await claims("OK\n")).filter((one) => one.startsWith("/desk")), [`/desk ${KEY} STATEMENT drawing trumps`]);
     assert.deepStrictEqual((await claims("ERR 11 ClaimStands\n")).filter((one) => one.startsWith("/desk")), []);
-    const asked = await seated(place({ CONTRACT: "1H E", ANSWER: "DUE" }), play({ AT: "7 20 1", CLAIM: "E 5" }), "OK\nSTATEMENT the rest are mine\n.\n");
-    await asked.pass(0);
+    const asked = await seated(place({ CONTRACT: "1H E", ANSWER: "DUE" }), play({ AT: "7 20 1", CLAIM: "E 5" }), "OK\n", boards(), "OK\nNOW 9\nSTATEMENT the rest are mine\n.\n");
     assert.match(asked.text("dock"), /\u201cthe rest are mine\u201d/);
   },
 

@@ -923,6 +923,10 @@ const TEXTS = {
     NotFinished: "the play is not over",
     NotAnEnding: "at most six whole tricks may be left, and so many must have been played",
     NotMatchPoints: "averages are for matchpoints alone",
+    NothingToTakeBack: "Nothing was done yet that could be taken back.",
+    NotThisRound: "That is possible in the current round alone.",
+    RulingStands: "A ruling stands: take it back first.",
+    BoardBegun: "A call was made on this board already.",
     WrongPhase: "that is not possible now",
     Stale: "that is not the round at play",
     Closed: "the session is closed",
@@ -1054,6 +1058,7 @@ const TEXTS = {
   takenOut: "taken out by the director",
   average: (ns, ew) => "average, " + ns + " % and " + ew + " %",
   passedOut: "passed out",
+  assigned: "(assigned)",
   tricks: (tricks) => tricks + (tricks === 1 ? " trick" : " tricks"),
   lead: "lead",
   soFar: (worth) => (worth === "" ? "so far" : worth + " so far"),
@@ -1089,7 +1094,8 @@ const TEXTS = {
   callDirector: "Call the director",
   callTitle: "Call the director to your table?",
   callHelp: "Everybody stops. What it is about helps, and may be left out:",
-  reasons: ["Wrong call or card", "Out of turn", "Claim", "Hesitation or information", "Slow play", "Something else"],
+  slip: "I did not mean my last call or card",
+  reasons: ["I did not mean my last call or card", "Wrong call or card", "Out of turn", "Claim", "Hesitation or information", "Slow play", "Something else"],
   directorCalled: "Director called.",
   waitForDirector: "Please wait, play nothing.",
   noticeOf: "The director:",
@@ -1100,6 +1106,7 @@ const TEXTS = {
   tableCalls: (table) => "Table " + table + " calls:",
   minutesAgo: (minutes) => (minutes === 0 ? "just now" : minutes === 1 ? "1 minute ago" : minutes + " minutes ago"),
   answered: "On my way",
+  grant: "Take it back \u2026",
   telling: "Tell all tables, and the clock",
   tellText: "A notice for all tables, up to 200 characters",
   tellAll: "Tell all tables",
@@ -1175,10 +1182,21 @@ const TEXTS = {
   thenIs: ". Then: ",
   playedBy: (names) => "North " + names.N + ", East " + names.E + ", South " + names.S + ", West " + names.W + ".",
   changedSince: "This play has changed since you looked at it. Look again, and rule then.",
+  takeBackOf: (what) => "Take back " + what,
+  onBoard: (what, board) => what + " on board " + board,
+  claimBy: (seat, tricks) => seat + "'s claim of " + tricks + (tricks === "1" ? " trick" : " tricks"),
+  doneBy: (seat, what) => seat + "'s " + what,
+  nothingDone: "Nothing to take back",
+  undeal: "Take the deal back",
+  undealOf: (board) => "Take back the deal of board " + board,
+  assignScore: "Assign a score",
+  assignedAs: (contract, declarer, made) => contract + " by " + declarer + ", " + made,
+  doublings: [["", "not doubled"], ["X", "doubled"], ["XX", "redoubled"]],
   rulingsStand: "Rulings that stand",
   noRulings: "None.",
   ruled: (round, table, board, what) => "Round " + round + ", table " + table + ", board " + board + ": " + what,
-  ruledAs: { VOID: () => "taken out", AVERAGE: (words) => words[0] + " and " + words[1] + " per cent", TRICKS: (words) => words[0] + " tricks" },
+  ruledAs: { VOID: () => "taken out", AVERAGE: (words) => words[0] + " and " + words[1] + " per cent", TRICKS: (words) => words[0] + " tricks",
+    ASSIGNED: ([contract, declarer, tricks]) => contract + " by " + declarer + ", " + tricks + " tricks, assigned" },
   solving: "What can still be won",
   afterTricks: "After so many tricks",
   solve: "Solve",
@@ -1209,17 +1227,22 @@ pub const SHARED_SCRIPT: &str = r##""use strict";
 const SEATS = ["N", "E", "S", "W"];
 const SEAT_NAMES = TEXTS.seats;
 const LOGIN = "login";
-// Milliseconds: an answer that comes later is none; how often the page looks, where another player is in turn, and where it is
-// hidden.
+// Milliseconds: an answer that comes later is none, or later than this where it is put off until there is news; how often the page
+// looks where it is hidden, where news cannot be waited for, and after one look and more that had no answer.
 const LATE = 8000;
-const LOOK = 1000;
-const SOON = 300;
+const NEWS_LATE = 25000;
 const HIDDEN_LOOK = 5000;
+const LOOK = 1000;
+const AGAIN = [500, 1000, 2000, 4000, 8000];
 // Milliseconds after which the page says that no answer has come.
 const SLOW = 3000;
-let pace = LOOK;
-// The key of the player who was shown a table last.
-let seen = null;
+// Whose page this is, once his key is known to be somebody's.
+let role = { key: null, isDirector: false };
+// What the last look was told, or null where it had no answer; what the page waits with for news of it, since when, and how many
+// looks in turn had no answer.
+let lastTold = null;
+let awaited = { text: null, at: 0 };
+let missed = 0;
 
 const at = (id) => document.getElementById(id);
 let key = sessionStorage.getItem("key");
@@ -1250,9 +1273,9 @@ function say(id, text) {
   if (node && node.textContent !== text) node.textContent = text;
 }
 
-async function ask(path, body) {
+async function ask(path, body, patience = LATE) {
   const stop = new AbortController();
-  const late = setTimeout(() => stop.abort(), LATE);
+  const late = setTimeout(() => stop.abort(), patience);
   try {
     const response = await fetch(path, {
       method: "POST",
@@ -1348,7 +1371,8 @@ function showLogin() {
 
 function leave() {
   key = null;
-  seen = null;
+  role = { key: null, isDirector: false };
+  awaited = { text: null, at: 0 };
   turn += 1;
   sessionStorage.removeItem("key");
   say("notice", "");
@@ -1362,50 +1386,90 @@ function unreachable() {
   at("status").className = "lost";
 }
 
-// Looks once, and again after a while.
+// Looks once, and again once there is news. While a line is out nothing is looked at: its answer is followed by a look.
 async function look() {
   clearTimeout(timer);
   const asked = key;
   if (asked === null) return showLogin();
-  pace = LOOK;
-  if (!busy) {
-    const mine = turn + 1;
-    const slow = setTimeout(unreachable, SLOW);
-    // What is no answer of this server, as that of a network's own login page, cannot be read.
-    await lookOnce(asked).catch(unreachable);
-    clearTimeout(slow);
-    // After a later look, an act or Leave those go on.
-    if (turn !== mine) return;
-  }
-  clearTimeout(timer);
-  if (key !== null) timer = setTimeout(look, document.hidden ? HIDDEN_LOOK : pace);
+  if (busy) return;
+  const mine = turn + 1;
+  const before = lastTold;
+  const slow = setTimeout(unreachable, SLOW);
+  // What is no answer of this server, as that of a network's own login page, cannot be read.
+  await lookOnce(asked).catch(unreachable);
+  clearTimeout(slow);
+  // After a later look, an act or Leave those go on.
+  if (turn === mine && key !== null) lookLater(lastTold !== before);
 }
+
+function lookAfter(wait) {
+  clearTimeout(timer);
+  timer = setTimeout(look, wait);
+}
+
+function lookLater(isNew) {
+  if (lastTold === null) {
+    lookAfter(AGAIN[Math.min(missed, AGAIN.length - 1)]);
+    missed += 1;
+    return;
+  }
+  missed = 0;
+  if (document.hidden) lookAfter(HIDDEN_LOOK);
+  else if (unsure) lookAfter(LOOK);
+  else if (!isNew && Date.now() - awaited.at < LOOK) lookAfter(LOOK);
+  else awaitNews(key + "\n" + lastTold);
+}
+
+// Looks as soon as the server would tell something else than this; and soon where it does not say so.
+async function awaitNews(text) {
+  if (awaited.text === text) return;
+  awaited = { text, at: Date.now() };
+  const reply = await ask("/wait", text, NEWS_LATE);
+  if (awaited.text !== text) return;
+  awaited.text = null;
+  if (reply !== null && !refusal(reply)) look();
+  else lookAfter(LOOK);
+}
+
+// What an answer of the desk tells that is not of the clock's hand.
+const standing = (reply) => reply.split("\n").slice(2, -2).map((line) => line + "\n").join("");
 
 async function lookOnce(asked) {
   turn += 1;
   const mine = turn;
-  // Where a player was shown a table last, his place and what he sees are asked for at once.
-  const [place, view] = await Promise.all([ask("/place", asked), seen === asked ? ask("/lines", "SEE " + asked + "\n") : undefined]);
-  if (mine !== turn) return;
-  if (place === null) return unreachable();
-  const refused = refusal(place);
-  if (refused === "NotAllowed") {
+  lastTold = null;
+  let place;
+  // A key that may be nobody's is asked with once.
+  if (role.key !== asked) {
+    place = await ask("/place", asked);
+    if (mine !== turn) return;
+    if (place === null) return unreachable();
+    const refused = refusal(place);
+    if (refused && refused !== "NotAllowed") return refuse(refused);
+    role = { key: asked, isDirector: refused === "NotAllowed" };
     enter(asked);
-    return showDirector(asked, mine);
   }
-  if (refused) {
-    leave();
-    return say("notice", TEXTS.refusals[refused] || TEXTS.noKey);
-  }
-  enter(asked);
-  return showPlayer(place, asked, mine, view);
+  const told = role.isDirector ? [ask("/tables", asked)] : [place || ask("/place", asked), ask("/lines", "SEE " + asked + "\n")];
+  const replies = await Promise.all([...told, ask("/desk", asked)]);
+  if (mine !== turn) return;
+  if (replies.includes(null)) return unreachable();
+  const refused = refusal(replies[0]);
+  if (refused) return refuse(refused);
+  const stands = replies.pop();
+  takeDesk(stands);
+  await (role.isDirector ? showDirector(replies[0], asked, mine) : showPlayer(...replies, asked, mine));
+  if (mine === turn) lastTold = replies.join("") + standing(stands);
+}
+
+function refuse(refused) {
+  leave();
+  say("notice", TEXTS.refusals[refused] || TEXTS.noKey);
 }
 
 function enter(asked) {
   sessionStorage.setItem("key", asked);
   sayLeave();
   at("menu").hidden = false;
-  openDesk();
 }
 
 // Leave is asked: it wants a second press within some seconds.
@@ -1425,6 +1489,7 @@ at("leave").onclick = () => {
   if (again) leave();
 };
 window.addEventListener("online", () => look());
+window.addEventListener("offline", unreachable);
 document.addEventListener("visibilitychange", () => { if (!document.hidden) look(); });
 // Once the scripts of both pages are there.
 document.addEventListener("DOMContentLoaded", () => look());
@@ -2158,7 +2223,6 @@ function showView(placeReply, reply) {
   if (marked && !marked.line.startsWith(marked.what.startsWith("card-") ? "CARD " + key + " " + view.board + " " + view.made.cards + " " : "CALL " + key + " " + view.board + " " + view.made.calls + " ")) marked = null;
   const mine = isMine(place, view);
   turnTitle(mine);
-  if (!mine) pace = SOON;
   const said = news(view);
   if (said) say("heard", said);
   if (showLeaf(place, (mine ? TEXTS.nextYours : TEXTS.nextBoard)(view.board))) return;
@@ -2219,15 +2283,22 @@ function finalNodes(place, both) {
 }
 
 // Shows where a player sits, and the play there, or what came of the session.
-async function showPlayer(place, asked, mine, early) {
+async function showPlayer(place, view, asked, mine) {
   const where = readPlace(place);
-  seen = where.round > where.rounds ? null : asked;
-  if (seen === null) return showClosed(place, asked, mine);
-  const view = early === undefined ? await ask("/lines", "SEE " + asked + "\n") : early;
-  if (mine !== turn) return;
-  if (view === null) return unreachable();
+  if (where.round > where.rounds) return showClosed(place, asked, mine);
   await lookAtBoards(asked, where, refusal(view) ? null : readView(view).board);
-  if (mine === turn) showView(place, view);
+  if (mine !== turn) return;
+  lastPlace = place;
+  showView(place, view);
+}
+
+// What his place was when a player was shown it last, and whether a view may be shown over it: the same board goes on, and no
+// contract has been made since.
+let lastPlace = "";
+function goesOn(view) {
+  if (before === null || !view.startsWith("OK\n")) return false;
+  const now = readView(view);
+  return now.board === before.board && now.playing === before.playing;
 }
 
 // The line that had no answer; what has become of it the next view tells, where it is of the same board.
@@ -2253,7 +2324,8 @@ async function act(line) {
   say("notice", "");
   for (const node of at("main").querySelectorAll("button")) node.disabled = true;
   const slow = setTimeout(() => say("notice", TEXTS.slow), SLOW);
-  const reply = await ask("/lines", line + "\n");
+  // The answer, and what there is to see then.
+  const reply = await ask("/lines", line + "\nSEE " + asked + "\n");
   clearTimeout(slow);
   busy = false;
   if (at("notice").textContent === TEXTS.slow) say("notice", "");
@@ -2263,6 +2335,8 @@ async function act(line) {
   unsureAt = Date.now();
   if (reply === null) say("notice", TEXTS.unknownFate);
   else if (refusal(reply)) say("notice", TEXTS.refusals[refusal(reply)] || reply);
+  const view = reply === null ? "" : reply.slice(reply.indexOf("\n") + 1);
+  if (/^C(ALL|ARD) /.test(line) && goesOn(view)) showView(lastPlace, view);
   await look();
   return reply !== null && !refusal(reply);
 }
@@ -2334,6 +2408,7 @@ function readResult(words) {
   if (words[0] === "VOID") return { taken: true };
   if (words[0] === "AVERAGE") return { average: { NS: words[1], EW: words[2] } };
   if (words[0] === "PASS") return { passed: true, score: 0 };
+  if (words[0] === "ASSIGNED") return { ...readResult(words.slice(1)), assigned: true };
   return { bid: words[0], declarer: words[1], tricks: Number(words[2]), score: Number(words[3]) };
 }
 
@@ -2424,7 +2499,7 @@ function resultNodes(result, seat) {
   if (result.average) return [TEXTS.average(result.average.NS, result.average.EW)];
   if (result.passed) return [TEXTS.passedOut];
   const by = seat === undefined ? [" " + result.declarer] : [" " + TEXTS.by(result.declarer, result.declarer === seat)];
-  return [make("span", { className: "contract" }, ...callNodes(result.bid)), ...by];
+  return [make("span", { className: "contract" }, ...callNodes(result.bid)), ...by, ...(result.assigned ? [" " + TEXTS.assigned] : [])];
 }
 
 const isScored = (result) => result.score !== undefined;
@@ -2727,15 +2802,12 @@ pub const DESK_SCRIPT: &str = r##""use strict";
 // What stands beside the session: the director's notice, the round's clock, calls for the director, and what was said with a
 // claim. The server keeps it for as long as it runs.
 
-// Milliseconds between two looks, of players and of the director; and how many seconds left of the clock are said.
-const DESK_LOOK = 2000;
-const DIRECTORS_LOOK = 1000;
+// How many seconds left of the clock are said.
 const CLOCK_SAID = [300, 60];
 const SECOND = 1000;
 
-const nothingStands = () => ({ notice: "", clock: null, calls: [], said: "", at: 0 });
+const nothingStands = () => ({ notice: "", clock: null, calls: [], said: "", now: 0, at: 0 });
 let desk = nothingStands();
-let deskTimer = 0;
 let clockTimer = 0;
 // What is on the page of it; and the reason that is chosen while the director is being called, or null.
 let deskShown = "";
@@ -2745,11 +2817,12 @@ let reason = null;
 const wordsFrom = (line, count) => line.split(" ").slice(count).join(" ");
 
 const DESK_LINES = {
+  NOW: (found, line) => { found.now = Number(wordsFrom(line, 1)); },
   NOTICE: (found, line) => { found.notice = wordsFrom(line, 1); },
-  CLOCK: (found, line) => { found.clock = Number(wordsFrom(line, 1)); },
+  CLOCK: (found, line) => { found.clock = Number(wordsFrom(line, 1)) - found.now; },
   CALL: (found, line) => {
-    const [, table, seconds, pair, name] = line.split(" ");
-    found.calls.push({ table, minutes: Math.floor(Number(seconds) / 60), pair, name, text: wordsFrom(line, 5) });
+    const [, table, since, pair, name] = line.split(" ");
+    found.calls.push({ table, minutes: Math.floor((found.now - Number(since)) / 60), pair, name, text: wordsFrom(line, 5) });
   },
   STATEMENT: (found, line) => { found.said = wordsFrom(line, 1); },
 };
@@ -2764,36 +2837,30 @@ function readDesk(reply) {
   return found;
 }
 
-const isDirector = () => document.body.className === "director";
+const isDirector = () => role.isDirector;
 
-// Looks at the desk, or asks something of it and shows what stands then.
+// Shows what an answer says that stands.
+function takeDesk(reply) {
+  if (refusal(reply)) return;
+  desk = readDesk(reply);
+  showDesk();
+}
+
+// Asks something of the desk, and shows what stands then.
 async function askDesk(order) {
   const asked = key;
-  clearTimeout(deskTimer);
   if (asked === null) return;
-  const reply = await ask("/desk", order ? asked + " " + order : asked);
+  const reply = await ask("/desk", asked + " " + order);
   if (key !== asked) return;
-  if (reply !== null && !refusal(reply)) {
-    desk = readDesk(reply);
-    showDesk();
-  } else if (order) {
-    const why = reply === null ? TEXTS.unknownDone : TEXTS.refusals[refusal(reply)] || reply;
-    if (isDirector()) tell(why);
-    else say("notice", why);
-  }
-  clearTimeout(deskTimer);
-  deskTimer = setTimeout(askDesk, document.hidden ? HIDDEN_LOOK : isDirector() ? DIRECTORS_LOOK : DESK_LOOK);
+  if (reply !== null && !refusal(reply)) return takeDesk(reply);
+  const why = reply === null ? TEXTS.unknownDone : TEXTS.refusals[refusal(reply)] || reply;
+  if (isDirector()) tell(why);
+  else say("notice", why);
 }
 
-// A player or the director has sat down, and has left.
-function openDesk() {
-  if (deskTimer === 0) deskTimer = setTimeout(askDesk, 0);
-}
-
+// Whoever sat here has left.
 function leaveDesk() {
-  clearTimeout(deskTimer);
   clearTimeout(clockTimer);
-  deskTimer = 0;
   desk = nothingStands();
   closeCall();
   showDesk();
@@ -2821,9 +2888,12 @@ const whoCalls = ({ pair, name }) => TEXTS.ofPair(name, pair);
 
 function callNodesOf(call) {
   if (!isDirector()) return [make("p", null, make("b", null, TEXTS.directorCalled), " ", call.text ? call.text + ". " : "", TEXTS.waitForDirector)];
-  const open = () => { const state = lastTables && lastTables.tables.find((one) => one.number === call.table); if (state) openTable(state); };
+  const stateOf = (number) => lastTables && lastTables.tables.find((one) => one.number === number);
+  const open = () => { const state = stateOf(call.table); if (state) openTable(state); };
+  const grant = (number) => { const state = stateOf(number); if (state) grantBack(state); };
   return [make("div", { className: "row" }, make("p", null, make("b", null, TEXTS.tableCalls(call.table)), " ", call.text ? call.text + ". " : "",
     whoCalls(call) + ", " + TEXTS.minutesAgo(call.minutes) + "."),
+  ...(call.text === TEXTS.slip ? [make("button", { type: "button", id: "grant-" + call.table, onclick: () => grant(call.table) }, TEXTS.grant)] : []),
   make("button", { type: "button", id: "answered-" + call.table, onclick: () => askDesk("ANSWERED " + call.table) }, TEXTS.answered),
   make("button", { type: "button", id: "go-" + call.table, className: "send", onclick: open }, TEXTS.openTable(call.table)))];
 }
@@ -2925,7 +2995,7 @@ function tell(text) {
 function confirmFirst(box, question, act, ...more) {
   const close = () => box.replaceChildren();
   tell("");
-  for (const id of ["end-question", "rule-question", "deal-question"]) at(id).replaceChildren();
+  for (const id of ["end-question", "rule-question", "deal-question", "back-question"]) if (at(id)) at(id).replaceChildren();
   box.replaceChildren(make("p", null, question), ...more.map((words) => make("p", null, ...[].concat(words))),
     make("div", { className: "row" },
       button(TEXTS.no, "", "no", true, close), button(TEXTS.yes, TEXTS.yesTo(question), "yes", true, () => { close(); act(); })));
@@ -2933,8 +3003,9 @@ function confirmFirst(box, question, act, ...more) {
   at("no").focus();
 }
 
-// Sends lines without the key, each of a keyword and words; gives the replies, or null, also while other lines are out.
-async function order(lines) {
+// Sends lines without the key, each of a keyword and words, of the protocol or corrections; gives the replies, or null, also while
+// other lines are out.
+async function order(lines, isCorrection = false) {
   if (ordered) {
     tell(TEXTS.answerAwaited);
     return null;
@@ -2943,14 +3014,14 @@ async function order(lines) {
   tell("");
   const body = lines.map((line) => line.replace(/^(\S+)\s*/,
     (_all, word) => (word === "SYNC" ? word : word + " " + key + " ")).trim() + "\n").join("");
-  const reply = await ask("/lines", body);
+  const reply = await (isCorrection ? ask("/correct", body) : ask("/lines", body));
   ordered = false;
   if (reply === null) tell(TEXTS.unknownDone);
   return reply;
 }
 
-async function doOne(line, what) {
-  const reply = await order([line]);
+async function doOne(line, what, isCorrection = false) {
+  const reply = await order([line], isCorrection);
   if (reply !== null) tell(TEXTS.becameOf(what, outcome(reply)));
   look();
 }
@@ -3084,7 +3155,7 @@ async function showOpened() {
     tell(TEXTS.becameOf(TEXTS.playOf(...wanted.words.slice(0, 2), TEXTS.boardInPlace(wanted.words[2])), outcome(text)));
     return CLOSED();
   }
-  const board = readBoards(text).boards[0];
+  const board = { ...readBoards(text).boards[0], text };
   at("opened").replaceChildren(...openedNodes(board, wanted.words));
   for (const [field, value] of [["round", wanted.words[0]], ["table", wanted.words[1]],
     ["board", board.number]]) at("rule-" + field).value = String(value);
@@ -3098,10 +3169,45 @@ function openedNodes(board, words) {
     node.setAttribute("aria-pressed", String(first + i === board.number));
     return node;
   });
+  const latest = latestOf(board);
+  const back = button(latest ? TEXTS.takeBackOf(latest) : TEXTS.nothingDone, "", "opened-back", latest !== "", () => takeLatestBack(board, words));
   return [make("div", { className: "row" },
     make("h2", null, TEXTS.openedAt(words[1], words[0])), ...others,
     make("button", { type: "button", id: "opened-close", onclick: CLOSED }, TEXTS.close)),
-    bandNode(board), make("div", { className: "parts" }, steppedNode(board, "S", board.cards.length, () => {}), playedNode(board, "S", board.cards.length))];
+    make("div", { className: "row" }, back), make("div", { id: "back-question" }), bandNode(board), make("div", { className: "parts" }, steppedNode(board, "S", board.cards.length, () => {}), playedNode(board, "S", board.cards.length))];
+}
+
+// ---- corrections of what players did
+
+// The latest thing done in a play, in words: a claim, a card or a call; empty where nothing was done.
+function latestOf(board) {
+  const card = board.cards[board.cards.length - 1];
+  const count = board.calls.length;
+  if (board.claim) return TEXTS.claimBy(SEAT_NAMES[board.claim.seat], board.claim.tricks);
+  if (card) return TEXTS.doneBy(SEAT_NAMES[card.seat], cardName(card.card));
+  if (count === 0) return "";
+  return TEXTS.doneBy(SEAT_NAMES[SEATS[(SEATS.indexOf(dealerOf(board.number)) + count - 1) % 4]], callName(board.calls[count - 1]));
+}
+
+// Does something to a play once the question is answered, if the play is still what it was when it was asked.
+function onceUnchanged(box, words, seen, question, act, ...more) {
+  confirmFirst(box, question, async () => {
+    const now = await askPlay(words);
+    if (now !== seen) return tell(now === null ? TEXTS.noAnswer : TEXTS.changedSince);
+    return act();
+  }, ...more);
+}
+
+function takeLatestBack(board, words) {
+  const what = TEXTS.onBoard(TEXTS.takeBackOf(latestOf(board)), board.number);
+  onceUnchanged(at("back-question"), words, board.text, TEXTS.asks(what), () => doOne("BACK " + words.join(" "), what, true),
+    [TEXTS.playedBy(board.names)]);
+}
+
+// The play at a table that asks for its latest call or card back, and the question whether it goes.
+async function grantBack(table) {
+  await openTable(table);
+  if (opened && at("opened-back") && !at("opened-back").disabled) at("opened-back").onclick();
 }
 
 // ---- deals
@@ -3194,6 +3300,9 @@ function playWords(prefix) {
   return [round, table, placeInSet(board)];
 }
 
+// All bids, the lowest first.
+const ALL_BIDS = [1, 2, 3, 4, 5, 6, 7].flatMap((level) => ["C", "D", "H", "S", "NT"].map((strain) => level + strain));
+
 const placeInSet = (board) => ((board - 1) % boardsOfSet) + 1;
 
 // The play by its round, its table, and its board; where it was not seen which boards were played there, by that board's place.
@@ -3219,9 +3328,8 @@ function beforeAndAfter(board, after) {
     [TEXTS.playedBy(board.names)]];
 }
 
-// Rules on the play of the fields, once the question is answered, if the play is still what it was when it was asked: a keyword,
-// what follows the play, and what the result becomes.
-async function rule(what, word, rest, after) {
+// Rules on the play of the fields: a keyword, what follows the play, what the result becomes, and whether it is a correction.
+async function rule(what, word, rest, after, isCorrection = false) {
   if (!isFilledIn("ruling")) return;
   const words = playWords("rule");
   if (words === null) return;
@@ -3229,11 +3337,8 @@ async function rule(what, word, rest, after) {
   const seen = await askPlay(words);
   if (seen === null) return tell(TEXTS.noAnswer);
   const board = refusal(seen) ? null : readBoards(seen).boards[0];
-  confirmFirst(at("rule-question"), TEXTS.asks(name), async () => {
-    const now = await askPlay(words);
-    if (now !== seen) return tell(now === null ? TEXTS.noAnswer : TEXTS.changedSince);
-    return doOne([word, ...words, rest].join(" ").trim(), name);
-  }, ...(board && board.names ? beforeAndAfter(board, after) : []));
+  const line = [word, ...words, rest].join(" ").trim();
+  onceUnchanged(at("rule-question"), words, seen, TEXTS.asks(name), () => doOne(line, name, isCorrection), ...(board && board.names ? beforeAndAfter(board, after) : []));
 }
 
 // What a number of tricks makes of the contract of a play.
@@ -3247,10 +3352,18 @@ function rulingNodes() {
     TEXTS.setTricksTo(tricks), "TRICKS", String(tricks), (board) => withTricks(board, tricks)); };
   const average = () => { const [ns, ew] = [at("rule-ns").value, at("rule-ew").value]; rule(
     TEXTS.award(ns, ew), "ADJUST", ns + " " + ew, () => TEXTS.average(ns, ew)); };
+  const assign = () => {
+    const [contract, declarer, tricks] = [at("assign-bid").value + at("assign-doubled").value, at("assign-declarer").value, numberAt("assign-tricks")];
+    const score = TEXTS.assignedAs(callName(contract), SEAT_NAMES[declarer], TEXTS.made(tricks - 6 - Number(contract[0])));
+    rule(TEXTS.assignScore, "ASSIGN", [contract, declarer, tricks].join(" "), () => score, true);
+  };
   const show = () => { if (isFilledIn("ruling")) { const words = playWords("rule"); if (words) openPlay(words); } };
   return [playFields("rule"), make("div", { className: "row" }, button(TEXTS.openPlay, "", "rule-open", true, show)),
     make("div", { className: "row" },
       numberField("rule-tricks", TEXTS.declarersTricks, 0, 13, 7), button(TEXTS.setTricks, "", "rule-set", true, setTricks)),
+    make("div", { className: "row" }, choice("assign-bid", TEXTS.contract, ALL_BIDS.map((bid) => [bid, callName(bid)])),
+      choice("assign-doubled", TEXTS.double, TEXTS.doublings), choice("assign-declarer", TEXTS.declarer, SEATS.map((seat) => [seat, SEAT_NAMES[seat]])),
+      numberField("assign-tricks", TEXTS.declarersTricks, 0, 13, 7), button(TEXTS.assignScore, "", "rule-assign", true, assign)),
     make("div", { className: "row" }, choice("rule-ns", TEXTS.northSouthPer, TEXTS.per), choice("rule-ew", TEXTS.eastWestPer, TEXTS.per),
       button(TEXTS.awardAverages, "", "rule-average", true, average)),
     make("div", { className: "row" }, button(TEXTS.takeOut, "", "rule-void", true, () => rule(TEXTS.takeOut, "VOID", "", () => TEXTS.takenOut)),
@@ -3331,6 +3444,12 @@ function linesNodes() {
   return [make("label", { for: "box" }, TEXTS.linesLabel), box, button(TEXTS.send, "", "send", true, send), replies];
 }
 
+function undeal() {
+  if (!isFilledIn("dealing")) return;
+  const board = numberAt("undeal-board");
+  confirmFirst(at("deal-question"), TEXTS.asks(TEXTS.undealOf(board)), () => doOne("UNDEAL " + board, TEXTS.undealOf(board), true));
+}
+
 function dealNodes() {
   const file = make("input", { id: "deal-file", type: "file", onchange: async () => { at("deal-text").value = await file.files[0].text(); } });
   return [
@@ -3340,7 +3459,8 @@ function dealNodes() {
     make("div", { className: "row" }, make("label", { for: "deal-file" }, TEXTS.dealFile), file),
     make("label", { for: "deal-text" }, TEXTS.dealText),
     make("textarea", { id: "deal-text", spellcheck: false }),
-    button(TEXTS.deal, "", "deal", true, () => dealText(at("deal-text").value)), make("div", { id: "deal-question" })];
+    button(TEXTS.deal, "", "deal", true, () => dealText(at("deal-text").value)), make("div", { id: "deal-question" }),
+    make("div", { className: "row" }, numberField("undeal-board", TEXTS.boardField, 1, MOST_BOARDS, 1), button(TEXTS.undeal, "", "undeal", true, undeal))];
 }
 
 function directorNodes() {
@@ -3365,11 +3485,7 @@ function directorNodes() {
 }
 
 // Shows the director's page, built once, with its tables as they are now.
-async function showDirector(asked, mine) {
-  const reply = await ask("/tables", asked);
-  if (mine !== turn) return;
-  if (reply === null) return unreachable();
-  if (refusal(reply)) return leave();
+async function showDirector(reply, asked, mine) {
   at("title").textContent = TEXTS.director;
   at("below").textContent = "";
   at("chip").hidden = true;
@@ -3380,6 +3496,7 @@ async function showDirector(asked, mine) {
     opened = null;
     showRulings.shown = "";
     at("main").replaceChildren(...directorNodes());
+    showTables(state);
     at("shuffle-last").value = state.all;
     standingsAt = 0;
     at("ranking").open = typeof matchMedia === "function" && matchMedia("(min-width: 80em)").matches;
