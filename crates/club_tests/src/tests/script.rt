@@ -10,6 +10,7 @@ use std::alloc::{AllocError, Global};
 use std::io::Write;
 use std::process::Abort;
 use std::test::Fail;
+use table_server::LineSet;
 use test_texts::{SEVEN_TRICKS, TWO_TABLES};
 
 /// The lines of `SEVEN_TRICKS`, and what is left of the board solved.
@@ -31,7 +32,13 @@ fn a_script_uses_the_cache(rt: HostRuntime) -> Result<(), Fail> {
     let lines = solved_board(alloc)?;
     let mut input = lines.as_bytes();
     let mut output = Vec::new(alloc);
-    let result = serve_store(&mut store, &mut cache, &mut input, &mut output);
+    let result = serve_store(
+        LineSet::Protocol,
+        &mut store,
+        &mut cache,
+        &mut input,
+        &mut output,
+    );
     expect_eq(&rt, result, Ok(()), "served");
     expect_eq(&rt, output.ends_with(b"OK\nOK 6 0\n"), true, "solved");
     expect_eq(&rt, cache.tried() > 0, true, "with the cache");
@@ -70,7 +77,13 @@ fn serve_failing<W: Write>(
     let mut cache = Cache::new(alloc, 1)?;
     let mut input: &[u8] = b"VOID 100 1 1 1\nSYNC\n";
     match open_session(alloc, disk) {
-        Ok(mut store) => Ok(serve_store(&mut store, &mut cache, &mut input, output)),
+        Ok(mut store) => Ok(serve_store(
+            LineSet::Protocol,
+            &mut store,
+            &mut cache,
+            &mut input,
+            output,
+        )),
         Err((_, fault)) => Ok(Err(RunFault::Store(fault))),
     }
 }

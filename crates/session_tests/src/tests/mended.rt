@@ -29,8 +29,9 @@ impl Twin {
 
     /// The answer where the latest thing done in a play is taken back.
     pub fn back_answer(&self, play: PlayId) -> Result<(), Refused> {
+        let index = play.index.number();
         let row = row_of_play(&self.config, play).ok_or(Refused::NoSuchPlay)?;
-        let Some(story) = self.story(row, play.index.number()) else {
+        let Some(story) = self.story(row, index) else {
             return Err(Refused::NoSuchPlay);
         };
         let round = usize::from(row.round);

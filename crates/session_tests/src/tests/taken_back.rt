@@ -22,7 +22,13 @@ fn take_back(rt: &impl Abort, session: &mut Session, times: u8) -> Result<(), Fa
 
 /// What came of the play of the first table.
 fn outcome(session: &Session) -> Option<Outcome> {
-    Some(session.entry(play_at([1, 1, 1])?)?.outcome)
+    match play_at([1, 1, 1]) {
+        Some(play) => match session.entry(play) {
+            Some(entry) => Some(entry.outcome),
+            None => None,
+        },
+        None => None,
+    }
 }
 
 /// Fails where the action of a line has another answer.
@@ -173,10 +179,7 @@ fn an_assigned_score_is_compared(rt: HostRuntime) -> Result<(), Fail> {
     let (before, rest) = TWO_TABLES.split_once("MP").ok_or("the scoring")?;
     let imps = format!(in rt.alloc(); "{before}IMP{rest}")?;
     let score = assign([1, 1, 1], "4S", Doubling::Undoubled, Seat::North, 10).ok_or("a score")?;
-    for (text, due) in [
-        (TWO_TABLES, [20, 0, 0, 20]),
-        (imps.as_str(), [9, -9, -9, 9]),
-    ] {
+    for (text, above, below) in [(TWO_TABLES, 20, 0), (imps.as_str(), 9, -9)] {
         let mut session = session_of(&rt, rt.alloc(), text)?;
         run(&rt, &mut session, &[A_DEAL, A_PASS]);
         expect_eq(&rt, session.step(&score), Ok(()), text);
@@ -189,8 +192,11 @@ fn an_assigned_score_is_compared(rt: HostRuntime) -> Result<(), Fail> {
         for field in [Field::First, Field::Second] {
             let ranking = session.ranking(Key(100), field).ok().ok_or("a ranking")?;
             for ranked in ranking.as_slice() {
-                let value = due.get(usize::from(ranked.pair).saturating_sub(1)).copied();
-                expect_eq(&rt, Some(ranked.value), value, ranked.pair);
+                let due = match ranked.pair {
+                    1 | 4 => above,
+                    _ => below,
+                };
+                expect_eq(&rt, ranked.value, due, ranked.pair);
             }
         }
         run(&rt, &mut session, &["RESTORE 100 1 1 1", "CALL 11 1 0 1S"]);

@@ -13,7 +13,7 @@ fn device(number: u8) -> IpAddr {
 }
 
 /// So many milliseconds later.
-fn after(begun: Instant, millis: u64) -> Result<Instant, Fail> {
+pub fn after(begun: Instant, millis: u64) -> Result<Instant, Fail> {
     match begun.checked_add(Duration::from_millis(millis)) {
         Some(time) => Ok(time),
         None => Err(Fail::from("a time")),

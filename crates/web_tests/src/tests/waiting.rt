@@ -1,5 +1,6 @@
 //! Requests that wait, over several clients.
 use super::expect_eq;
+use super::guesses::after;
 use super::peer::{ClubStore, StoppedClock, answered, pages};
 use super::requests::{body_of, request};
 use std::alloc::Global;
@@ -10,26 +11,23 @@ use std::net::{IpAddr, Ipv4Addr, OpenStream};
 use std::process::Abort;
 use std::random::RandomSource;
 use std::test::Fail;
-use std::time::{Clock, Duration, Instant};
+use std::time::{Clock, Instant};
 use table_pages::{TablePages, limits};
 use web_loop::Clients;
 
 /// A socket: what its peer sends, and how many bytes its peer has got.
 #[derive(Drop)]
 struct Socket<'a> {
-    unread: &'a Cell<&'a [u8]>,
+    unread: &'a [u8],
     got: &'a Cell<usize>,
 }
 
 impl Read for Socket<'_> {
     fn read(&mut self, buf: &mut [u8]) -> io::Result<usize> {
-        let mut unread = self.unread.get();
-        if unread.is_empty() {
+        if self.unread.is_empty() {
             return Err(Error::from(ErrorKind::WouldBlock));
         }
-        let count = unread.read(buf)?;
-        self.unread.set(unread);
-        Ok(count)
+        self.unread.read(buf)
     }
 }
 
@@ -113,15 +111,31 @@ fn settle(
     }
 }
 
-/// Admits a device of such a number, of which the requests and what it gets are known.
-fn admit<'a>(
-    clients: &mut Clients<Socket<'a>>,
-    number: u8,
-    unread: &'a Cell<&'a [u8]>,
-    got: &'a Cell<usize>,
-    now: Instant,
-) -> io::Result<()> {
-    clients.admit(Socket { unread, got }, address(number), now)
+/// Fails where two who wait, one at table 1 and one at table 2, and one who calls at table 1 are answered at other times.
+fn expect_waits<'a, N: RandomSource + Clock + Abort>(
+    rt: &N,
+    alloc: Global,
+    pages: &mut TablePages<ClubStore, StoppedClock>,
+    one: Socket<'a>,
+    two: Socket<'a>,
+    call: Socket<'a>,
+) -> Result<(), Fail> {
+    let (got_one, got_two) = (one.got, two.got);
+    let begun = Instant::now(rt)?;
+    let mut clients = Clients::new(alloc, RandomState::new(rt)?, limits(), begun);
+    clients.admit(one, address(1), begun)?;
+    clients.admit(two, address(2), begun)?;
+    settle(&mut clients, pages, begun);
+    expect_eq(rt, (got_one.get(), got_two.get()), (0, 0), "both wait");
+    expect_eq(rt, clients.has_pending(), false, "nothing is to be sent");
+    clients.admit(call, address(3), begun)?;
+    settle(&mut clients, pages, begun);
+    expect_eq(rt, got_one.get() > 0, true, "told of a call at table 1");
+    settle(&mut clients, pages, after(begun, 14_999)?);
+    expect_eq(rt, got_two.get(), 0, "not told of it");
+    settle(&mut clients, pages, after(begun, 15_000)?);
+    expect_eq(rt, got_two.get() > 0, true, "told after 15 seconds");
+    Ok(())
 }
 
 // A call at table 1 answers the player who waits there and not the one at table 2, who is answered once 15 seconds have passed.
@@ -132,60 +146,44 @@ fn waits_end_at_a_change_and_after_a_while(rt: HostRuntime) -> Result<(), Fail> 
     let one = waiting(&rt, alloc, &mut pages, "31")?;
     let two = waiting(&rt, alloc, &mut pages, "41")?;
     let call = request(alloc, "POST /desk HTTP/1.1", HOST, LINES, "11 CALL")?;
-    let (one, two) = (Cell::new(one.as_slice()), Cell::new(two.as_slice()));
-    let call = Cell::new(call.as_slice());
-    let (got_one, got_two, got) = (Cell::new(0), Cell::new(0), Cell::new(0));
-    let begun = Instant::now(&rt)?;
-    let mut clients = Clients::new(alloc, RandomState::new(&rt)?, limits(), begun);
-    admit(&mut clients, 1, &one, &got_one, begun)?;
-    admit(&mut clients, 2, &two, &got_two, begun)?;
-    settle(&mut clients, &mut pages, begun);
-    expect_eq(&rt, (got_one.get(), got_two.get()), (0, 0), "both wait");
-    expect_eq(&rt, clients.has_pending(), false, "nothing is to be sent");
-    admit(&mut clients, 3, &call, &got, begun)?;
-    settle(&mut clients, &mut pages, begun);
-    expect_eq(&rt, got_one.get() > 0, true, "told of a call at table 1");
-    let late = begun + Duration::from_millis(14_999);
-    settle(&mut clients, &mut pages, late);
-    expect_eq(&rt, got_two.get(), 0, "not told of it");
-    settle(&mut clients, &mut pages, begun + Duration::from_secs(15));
-    expect_eq(&rt, got_two.get() > 0, true, "told after 15 seconds");
-    Ok(())
+    let (got_one, got_two, got_call) = (Cell::new(0), Cell::new(0), Cell::new(0));
+    let one = Socket {
+        unread: one.as_slice(),
+        got: &got_one,
+    };
+    let two = Socket {
+        unread: two.as_slice(),
+        got: &got_two,
+    };
+    let call = Socket {
+        unread: call.as_slice(),
+        got: &got_call,
+    };
+    expect_waits(&rt, alloc, &mut pages, one, two, call)
 }
 
-/// How many bytes are sent at once in answer to a body that is posted to `/wait`, and whether more are once all are released.
-fn sent_to<N: RandomSource + Clock + Abort>(
+/// Whether bytes are sent at once to a client, and whether more are once all are released.
+fn sent_to<N: RandomSource + Clock>(
     rt: &N,
     alloc: Global,
-    body: &str,
+    pages: &mut TablePages<ClubStore, StoppedClock>,
+    socket: Socket<'_>,
 ) -> Result<(bool, bool), Fail> {
-    let mut pages = pages(alloc)?;
-    let bytes = match body {
-        "" => waiting(rt, alloc, &mut pages, "31")?,
-        _ => request(alloc, "POST /wait HTTP/1.1", HOST, LINES, body)?,
-    };
-    let unread = Cell::new(bytes.as_slice());
-    let got = Cell::new(0);
+    let got = socket.got;
     let begun = Instant::now(rt)?;
     let mut clients = Clients::new(alloc, RandomState::new(rt)?, limits(), begun);
-    clients.admit(
-        Socket {
-            unread: &unread,
-            got: &got,
-        },
-        address(1),
-        begun,
-    )?;
-    settle(&mut clients, &mut pages, begun);
+    clients.admit(socket, address(1), begun)?;
+    settle(&mut clients, pages, begun);
     let at_once = got.get();
     clients.release();
-    settle(&mut clients, &mut pages, begun);
+    settle(&mut clients, pages, begun);
     Ok((at_once > 0, got.get() > at_once))
 }
 
 // What is no key, is nobody's, or was told another text is answered at once; who waits, at the end.
 #[test]
 fn waits_end_at_once_or_at_the_end(rt: HostRuntime) -> Result<(), Fail> {
+    let alloc = rt.alloc();
     let rows = [
         ("x\n", true),
         ("", false),
@@ -195,7 +193,17 @@ fn waits_end_at_once_or_at_the_end(rt: HostRuntime) -> Result<(), Fail> {
         ("100\nOK\n", true),
     ];
     for (body, at_once) in rows {
-        let (is_sent, is_sent_later) = sent_to(&rt, rt.alloc(), body)?;
+        let mut pages = pages(alloc)?;
+        let bytes = match body {
+            "" => waiting(&rt, alloc, &mut pages, "31")?,
+            _ => request(alloc, "POST /wait HTTP/1.1", HOST, LINES, body)?,
+        };
+        let got = Cell::new(0);
+        let socket = Socket {
+            unread: bytes.as_slice(),
+            got: &got,
+        };
+        let (is_sent, is_sent_later) = sent_to(&rt, alloc, &mut pages, socket)?;
         expect_eq(&rt, (is_sent, is_sent_later), (at_once, !at_once), body);
     }
     Ok(())
