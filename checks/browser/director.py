@@ -5,7 +5,9 @@
 The players' lines are posted with their keys. What is looked at: that the director's page does what its buttons say, that a
 round ends by its button alone and no sooner than all tables are done, that the page goes on by itself over a server that is
 killed, that the ranking and the results shown in the end are what `rank` and `results` print, that `script` makes the same
-ranking, results and games of all lines that were sent, and that nothing of the director's comes to a player."""
+ranking, results and games of all lines that were sent, and `correct` of the corrections among them, and that nothing of the
+director's comes to a player."""
+import itertools
 import os
 import random
 import re
@@ -31,6 +33,8 @@ PLAYED = range(1, TABLES)
 BOARDS = 3
 # The lines that change a session.
 CHANGES = ["DEAL", "SHUFFLE", "CALL", "CARD", "CLAIM", "AGREE", "REFUSE", "NEXT", "TRICKS", "VOID", "RESTORE", "ADJUST"]
+# The corrections, which `correct` takes in place of `script`.
+CORRECTIONS = ["BACK", "UNDEAL", "ASSIGN"]
 # The elements that the director's page alone has.
 OWN = ["tables", "told", "opened", "ruled", "others", "end-round", "dealing", "ruling", "solving", "ranking", "publishing", "lines", "box"]
 
@@ -95,6 +99,11 @@ class Evening:
             assert word not in text, f"{lines}: {text}"
         return text
 
+    def corrected(self, line):
+        """A correction that is done."""
+        self.posted.append((time.time(), [line]))
+        assert self.server.posted("/correct", line + "\n") == (200, "OK\n"), line
+
     def row_keys(self, round_, table):
         """The keys from North clockwise."""
         ns, ew = self.keys[table], self.keys[guests(round_, table)]
@@ -124,12 +133,12 @@ class Evening:
     def clicked(self):
         """When the director's page sent which lines."""
         sent = self.browser.events_of("Network.requestWillBeSent", self.windows[self.director].session)
-        return [(one["wallTime"], one["request"]["postData"].splitlines()) for one in sent if one["request"]["url"].endswith("/lines")]
+        return [(one["wallTime"], one["request"]["postData"].splitlines()) for one in sent if one["request"]["url"].endswith(("/lines", "/correct"))]
 
     def changes(self):
         """All lines that may have changed the session, in the order in which they were sent."""
         sent = sorted(self.posted + self.clicked(), key=lambda one: one[0])
-        return [line for _, lines in sent for line in lines if line.split()[0] in CHANGES]
+        return [line for _, lines in sent for line in lines if line.split()[0] in CHANGES + CORRECTIONS]
 
 
 class Page:
@@ -254,6 +263,50 @@ def deal(page, work):
     page.told("No board was dealt. Boards " + ", ".join(map(str, range(1, 22))) + ": already dealt.")
 
 
+def is_asked(page, button, box, what, answer):
+    """A button whose question is read and answered."""
+    page.window.click(button)
+    page.window.wait(f"document.querySelector('#{box} p') && document.querySelector('#{box} p').textContent === {what + '?'!r}")
+    page.window.click(f"#{answer}")
+    page.window.wait(f"document.getElementById('{box}').childNodes.length === 0")
+
+
+def undeal(page):
+    """The deal of the last board is taken back, once the question is answered, and the board dealt again."""
+    what = "Take back the deal of board 21"
+    page.number("undeal-board", 21)
+    is_asked(page, "#undeal", "deal-question", what, "no")
+    page.told("")
+    is_asked(page, "#undeal", "deal-question", what, "yes")
+    page.told(f"{what}: done.")
+    page.window.click("#shuffle")
+    page.told("Dealt: 21. Boards " + ", ".join(map(str, range(1, 21))) + ": already dealt.")
+
+
+def take_back(evening, page, board):
+    """A call at table 1 is taken back from its table's part of the page; the board is not undealt once a call was made on it."""
+    keys = evening.row_keys(1, 1)
+    dealer = plays.dealer_of(board)
+    first, second = [f"CALL {keys[(dealer + at) % 4]} {board} {at} {call}" for at, call in enumerate(["1S", "2H"])]
+    assert evening.lines(first, second) == "OK\nOK\n"
+    time.sleep(1)
+    page.window.click("#open-1")
+    page.window.wait("document.getElementById('opened-back') && !document.getElementById('opened-back').disabled")
+    seat = ["North", "East", "South", "West"][(dealer + 1) % 4]
+    call = page.window.value("callName('2H')")
+    what = f"Take back {seat}'s {call} on board {board}"
+    is_asked(page, "#opened-back", "back-question", what, "no")
+    page.told("")
+    is_asked(page, "#opened-back", "back-question", what, "yes")
+    page.told(f"{what}: done.")
+    page.window.click("#opened-close")
+    assert evening.lines(second) == "OK\n", "the call cannot be made again"
+    status, text = evening.server.posted("/correct", f"UNDEAL {evening.director} {board}\nBACK {keys[0]} 1 1 1\n")
+    assert (status, text) == (200, "ERR 53 BoardBegun\nERR 2 NotAllowed\n"), text
+    for _ in range(2):
+        evening.corrected(f"BACK {evening.director} 1 1 1")
+
+
 def killed(evening, page):
     """The server dies; a click while it is away says that no answer came, and the page goes on by itself."""
     page.open("ranking")
@@ -277,6 +330,8 @@ def first_round(evening, page):
         for board in range(first, first + BOARDS):
             time.sleep(1.2)
             assert not page.may_end(), f"the round may be ended while table {table} has board {board}"
+            if (table, board) == (1, first):
+                take_back(evening, page, board)
             if (table, board) == (3, first + 1):
                 page.other_board((1, 3, 1), "7 to 9")
                 page.rule("rule-void", (1, 3, board), "Take the play out")
@@ -285,6 +340,10 @@ def first_round(evening, page):
             elif (table, board) == (5, first):
                 page.choose("rule-ew", 2)
                 page.rule("rule-average", (1, 5, board), "Award 60 and 40 per cent")
+            elif (table, board) == (6, first):
+                page.choose("assign-bid", 18)
+                page.number("assign-tricks", 11)
+                page.rule("rule-assign", (1, 6, board), "Assign a score")
             else:
                 evening.play(1, table, board, 8 if (table, board) == (2, first) else None)
         if table == 2:
@@ -324,9 +383,9 @@ def opens(evening, page):
     page.window.click("#opened-close")
     page.window.wait("document.getElementById('opened').childNodes.length === 0")
     page.open("ruling")
-    page.window.wait("document.getElementById('ruled').querySelectorAll('button').length === 2")
+    page.window.wait("document.getElementById('ruled').querySelectorAll('button').length === 3")
     ruled = page.window.value(text_of("ruled"))
-    assert "table 3, board" in ruled and "taken out" in ruled and "60 and 40 per cent" in ruled, ruled
+    assert "assigned" in ruled and "table 3, board" in ruled and "taken out" in ruled and "60 and 40 per cent" in ruled, ruled
 
 
 def boards_unseen(evening):
@@ -387,6 +446,7 @@ def are_ruled(text):
     assert ["1", "3", "3", "9", "Void"] in rows, "no play is void"
     assert any(row[:6] == ["1", "5", "5", "11", "Adjusted", "60/40%"] for row in rows), "no averages are awarded"
     assert any(row[:4] == ["1", "2", "2", "8"] and row[-4:-3] == ["11"] for row in rows), "the tricks are not set"
+    assert any(row[:6] == ["1", "6", "6", "12", "4S*", "N"] and {"11", "450"} <= set(row[6:]) for row in rows), "no score is assigned"
 
 
 def told_by(disk, *words):
@@ -415,15 +475,16 @@ def by_script(evening, work):
     """A disk over which `script` answered all lines that were sent, in runs of fewer bytes than one takes."""
     disk = os.path.join(work, "script.disk")
     subprocess.run([PROGRAM, "format", disk, evening.config], check=True, stdout=subprocess.DEVNULL)
-    changes = evening.changes()
-    for first in range(0, len(changes), 400):
-        text = "".join(line + "\n" for line in changes[first:first + 400])
-        subprocess.run([PROGRAM, "script", disk], input=text.encode(), check=True, stdout=subprocess.DEVNULL)
+    for word, lines in itertools.groupby(evening.changes(), lambda line: "correct" if line.split()[0] in CORRECTIONS else "script"):
+        changes = list(lines)
+        for first in range(0, len(changes), 400):
+            text = "".join(line + "\n" for line in changes[first:first + 400])
+            subprocess.run([PROGRAM, word, disk], input=text.encode(), check=True, stdout=subprocess.DEVNULL)
     return disk
 
 
 def main():
-    with tempfile.TemporaryDirectory() as work:
+    with tempfile.TemporaryDirectory(ignore_cleanup_errors=True) as work:
         evening = Evening(work)
         try:
             page = Page(evening)
@@ -431,6 +492,7 @@ def main():
             for key in players:
                 evening.enter(key)
             deal(page, work)
+            undeal(page)
             pictures(page.window, PICTURES, "dealt")
             is_refused(evening, False)
             first_round(evening, page)

@@ -243,7 +243,7 @@ def main():
     lines = lines_of("two_tables_lines.txt")
     hands = next(hands_of(line.split(" ", 3)[3]) for line in lines if line.startswith("DEAL"))
     declarers = ["N", "N"]
-    with tempfile.TemporaryDirectory() as work:
+    with tempfile.TemporaryDirectory(ignore_cleanup_errors=True) as work:
         disk, other = os.path.join(work, "web.disk"), os.path.join(work, "script.disk")
         for path in [disk, other]:
             program("format", path, os.path.join(EXAMPLES, "rows.txt"))

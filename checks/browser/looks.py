@@ -87,7 +87,7 @@ def large_letters(window, name):
 
 
 def main():
-    with tempfile.TemporaryDirectory() as work:
+    with tempfile.TemporaryDirectory(ignore_cleanup_errors=True) as work:
         disk, config = os.path.join(work, "looks.disk"), os.path.join(work, "looks.txt")
         with open(os.path.join(EXAMPLES, "evening.txt"), encoding="ascii") as file:
             text = re.sub("|".join(map(re.escape, NAMES)), lambda name: NAMES[name.group()], file.read())

@@ -60,6 +60,6 @@ def results_picture(work):
     browser.close()
 
 
-with tempfile.TemporaryDirectory() as folder:
+with tempfile.TemporaryDirectory(ignore_cleanup_errors=True) as folder:
     table_picture(folder)
     results_picture(folder)
