@@ -6,7 +6,7 @@
 #     checks/salliere.sh [SEED]     (of the deals and plays; 1 when left out)
 #
 # A line for each evening. The status is 1 where anything differs without a reason. salliere gets its two files from the
-# results in Portable Bridge Notation, and scores the contracts itself.
+# results in Portable Bridge Notation, and scores the contracts itself; a score that is assigned it gets as a plain result.
 # - It knows no fields and no pair that sits out: it ranks all pairs in one list, from which each field is taken in its order.
 # - It writes points of a board to two decimals, totals and percentages to one, so that is how far percentages are compared;
 #   whole points are compared exactly, and so are IMPs: on a board its are the mean over the other scores, ours their sum.

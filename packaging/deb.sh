@@ -35,7 +35,7 @@ usage zsh usr/share/zsh/vendor-completions/_bridge_club
 usage fish usr/share/fish/vendor_completions.d/bridge_club.fish
 install -D -m 644 "$here/bridge-club.service" "$tree/lib/systemd/system/bridge-club.service"
 install -D -m 644 "$here/bridge-club.default" "$tree/etc/default/bridge-club"
-for document in README.md docs/CLUB.md docs/NETWORK.md docs/FORMATS.md docs/RULES.md docs/PROMISES.md; do
+for document in README.md docs/CLUB.md docs/NETWORK.md docs/FORMATS.md docs/DISK.md docs/RULES.md docs/PROMISES.md; do
     install -D -m 644 "$top/$document" "$docs/$(basename "$document")"
 done
 for example in evening.txt mitchell.txt howell_3_tables.txt howell_4_tables.txt howell_5_tables.txt howell_6_tables.txt; do

@@ -21,7 +21,7 @@ function readResult(words) {
 
 // What each line says of a board, by its first word.
 const BOARD_LINES = {
-  NAMES: (board, w) => { board.names = { N: w[0], E: w[1], S: w[2], W: w[3] }; },
+  NAMES: (board, w) => { board.own = { N: w[0], E: w[1], S: w[2], W: w[3] }; board.names = shownAt(board.own); },
   DEAL: (board, w) => { board.deal = readDeal(w); },
   CALLS: (board, w) => { board.calls = w; },
   CARDS: (board, w) => { board.cards = w[0] === "-" ? [] : readPlay(w, board.calls); },
@@ -91,7 +91,7 @@ function viewOf(board, seat) {
 function ownSeat(board, name) {
   if (board.side === "-") return "S";
   const [first, second] = board.side === "NS" ? ["N", "S"] : ["E", "W"];
-  return board.names[second] === name ? second : first;
+  return board.own[second] === name ? second : first;
 }
 
 // ---- results in words
@@ -112,7 +112,7 @@ function resultNodes(result, seat) {
 const isScored = (result) => result.score !== undefined;
 
 // What stands for the score of one side, or nothing.
-const scoreText = (board) => (isScored(board.result) ? signed(ownScore(board)) : board.result.average ? board.result.average[board.side] + " %" : "");
+const scoreText = (board) => (isScored(board.result) ? signed(ownScore(board)) : board.result.average ? TEXTS.percent(board.result.average[board.side]) : "");
 
 // The worth so far, of matchpoints in per cent.
 function worthText(worth) {
@@ -132,7 +132,7 @@ function bandNode(board, seat) {
     " " + TEXTS.by(lead.seat, lead.seat === seat));
   return make("section", { id: "band", className: "banner", aria_label: TEXTS.result },
     make("p", { className: "large" }, ...words), make("p", { className: "large" }, scoreText(board)),
-    make("p", null, ...below), make("p", null, board.worth ? TEXTS.soFar(worthText(board.worth)) : ""));
+    make("p", null, ...below), make("p", null, worthText(board.worth) && TEXTS.soFar(worthText(board.worth))));
 }
 
 // ---- hands, auction and play
@@ -233,12 +233,19 @@ function tricksTable(board, step) {
   return make("table", { id: "tricks", className: "list", aria_label: TEXTS.play }, listHeads(TEXTS.trickHeads, 0), make("tbody", null, ...rows));
 }
 
+// A claim: players are told of one that was agreed, the director of one that stands too, also under a ruling.
+function claimText({ claim: { seat, tricks }, result, side }) {
+  const isPlayed = isScored(result) && !result.assigned;
+  const words = result.none ? TEXTS.claimWaits : side !== "-" || isPlayed ? TEXTS.claimed : TEXTS.hasClaimed;
+  return words(SEAT_NAMES[seat], tricks);
+}
+
 function playedNode(board, own, step) {
   const node = make("section",
     { className: "panel part play", aria_label: TEXTS.auctionAndPlay }, make("h2", null, TEXTS.auction),
     auctionTable({ names: board.names }, viewOf(board, own)));
   if (board.cards.length) node.append(make("h2", null, TEXTS.play), tricksTable(board, step));
-  if (board.claim) node.append(make("p", null, TEXTS.claimed(SEAT_NAMES[board.claim.seat], board.claim.tricks)));
+  if (board.claim) node.append(make("p", null, claimText(board)));
   return node;
 }
 
@@ -277,7 +284,7 @@ function scoresNode(board) {
     numberCell(tricksText(one.result)), numberCell(isScored(one.result) ? signed(one.result.score) : "")));
   node.append(make("h2", null, TEXTS.tablesSoFar(lines.length)),
     make("table", { className: "list", aria_label: TEXTS.scores }, listHeads(TEXTS.scoreHeads, 2), make("tbody", null, ...rows)));
-  if (board.worth) node.append(make("p", { className: "second" }, TEXTS.ours(board.worth)));
+  if (worthText(board.worth)) node.append(make("p", { className: "second" }, TEXTS.ours(board.worth)));
   return node;
 }
 
@@ -342,7 +349,9 @@ function worthOfAll(boards) {
   if (worths.length === 0) return null;
   const sum = (i) => worths.reduce((all, worth) => all + (worth[i] || 0), 0);
   if (worths[0].length === 1) return { points: signed(Number(sum(0).toFixed(1))), of: null, percent: null };
-  return { points: sum(0).toFixed(1), of: sum(1), percent: sum(1) ? (100 * sum(0) / sum(1)).toFixed(1) : null };
+  // Nobody else has played any of these boards.
+  if (sum(1) === 0) return null;
+  return { points: sum(0).toFixed(1), of: sum(1), percent: (100 * sum(0) / sum(1)).toFixed(1) };
 }
 
 function scoreCardNodes(place) {
@@ -390,7 +399,8 @@ async function loadBoards(asked) {
   told = { key: asked, at: Date.now(), ...readBoards(reply) };
   const same = (one, other) => one.number === other.number && one.round === other.round;
   const isRuled = (board) => old.some((one) => same(one, board) && JSON.stringify(one.result) !== JSON.stringify(board.result));
-  for (const board of told.boards.filter(isRuled)) say("notice", TEXTS.ruledOn(board.number));
+  const ruled = told.boards.filter(isRuled).map((board) => board.number);
+  if (ruled.length) sayPassing(TEXTS.ruledOn(ruled), playIs.split(" ").slice(0, 2).join(" "));
 }
 
 // Looks at the boards where one was over since the page looked last, which is shown then; and else now and then.

@@ -6,7 +6,9 @@
 const CLOCK_SAID = [300, 60];
 const SECOND = 1000;
 
-const nothingStands = () => ({ notice: "", clock: null, calls: [], said: "", now: 0, at: 0 });
+const nothingStands = () => ({ notice: "", clock: null, calls: [], said: "", now: 0, at: 0, ends: null, disk: "" });
+// Minutes before the end of the pages from which on they say so.
+const ENDS_SOON = 10;
 let desk = nothingStands();
 let clockTimer = 0;
 // What is on the page of it; and the reason that is chosen while the director is being called, or null.
@@ -17,7 +19,12 @@ let reason = null;
 const wordsFrom = (line, count) => line.split(" ").slice(count).join(" ");
 
 const DESK_LINES = {
-  NOW: (found, line) => { found.now = Number(wordsFrom(line, 1)); },
+  NOW: (found, line) => {
+    const [, now, ends] = line.split(" ");
+    found.now = Number(now);
+    if (ends !== undefined) found.ends = Number(ends) - found.now;
+  },
+  DISK: (found, line) => { found.disk = wordsFrom(line, 1); },
   NOTICE: (found, line) => { found.notice = wordsFrom(line, 1); },
   CLOCK: (found, line) => { found.clock = Number(wordsFrom(line, 1)) - found.now; },
   CALL: (found, line) => {
@@ -38,6 +45,9 @@ function readDesk(reply) {
 }
 
 const isDirector = () => role.isDirector;
+
+// A text without what the server takes in none: control characters, and those that turn the direction of others.
+const plainText = (text) => text.replace(/[\p{Cc}\u061c\u200e\u200f\u2028-\u202e\u2066-\u2069]/gu, " ").trim();
 
 // Shows what an answer says that stands.
 function takeDesk(reply) {
@@ -84,7 +94,7 @@ function showClock() {
 
 // ---- what stands above the page
 
-const whoCalls = ({ pair, name }) => TEXTS.ofPair(name, pair);
+const whoCalls = ({ pair, name }) => TEXTS.ofPair(shownName(pair, name), pair);
 
 function callNodesOf(call) {
   if (!isDirector()) return [make("p", null, make("b", null, TEXTS.directorCalled), " ", call.text ? call.text + ". " : "", TEXTS.waitForDirector)];
@@ -102,12 +112,14 @@ function callNodesOf(call) {
 function showDesk() {
   showClock();
   at("bell").hidden = key === null || isDirector();
-  const made = JSON.stringify([desk.notice, desk.calls, desk.said, isDirector()]);
+  const minutes = desk.ends === null ? ENDS_SOON + 1 : Math.max(1, Math.ceil(desk.ends / 60));
+  const made = JSON.stringify([desk.notice, desk.calls, desk.said, isDirector(), minutes <= ENDS_SOON ? minutes : 0]);
   if (made === deskShown) return;
   deskShown = made;
   const focus = document.activeElement ? document.activeElement.id : "";
   const notice = desk.notice ? [make("p", null, make("b", null, TEXTS.noticeOf), " ", desk.notice)] : [];
-  at("desk").replaceChildren(...notice, ...desk.calls.flatMap(callNodesOf));
+  const end = minutes <= ENDS_SOON ? [make("p", null, TEXTS.pagesEnd(minutes, isDirector()))] : [];
+  at("desk").replaceChildren(...end, ...notice, ...desk.calls.flatMap(callNodesOf));
   if (focus && at(focus)) at(focus).focus();
   drawn();
 }
@@ -144,7 +156,7 @@ at("calling").onkeydown = holdTab;
 
 function tellingNodes() {
   const field = make("input", { id: "tell-text", type: "text", maxLength: 200 });
-  const telling = () => { const words = field.value.trim(); if (words) askDesk("NOTICE " + words); };
+  const telling = () => { const words = plainText(field.value); if (words) askDesk("NOTICE " + words); };
   const start = () => { if (isFilledIn("telling")) askDesk("CLOCK " + numberAt("clock-minutes")); };
   const more = () => { if (desk.clock !== null) askDesk("CLOCK " + (Math.ceil(secondsLeft() / 60) + 2)); };
   return [make("label", { for: "tell-text" }, TEXTS.tellText), make("div", { className: "row" }, field, button(TEXTS.tellAll, "", "tell-all", true, telling),

@@ -9,6 +9,9 @@ const MINUTE = 60000;
 // Milliseconds: how long standings that are in sight last.
 const STANDINGS_LAST = 30000;
 let standingsAt = 0;
+// The parts of the page, one of which is in sight.
+const TABS = ["tables", "boards", "rulings", "standings", "evening"];
+let tab = "tables";
 
 // When each table's line was first seen as it is.
 const since = new Map();
@@ -69,6 +72,32 @@ async function doOne(line, what, isCorrection = false) {
   look();
 }
 
+// ---- the parts of the page
+
+// Puts a part of the page in sight. Where there is room the standings stand beside the tables too.
+function showTab(name) {
+  tab = name;
+  document.body.className = "director on-" + name;
+  for (const one of TABS) {
+    at("on-" + one).hidden = one !== name;
+    at("tab-" + one).setAttribute("aria-pressed", String(one === name));
+  }
+  at(name === "tables" ? "aside" : "on-standings").append(at("ranking"));
+}
+
+function openTab(name) {
+  tell("");
+  showTab(name);
+  look();
+}
+
+// The buttons of the parts; that of the tables says how many of them call.
+function tabNodes() {
+  return TABS.map((name) => make("button", { type: "button", id: "tab-" + name, onclick: () => openTab(name) }, TEXTS.tabs[name]));
+}
+
+const seesStandings = () => tab === "standings" || (tab === "tables" && typeof matchMedia === "function" && matchMedia("(min-width: 60em)").matches);
+
 // ---- tables
 
 function readTables(reply) {
@@ -116,6 +145,14 @@ function noteSets(state) {
   }
 }
 
+// How many of a table's boards are done, as marks beside the words.
+function marksOf(table) {
+  const done = table.idle ? (table.idle === "NotCurrent" ? boardsOfSet : 0) : placeInSet(Number(table.board)) - 1;
+  const marks = Array.from({ length: table.idle === "SitsOut" ? 0 : boardsOfSet },
+    (_none, i) => make("i", { className: i < done ? "all" : i === done && !table.idle ? "half" : "" }));
+  return make("span", { className: "marks", aria_hidden: "true" }, ...marks);
+}
+
 const pairText = (pair) => (pair === "0" ? "\u2013" : pairNames.has(Number(pair)) ? pair + " " + pairNames.get(Number(pair)) : pair);
 
 function tablesTable(state) {
@@ -125,9 +162,9 @@ function tablesTable(state) {
     const stands = standsAs(table, Number(minutes));
     const open = make("button", { type: "button", id: "open-" + table.number, aria_label: TEXTS.openTable(table.number), onclick: () => openTable(table) }, TEXTS.open);
     return make("tr", { className: stands },
-      ...[table.number, pairText(table.ns), pairText(table.ew),
-        table.idle ? "" : table.board, progressText(table), table.idle ? "" : TEXTS.stillFor(Number(minutes)),
-        TEXTS.stands[stands]].map((word) => make("td", null, word)),
+      ...[[table.number], [pairText(table.ns)], [pairText(table.ew)],
+        [table.idle ? "" : table.board], [progressText(table)], [marksOf(table), table.idle ? "" : TEXTS.stillFor(Number(minutes))],
+        [TEXTS.stands[stands]]].map((words) => make("td", null, ...words)),
       make("td", null, ...(table.idle === "SitsOut" ? [] : [open])));
   });
   return make("table", { id: "tables", className: "tables", hidden: rows.length === 0, aria_label: TEXTS.tables },
@@ -156,6 +193,8 @@ function showTables(state) {
   lastTables = state;
   noteSets(state);
   say("status", roundText(state));
+  say("below", state.round > state.rounds ? "" : TEXTS.roundOf(state.round, state.rounds));
+  say("tab-tables", TEXTS.tabs.tables + (desk.calls.length ? " (" + desk.calls.length + ")" : ""));
   const old = at("tables");
   const tables = tablesTable(state);
   // What stands in the focus stays there.
@@ -183,7 +222,7 @@ const askPlay = (words) => ask("/boards", key + " " + words.join(" "));
 async function openPlay(words) {
   tell("");
   opened = { words, text: "" };
-  at("ruling").open = true;
+  showTab("rulings");
   await showOpened();
   if (at("opened").scrollIntoView) at("opened").scrollIntoView({ block: "nearest" });
 }
@@ -355,9 +394,8 @@ function playName(prefix) {
 }
 
 function playFields(prefix) {
-  return make("div", { className: "row" },
-    numberField(prefix + "-round", TEXTS.round, 1, MOST_TABLES, 1), numberField(prefix + "-table", TEXTS.tableField, 1, MOST_TABLES, 1),
-    numberField(prefix + "-board", TEXTS.boardField, 1, MOST_BOARDS, 1));
+  return [numberField(prefix + "-round", TEXTS.round, 1, MOST_TABLES, 1), numberField(prefix + "-table", TEXTS.tableField, 1, MOST_TABLES, 1),
+    numberField(prefix + "-board", TEXTS.boardField, 1, MOST_BOARDS, 1)];
 }
 
 // ---- rulings
@@ -373,7 +411,7 @@ function beforeAndAfter(board, after) {
 
 // Rules on the play of the fields: a keyword, what follows the play, what the result becomes, and whether it is a correction.
 async function rule(what, word, rest, after, isCorrection = false) {
-  if (!isFilledIn("ruling")) return;
+  if (!isFilledIn("on-rulings")) return;
   const words = playWords("rule");
   if (words === null) return;
   const name = what + ", " + playName("rule");
@@ -400,18 +438,30 @@ function rulingNodes() {
     const score = TEXTS.assignedAs(callName(contract), SEAT_NAMES[declarer], TEXTS.made(tricks - 6 - Number(contract[0])));
     rule(TEXTS.assignScore, "ASSIGN", [contract, declarer, tricks].join(" "), () => score, true);
   };
-  const show = () => { if (isFilledIn("ruling")) { const words = playWords("rule"); if (words) openPlay(words); } };
-  return [playFields("rule"), make("div", { className: "row" }, button(TEXTS.openPlay, "", "rule-open", true, show)),
-    make("div", { className: "row" },
-      numberField("rule-tricks", TEXTS.declarersTricks, 0, 13, 7), button(TEXTS.setTricks, "", "rule-set", true, setTricks)),
-    make("div", { className: "row" }, choice("assign-bid", TEXTS.contract, ALL_BIDS.map((bid) => [bid, callName(bid)])),
-      choice("assign-doubled", TEXTS.double, TEXTS.doublings), choice("assign-declarer", TEXTS.declarer, SEATS.map((seat) => [seat, SEAT_NAMES[seat]])),
-      numberField("assign-tricks", TEXTS.declarersTricks, 0, 13, 7), button(TEXTS.assignScore, "", "rule-assign", true, assign)),
-    make("div", { className: "row" }, choice("rule-ns", TEXTS.northSouthPer, TEXTS.per), choice("rule-ew", TEXTS.eastWestPer, TEXTS.per),
-      button(TEXTS.awardAverages, "", "rule-average", true, average)),
-    make("div", { className: "row" }, button(TEXTS.takeOut, "", "rule-void", true, () => rule(TEXTS.takeOut, "VOID", "", () => TEXTS.takenOut)),
-      button(TEXTS.takeBackButton, "", "rule-restore", true, () => rule(TEXTS.takeBack, "RESTORE", "", () => TEXTS.asPlayed))),
-    make("div", { id: "rule-question" }), make("h3", null, TEXTS.rulingsStand), make("ul", { id: "ruled" })];
+  const show = () => { if (isFilledIn("on-rulings")) { const words = playWords("rule"); if (words) openPlay(words); } };
+  const row = (...nodes) => make("div", { className: "row" }, ...nodes);
+  return [
+    make("section", { id: "choosing", className: "panel", aria_label: TEXTS.openPlay }, row(...playFields("rule"), button(TEXTS.openPlay, "", "rule-open", true, show))),
+    make("section", { id: "opened", aria_label: TEXTS.theBoard }),
+    section("ruling", TEXTS.rulings, make("div", { id: "rule-question" }),
+      group(TEXTS.setTheTricks, row(numberField("rule-tricks", TEXTS.declarersTricks, 0, 13, 7), button(TEXTS.setTricks, "", "rule-set", true, setTricks))),
+      group(TEXTS.assignScore, row(choice("assign-bid", TEXTS.contract, ALL_BIDS.map((bid) => [bid, callName(bid)])),
+        choice("assign-doubled", TEXTS.double, TEXTS.doublings), choice("assign-declarer", TEXTS.declarerField, SEATS.map((seat) => [seat, SEAT_NAMES[seat]])),
+        numberField("assign-tricks", TEXTS.declarersTricks, 0, 13, 7), button(TEXTS.assignScore, "", "rule-assign", true, assign))),
+      group(TEXTS.averages, row(choice("rule-ns", TEXTS.northSouthPer, TEXTS.per), choice("rule-ew", TEXTS.eastWestPer, TEXTS.per),
+        button(TEXTS.awardAverages, "", "rule-average", true, average))),
+      group(TEXTS.outAndBack, row(button(TEXTS.takeOut, "", "rule-void", true, () => rule(TEXTS.takeOut, "VOID", "", () => TEXTS.takenOut)),
+        button(TEXTS.takeBackButton, "", "rule-restore", true, () => rule(TEXTS.takeBack, "RESTORE", "", () => TEXTS.asPlayed)))),
+      group(TEXTS.solving, row(numberField("solve-tricks", TEXTS.afterTricks, 7, 13, 7), button(TEXTS.solve, "", "solve", true, solve)),
+        make("p", { id: "solved", role: "status" }))),
+    section("standing", TEXTS.rulingsStand, make("ul", { id: "ruled" }))];
+}
+
+// Whether players see what other tables did, and how to turn that; before it is told the same place is taken, so that nothing moves.
+function othersNodes(open) {
+  const turn = make("button", { type: "button", id: "others-turn", disabled: open === null, onclick: () => turnOthers(open ? "SHUT" : "OPEN") },
+    open ? TEXTS.othersShut : TEXTS.othersOpen);
+  return [make("p", null, TEXTS.othersTitle + " ", make("b", null, open === null ? "\u2026" : TEXTS.othersAre[open])), turn];
 }
 
 // The rulings that stand, and whether players see what other tables did.
@@ -427,8 +477,7 @@ async function showRulings() {
   });
   at("ruled").replaceChildren(...(ruled.length ? ruled : [make("li", null, TEXTS.noRulings)]));
   const open = lines.some((words) => words[0] === "OTHERS" && words[1] === "OPEN");
-  at("others").replaceChildren(make("p", null, TEXTS.othersTitle + " ", make("b", null, TEXTS.othersAre[open])),
-    make("button", { type: "button", id: "others-turn", onclick: () => turnOthers(open ? "SHUT" : "OPEN") }, open ? TEXTS.othersShut : TEXTS.othersOpen));
+  at("others").replaceChildren(...othersNodes(open));
 }
 
 async function turnOthers(word) {
@@ -440,8 +489,8 @@ async function turnOthers(word) {
 // ---- endings, rankings, results, lines
 
 async function solve() {
-  if (!isFilledIn("solving")) return;
-  const play = playWords("solve");
+  if (!isFilledIn("on-rulings")) return;
+  const play = playWords("rule");
   const reply = play === null ? null : await order(["SOLVE " + play.join(" ") + " " + 4 * numberAt("solve-tricks")]);
   if (reply === null) return;
   const words = reply.split("\n")[0].split(" ");
@@ -460,20 +509,25 @@ async function showRankings() {
   const text = await ask("/results", asked);
   if (key !== asked) return;
   if (text === null || replies.includes(null)) return tell(TEXTS.noAnswer);
-  pairNames = namesIn(text);
+  pairNames = shownPairs(namesIn(text));
   const time = make("p", { className: "small" }, TEXTS.asOf(new Date().toLocaleTimeString()));
   if (at("rankings")) at("rankings").replaceChildren(time,
-    ...replies.flatMap((reply, i) => (refusal(reply) ? [] : rankingNode(i + 1, reply, 0, pairNames))));
+    ...rankings(replies, 0, pairNames).flat());
 }
 
 async function showResults() {
   const asked = key;
   const text = await ask("/results", asked);
-  if (key === asked) say("results", text === null ? TEXTS.noAnswer : text);
+  if (key === asked) say("results", text === null ? TEXTS.noAnswer : shownResults(text));
 }
 
 function section(id, title, ...nodes) {
-  return make("details", { id }, make("summary", null, title), ...nodes);
+  return make("section", { id, className: "panel", aria_label: title }, make("h2", null, title), ...nodes);
+}
+
+// A part of a section, under a heading of its own.
+function group(title, ...nodes) {
+  return make("div", { className: "subject" }, make("h3", null, title), ...nodes);
 }
 
 function linesNodes() {
@@ -495,59 +549,61 @@ function undeal() {
 
 function dealNodes() {
   const file = make("input", { id: "deal-file", type: "file", onchange: async () => { at("deal-text").value = await file.files[0].text(); } });
+  const main = (node) => { node.className = "send"; return node; };
   return [
-    make("div", { className: "row" },
+    make("p", { id: "deal-of", className: "second" }),
+    group(TEXTS.shuffleHere, make("div", { className: "row" },
       numberField("shuffle-first", TEXTS.shuffleFrom, 1, MOST_BOARDS, 1), numberField("shuffle-last", TEXTS.to, 1, MOST_BOARDS, ""),
-      button(TEXTS.shuffle, "", "shuffle", true, shuffleBoards)),
-    make("div", { className: "row" }, make("label", { for: "deal-file" }, TEXTS.dealFile), file),
-    make("label", { for: "deal-text" }, TEXTS.dealText),
-    make("textarea", { id: "deal-text", spellcheck: false }),
-    button(TEXTS.deal, "", "deal", true, () => dealText(at("deal-text").value)), make("div", { id: "deal-question" }),
-    make("div", { className: "row" }, numberField("undeal-board", TEXTS.boardField, 1, MOST_BOARDS, 1), button(TEXTS.undeal, "", "undeal", true, undeal))];
+      main(button(TEXTS.shuffle, "", "shuffle", true, shuffleBoards))), make("p", { className: "second" }, TEXTS.seedSecret)),
+    group(TEXTS.dealFile, make("label", { for: "deal-file" }, TEXTS.chooseFile), file,
+      make("label", { for: "deal-text" }, TEXTS.dealText), make("textarea", { id: "deal-text", spellcheck: false }),
+      button(TEXTS.deal, "", "deal", true, () => dealText(at("deal-text").value))), make("div", { id: "deal-question" }),
+    group(TEXTS.dealtWrongly, make("div", { className: "row" }, numberField("undeal-board", TEXTS.boardField, 1, MOST_BOARDS, 1),
+      button(TEXTS.undeal, "", "undeal", true, undeal)), make("p", { className: "second" }, TEXTS.undealHelp))];
 }
 
 function directorNodes() {
+  const on = (name, ...nodes) => make("div", { id: "on-" + name, hidden: name !== tab }, ...nodes);
   return [
     make("p", { id: "told", role: "status" }),
-    make("section", { id: "opened", aria_label: TEXTS.theBoard }),
-    make("table", { id: "tables" }),
-    make("div", { className: "row" }, button(TEXTS.endTheRound, "", "end-round", false, () => {})),
-    make("div", { id: "end-question" }),
-    section("dealing", TEXTS.dealBoards, ...dealNodes()),
-    section("ruling", TEXTS.rulings, ...rulingNodes()),
-    section("solving", TEXTS.solving, playFields("solve"),
-      make("div", { className: "row" }, numberField("solve-tricks", TEXTS.afterTricks, 7, 13, 7), button(TEXTS.solve, "", "solve", true, solve)),
-      make("p", { id: "solved", role: "status" })),
-    section("telling", TEXTS.telling, ...tellingNodes()),
-    section("ranking", TEXTS.standings, button(TEXTS.showRanking, "", "rank", true, askRankings), make("div", { id: "rankings" })),
-    section("publishing", TEXTS.results, make("div", { id: "others" }),
+    on("tables", make("table", { id: "tables" }), make("div", { id: "aside" },
+      make("section", { id: "round", className: "panel", aria_label: TEXTS.round }, button(TEXTS.endTheRound, "", "end-round", false, () => {}),
+        make("div", { id: "end-question" })),
+      section("telling", TEXTS.telling, ...tellingNodes()))),
+    on("boards", section("dealing", TEXTS.dealBoards, ...dealNodes())),
+    on("rulings", ...rulingNodes()),
+    on("standings", section("ranking", TEXTS.standings, button(TEXTS.showRanking, "", "rank", true, askRankings), make("div", { id: "rankings" }))),
+    on("evening", make("p", { id: "serving", className: "second" }), section("publishing", TEXTS.results, make("div", { id: "others" }, ...othersNodes(null)),
       make("div", { className: "row" },
         button(TEXTS.showResults, "", "show-results", true, showResults), button(TEXTS.print, "", "print", true, () => window.print())),
       make("pre", { id: "results" })),
-    section("lines", TEXTS.lines, ...linesNodes())];
+    section("lines", TEXTS.lines, ...linesNodes()))];
 }
 
 // Shows the director's page, built once, with its tables as they are now.
 async function showDirector(reply, asked, mine) {
   at("title").textContent = TEXTS.director;
-  at("below").textContent = "";
   at("chip").hidden = true;
-  document.body.className = "director";
   const state = readTables(reply);
   if (!at("tables")) {
     shown = "director";
     opened = null;
     showRulings.shown = "";
+    tab = "tables";
     at("main").replaceChildren(...directorNodes());
+    at("tabs").replaceChildren(...tabNodes());
+    at("tabs").hidden = false;
+    showTab("tables");
     showTables(state);
     at("shuffle-last").value = state.all;
+    say("deal-of", TEXTS.boardsInSets(state.all, state.boards));
     standingsAt = 0;
-    at("ranking").open = typeof matchMedia === "function" && matchMedia("(min-width: 80em)").matches;
-    pairNames = namesIn((await ask("/results", asked)) || "");
+    pairNames = shownPairs(namesIn((await ask("/results", asked)) || ""));
   }
   if (mine !== turn) return;
   showTables(state);
+  if (desk.ends !== null) say("serving", TEXTS.serving(desk.disk, new Date(desk.at + SECOND * desk.ends).toLocaleTimeString([], { hour: "2-digit", minute: "2-digit" })));
   await showOpened();
-  if (at("ruling").open || at("publishing").open) await showRulings();
-  if (at("ranking").open && Date.now() - standingsAt > STANDINGS_LAST) await showRankings();
+  if (tab === "rulings" || tab === "evening") await showRulings();
+  if (seesStandings() && Date.now() - standingsAt > STANDINGS_LAST) await showRankings();
 }

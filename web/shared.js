@@ -77,6 +77,14 @@ function refusal(reply) {
 
 // ---- what is shown
 
+// Whether keys were pressed last; and the call or card that was chosen last. Where the focus was lost while nothing could be
+// chosen, keys find it there again.
+let byKeys = false;
+let held = "";
+window.addEventListener("keydown", () => { byKeys = true; });
+window.addEventListener("pointerdown", () => { byKeys = false; });
+const isLost = () => document.activeElement === null || document.activeElement === document.body;
+
 // Shows these nodes on a page of that shape, where what they are made of is new; the focus and what is open stay, but where
 // the focus has a reason to move.
 function show(made, status, shape, nodes, moveFocus = () => {}) {
@@ -86,7 +94,7 @@ function show(made, status, shape, nodes, moveFocus = () => {}) {
   if (mark === shown) return;
   shown = mark;
   const main = at("main");
-  const focus = document.activeElement && main.contains(document.activeElement) ? document.activeElement.id : "";
+  const focus = isLost() ? (byKeys ? held : "") : main.contains(document.activeElement) ? document.activeElement.id : "";
   const open = [...main.querySelectorAll("details[open]")].map((node) => node.id);
   document.body.className = shape;
   main.replaceChildren(...nodes());
@@ -105,18 +113,89 @@ const rankingLines = (reply) => reply.split("\n").filter((line) => /^\d/.test(li
 // The names of each pair, as the results have them.
 const namesIn = (text) => new Map([...text.matchAll(/^Pair (\d+): (.*)$/gm)].map((found) => [Number(found[1]), found[2]]));
 
-// A field's ranking, with the names of the pairs where they are known.
-function rankingNode(field, reply, own, names = new Map()) {
+// ---- the names of the list that the program was given, in place of the configuration's
+
+// By pair, the names that the configuration has and those that are shown; none where no list was given.
+let people = new Map();
+let peopleFor = null;
+// A name that may run from the right to the left is kept apart from what stands beside it.
+const apart = (name) => (/[^\u0000-\u058f]/.test(name) ? "\u2068" + name + "\u2069" : name);
+
+// What is told of the names: a line a pair, with tabs between its number, its two names in the configuration, and those of the list.
+function readPeople(reply) {
+  const lines = reply.split("\n").map((line) => line.split("\t")).filter((words) => words.length === 5);
+  return new Map(lines.map((words) => [Number(words[0]), { own: words.slice(1, 3), shown: words.slice(3).map(apart) }]));
+}
+
+// Asks for them once; until there is an answer the configuration's are shown.
+async function askNames(asked) {
+  if (peopleFor === asked) return;
+  const reply = await ask("/names", asked);
+  if (reply === null || key !== asked) return;
+  people = readPeople(reply);
+  peopleFor = asked;
+}
+
+// The name that is shown for a player of that pair; where both have one name in the configuration, that.
+function shownName(pair, name) {
+  const found = people.get(Number(pair));
+  const [first, second] = found ? found.own.map((one) => one === name) : [false, false];
+  return first === second ? name : found.shown[first ? 0 : 1];
+}
+
+// The names that are shown for those who sit so; the first of a pair sits North or East. Where several pairs have the same names in
+// the configuration, those.
+function shownAt(names) {
+  const shown = { ...names };
+  for (const [first, second] of [["N", "S"], ["E", "W"]]) {
+    const found = [...people.values()].filter(({ own }) => own[0] === names[first] && own[1] === names[second]);
+    if (found.length === 1) [shown[first], shown[second]] = found[0].shown;
+  }
+  return shown;
+}
+
+// The names of pairs, with those that are shown in their place.
+const shownPairs = (names) => new Map([...names].map(([pair, both]) => [pair, people.has(pair) ? TEXTS.both(...people.get(pair).shown) : both]));
+
+// About how many columns of a text with letters of one width a name takes: marks none, and the signs of East Asia two.
+const NO_COLUMN = /[\p{M}\u200b-\u200f\u2068\u2069]/u;
+const TWO_COLUMNS = /[\u1100-\u115f\u2e80-\ua4cf\uac00-\ud7a3\uf900-\ufaff\ufe30-\ufe6f\uff00-\uff60\uffe0-\uffe6\u{1f300}-\u{1faff}\u{20000}-\u{3fffd}]/u;
+const columnsOf = (text) => [...text].reduce((sum, sign) => sum + (NO_COLUMN.test(sign) ? 0 : TWO_COLUMNS.test(sign) ? 2 : 1), 0);
+
+// The text of the results with those names: in the headings of score cards, and in the rankings, where they have 53 columns.
+function shownResults(text) {
+  const names = shownPairs(namesIn(text));
+  const inColumns = (both) => both + " ".repeat(Math.max(0, 53 - columnsOf(both)));
+  const row = (line, start, pair) => (names.has(Number(pair)) ? start + inColumns(names.get(Number(pair))) : line);
+  return text.replace(/^Pair (\d+): .*$/gm, (_line, pair) => "Pair " + pair + ": " + names.get(Number(pair)))
+    .replace(/^( {3,}\d+ {3,}(\d+) {2})(?=\S+ and \S).{53}/gm, row);
+}
+
+// What stands above a ranking: where there are two, between which pairs it is.
+function rankingTitles(lines, alone) {
+  const pairs = lines.map((words) => Number(words[1]));
+  const ends = [Math.min(...pairs), Math.max(...pairs)];
+  return alone ? [TEXTS.ranking, TEXTS.places] : [TEXTS.rankingOfPairs(...ends), TEXTS.placesOfPairs(...ends)];
+}
+
+// The rankings among some replies, each by itself.
+function rankings(replies, own, names) {
+  const there = replies.filter((reply) => !refusal(reply));
+  return there.map((reply) => rankingNode(reply, there.length === 1, own, names));
+}
+
+// A ranking, with the names of the pairs where they are known.
+function rankingNode(reply, alone, own, names) {
   const lines = rankingLines(reply);
+  const [title, label] = rankingTitles(lines, alone);
   const named = names.size > 0;
   const titles = TEXTS.rankingHeads.slice(0, lines.length ? lines[0].length : 0);
   if (named) titles.splice(2, 0, TEXTS.names);
-  const head = make("tr", null, ...titles.map((title) => make("th", { scope: "col" }, title)));
+  const head = make("tr", null, ...titles.map((title, i) => make("th", { scope: "col", className: named && i === 2 ? "who" : "" }, title)));
   const cells = (words) => (named ? [...words.slice(0, 2), names.get(Number(words[1])) || "", ...words.slice(2)] : words);
   const rows = lines.map((words) => make("tr", { className: Number(words[1]) === own ? "own" : "" },
-    ...cells(words).map((word, i) => make("td", { className: named && i === 2 ? "who" : "" }, word))));
-  return [make("h2", null, TEXTS.ranking(field)),
-    make("table", { aria_label: TEXTS.rankingOf(field) }, make("thead", null, head), make("tbody", null, ...rows))];
+    ...cells(words).map((word, i) => (named && i === 2 ? make("td", { className: "who" }, ...nameNodes(word)) : make("td", null, word)))));
+  return [make("h2", null, title), make("table", { aria_label: label }, make("thead", null, head), make("tbody", null, ...rows))];
 }
 
 // ---- who has logged in, and when the page looks
@@ -125,6 +204,7 @@ function showLogin() {
   at("title").textContent = TEXTS.title;
   at("below").textContent = "";
   at("chip").hidden = true;
+  at("tabs").hidden = true;
   at("menu").hidden = true;
   at("choices").hidden = true;
   document.title = TEXTS.title;
@@ -140,6 +220,7 @@ function showLogin() {
       make("p", { className: "second" }, TEXTS.keyHelp), make("button", { type: "submit", className: "send" }, TEXTS.sitDown),
       make("p", { className: "second" }, TEXTS.slipLost));
     field.oninput = () => {
+      field.setAttribute("aria-invalid", "false");
       if (field.selectionStart === field.value.length) field.value = field.value.replace(/\s/g, "").replace(/(\d{3})(?=\d)/g, "$1 ");
     };
     return [form];
@@ -150,6 +231,8 @@ function showLogin() {
 function leave() {
   key = null;
   role = { key: null, isDirector: false };
+  people = new Map();
+  peopleFor = null;
   awaited = { text: null, at: 0 };
   turn += 1;
   sessionStorage.removeItem("key");
@@ -209,8 +292,8 @@ async function awaitNews(text) {
   else lookAfter(LOOK);
 }
 
-// What an answer of the desk tells that is not of the clock's hand.
-const standing = (reply) => reply.split("\n").slice(2, -2).map((line) => line + "\n").join("");
+// What an answer of the desk tells that stands, and is neither of the clock's hand nor of the disk.
+const standing = (reply) => reply.split("\n").slice(2, -2).filter((line) => !line.startsWith("DISK ")).map((line) => line + "\n").join("");
 
 async function lookOnce(asked) {
   turn += 1;
@@ -227,6 +310,8 @@ async function lookOnce(asked) {
     role = { key: asked, isDirector: refused === "NotAllowed" };
     enter(asked);
   }
+  await askNames(asked);
+  if (mine !== turn) return;
   const told = role.isDirector ? [ask("/tables", asked)] : [place || ask("/place", asked), ask("/lines", "SEE " + asked + "\n")];
   const replies = await Promise.all([...told, ask("/desk", asked)]);
   if (mine !== turn) return;
@@ -242,6 +327,7 @@ async function lookOnce(asked) {
 function refuse(refused) {
   leave();
   say("notice", TEXTS.refusals[refused] || TEXTS.noKey);
+  at("key").setAttribute("aria-invalid", "true");
 }
 
 function enter(asked) {

@@ -28,7 +28,7 @@ function readPlace(reply) {
     pair: Number(f.PLAYER[0]),
     name: f.PLAYER[1],
     table: some(f.TABLE, (w) => ({ number: w[0], seat: w[1], first: w[2], last: w[3] })),
-    names: some(f.NAMES, (w) => ({ N: w[0], E: w[1], S: w[2], W: w[3] })),
+    names: some(f.NAMES, (w) => shownAt({ N: w[0], E: w[1], S: w[2], W: w[3] })),
     contract: some(f.CONTRACT, (w) => ({ bid: w[0], declarer: w[1] })),
     answer: f.ANSWER[0] === "DUE",
     next: some(f.NEXT, (w) => ({ number: w[0], seat: w[1], first: w[2], last: w[3] })),
@@ -158,6 +158,7 @@ function unmark() {
 // What is tapped is marked, and sent by a second tap, or sent at once.
 function choose(what, line, event) {
   if (isDeaf(event)) return;
+  held = what;
   if (!isSafe()) return send(line);
   if (marked && marked.what === what) {
     if (Date.now() - marked.at >= TWICE) send(line);
@@ -309,6 +310,11 @@ function boxKey(event) {
   const chosen = { p: "PASS", x: "X", r: "XX" }[word] || (level && strain ? level + strain : "");
   level = "";
   choseKey(chosen ? at("call-" + chosen) : null);
+}
+
+// The newest row of a long auction is in view.
+function showNewest() {
+  if (at("auction")) at("auction").scrollTop = at("auction").scrollHeight;
 }
 
 function auctionTable(place, view) {
@@ -497,7 +503,7 @@ function claimSheet(place, view) {
   const said = make("input", { id: "claim-says", type: "text", maxLength: 100, value: saying, oninput: () => { saying = said.value; } });
   // What is said goes with the claim once that stands.
   const makeIt = async () => {
-    const words = saying.trim();
+    const words = plainText(saying);
     saying = "";
     if (await send(line) && words) askDesk("STATEMENT " + words);
   };
@@ -584,6 +590,25 @@ function playNodes(place, view) {
   return nodes;
 }
 
+// ---- what is told in passing
+
+// Where the play was when the page looked last; and a notice that stands until the play is elsewhere: its text and where it stands.
+let playIs = "";
+let passing = null;
+
+function sayPassing(text, where = playIs) {
+  passing = { text, where };
+  say("notice", text);
+}
+
+// The play is where it is shown now.
+function playGoesOn(place, view) {
+  playIs = [place.round, view ? [view.board, view.made.calls, view.made.cards, view.made.claims].join(" ") : "-"].join(" ");
+  if (passing === null || playIs.startsWith(passing.where)) return;
+  if (at("notice").textContent === passing.text) say("notice", "");
+  passing = null;
+}
+
 // ---- what is heard, and what plays itself
 
 let before = null;
@@ -598,7 +623,9 @@ function news(view) {
   const cards = view.trick.length ? view.trick : view.made.cards === old.made.cards ? [] : view.last;
   const fresh = Number(view.made.cards) - Number(old.made.cards);
   cards.slice(Math.max(0, cards.length - fresh)).forEach(({ seat, card }) => said.push(SEAT_NAMES[seat] + ": " + cardName(card)));
-  if (old.claim && !view.claim) say("notice", TEXTS.claimRefused);
+  if (old.claim && !view.claim) sayPassing(TEXTS.claimRefused);
+  if (fresh < 0) sayPassing(TEXTS.cardBack);
+  else if (view.calls.length < old.calls.length) sayPassing(TEXTS.callBack);
   if (view.last.length && view.trick.length === 0 && fresh > 0) said.push(TEXTS.trickTo(SEAT_NAMES[view.turn]));
   return said.join(". ");
 }
@@ -630,7 +657,7 @@ function nextText(place) {
 }
 
 function headText(place) {
-  return TEXTS.ofPair(place.name, place.pair);
+  return TEXTS.ofPair(shownName(place.pair, place.name), place.pair);
 }
 
 // Who sits at a table, this player and his partner first.
@@ -667,6 +694,7 @@ function betweenNodes(place, done) {
   const played = told.boards.filter((board) => board.round === String(place.round));
   if (played.length) nodes.push(make("section", { className: "panel wide-panel" }, make("h2", null, TEXTS.roundSoFar), cardTable(place, played),
     ...soFarNodes()));
+  else if (told.boards.length) nodes.push(make("section", { className: "panel" }, ...soFarNodes()));
   return nodes;
 }
 
@@ -721,6 +749,7 @@ function showView(placeReply, reply) {
     return;
   }
   const view = readView(reply);
+  playGoesOn(place, view);
   if (unsure) sayFate(place, view);
   if (marked && !marked.line.startsWith(marked.what.startsWith("card-") ? "CARD " + key + " " + view.board + " " + view.made.cards + " " : "CALL " + key + " " + view.board + " " + view.made.calls + " ")) marked = null;
   const mine = isMine(place, view);
@@ -732,8 +761,7 @@ function showView(placeReply, reply) {
   drawn = () => show(made + JSON.stringify([marked, claiming, looking, isSafe(), desk.said]),
     waiting(place, view), shapeOf(place, view) + (mine ? " mine" : ""), () => playNodes(place, view), moveFocus);
   drawn();
-  // The newest row of a long auction is in view.
-  if (at("auction")) at("auction").scrollTop = at("auction").scrollHeight;
+  showNewest();
   playLast(place, view);
 }
 
@@ -749,6 +777,8 @@ async function showClosed(placeReply, asked, mine) {
     const text = await ask("/results", asked);
     if (mine !== turn) return;
     if (text === null) return unreachable();
+    // What boards are worth may have changed as well.
+    told.at = -BOARDS_LAST;
     results = { made, text, at: Date.now() };
   }
   await lookAtBoards(asked, place, null);
@@ -757,7 +787,7 @@ async function showClosed(placeReply, asked, mine) {
   drawn = () => {};
   if (showLeaf(place, TEXTS.toNext)) return;
   barFor(place, null);
-  const both = [[1, first], [2, second]].filter((one) => !refusal(one[1]));
+  const both = [first, second].filter((reply) => !refusal(reply));
   show(made + results.text + told.text, TEXTS.closed, "final", () => finalNodes(place, both));
 }
 
@@ -769,17 +799,17 @@ function bannerNode(place, own, among, names) {
 }
 
 function finalNodes(place, both) {
-  const names = namesIn(results.text);
+  const names = shownPairs(namesIn(results.text));
   const nodes = [];
-  for (const lines of both.map((one) => rankingLines(one[1]))) {
+  for (const lines of both.map(rankingLines)) {
     const own = lines.find((words) => Number(words[1]) === place.pair);
     if (own) nodes.push(bannerNode(place, own, lines.length, names));
   }
   nodes.push(make("div", { className: "sides" },
-    ...both.map((one) => make("section", { className: "panel" }, ...rankingNode(one[0], one[1], place.pair, names)))));
+    ...rankings(both, place.pair, names).map((nodes) => make("section", { className: "panel" }, ...nodes))));
   if (told.boards.length) nodes.push(make("section",
     { id: "own-card", className: "panel wide-panel" }, make("h2", null, TEXTS.scoreCard), cardTable(place, told.boards)));
-  nodes.push(make("details", { id: "all-results" }, make("summary", null, TEXTS.allBoards), make("pre", { id: "results" }, results.text)),
+  nodes.push(make("details", { id: "all-results" }, make("summary", null, TEXTS.allBoards), make("pre", { id: "results" }, shownResults(results.text))),
     button(TEXTS.print, "", "print", true, () => window.print()));
   return nodes;
 }
@@ -787,8 +817,10 @@ function finalNodes(place, both) {
 // Shows where a player sits, and the play there, or what came of the session.
 async function showPlayer(place, view, asked, mine) {
   const where = readPlace(place);
+  const seen = refusal(view) ? null : readView(view);
+  playGoesOn(where, seen);
   if (where.round > where.rounds) return showClosed(place, asked, mine);
-  await lookAtBoards(asked, where, refusal(view) ? null : readView(view).board);
+  await lookAtBoards(asked, where, seen ? seen.board : null);
   if (mine !== turn) return;
   lastPlace = place;
   showView(place, view);
@@ -883,6 +915,7 @@ at("menu").onclick = () => { if (at("choices").hidden) showMenu(); else closeMen
 at("chosen").onclick = () => { closeMenu(); at("menu").focus(); };
 at("menu").textContent = TEXTS.menu;
 at("chosen").textContent = TEXTS.done;
+window.addEventListener("resize", showNewest);
 document.addEventListener("keydown", (event) => {
   if (event.key !== "Escape") return;
   if (!at("choices").hidden) at("chosen").onclick();

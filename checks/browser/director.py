@@ -150,10 +150,11 @@ class Page:
         self.window.wait("document.querySelectorAll('#tables tbody tr').length === 7")
         self.window.value("window.loadedOnce = true")
 
-    def open(self, section):
-        if not self.window.value(f"document.getElementById('{section}').open"):
-            self.window.click(f"#{section} summary")
-            self.window.wait(f"document.getElementById('{section}').open")
+    def open(self, part):
+        """Another part of the page in sight."""
+        if self.window.value(f"document.getElementById('on-{part}').hidden"):
+            self.window.click(f"#tab-{part}")
+            self.window.wait(f"!document.getElementById('on-{part}').hidden")
 
     def told(self, expected):
         self.window.wait(f"{text_of('told')} === {expected!r}")
@@ -169,7 +170,7 @@ class Page:
 
     def rule(self, button, play, what):
         """A ruling on (round, table, board), left at its question, then done."""
-        self.open("ruling")
+        self.open("rulings")
         for field, number in zip(["rule-round", "rule-table", "rule-board"], play):
             self.number(field, number)
         name = "{}, round {}, table {}, board {}".format(what, *play)
@@ -188,7 +189,7 @@ class Page:
 
     def other_board(self, play, boards):
         """A board that the table does not have is no question."""
-        self.open("ruling")
+        self.open("rulings")
         for field, number in zip(["rule-round", "rule-table", "rule-board"], play):
             self.number(field, number)
         self.window.click("#rule-void")
@@ -199,6 +200,7 @@ class Page:
         return not self.window.value("document.getElementById('end-round').disabled")
 
     def end_round(self, round_):
+        self.open("tables")
         self.window.wait("!document.getElementById('end-round').disabled")
         self.window.click("#end-round")
         question = f"End round {round_}" + (", and close the session?" if round_ == 7 else "?")
@@ -210,7 +212,7 @@ class Page:
         self.told(f"End of round {round_}: done.")
 
     def ranking(self, field):
-        return self.window.value(f"[...document.querySelectorAll(\"[aria-label='Ranking of field {field}'] tbody tr\")].map((row) => [...row.cells].filter((cell) => !cell.matches('.who')).map((cell) => cell.textContent).join(' '))")
+        return self.window.value(f"[...[...document.querySelectorAll('[aria-label^=Places]')][{field - 1}].tBodies[0].rows].map((row) => [...row.cells].filter((cell) => !cell.matches('.who')).map((cell) => cell.textContent).join(' '))")
 
     def goes_on(self):
         assert self.window.value("window.loadedOnce === true"), "the page was loaded anew"
@@ -241,7 +243,7 @@ def is_refused(evening, closed):
 
 def deal(page, work):
     """A board by its text, one by a file, the others by a shuffle; then all of them again, which is refused."""
-    page.open("dealing")
+    page.open("boards")
     page.window.type("#deal-text", f"1 {DEAL}\n22 {DEAL}")
     page.window.click("#deal")
     page.window.wait("document.getElementById('deal-question').innerText.startsWith('Deal board 1?')")
@@ -290,6 +292,7 @@ def take_back(evening, page, board):
     first, second = [f"CALL {keys[(dealer + at) % 4]} {board} {at} {call}" for at, call in enumerate(["1S", "2H"])]
     assert evening.lines(first, second) == "OK\nOK\n"
     time.sleep(1)
+    page.open("tables")
     page.window.click("#open-1")
     page.window.wait("document.getElementById('opened-back') && !document.getElementById('opened-back').disabled")
     seat = ["North", "East", "South", "West"][(dealer + 1) % 4]
@@ -309,7 +312,7 @@ def take_back(evening, page, board):
 
 def killed(evening, page):
     """The server dies; a click while it is away says that no answer came, and the page goes on by itself."""
-    page.open("ranking")
+    page.open("standings")
     evening.server.kill()
     page.window.wait(f"{text_of('status')} === 'The server does not answer. Trying again.'")
     page.window.click("#rank")
@@ -338,9 +341,11 @@ def first_round(evening, page):
                 page.rule("rule-restore", (1, 3, board), "Take the ruling back")
                 page.rule("rule-void", (1, 3, board), "Take the play out")
             elif (table, board) == (5, first):
+                page.open("rulings")
                 page.choose("rule-ew", 2)
                 page.rule("rule-average", (1, 5, board), "Award 60 and 40 per cent")
             elif (table, board) == (6, first):
+                page.open("rulings")
                 page.choose("assign-bid", 18)
                 page.number("assign-tricks", 11)
                 page.rule("rule-assign", (1, 6, board), "Assign a score")
@@ -361,8 +366,8 @@ def first_round(evening, page):
 
 def solve(evening, page, board):
     """What the page says of the ending after eight tricks is what a line is answered."""
-    page.open("solving")
-    for field, number in [("solve-round", 1), ("solve-table", 2), ("solve-board", board), ("solve-tricks", 8)]:
+    page.open("rulings")
+    for field, number in [("rule-round", 1), ("rule-table", 2), ("rule-board", board), ("solve-tricks", 8)]:
         page.number(field, number)
     page.window.click("#solve")
     _, text = evening.server.posted("/lines", f"SOLVE {evening.director} 1 2 1 32\n")
@@ -373,6 +378,7 @@ def solve(evening, page, board):
 
 def opens(evening, page):
     """A table that was done is opened, and a ruling; what is shown is what was played there, and who played it."""
+    page.open("tables")
     page.window.click("#open-2")
     page.window.wait("document.getElementById('opened').querySelectorAll('.suit-line').length === 16")
     first = evening.first_board(1, 2)
@@ -382,7 +388,7 @@ def opens(evening, page):
     pictures(page.window, PICTURES, "opened")
     page.window.click("#opened-close")
     page.window.wait("document.getElementById('opened').childNodes.length === 0")
-    page.open("ruling")
+    page.open("rulings")
     page.window.wait("document.getElementById('ruled').querySelectorAll('button').length === 3")
     ruled = page.window.value(text_of("ruled"))
     assert "assigned" in ruled and "table 3, board" in ruled and "taken out" in ruled and "60 and 40 per cent" in ruled, ruled
@@ -395,7 +401,7 @@ def boards_unseen(evening):
     window.type("#key", evening.director)
     window.key("Enter", 13, "\r")
     window.wait("document.getElementById('ruling')")
-    window.click("#ruling summary")
+    window.click("#tab-rulings")
     for field, number in [("rule-round", 1), ("rule-table", 2), ("rule-board", 8)]:
         window.type(f"#{field}", str(number))
     window.click("#rule-void")
@@ -425,7 +431,7 @@ def other_round(evening, page, round_):
 
 
 def rankings(page):
-    page.open("ranking")
+    page.open("standings")
     page.window.value("document.getElementById('rankings').replaceChildren()")
     page.window.click("#rank")
     page.window.wait("document.querySelectorAll('#rankings table').length === 2")
@@ -434,7 +440,7 @@ def rankings(page):
 
 
 def results(page):
-    page.open("publishing")
+    page.open("evening")
     page.window.click("#show-results")
     page.window.wait(f"{text_of('results')} !== ''")
     return page.window.value(text_of("results"))

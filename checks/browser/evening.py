@@ -89,9 +89,9 @@ def director_sends(window, line):
     words = line.split(" ")
     without_key = " ".join([words[0], *words[2:]])
     window.wait("document.getElementById('lines')")
-    if not window.value("document.getElementById('lines').open"):
-        window.click("#lines summary")
-        window.wait("document.getElementById('lines').open")
+    if window.value("document.getElementById('on-evening').hidden"):
+        window.click("#tab-evening")
+        window.wait("!document.getElementById('on-evening').hidden")
     window.type("#box", without_key)
     window.value("document.getElementById('replies').textContent = ''")
     window.click("#send")
@@ -120,7 +120,7 @@ def play(window, line):
     window.click(pressed)
     window.wait(f"document.body.innerText !== {json.dumps(before)}")
     notice = window.value("document.getElementById('notice').textContent")
-    due = "The claim was not agreed. Play goes on; call the director if need be." if words[0] == "REFUSE" else ""
+    due = "The claim stands no more: it was refused, or the director took it back. Play goes on." if words[0] == "REFUSE" else ""
     assert notice == due, f"{line}: {notice}"
 
 

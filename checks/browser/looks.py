@@ -138,6 +138,9 @@ def main():
             windows[DIRECTOR].click("#open-1")
             windows[DIRECTOR].wait("document.getElementById('band')")
             measure_all(windows[DIRECTOR], "director-opened", scrolls=True)
+            for part in ["boards", "standings", "evening", "tables"]:
+                windows[DIRECTOR].click(f"#tab-{part}")
+                measure_all(windows[DIRECTOR], f"director-{part}", scrolls=True)
             measure_all(windows[WEST], "asked")
             measure_all(windows[NORTH], "claimed")
             send(f"AGREE {EAST} 1 1", f"AGREE {WEST} 1 1")

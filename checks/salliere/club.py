@@ -1,4 +1,5 @@
 """The program's part: an evening over its `script`, and what its `rank` and `pbn` print of it."""
+import itertools
 import os
 import re
 import subprocess
@@ -31,10 +32,15 @@ class Club:
             file.write(evening.config())
         self.run("format", disk, config)
         for lines in rounds:
-            replies = self.run("script", disk, lines=lines).splitlines()
-            for line, reply in zip(lines, replies, strict=True):
-                assert reply == "OK", f"{evening.name}: {line}: {reply}"
+            for command, some in itertools.groupby(lines, lambda line: "correct" if line.startswith("ASSIGN ") else "script"):
+                self.done(evening, command, disk, list(some))
         return disk
+
+    def done(self, evening, command, disk, lines):
+        """Each line is answered OK."""
+        replies = self.run(command, disk, lines=lines).splitlines()
+        for line, reply in zip(lines, replies, strict=True):
+            assert reply == "OK", f"{evening.name}: {line}: {reply}"
 
     def hands(self, seed):
         """The hands that a seed deals on boards 1 to 36, as lists of cards: those of a scratch session, all passed out."""
@@ -73,7 +79,7 @@ class Club:
                 board = int(words[1])
             elif line == "Score cards":
                 return
-            elif len(words) > 7 and re.fullmatch(r"Pass|[1-7]([CDHS]|NT)X{0,2}", words[4]):
+            elif len(words) > 7 and re.fullmatch(r"Pass|[1-7]([CDHS]|NT)X{0,2}[*]?", words[4]):
                 yield board, (int(words[2]), int(words[3])), int(words[-3]), words[-2:]
 
 

@@ -221,6 +221,10 @@ def all_evenings(examples):
         out = mitchell(5, 3, scoring=scoring, rulings={(1, 2, 1): "VOID", (3, 4, 2): "VOID"})
         out.name += ", two plays taken out"
         yield out
+        scores = {(1, 2, 1): "ASSIGN 4S N 10", (1, 3, 2): "ASSIGN 3NTX E 7", (2, 1, 3): "ASSIGN 6HXX W 12", (4, 5, 2): "ASSIGN 1C S 7"}
+        assigned = mitchell(5, 3, scoring=scoring, rulings=scores)
+        assigned.name += ", scores assigned to four plays"
+        yield assigned
     given = mitchell(5, 3, rulings={(1, 2, 1): "ADJUST 60 40", (3, 4, 2): "ADJUST 50 50", (2, 5, 3): "ADJUST 60 60"})
     given.name += ", averages on three plays"
     yield given

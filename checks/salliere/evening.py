@@ -117,11 +117,11 @@ def rounds_lines(evening, seed, hands):
         for row in (row for row in evening.live() if row[0] == round_):
             for index in range(1, evening.boards + 1):
                 board = (row[4] - 1) * evening.boards + index
-                ruling = evening.rulings.get((round_, row[1], index))
-                if ruling:
-                    word, *averages = ruling.split()
-                    lines.append(" ".join([word, str(DIRECTOR), f"{round_} {row[1]} {index}", *averages]))
-                    continue
-                calls, wanted = chance.choice(drawn[board]) if chance.random() < 0.7 else (draw_calls(chance), round(chance.gauss(8, 2.5)))
-                lines += play_lines(chance, board, keys_of(row), hands[board], calls, min(max(wanted, 0), 13))
+                word, *words = evening.rulings.get((round_, row[1], index), "").split() or [None]
+                ruled = [" ".join([word, str(DIRECTOR), f"{round_} {row[1]} {index}", *words])] if word else []
+                # A score is assigned to an unfinished play, or to a finished one where the index is even.
+                if word is None or (word == "ASSIGN" and index % 2 == 0):
+                    calls, wanted = chance.choice(drawn[board]) if chance.random() < 0.7 else (draw_calls(chance), round(chance.gauss(8, 2.5)))
+                    lines += play_lines(chance, board, keys_of(row), hands[board], calls, min(max(wanted, 0), 13))
+                lines += ruled
         yield [*lines, f"NEXT {DIRECTOR} {round_}"]

@@ -35,6 +35,9 @@ def board_lines(evening, games):
             if ruling and ruling[0] == "ADJUST":
                 board = (row[4] - 1) * evening.boards + index
                 yield [board, row[2], row[3], "", "", "", AVERAGES[ruling[1]], AVERAGES[ruling[2]]]
+            if ruling and ruling[0] == "ASSIGN":
+                board = (row[4] - 1) * evening.boards + index
+                yield [board, row[2], row[3], *ruling[1:]]
 
 
 def scored(jar, folder, evening, games):

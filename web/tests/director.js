@@ -5,6 +5,7 @@ const assert = require("node:assert");
 const { Page, run } = require("./page.js");
 
 const KEY = "52817";
+const RANKS = [`/lines RANK ${KEY} 1\n`, `/lines RANK ${KEY} 2\n`, `/results ${KEY}`];
 // What the page says of a refusal.
 const SAID = {
   AlreadyDealt: /already dealt/, BadDeal: /not four hands/, BadLine: /cannot be read/, LongLine: /cannot be read/, NoSuchPlay: /no such play/,
@@ -23,12 +24,12 @@ const played = (other = {}) => ["OK", "OTHERS SHUT", ...Object.entries({
 }).map(([word, rest]) => `${word} ${rest}`), ".", ""].join("\n");
 
 // A page at which the director has logged in; lines are answered so, and a play is told so.
-async function opened(told, done = "OK\n", play = played(), stands = undefined) {
+async function opened(told, done = "OK\n", play = played(), stands = undefined, people = undefined) {
   const page = new Page((where, body) => {
     if (where === "/place") return "ERR 2 NotAllowed\n";
     if (where === "/boards") return typeof play === "function" ? play(body) : play;
     return where === "/tables" ? told : typeof done === "function" ? done(where, body) : done;
-  }, { key: KEY });
+  }, { key: KEY }, people);
   if (stands) page.stands = stands;
   await page.settle();
   assert.deepStrictEqual(page.asked, [`/place ${KEY}`, `/tables ${KEY}`, `/results ${KEY}`]);
@@ -36,6 +37,15 @@ async function opened(told, done = "OK\n", play = played(), stands = undefined) 
 }
 
 const LOOKS = [`/tables ${KEY}`];
+// With the rulings that stand, where they are in sight.
+const RULED_LOOKS = [...LOOKS, `/boards ${KEY}`];
+
+// The same with another part of the page in sight.
+async function openedAt(tab, ...words) {
+  const page = await opened(...words);
+  assert.deepStrictEqual(await page.click("tab-" + tab), tab === "rulings" || tab === "evening" ? RULED_LOOKS : tab === "standings" ? [...LOOKS, ...RANKS] : LOOKS);
+  return page;
+}
 
 function fill(page, values) {
   for (const [id, value] of Object.entries(values)) page.at(id).value = value;
@@ -45,8 +55,9 @@ function fill(page, values) {
 // question.
 async function sent(page, id, question, asked = []) {
   const first = await page.click(id);
+  const looks = page.at("on-rulings").hidden ? LOOKS : RULED_LOOKS;
   if (!question) {
-    assert.deepStrictEqual(first.slice(1), LOOKS);
+    assert.deepStrictEqual(first.slice(1), looks);
     return first[0];
   }
   assert.deepStrictEqual(first, asked);
@@ -54,7 +65,7 @@ async function sent(page, id, question, asked = []) {
   const again = await page.click("yes");
   assert.deepStrictEqual(again.slice(0, asked.length), asked);
   const [line, ...rest] = again.slice(asked.length);
-  assert.deepStrictEqual(rest, LOOKS);
+  assert.deepStrictEqual(rest, looks);
   assert.strictEqual(page.at("yes"), null);
   return line;
 }
@@ -83,6 +94,15 @@ run({
     assert.strictEqual(page.at("shuffle-last").value, "21");
   },
 
+  "the names of the list stand in the tables, in plays and with calls": async () => {
+    const page = await opened(tables(AT_PLAY), "Pair 1: Ann and Bob\nPair 2: Cat and Dan\n", played(), "OK\nNOW 7 14400\nCALL 2 7 2 Dan Slow\n.\n",
+      "OK\n2\tCat\tDan\tC\u00e1t\tD\u00e1n\n.\n");
+    assert.deepStrictEqual(page.rows(page.at("tables")).slice(1, 3).map((row) => row[1]), ["1 Ann and Bob", "2 C\u00e1t and D\u00e1n"]);
+    assert.match(page.text("desk"), /D\u00e1n/);
+    await page.click("go-2");
+    assert.match(page.text("main"), /NC\u00e1t.*EEve.*SD\u00e1n.*WFay/);
+  },
+
   "a round is ended once all tables are done": async () => {
     assert.ok((await opened(tables(AT_PLAY))).at("end-round").disabled);
     assert.match((await opened(tables(AT_PLAY))).text("end-round"), /^End round 2: still at play at table/);
@@ -101,7 +121,7 @@ run({
   },
 
   "boards are shuffled by numbers that nobody can guess": async () => {
-    const page = await opened(tables(AT_PLAY), "OK\nERR 22 AlreadyDealt\nOK\n");
+    const page = await openedAt("boards", tables(AT_PLAY), "OK\nERR 22 AlreadyDealt\nOK\n");
     fill(page, { "shuffle-first": "4", "shuffle-last": "6" });
     assert.strictEqual(await sent(page, "shuffle"), `/lines ${[4, 5, 6].map((board) => `SHUFFLE ${KEY} ${board} ${SEED}\n`).join("")}`);
     assert.strictEqual(page.text("told"), "Dealt: 4, 6. Board 5: already dealt.");
@@ -111,7 +131,7 @@ run({
   },
 
   "deals of a text are sent as they stand": async () => {
-    const page = await opened(tables(AT_PLAY), "OK\nOK\nERR 23 BadDeal\n");
+    const page = await openedAt("boards", tables(AT_PLAY), "OK\nOK\nERR 23 BadDeal\n");
     const deal = "N:AKQJ.T98.765.432 432.AKQJ.T98.765 765.432.AKQJ.T98 T98.765.432.AKQJ";
     fill(page, { "deal-text": `1 ${deal}\nDEAL 100 2 ${deal}\n[Event "x"]\n[Board "7"]\n[Deal "${deal}"]\n` });
     assert.strictEqual(await sent(page, "deal", /Deal boards 1, 2, 7\?/), `/lines ${[1, 2, 7].map((board) => `DEAL ${KEY} ${board} ${deal}\n`).join("")}`);
@@ -127,14 +147,14 @@ run({
   },
 
   "a file of deals is read into the text": async () => {
-    const page = await opened(tables(AT_PLAY));
+    const page = await openedAt("boards", tables(AT_PLAY));
     page.at("deal-file").files = [{ text: async () => "1 N:... " }];
     assert.deepStrictEqual(await page.asks(() => page.at("deal-file").onchange()), []);
     assert.strictEqual(page.at("deal-text").value, "1 N:... ");
   },
 
   "a ruling sends its play and what is ruled": async () => {
-    const page = await opened(tables(AT_PLAY));
+    const page = await openedAt("rulings", tables(AT_PLAY));
     fill(page, { "rule-round": "2", "rule-table": "2", "rule-board": "6", "rule-tricks": "9" });
     const play = "round 2, table 2, board 6";
     const asked = [`/boards ${KEY} 2 2 3`];
@@ -143,7 +163,7 @@ run({
     assert.strictEqual(page.text("told"), `Set declarer's tricks to 9, ${play}: done.`);
     for (const [ns, ew] of [["60", "40"], ["40", "60"], ["50", "60"]]) {
       fill(page, { "rule-ns": ns, "rule-ew": ew });
-      assert.strictEqual(await sent(page, "rule-average", new RegExp(`Award ${ns} and ${ew} per cent, ${play}\\?Now: 3NT E, one down. Then: average, ${ns} % and ${ew} %\\.`), asked), `/lines ADJUST ${KEY} 2 2 3 ${ns} ${ew}\n`);
+      assert.strictEqual(await sent(page, "rule-average", new RegExp(`Award ${ns} and ${ew} per cent, ${play}\\?Now: 3NT E, one down. Then: average, ${ns}\u00a0% and ${ew}\u00a0%\\.`), asked), `/lines ADJUST ${KEY} 2 2 3 ${ns} ${ew}\n`);
     }
     assert.strictEqual(await sent(page, "rule-void", new RegExp(`Take the play out, ${play}\\?Now: 3NT E, one down. Then: taken out by the director.`), asked), `/lines VOID ${KEY} 2 2 3\n`);
     assert.strictEqual(await sent(page, "rule-restore", new RegExp(`Take the ruling back, ${play}\\?Now: 3NT E, one down. Then: as it was played.`), asked), `/lines RESTORE ${KEY} 2 2 3\n`);
@@ -156,7 +176,7 @@ run({
   },
 
   "a play that changed since it was looked at is not ruled on": async () => {
-    const page = await opened(tables(AT_PLAY));
+    const page = await openedAt("rulings", tables(AT_PLAY));
     fill(page, { "rule-round": "2", "rule-table": "2", "rule-board": "6" });
     await page.click("rule-void");
     page.answer = (where) => (where === "/boards" ? played({ RESULT: "AVERAGE 60 40" }) : "OK\n");
@@ -175,14 +195,13 @@ run({
     assert.deepStrictEqual(page.rows(page.at("tricks")).slice(1), [["1", "S", ...hearts, "E"], ["2", "E", "\u2666\ufe0e2", "", "", "", ""]]);
     assert.ok(page.named("Auction").textContent.includes("Dan") && !page.text("opened").includes("You"));
     assert.deepStrictEqual(["rule-round", "rule-table", "rule-board"].map((id) => page.at(id).value), ["2", "2", "6"]);
-    assert.ok(page.at("ruling").open);
+    assert.ok(!page.at("on-rulings").hidden && page.at("on-tables").hidden);
     assert.deepStrictEqual(await page.look(), [...LOOKS, `/boards ${KEY} 2 2 3`, `/boards ${KEY}`]);
-    page.at("ruling").open = false;
     assert.deepStrictEqual(await page.click("opened-4"), [`/boards ${KEY} 2 2 1`]);
     await page.click("opened-close");
     assert.strictEqual(page.at("tricks"), null);
-    page.at("ruling").open = false;
-    assert.deepStrictEqual(await page.look(), LOOKS);
+    assert.deepStrictEqual(await page.click("tab-tables"), LOOKS);
+    assert.ok(page.at("on-rulings").hidden);
     const idle = await opened(tables(AT_PLAY), "OK\n", "ERR 8 NotYet\n");
     assert.deepStrictEqual(await idle.click("open-3"), [`/boards ${KEY} 2 3 1`]);
     assert.match(idle.text("told"), /round 2, table 3, board in place 1 of its set: that round has not begun/);
@@ -194,9 +213,9 @@ run({
       if (body.endsWith("OPEN")) others = "OPEN";
       return `OK\nOTHERS ${others}\nRULED 1 3 1 7 AVERAGE 60 40\nRULED 1 5 2 11 TRICKS 9\nRULED 2 1 1 4 VOID\n.\n`;
     });
-    page.at("ruling").open = true;
-    assert.deepStrictEqual(await page.look(), [...LOOKS, `/boards ${KEY}`]);
+    assert.deepStrictEqual(await page.click("tab-rulings"), RULED_LOOKS);
     assert.deepStrictEqual(page.at("ruled").nodes.map((node) => node.textContent), ["Round 1, table 3, board 7: 60 and 40 per cent Open", "Round 1, table 5, board 11: 9 tricks Open", "Round 2, table 1, board 4: taken out Open"]);
+    await page.click("tab-evening");
     assert.ok(page.text("others").includes("hidden"));
     assert.deepStrictEqual(await page.click("others-turn"), [`/boards ${KEY} OPEN`, `/boards ${KEY}`]);
     assert.ok(page.text("others").includes("shown"));
@@ -223,8 +242,20 @@ run({
     assert.ok(none.at("opened-back").disabled);
   },
 
+  "a claim is told as what came of it": async () => {
+    for (const [other, words] of [
+      [{ CLAIM: "E 6", RESULT: "-" }, "East claims 6 tricks, and not all have answered."],
+      [{ CLAIM: "E 6" }, "East claimed 6 tricks, and it was agreed."],
+      [{ CLAIM: "E 1", RESULT: "VOID" }, "East claimed 1 trick."],
+    ]) {
+      const page = await opened(tables(AT_PLAY), "OK\n", played(other));
+      await page.click("open-2");
+      assert.ok(page.document.root.textContent.includes(words), words);
+    }
+  },
+
   "a slip that a table calls for is taken back": async () => {
-    const page = await opened(tables(AT_PLAY), "OK\n", played(), "OK\nNOW 9\nCALL 2 5 2 Dan I did not mean my last call or card\nCALL 1 7 8 Fay Claim\n.\n");
+    const page = await opened(tables(AT_PLAY), "OK\n", played(), "OK\nNOW 9 14400\nCALL 2 5 2 Dan I did not mean my last call or card\nCALL 1 7 8 Fay Claim\n.\n");
     assert.strictEqual(page.at("grant-1"), null);
     assert.deepStrictEqual(await page.click("grant-2"), [`/boards ${KEY} 2 2 3`]);
     assert.match(page.text("back-question"), /^Take back East's 2 of diamonds on board 6\?/);
@@ -232,11 +263,12 @@ run({
   },
 
   "a score is assigned, and a deal is taken back": async () => {
-    const page = await opened(tables(AT_PLAY));
+    const page = await openedAt("rulings", tables(AT_PLAY));
     fill(page, { "rule-round": "2", "rule-table": "2", "rule-board": "6", "assign-bid": "4S", "assign-doubled": "X", "assign-declarer": "W", "assign-tricks": "8" });
     const asked = [`/boards ${KEY} 2 2 3`];
     const became = "Now: 3NT E, one down. Then: 4 spades doubled by West, two down.";
     assert.strictEqual(await sent(page, "rule-assign", new RegExp(`Assign a score, round 2, table 2, board 6\\?${became}`), asked), `/correct ASSIGN ${KEY} 2 2 3 4SX W 8\n`);
+    await page.click("tab-boards");
     fill(page, { "undeal-board": "7" });
     assert.strictEqual(await sent(page, "undeal", /Take back the deal of board 7\?/), `/correct UNDEAL ${KEY} 7\n`);
   },
@@ -251,21 +283,21 @@ run({
 
   "each refusal has its sentence": async () => {
     for (const [name, said] of Object.entries(SAID)) {
-      const page = await opened(tables(AT_PLAY), `ERR 5 ${name}\n`);
+      const page = await openedAt("rulings", tables(AT_PLAY), `ERR 5 ${name}\n`);
       await sent(page, "rule-void", /Take the play out/, [`/boards ${KEY} 1 1 1`]);
       assert.match(page.text("told"), said, name);
     }
   },
 
   "an ending is solved for both sides": async () => {
-    const page = await opened(tables(AT_PLAY), "OK 6 0\n");
-    fill(page, { "solve-round": "2", "solve-table": "1", "solve-board": "5", "solve-tricks": "7" });
+    const page = await openedAt("rulings", tables(AT_PLAY), "OK 6 0\n");
+    fill(page, { "rule-round": "2", "rule-table": "1", "rule-board": "5", "solve-tricks": "7" });
     assert.deepStrictEqual(await page.click("solve"), [`/lines SOLVE ${KEY} 2 1 2 28\n`]);
     assert.strictEqual(page.text("solved"), "Of the tricks left North and South can win 6, and East and West 0.");
   },
 
   "a table that calls is shown, opened and answered": async () => {
-    const page = await opened(tables(AT_PLAY), "OK\nNOW 200\n.\n", played(), "OK\nNOW 200\nCALL 1 70 2 Dan Slow play\n.\n");
+    const page = await opened(tables(AT_PLAY), "OK\nNOW 200 14400\n.\n", played(), "OK\nNOW 200 14400\nCALL 1 70 2 Dan Slow play\n.\n");
     assert.deepStrictEqual(page.waits.map((wait) => wait.body), [`${KEY}\n${tables(AT_PLAY)}CALL 1 70 2 Dan Slow play\n`]);
     assert.match(page.text("desk"), /^Table 1 calls: Slow play\. Dan.*pair 2, 2 minutes ago\./);
     assert.match((await page.click("go-1"))[0], new RegExp(`^/boards ${KEY} 2 1 \\d$`));
@@ -273,7 +305,7 @@ run({
   },
 
   "all tables are told, and the clock is set": async () => {
-    const page = await opened(tables(AT_PLAY), "OK\nNOW 10\nCLOCK 1200\n.\n");
+    const page = await opened(tables(AT_PLAY), "OK\nNOW 10 14400\nCLOCK 1200\n.\n");
     fill(page, { "tell-text": "Tea after round 4", "clock-minutes": "20" });
     assert.deepStrictEqual(await page.click("tell-all"), [`/desk ${KEY} NOTICE Tea after round 4`]);
     assert.deepStrictEqual(await page.click("take-down"), [`/desk ${KEY} NOTICE`]);
@@ -284,18 +316,33 @@ run({
     assert.deepStrictEqual(await page.click("clock-start"), []);
   },
 
+  "the disk is named, and is nothing that is waited with": async () => {
+    const page = await opened(tables(AT_PLAY), "OK\n", played(), "OK\nNOW 0 14400\nDISK tonight.disk\nNOTICE Tea\n.\n");
+    assert.match(page.text("serving"), /^Disk: tonight\.disk\. The pages close at /);
+    assert.deepStrictEqual(page.waits.map((wait) => wait.body), [`${KEY}\n${tables(AT_PLAY)}NOTICE Tea\n`]);
+  },
+
   "each field stands under its heading": async () => {
-    const ranks = { 1: "OK\n1 2 6.0/8.0 75.00\n.\n", 2: "OK\n1 8 3.0/8.0 37.50\n.\n" };
+    const ranks = { 1: "OK\n1 2 6.0/8.0 75.00\n2 1 2.0/8.0 25.00\n.\n", 2: "OK\n1 8 3.0/8.0 37.50\n2 7 1.0/8.0 12.50\n.\n" };
     const page = await opened(tables(AT_PLAY), (where, body) => (where === "/results" ? "Pair 2: Cy and Di\n" : ranks[body.trim().split(" ")[2]]));
-    assert.deepStrictEqual(await page.click("rank"), [`/lines RANK ${KEY} 1\n`, `/lines RANK ${KEY} 2\n`, `/results ${KEY}`]);
+    await page.click("tab-standings");
+    assert.deepStrictEqual(await page.click("rank"), RANKS);
     const shown = page.at("rankings").nodes;
-    assert.deepStrictEqual(shown.filter((node) => node.tag === "h2").map((node) => node.textContent), ["Ranking, field 1", "Ranking, field 2"]);
+    assert.deepStrictEqual(shown.filter((node) => node.tag === "h2").map((node) => node.textContent), ["Ranking, pairs 1 to 2", "Ranking, pairs 7 to 8"]);
     assert.deepStrictEqual(shown.filter((node) => node.tag === "table").map((table) => page.rows(table)[1].slice(1, 3)), [["2", "Cy and Di"], ["8", ""]]);
-    assert.strictEqual(shown[shown.indexOf(page.named("Ranking of field 1")) - 1].textContent, "Ranking, field 1");
+    assert.strictEqual(shown[shown.indexOf(page.named("Places of pairs 1 to 2")) - 1].textContent, "Ranking, pairs 1 to 2");
+  },
+
+  "one field is the ranking": async () => {
+    const page = await opened(tables(AT_PLAY), (where, body) => (where === "/results" ? "" : body.endsWith(" 1\n") ? "OK\n1 2 6.0/8.0 75.00\n.\n" : "ERR 4 NoSuchPlay\n"));
+    await page.click("tab-standings");
+    await page.click("rank");
+    assert.deepStrictEqual(page.at("rankings").nodes.filter((node) => node.tag === "h2").map((node) => node.textContent), ["Ranking"]);
+    assert.deepStrictEqual(page.rows(page.named("Places of all pairs"))[1], ["1", "2", "6.0/8.0", "75.00"]);
   },
 
   "results are shown, and printed": async () => {
-    const page = await opened(tables(AT_PLAY), "Club-Night\n");
+    const page = await openedAt("evening", tables(AT_PLAY), "Club-Night\n");
     assert.deepStrictEqual(await page.click("show-results"), [`/results ${KEY}`]);
     assert.strictEqual(page.text("results"), "Club-Night\n");
     await page.click("print");
@@ -303,14 +350,14 @@ run({
   },
 
   "lines are sent with the key": async () => {
-    const page = await opened(tables(AT_PLAY), "OK\nERR 4 NoSuchPlay\n");
+    const page = await openedAt("evening", tables(AT_PLAY), "OK\nERR 4 NoSuchPlay\n");
     fill(page, { box: " SYNC\n\nVOID 1 1 1 \n" });
     assert.deepStrictEqual(await page.click("send"), [`/lines SYNC\nVOID ${KEY} 1 1 1\n`]);
     assert.strictEqual(page.text("replies"), "OK\nERR 4 NoSuchPlay\n");
   },
 
   "no answer says so, and nothing is sent beside what is out": async () => {
-    const page = await opened(tables(AT_PLAY), null);
+    const page = await openedAt("boards", tables(AT_PLAY), null);
     fill(page, { "shuffle-first": "1", "shuffle-last": "1" });
     assert.deepStrictEqual((await page.click("shuffle")).length, 1);
     assert.match(page.text("told"), /No answer came/);

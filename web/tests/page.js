@@ -9,7 +9,7 @@ const { readPage } = require("./document.js");
 
 const WEB = path.join(__dirname, "..");
 // What may be asked, and how.
-const PATHS = ["/lines", "/place", "/tables", "/results", "/boards", "/desk", "/wait", "/correct"];
+const PATHS = ["/lines", "/place", "/tables", "/results", "/boards", "/desk", "/wait", "/correct", "/names"];
 const TYPE = "application/x-table-lines";
 
 // The random bytes of the test: 1, 2, 3 ..
@@ -19,11 +19,12 @@ function fill(bytes) {
 }
 
 class Page {
-  constructor(answer, kept = {}) {
+  constructor(answer, kept = {}, people = "OK\n.\n") {
     this.asked = [];
     this.answer = answer;
-    // What the desk tells at a look, and what is waited with; they are not among what is asked.
-    this.stands = "OK\nNOW 0\n.\n";
+    // What the desk tells at a look, the names of the list, and what is waited with; they are not among what is asked.
+    this.stands = "OK\nNOW 0 14400\n.\n";
+    this.people = people;
     this.waits = [];
     this.kept = new Map(Object.entries(kept));
     this.timers = new Map();
@@ -74,6 +75,7 @@ class Page {
   answerTo(where, body) {
     if (where === "/wait") return new Promise((release) => { this.waits.push({ body, release }); });
     if (where === "/desk" && !body.includes(" ")) return this.stands;
+    if (where === "/names") return this.people;
     this.asked.push(`${where} ${body}`);
     return this.answer(where, body);
   }

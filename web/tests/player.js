@@ -38,12 +38,12 @@ const board = (other = {}) => Object.entries({
 const boards = (...some) => ["OK", "OTHERS SHUT", ...some, ".", ""].join("\n");
 
 // A page at which a player has logged in; what is done is answered so, and then the same is seen.
-async function seated(placed, seen, done = "OK\n", over = boards(), stands = undefined) {
+async function seated(placed, seen, done = "OK\n", over = boards(), stands = undefined, people = undefined) {
   const page = new Page((where, body) => {
     if (where === "/place") return placed;
     if (where === "/boards") return over;
     return body.startsWith("SEE ") ? seen : done;
-  }, { key: KEY });
+  }, { key: KEY }, people);
   if (stands) page.stands = stands;
   await page.settle();
   assert.deepStrictEqual(page.asked, [...LOOKS, `/boards ${KEY}`]);
@@ -74,7 +74,7 @@ run({
     const form = page.document.root.all().find((element) => element.tag === "form");
     assert.deepStrictEqual(await page.asks(() => form.onsubmit({ preventDefault() {} })), ["/place 31007"]);
     assert.match(page.text("notice"), /nobody/i);
-    assert.ok(page.at("key"));
+    assert.strictEqual(page.at("key").getAttribute("aria-invalid"), "true");
     assert.deepStrictEqual([...page.kept], []);
   },
 
@@ -284,10 +284,10 @@ run({
 
   "the page waits for news of what it was told, and looks where there is some": async () => {
     const seen = view({ TURN: "W" });
-    const page = await seated(place(), seen, "OK\n", boards(), "OK\nNOW 7\nNOTICE Tea\nCLOCK 90\n.\n");
+    const page = await seated(place(), seen, "OK\n", boards(), "OK\nNOW 7 14400\nNOTICE Tea\nCLOCK 90\n.\n");
     const text = `${KEY}\n${place()}${seen}NOTICE Tea\nCLOCK 90\n`;
     assert.deepStrictEqual(page.waits.map((wait) => wait.body), [text]);
-    page.stands = "OK\nNOW 8\nNOTICE Tea\nCLOCK 90\n.\n";
+    page.stands = "OK\nNOW 8 14400\nNOTICE Tea\nCLOCK 90\n.\n";
     assert.deepStrictEqual(await page.asks(page.listeners.get("online")), LOOKS);
     assert.deepStrictEqual(page.waits.map((wait) => wait.body), [text]);
     page.answer = (where) => (where === "/place" ? place() : view());
@@ -460,7 +460,7 @@ run({
   "once the session is closed each field stands under its heading, and the results are asked for again after a minute": async () => {
     const RESULTS = "Club-Night\nScore cards\n\nPair 1: Ann and Bob\n\nPair 2: Cy and Di\n  Total: 6.0 of 8.0\n\nPair 3: Eve and Flo\n";
     const closed = place({ ROUND: "4 3", TABLE: "-", NAMES: "-", NEXT: "-" });
-    const ranks = { 1: "OK\n1 2 6.0/8.0 75.00\n2 1 2.0/8.0 25.00\n.\n", 2: "OK\n1 4 5.0/8.0 62.50\n.\n" };
+    const ranks = { 1: "OK\n1 2 6.0/8.0 75.00\n2 1 2.0/8.0 25.00\n.\n", 2: "OK\n1 4 5.0/8.0 62.50\n2 3 3.0/8.0 37.50\n.\n" };
     const page = new Page((where, body) => {
       if (where === "/place") return closed;
       if (where === "/boards") return boards(board({ RESULT: "3NT E 8 -50" }));
@@ -471,12 +471,12 @@ run({
     const asked = [...LOOKS, `/lines RANK ${KEY} 1\n`, `/lines RANK ${KEY} 2\n`];
     assert.deepStrictEqual(page.asked, [...asked, `/results ${KEY}`, `/boards ${KEY}`]);
     const titles = ["Place", "Pair", "Names", "Score", "Per cent"];
-    assert.deepStrictEqual(page.rows(page.named("Ranking of field 1")), [titles, ["1", "2", "Cy and Di", "6.0/8.0", "75.00"], ["2", "1", "Ann and Bob", "2.0/8.0", "25.00"]]);
-    assert.deepStrictEqual(page.rows(page.named("Ranking of field 2")), [titles, ["1", "4", "", "5.0/8.0", "62.50"]]);
-    assert.strictEqual(page.text("own"), "You are first of 275.00 %Cy and Di6.0 of 8.0");
+    assert.deepStrictEqual(page.rows(page.named("Places of pairs 1 to 2")), [titles, ["1", "2", "Cy and Di", "6.0/8.0", "75.00"], ["2", "1", "Ann and Bob", "2.0/8.0", "25.00"]]);
+    assert.deepStrictEqual(page.rows(page.named("Places of pairs 3 to 4")), [titles, ["1", "4", "", "5.0/8.0", "62.50"], ["2", "3", "Eve and Flo", "3.0/8.0", "37.50"]]);
+    assert.strictEqual(page.text("own"), "You are first of 275.00\u00a0%Cy and Di6.0 of 8.0");
     assert.deepStrictEqual(page.rows(page.at("card"))[1], ["4", "Eve \u2013 Fay", "3NT E", "8", "\u221250", ""]);
-    assert.strictEqual(page.named("Ranking of field 2").parent.nodes[0].textContent, "Ranking, field 2");
-    assert.strictEqual(page.named("Ranking of field 1").querySelectorAll("tr")[1].className, "own");
+    assert.strictEqual(page.named("Places of pairs 3 to 4").parent.nodes[0].textContent, "Ranking, pairs 3 to 4");
+    assert.strictEqual(page.named("Places of pairs 1 to 2").querySelectorAll("tr")[1].className, "own");
     assert.strictEqual(page.text("results"), RESULTS);
     assert.strictEqual(page.text("status"), "The session is closed.");
     assert.deepStrictEqual(await page.look(), asked);
@@ -530,7 +530,7 @@ run({
   },
 
   "each result of a board is told for one's own side": async () => {
-    for (const [result, side, words, score] of [["PASS 0", "NS", "passed out", "0"], ["VOID", "EW", "taken out by the director", ""], ["AVERAGE 60 40", "EW", "average, 60 % and 40 %", "40 %"],
+    for (const [result, side, words, score] of [["PASS 0", "NS", "passed out", "0"], ["VOID", "EW", "taken out by the director", ""], ["AVERAGE 60 40", "EW", "average, 60\u00a0% and 40\u00a0%", "40\u00a0%"],
       ["3NT S 9 600", "EW", "3NT by South, made", "\u2212600"], ["1H E 8 -110", "EW", "1\u2665\ufe0e by you, one over", "+110"]]) {
       const page = await seated(place({ PLAYER: "7 Eve", TABLE: "2 E 4 6" }), view({ PLAY: "1 2 2 5", SEAT: "E" }), "OK\n", boards(board({ BOARD: `4 1 2 1 ${side}`, CARDS: "-", RESULT: result })));
       await page.click("menu");
@@ -545,7 +545,7 @@ run({
     const page = await seated(place(), view({ PLAY: "1 2 2 5" }), "OK\n", told);
     await page.click("menu");
     await page.click("menu-boards");
-    assert.strictEqual(page.rows(page.at("card"))[1].pop(), "75.0 %");
+    assert.strictEqual(page.rows(page.at("card"))[1].pop(), "75.0\u00a0%");
     await page.click("open-1-4");
     assert.deepStrictEqual(page.rows(page.named("Scores").querySelectorAll("table")[0]).slice(1), [["6", "3NT N", "10", "+630"], ["2 (we)", "3NT S", "9", "+600"], ["5", "3NT N", "7", "\u2212200"]]);
     const tiles = page.document.root.all().filter((one) => one.tag === "li" && one.parent.parent.className === "tiles");
@@ -563,6 +563,60 @@ run({
     page.now += 30000;
     await page.look();
     assert.strictEqual(page.text("notice"), "The director has ruled on board 4.");
+    page.answer = (where) => (where === "/place" ? place() : where === "/boards" ? boards(board({ RESULT: "VOID" })) : view({ PLAY: "1 2 3 6" }));
+    await page.look();
+    assert.strictEqual(page.text("notice"), "");
+  },
+
+  "rulings on several boards are told together": async () => {
+    const both = (result) => boards(board({ RESULT: result }), board({ BOARD: "5 1 2 2 NS", RESULT: result }));
+    const page = await seated(place(), view({ PLAY: "1 2 3 6" }), "OK\n", both("3NT S 9 600"));
+    page.answer = (where) => (where === "/place" ? place() : where === "/boards" ? both("AVERAGE 60 40") : view({ PLAY: "1 2 3 6" }));
+    page.now += 30000;
+    await page.look();
+    assert.strictEqual(page.text("notice"), "The director has ruled on boards 4, 5.");
+  },
+
+  "what the director has taken back is told until play goes on": async () => {
+    const calls = (made, words) => view({ AT: `${made} 0 0`, CALLS: words, TURN: ["N", "E", "S", "W"][made % 4] });
+    const cards = (made, trick) => play({ AT: `7 ${made} 0`, TRICK: trick });
+    for (const [one, back, on, told] of [
+      [calls(3, "PASS PASS 1C"), calls(2, "PASS PASS"), calls(3, "PASS PASS 1D"), "The director has taken back the last call."],
+      [cards(2, "S SA S3"), cards(1, "S SA"), cards(2, "S SA S4"), "The director has taken back the last card."]]) {
+      const page = await seated(place({ CONTRACT: "1H E" }), one);
+      assert.strictEqual(page.text("notice"), "");
+      for (const [seen, due] of [[back, told], [back, told], [on, ""]]) {
+        page.answer = (where) => (where === "/place" ? place({ CONTRACT: "1H E" }) : where === "/boards" ? boards() : seen);
+        await page.look();
+        assert.strictEqual(page.text("notice"), due);
+      }
+    }
+  },
+
+  "keys find their place again at the next turn, and nothing else does": async () => {
+    for (const [input, due] of [["keydown", "call-PASS"], ["pointerdown", ""]]) {
+      const page = await seated(place(), view());
+      page.listeners.get("keydown")();
+      page.listeners.get(input)();
+      const see = async (seen) => { page.answer = (where) => (where === "/place" ? place() : where === "/boards" ? boards() : seen); await page.look(); };
+      const then = view({ AT: "3 0 0", CALLS: "PASS PASS 2D", TURN: "W" });
+      page.answer = (where, body) => (where === "/place" ? place() : body.startsWith("CALL ") ? "OK\n" + then : then);
+      page.at("call-2D").focus();
+      await page.click("call-2D");
+      page.document.activeElement = null;
+      await see(view({ AT: "4 0 0", CALLS: "PASS PASS 2D PASS", TURN: "N" }));
+      await see(view({ AT: "6 0 0", CALLS: "PASS PASS 2D PASS PASS X", TURN: "S" }));
+      assert.strictEqual(page.document.activeElement ? page.document.activeElement.id : "", due);
+    }
+  },
+
+  "boards that nobody else has played come to nothing so far": async () => {
+    const page = await seated(place(), "ERR 6 NotCurrent\n", "OK\n", boards(board({ WORTH: "0.0/0" })));
+    assert.ok(!page.text("main").includes("so far:"));
+    page.answer = (where) => (where === "/place" ? place() : where === "/boards" ? boards(board({ WORTH: "1.0/2" })) : "ERR 6 NotCurrent\n");
+    page.now += 30000;
+    await page.look();
+    assert.match(page.text("main"), /Evening so far: 50\.0\s%/);
   },
 
   "what had no answer is told once something came": async () => {
@@ -583,7 +637,7 @@ run({
       assert.deepStrictEqual(await page.click("bell"), []);
       if (words) page.button(words).click();
       const { answer } = page;
-      page.answer = () => `OK\nNOW 7\nCALL 2 7 2 Dan ${words}\n.\n`;
+      page.answer = () => `OK\nNOW 7 14400\nCALL 2 7 2 Dan ${words}\n.\n`;
       assert.deepStrictEqual(await page.click("call-director"), [`/desk ${KEY}${order}`]);
       assert.strictEqual(page.text("desk"), `Director called. ${words ? words + ". " : ""}Please wait, play nothing.`);
       page.answer = answer;
@@ -593,7 +647,7 @@ run({
   },
 
   "the notice and the clock of the round are shown": async () => {
-    const page = await seated(place(), view(), "OK\n", boards(), "OK\nNOW 20\nNOTICE Tea after round 4\nCLOCK 321\n.\n");
+    const page = await seated(place(), view(), "OK\n", boards(), "OK\nNOW 20 14400\nNOTICE Tea after round 4\nCLOCK 321\n.\n");
     assert.strictEqual(page.text("desk"), "The director: Tea after round 4");
     assert.strictEqual(page.text("clock"), "5:01left");
     page.now += 1000;
@@ -602,17 +656,24 @@ run({
     assert.strictEqual(page.text("heard"), "5 minutes left in this round");
   },
 
+  "that the pages close is said ten minutes before": async () => {
+    for (const [now, said] of [[13799, ""], [13800, "In 10 minutes the pages close. What was played is kept."], [14399, "In a minute the pages close. What was played is kept."]]) {
+      const page = await seated(place(), view(), "OK\n", boards(), `OK\nNOW ${now} 14400\n.\n`);
+      assert.strictEqual(page.text("desk"), said);
+    }
+  },
+
   "what is said with a claim follows it once it stands, and is shown to who answers": async () => {
     const claims = async (done) => {
       const page = await seated(place({ CONTRACT: "1H E" }), play(), done);
       await page.click("claim-open");
-      page.at("claim-says").value = " drawing trumps ";
+      page.at("claim-says").value = " drawing trumps\u202e ";
       page.at("claim-says").oninput();
       return page.click("claim-button");
     };
     assert.deepStrictEqual((await claims("OK\n")).filter((one) => one.startsWith("/desk")), [`/desk ${KEY} STATEMENT drawing trumps`]);
     assert.deepStrictEqual((await claims("ERR 11 ClaimStands\n")).filter((one) => one.startsWith("/desk")), []);
-    const asked = await seated(place({ CONTRACT: "1H E", ANSWER: "DUE" }), play({ AT: "7 20 1", CLAIM: "E 5" }), "OK\n", boards(), "OK\nNOW 9\nSTATEMENT the rest are mine\n.\n");
+    const asked = await seated(place({ CONTRACT: "1H E", ANSWER: "DUE" }), play({ AT: "7 20 1", CLAIM: "E 5" }), "OK\n", boards(), "OK\nNOW 9 14400\nSTATEMENT the rest are mine\n.\n");
     assert.match(asked.text("dock"), /\u201cthe rest are mine\u201d/);
   },
 
@@ -620,6 +681,43 @@ run({
     const page = await seated(place({ CONTRACT: "1H E" }), play({ AT: "7 20 1", CLAIM: "S 5" }));
     page.answer = (where) => (where === "/place" ? place({ CONTRACT: "1H E" }) : play({ AT: "7 20 1" }));
     await page.look();
-    assert.match(page.text("notice"), /was not agreed/);
+    assert.match(page.text("notice"), /stands no more/);
+  },
+
+  "the names of the list stand in place of the configuration's": async () => {
+    const LISTED = "OK\n1\tEve\tFay\t\u674e \u5c0f\u9f8d\tFay <b>O'Brien</b>\n2\tCat\tDan\tC\u00e1t Lind\tD\u00e1n Lind\n3\tAnn\tBob\tAnn\tBob\n.\n";
+    const FIRST = "\u2068\u674e \u5c0f\u9f8d\u2069";
+    const page = await seated(place(), "ERR 8 NotDealt\n", "OK\n", boards(board()), undefined, LISTED);
+    assert.deepStrictEqual(page.document.root.all().filter((one) => one.tag === "li").map((one) => one.textContent),
+      ["SYou, D\u00e1n Lind", "NC\u00e1t Lind", "E" + FIRST, "WFay <b>O'Brien</b>"]);
+    assert.deepStrictEqual(page.rows(page.at("card"))[1].slice(0, 2), ["4", FIRST + " \u2013 Fay <b>O'Brien</b>"]);
+    await page.click("menu");
+    await page.click("menu-boards");
+    assert.strictEqual(page.text("below"), "D\u00e1n Lind, pair 2");
+    // Two pairs of the same names in the configuration have those.
+    for (const people of ["OK\n1\tEve\tFay\tA\tB\n2\tEve\tFay\tC\tD\n.\n", "ERR 1 NoKey\n", null]) {
+      const other = await seated(place(), "ERR 8 NotDealt\n", "OK\n", boards(), undefined, people);
+      assert.ok(other.text("main").includes("Eve"), other.text("main"));
+    }
+  },
+
+  "the names of the list stand in the results": async () => {
+    const row = (start, names, rest) => start + names.padEnd(53) + rest;
+    const results = (one, other, both) => "Club-Night\n\n" + row("      1      2  ", one, "       6.0        8.0   75.00\n") + row("      2     11  ", other, "       2.0        8.0   25.00\n")
+      + "\nPair 2: " + both + "\n      1      4  NS          1  3NT       S           9        600        2.0\n\nPair 11: " + other + "\n";
+    const closed = place({ ROUND: "4 3", TABLE: "-", NAMES: "-", NEXT: "-" });
+    const page = new Page((where, body) => {
+      if (where === "/place") return closed;
+      if (where === "/boards") return boards();
+      if (body.startsWith("SEE ")) return "ERR 3 Closed\n";
+      if (where === "/results") return results("Cat and Dan", "Ann and Bob", "Cat and Dan");
+      return "OK\n1 2 6.0/8.0 75.00\n2 11 2.0/8.0 25.00\n.\n";
+    }, { key: KEY }, "OK\n2\tCat\tDan\tC\u00e1t Lind\t\u674e\n.\n");
+    await page.settle();
+    const shown = "C\u00e1t Lind and \u2068\u674e\u2069";
+    assert.deepStrictEqual(page.rows(page.named("Places of pairs 2 to 11")).slice(1).map((words) => words[2]), [shown, "Ann and Bob"]);
+    // The sign takes two columns, and what keeps it apart none.
+    assert.strictEqual(page.text("results"), results(shown + " ".repeat(53 - 15), "Ann and Bob", shown));
+    assert.ok(page.text("own").includes(shown));
   },
 });

@@ -17,6 +17,7 @@ pub mod Reached
 pub mod GoingOn
 pub mod SearchSteps
 pub mod Root
+pub mod Moments
 pub mod Kept
 pub mod Seats
 pub mod Owners

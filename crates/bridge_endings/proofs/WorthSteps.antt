@@ -39,7 +39,7 @@ module _ (worth : ℕ → ℕ) (bound : ℕ) (each : (card : ℕ) → 4 * worth 
   best_le side [] = omega arith
   best_le side (card ∷ cards) = best_from_le side (worth card) cards (each card)
 
-trick_for_le : (side : Side) → trick_for side ≤ 1
+pub trick_for_le : (side : Side) → trick_for side ≤ 1
 trick_for_le NorthSouth = omega arith
 trick_for_le EastWest = omega arith
 

@@ -10,3 +10,4 @@ pub mod Between
 pub mod SearchValue
 pub mod CacheValue
 pub mod DealTricks
+pub mod PlayedCards

@@ -1,12 +1,18 @@
-//! Whole deals, solved double dummy: how many tricks a declarer takes where each of the four sees all the cards.
-ghost use Rattle.std.specs.Prelude.{◌≡◌, ◌≤◌, IfOk};
-ghost use Rattle.bridge_endings.specs.DealTricks.{declarer_tricks};
+//! Whole deals, solved double dummy: how many tricks a declarer takes where each of the four sees all the cards, after any cards
+//! that were played, and what each of these cost.
+ghost use Rattle.std.specs.Prelude.{◌≡◌, ◌+◌, ◌≤◌, ◌↔◌, false, IfOk, IfSome, IsNone};
+ghost use Rattle.bridge_cards.specs.Seat.{side_of, other_side};
+ghost use Rattle.bridge_endings.specs.DealTricks.{tricks_of, declarer_tricks};
+ghost use Rattle.bridge_endings.specs.PlayedCards.{first_moment, are_legal, tricks_after, costs_of, given_by};
 
+use crate::card_cost::CardCost;
+use crate::costs::{costs_in_all, won_from};
 use crate::found::Found;
 use crate::search::Search;
 use crate::solver::tricks_won;
 use crate::table::Entry;
-use bridge_cards::{CardSet, Deal, Seat, Side, Suit};
+use arrayvec::ArrayVec;
+use bridge_cards::{Card, CardSet, DECK, Deal, Seat, Side, Suit};
 use std::alloc::{AllocError, Global};
 use std::marker::Model;
 
@@ -75,5 +81,81 @@ impl DealSolver {
             Side::NorthSouth => won,
             Side::EastWest => 13 - won,
         }
+    }
+    /// The same where the play begins with these cards: the tricks that the declarer then takes in all, dummy's among them, and
+    /// after all 52 those that were taken. `None` where one of the cards may not be played in its turn (Law 44).
+    pub fn tricks_after(
+        &mut self,
+        trump: Option<Suit>,
+        declarer: Seat,
+        cards: &[Card],
+    ) -> Option<u8>
+        ensures tricks { IfSome result (λ tricks. tricks ≡ tricks_after trump self.old declarer cards.now) }
+        ensures few { IfSome result (λ tricks. tricks ≤ 13) }
+        ensures none { IsNone result ↔ (are_legal trump (first_moment self.old declarer) cards.now ≡ false) }
+        ensures deal { self.new ≡ self.old }
+    {
+        let mut search = Search {
+            trump,
+            tried: 0,
+            last: self.last,
+        };
+        let hands = self.hands;
+        let won = won_from(
+            &mut search,
+            &mut self.table,
+            &hands,
+            declarer,
+            cards,
+            self.won,
+        )?;
+        self.last = search.last;
+        self.won = won;
+        Some(tricks_of(declarer.side(), won))
+    }
+
+    /// What each of these cards cost from the first on, in their order. `None` where one of them may not be played in its turn.
+    /// The declarer's tricks before the first card, with those that the defenders gave away, are the tricks after the last card
+    /// with those that the declarer's side gave away.
+    pub fn costs(
+        &mut self,
+        trump: Option<Suit>,
+        declarer: Seat,
+        cards: &[Card],
+    ) -> Option<ArrayVec<CardCost, DECK>>
+        ensures costs { IfSome result (λ costs. costs.items ≡ costs_of trump (first_moment self.old declarer) cards.now) }
+        ensures explained { IfSome result (λ costs.
+            declarer_tricks trump self.old declarer + given_by (other_side (side_of declarer)) costs.items
+            ≡ tricks_after trump self.old declarer cards.now + given_by (side_of declarer) costs.items) }
+        ensures none { IsNone result ↔ (are_legal trump (first_moment self.old declarer) cards.now ≡ false) }
+        ensures deal { self.new ≡ self.old }
+    {
+        let mut search = Search {
+            trump,
+            tried: 0,
+            last: self.last,
+        };
+        let hands = self.hands;
+        let costs = costs_in_all(
+            &mut search,
+            &mut self.table,
+            &hands,
+            declarer,
+            cards,
+            self.won,
+        );
+        self.last = search.last;
+        costs
+    }
+}
+
+/// Of thirteen tricks those of a side, where North and South win so many.
+fn tricks_of(side: Side, won: u8) -> u8
+    requires { won ≤ 13 }
+    ensures { result ≡ tricks_of side won }
+{
+    match side {
+        Side::NorthSouth => won,
+        Side::EastWest => 13 - won,
     }
 }

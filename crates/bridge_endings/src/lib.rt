@@ -11,12 +11,15 @@
 mod answer;
 mod bounds;
 pub mod cache;
+pub mod card_cost;
 mod closed;
+mod costs;
 pub mod deal_solver;
 pub mod ending;
 mod found;
 mod leads;
 mod like_hands;
+mod moment;
 mod move_order;
 mod reaching;
 mod search;
@@ -26,6 +29,7 @@ mod table;
 mod trick;
 
 pub use cache::Cache;
+pub use card_cost::CardCost;
 pub use deal_solver::DealSolver;
 pub use ending::{Ending, EndingRefused};
 pub use solver::solve;

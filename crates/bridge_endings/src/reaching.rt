@@ -18,6 +18,30 @@ use crate::trick::Trick;
 use bridge_cards::{Card, CardSet, Seat, Side};
 
 impl Search {
+    /// Whether North and South win at least `need` of so many tricks, the first of which is the one that is being played.
+    pub fn reaches_at(
+        &mut self,
+        table: &mut [Entry],
+        hands: &[CardSet; 4],
+        left: CardSet,
+        trick: &Trick,
+        tricks: u8,
+        need: u8,
+    ) -> Answer
+        requires part { (length trick.now.cards < 4) × (length trick.now.cards ≤ 4 * tricks) }
+        requires given { (trick.now.trump ≡ self.old.trump) × IsTable table.old × IsDealtOut (left_to hands.now left) }
+        ensures answer { IsAnswer self.old.trump (4 * tricks - length trick.now.cards) need result
+            (left_to hands.now left) trick.now.leader trick.now.cards }
+        ensures later { GoesOn self.old self.new }
+        ensures table { IsTable table.new }
+    {
+        if trick.len() == 0 {
+            self.reaches_from(table, hands, left, trick.turn(), tricks, need)
+        } else {
+            self.reaches(table, hands, left, trick, tricks, need, None)
+        }
+    }
+
     /// Whether North and South win at least `need` of so many tricks left, to the first of which that seat leads.
     #[cycle(search)]
     pub fn reaches_from(

@@ -59,6 +59,13 @@ impl Trick {
         }
     }
 
+    /// The trump suit, if there is one.
+    pub fn trump(&self) -> Option<Suit>
+        ensures { result ≡ self.now.trump }
+    {
+        self.trump
+    }
+
     /// How many cards were played to it.
     pub fn len(&self) -> usize
         ensures length { result ≡ length self.now.cards }

@@ -21,6 +21,10 @@ use Rattle.bridge_play.specs.CardPlay.{CardPlayValue, played}
 use Rattle.bridge_play.specs.Dummy.{dummy_of, actor_of}
 use Rattle.bridge_play.specs.Claims.{is_asked, has_agreed, all_agreed, consent_to, only_asked_agree, with_agreed}
 
+-- in a play at most 99 claims are made
+abbrev pub IsClaimCount : ℕ → Type 0
+IsClaimCount claims = claims ≤ 99
+
 -- the dealt hands, the contract, the cards so far, how many claims were made, and the claim that stands or was agreed
 pub record PlayValue : Type 0 where
   pub hands : List ℕ
@@ -170,7 +174,7 @@ is_claim_in play claim =
 -- what each play is: a legal list of cards, at most 99 claims, and a claim that was made by the rules, if there is one
 pub record IsPlay (play : PlayValue) : Type 0 where
   pub legal : IsLegal play.hands play.contract play.cards
-  pub few : play.claims ≤ 99
+  pub few : IsClaimCount play.claims
   pub claimed : IfSome play.claim (IsClaimIn play)
 
 -- of the tricks left, those that a claim gives the side once it is agreed: what is not claimed goes to the other side

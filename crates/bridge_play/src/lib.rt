@@ -9,11 +9,13 @@
 
 mod card_play;
 pub mod claim;
+pub mod claim_count;
 mod dummy;
 pub mod play;
 pub mod refused;
 mod trick;
 
 pub use claim::Claim;
+pub use claim_count::ClaimCount;
 pub use play::{Play, TRICKS};
 pub use refused::{CardRefused, ClaimRefused, ConsentRefused};

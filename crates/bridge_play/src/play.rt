@@ -12,6 +12,7 @@ mod claims;
 
 use crate::card_play::CardPlay;
 use crate::claim::{Claim, all_agreed, only_asked_agree};
+use crate::claim_count::{ClaimCount, MOST_CLAIMS};
 use crate::dummy::{actor, dummy};
 use crate::refused::CardRefused;
 use crate::trick::leader;
@@ -21,9 +22,6 @@ use std::marker::Model;
 
 /// The tricks of a board.
 pub const TRICKS: usize = 13;
-
-/// The most claims of one play.
-const MOST_CLAIMS: u8 = 99;
 
 /// Whether after those cards and so many claims the claim is one that stands or was agreed.
 fn is_claim_in(played: &CardPlay, claims: u8, claim: Claim) -> bool
@@ -78,6 +76,17 @@ impl Play {
         Play {
             card_play: CardPlay::new(deal, contract),
             claims: 0,
+            claim: None,
+        }
+    }
+
+    /// The play of a deal in a contract, before the opening lead, where so many claims were made before that contract was.
+    pub fn after_claims(deal: &Deal, contract: Contract, claims: ClaimCount) -> Play
+        ensures { result ≡ playing deal.now contract [] claims None }
+    {
+        Play {
+            card_play: CardPlay::new(deal, contract),
+            claims: claims.number(),
             claim: None,
         }
     }

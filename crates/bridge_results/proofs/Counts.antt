@@ -31,6 +31,7 @@ abbrev adjusted : PlainRecord → Record
 adjusted plain = record {
   board = plain.board;
   auction = bidding_of plain;
+  claims = 0;
   play = None;
   ruling = Some (ruling.Adjusted Even Even);
 }

@@ -6,7 +6,7 @@ use Rattle.bridge_cards.specs.declared.seat.Side.TheVariants.{NorthSouth, EastWe
 use Rattle.bridge_score.specs.declared.ranking.Scoring.{Scoring}
 use Rattle.bridge_score.specs.declared.ranking.Scoring.TheVariants.{MatchPoints, Imps}
 use Rattle.bridge_score.specs.Comparison.{int_sum_by}
-use Rattle.bridge_config.specs.ConfigValue.{Pair, pair_names}
+use Rattle.bridge_config.specs.ConfigValue.{Pair}
 use Rattle.session_rules.specs.declared.outcome.Outcome.{Outcome}
 use Rattle.session_rules.specs.declared.outcome.Outcome.TheVariants.{Voided}
 use Rattle.page_layout.specs.declared.format.Format.{Format}
@@ -17,16 +17,17 @@ use Rattle.page_layout.specs.Page.{heading_text, paragraph_text, section_start, 
 use Rattle.page_layout.specs.Table.{row_text, title_row, table_start, table_end}
 use Rattle.bridge_results.specs.declared.card.CardLine.{CardLine}
 use Rattle.bridge_results.specs.declared.pages.columns.TheConstants.{CARD_COLUMNS}
+use Rattle.bridge_results.specs.ShownPairs.{Names, shown_pair}
 use Rattle.bridge_results.specs.PlayCells.{contract_cell, declarer_cell, tricks_cell, score_cell, gain_text, gain_cell}
 
 -- the heading of a card: the pair's number and its names
-abbrev pub pair_words : List Pair → ℕ → List ℕ
-pair_words pairs pair = ((codes "Pair " ++ decimal pair) ++ codes ": ") ++ pair_names pairs pair
+abbrev pub pair_words : Names → List Pair → ℕ → List ℕ
+pair_words names pairs pair = ((codes "Pair " ++ decimal pair) ++ codes ": ") ++ shown_pair names pairs pair
 
 -- what stands above the rows of a card
-abbrev pub card_head : Format → List Pair → ℕ → List ℕ
-card_head format pairs pair =
-    ((section_start format section.ScoreCard ++ heading_text format level.Part (pair_words pairs pair)) ++ table_start format)
+abbrev pub card_head : Format → Names → List Pair → ℕ → List ℕ
+card_head format names pairs pair =
+    ((section_start format section.ScoreCard ++ heading_text format level.Part (pair_words names pairs pair)) ++ table_start format)
     ++ title_row format CARD_COLUMNS
     (codes "Round" ∷ codes "Board" ∷ codes "Side" ∷ codes "Against" ∷ codes "Contract" ∷ codes "By" ∷ codes "Tricks"
     ∷ codes "Score" ∷ codes "Gain" ∷ [])
@@ -72,6 +73,6 @@ card_end format scoring lines =
     (table_end format ++ paragraph_text format (total_words scoring lines)) ++ section_end format
 
 -- The card of a pair: its names, a row for each play, and the total.
-abbrev pub score_card_text : Format → Scoring → List Pair → ℕ → List CardLine → List ℕ
-score_card_text format scoring pairs pair lines =
-    card_head format pairs pair ++ (flat_map (card_row format scoring) lines ++ card_end format scoring lines)
+abbrev pub score_card_text : Format → Scoring → Names → List Pair → ℕ → List CardLine → List ℕ
+score_card_text format scoring names pairs pair lines =
+    card_head format names pairs pair ++ (flat_map (card_row format scoring) lines ++ card_end format scoring lines)

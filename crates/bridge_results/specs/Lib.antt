@@ -7,9 +7,11 @@ pub mod ScoreCard
 pub mod Results
 pub mod PlayCells
 pub mod EventText
+pub mod ShownPairs
 pub mod RankingText
 pub mod Diagram
 pub mod BoardText
 pub mod CardText
 pub mod ResultsText
 pub mod Columns
+pub mod TablesText

@@ -5,7 +5,7 @@ use Rattle.bridge_score.specs.declared.ranking.Ranked.{Ranked}
 use Rattle.bridge_score.specs.declared.ranking.Scoring.{Scoring}
 use Rattle.bridge_score.specs.declared.ranking.Scoring.TheVariants.{MatchPoints, Imps}
 use Rattle.bridge_score.specs.Percent.{share_percent}
-use Rattle.bridge_config.specs.ConfigValue.{Pair, pair_names}
+use Rattle.bridge_config.specs.ConfigValue.{Pair}
 use Rattle.bridge_ranking.specs.declared.field.Field.{Field}
 use Rattle.bridge_ranking.specs.declared.field.Field.TheVariants.{First, Second}
 use Rattle.page_layout.specs.declared.format.Format.{Format}
@@ -14,6 +14,7 @@ use Rattle.page_layout.specs.declared.format.Section.TheVariants as section
 use Rattle.line_text.specs.Decimals.{tenths_text, percent_text}
 use Rattle.page_layout.specs.Page.{heading_text, section_start, section_end}
 use Rattle.page_layout.specs.Table.{row_text, title_row, table_start, table_end}
+use Rattle.bridge_results.specs.ShownPairs.{Names, names_cell}
 use Rattle.bridge_results.specs.declared.pages.columns.TheConstants.{SHARE_COLUMNS, SUM_COLUMNS}
 
 -- the row of a pair by matchpoints: place, pair, names, matchpoints, those available, and the percentage
@@ -29,9 +30,9 @@ sum_row format names ranked =
     row_text format SUM_COLUMNS (decimal ranked.place ∷ decimal ranked.pair ∷ names ∷ signed_decimal ranked.value ∷ [])
 
 -- the row of a pair
-abbrev pub ranked_row : Format → Scoring → List Pair → Ranked → List ℕ
-ranked_row format MatchPoints pairs ranked = share_row format (pair_names pairs ranked.pair) ranked
-ranked_row format Imps pairs ranked = sum_row format (pair_names pairs ranked.pair) ranked
+abbrev pub ranked_row : Format → Scoring → Names → List Pair → Ranked → List ℕ
+ranked_row format MatchPoints names pairs ranked = share_row format (names_cell format names pairs ranked.pair) ranked
+ranked_row format Imps names pairs ranked = sum_row format (names_cell format names pairs ranked.pair) ranked
 
 -- the titles of a ranking
 abbrev pub ranked_titles : Format → Scoring → List ℕ
@@ -53,7 +54,7 @@ field_head format scoring field =
     ++ ranked_titles format scoring
 
 -- The ranking of a field: a sheet with a row for each pair, in order.
-abbrev pub field_text : Format → Scoring → List Pair → Field → List Ranked → List ℕ
-field_text format scoring pairs field ranking =
+abbrev pub field_text : Format → Scoring → Names → List Pair → Field → List Ranked → List ℕ
+field_text format scoring names pairs field ranking =
     field_head format scoring field
-    ++ (flat_map (ranked_row format scoring pairs) ranking ++ (table_end format ++ section_end format))
+    ++ (flat_map (ranked_row format scoring names pairs) ranking ++ (table_end format ++ section_end format))

@@ -1,5 +1,5 @@
 -- The results of a session as a page.
-use Rattle.std.specs.Prelude.{◌≡◌, ℕ, List, [], ◌∷◌, ◌++◌, codes, flat_map, Option, Result, IfSome, is_some}
+use Rattle.std.specs.Prelude.{◌≡◌, ℕ, List, [], ◌∷◌, ◌++◌, codes, flat_map, Option, None, Result, IfSome, is_some}
 use Rattle.std.specs.List.{range_with_len}
 use Rattle.std.specs.Option.{option_map_or}
 use Rattle.bridge_score.specs.declared.ranking.Ranked.{Ranked}
@@ -16,6 +16,7 @@ use Rattle.page_layout.specs.Page.{page_end, heading_text, section_start, sectio
 use Rattle.bridge_results.specs.declared.traveller.BoardLine.{BoardLine}
 use Rattle.bridge_results.specs.Traveller.{traveller}
 use Rattle.bridge_results.specs.ScoreCard.{score_card_of}
+use Rattle.bridge_results.specs.ShownPairs.{Names}
 use Rattle.bridge_results.specs.EventText.{event_text}
 use Rattle.bridge_results.specs.RankingText.{field_text}
 use Rattle.bridge_results.specs.BoardText.{board_text}
@@ -27,8 +28,9 @@ pub record IsFieldRanking (s : SessionValue) (field : Field) (ranking : Option (
   pub ranked : IfSome ranking (IsRankingOf s.configuration.scoring (lines_of s field))
 
 -- the text of a field, if there is such a field
-abbrev pub ranked_text : Format → ConfigValue → Field → Option (List Ranked) → List ℕ
-ranked_text format configuration field ranking = option_map_or (field_text format configuration.scoring configuration.pairs field) ranking []
+abbrev pub ranked_text : Format → Names → ConfigValue → Field → Option (List Ranked) → List ℕ
+ranked_text format names configuration field ranking =
+    option_map_or (field_text format configuration.scoring names configuration.pairs field) ranking []
 
 -- what begins a sheet of that heading
 abbrev pub sheet_head : Format → List ℕ → List ℕ
@@ -53,41 +55,54 @@ abbrev pub boards_text : Format → SessionValue → List ℕ
 boards_text format s = sheet_head format (codes "Boards") ++ (all_boards format s ++ section_end format)
 
 -- the card of a pair
-abbrev pub card_on : Format → SessionValue → ℕ → List ℕ
-card_on format s pair = score_card_text format s.configuration.scoring s.configuration.pairs pair (score_card_of s pair)
+abbrev pub card_on : Format → Names → SessionValue → ℕ → List ℕ
+card_on format names s pair =
+    score_card_text format s.configuration.scoring names s.configuration.pairs pair (score_card_of s pair)
 
 -- the cards of all pairs
-unfoldable pub all_cards : Format → SessionValue → List ℕ
-all_cards format s = flat_map (card_on format s) (range_with_len 1 s.configuration.movement.shape.pairs)
+unfoldable pub all_cards : Format → Names → SessionValue → List ℕ
+all_cards format names s = flat_map (card_on format names s) (range_with_len 1 s.configuration.movement.shape.pairs)
 
 -- the sheet of the score cards
-abbrev pub cards_text : Format → SessionValue → List ℕ
-cards_text format s = sheet_head format (codes "Score cards") ++ (all_cards format s ++ section_end format)
+abbrev pub cards_text : Format → Names → SessionValue → List ℕ
+cards_text format names s = sheet_head format (codes "Score cards") ++ (all_cards format names s ++ section_end format)
 
 -- the rankings of the fields
-abbrev pub rankings_text : Format → ConfigValue → Option (List Ranked) → Option (List Ranked) → List ℕ
-rankings_text format configuration first second =
-    ranked_text format configuration First first ++ ranked_text format configuration Second second
+abbrev pub rankings_text : Format → Names → ConfigValue → Option (List Ranked) → Option (List Ranked) → List ℕ
+rankings_text format names configuration first second =
+    ranked_text format names configuration First first ++ ranked_text format names configuration Second second
 
 -- the event and the rankings
-unfoldable pub front_text : Format → ConfigValue → Option (List Ranked) → Option (List Ranked) → List ℕ
-front_text format configuration first second =
-    event_text format configuration ++ rankings_text format configuration first second
+unfoldable pub front_text : Format → Names → ConfigValue → Option (List Ranked) → Option (List Ranked) → List ℕ
+front_text format names configuration first second =
+    event_text format configuration ++ rankings_text format names configuration first second
 
 -- the boards and the score cards, and the end of the page
-unfoldable pub sheets_text : Format → SessionValue → List ℕ
-sheets_text format s = boards_text format s ++ (cards_text format s ++ page_end format)
+unfoldable pub sheets_text : Format → Names → SessionValue → List ℕ
+sheets_text format names s = boards_text format s ++ (cards_text format names s ++ page_end format)
 
--- The page: the event, the rankings, the boards and the score cards.
+-- The page: the event, the rankings, the boards and the score cards, with the names of a list or the configuration's.
+abbrev pub named_page_text : Format → Names → SessionValue → Option (List Ranked) → Option (List Ranked) → List ℕ
+named_page_text format names s first second = front_text format names s.configuration first second ++ sheets_text format names s
+
+-- the page with the configuration's names
 abbrev pub page_text : Format → SessionValue → Option (List Ranked) → Option (List Ranked) → List ℕ
-page_text format s first second = front_text format s.configuration first second ++ sheets_text format s
+page_text format s first second = named_page_text format None s first second
 
--- the text is the page of the session's results, with the ranking of each field
+-- the text is the page of the session's results with these names, and with the ranking of each field
+abbrev pub IsNamedPageText : Format → Names → SessionValue → List ℕ → Type 0
+IsNamedPageText format names s text = (first second : Option (List Ranked)) × IsFieldRanking s First first × IsFieldRanking s Second second
+    × (text ≡ named_page_text format names s first second)
+
+-- and with the configuration's names
 abbrev pub IsPageText : Format → SessionValue → List ℕ → Type 0
-IsPageText format s text = (first second : Option (List Ranked)) × IsFieldRanking s First first × IsFieldRanking s Second second
-    × (text ≡ page_text format s first second)
+IsPageText format s text = IsNamedPageText format None s text
 
--- the writer took the page of the session's results, or at an error a prefix of it
+-- the writer took the page of the session's results with these names, or at an error a prefix of it
+abbrev pub WritesNamedPage : {E : Type 0} → Stream → Format → Names → SessionValue → Result (Unit {0}) E → Type 0
+WritesNamedPage writer format names s result = (first second : Option (List Ranked)) × IsFieldRanking s First first × IsFieldRanking s Second second
+    × Written writer (named_page_text format names s first second) result
+
+-- and with the configuration's names
 abbrev pub WritesPage : {E : Type 0} → Stream → Format → SessionValue → Result (Unit {0}) E → Type 0
-WritesPage writer format s result = (first second : Option (List Ranked)) × IsFieldRanking s First first × IsFieldRanking s Second second
-    × Written writer (page_text format s first second) result
+WritesPage writer format s result = WritesNamedPage writer format None s result

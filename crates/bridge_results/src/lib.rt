@@ -17,16 +17,15 @@ pub mod play;
 pub mod results;
 mod session_plays;
 pub mod sums;
+pub mod tables;
 pub mod traveller;
 
 pub use card::{CardLine, MOST_CARD_LINES, ScoreCard};
 pub use compare::Comparison;
 pub use frequency::{Frequencies, Frequency, frequencies};
-pub use pages::write_results;
+pub use pages::{write_results, write_results_with};
 pub use play::TablePlay;
 pub use results::Results;
 pub use sums::{a_score_card_adds_up_to_the_ranking, frequencies_count_the_scores};
+pub use tables::{write_plays_table, write_rankings_table};
 pub use traveller::{BoardLine, Traveller};
-
-#[cfg(test)]
-mod tests;

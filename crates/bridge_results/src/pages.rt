@@ -1,6 +1,6 @@
 //! The results of a session as a page, in plain text of at most 100 columns or in HTML.
-mod board;
-mod cells;
+pub mod board;
+pub mod cells;
 pub mod columns;
 mod diagram;
 mod event;
@@ -9,5 +9,6 @@ mod page;
 mod pair_card;
 mod ranking;
 mod sheets;
+mod shown;
 
-pub use page::write_results;
+pub use page::{write_results, write_results_with};

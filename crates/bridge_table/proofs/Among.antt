@@ -71,7 +71,7 @@ answer_there deals kept hands board seat at deed tied test same dealt =
 pub after_there : (deals : Deals) (kept : Record) (hands : List ℕ) (board : ℕ) (seat : Seat) (at : ℕ) (deed : Deed) → IsTiedIn deals kept → kept.board ≡ board → deal_on deals board ≡ Some hands → deed_answer kept.auction kept.play seat at deed ≡ Ok tt → IsAfter hands seat deed kept
 after_there deals kept hands board seat at deed tied same dealt ok =
     let there : hands_on deals kept.board ≡ hands = ap (λ b. unwrap_or (deal_on deals b) []) same ∙ ap (λ o. unwrap_or o []) dealt in
-    after_is kept.board kept.auction kept.play kept.ruling hands seat at deed (subst (λ h. IsTied h kept) there tied.tied) ok
+    after_is kept.board kept.auction kept.claims kept.play kept.ruling hands seat at deed (subst (λ h. IsTied h kept) there tied.tied) ok
 
 pub tied_after : (deals : Deals) (kept : Record) (hands : List ℕ) (board : ℕ) (seat : Seat) (deed : Deed) → kept.board ≡ board → deal_on deals board ≡ Some hands → IsAfter hands seat deed kept → IsTiedIn deals (after_deed hands seat deed kept)
 tied_after deals kept hands board seat deed same dealt after =

@@ -19,9 +19,9 @@ use Rattle.session_rules.specs.Correction.{ruling_by, ruling_answer}
 use Rattle.session_rules.specs.State.{Deals, deal_on, hands_on}
 use Rattle.session_rules.specs.Record.{PlainRecord, Course, course_of, play_of, is_done, is_ruled_out}
 
--- the play that is begun with those hands in that contract
-abbrev pub begun_with : List ℕ → Contract → PlayValue
-begun_with hands contract = record { hands = hands; contract = contract; cards = []; claims = 0; claim = None }
+-- the play that is begun with those hands in that contract, where so many claims were made before
+abbrev pub begun_with : List ℕ → ℕ → Contract → PlayValue
+begun_with hands claims contract = record { hands = hands; contract = contract; cards = []; claims = claims; claim = None }
 
 -- what contracts see of a record
 abbrev pub plain_of : Record → PlainRecord
@@ -29,7 +29,7 @@ plain_of kept = record {
   board = kept.board;
   calls = kept.auction.calls;
   cards = option_map_or (λ (play : PlayValue). play.cards) kept.play [];
-  claims = option_map_or (λ (play : PlayValue). play.claims) kept.play 0;
+  claims = option_map_or (λ (play : PlayValue). play.claims) kept.play kept.claims;
   claim = option_map_or (λ (play : PlayValue). play.claim) kept.play None;
   ruling = kept.ruling;
 }
@@ -55,11 +55,11 @@ after_play seat deed.Agree kept = record kept { play = option_map (λ (play : Pl
 after_play seat deed.Refuse kept = record kept { play = option_map without_claim kept.play }
 after_play seat (deed.Call call) kept = kept
 
--- the record after what a player did: a call may make a contract, in which the play of those hands begins
+-- the record after what a player did: a call may make a contract, in which the play of those hands begins with the claims made
 abbrev pub after_deed : List ℕ → Seat → Deed → Record → Record
 after_deed hands seat (deed.Call call) kept = record kept {
   auction = with_call kept.auction call;
-  play = option_map (begun_with hands) (contract_of kept.auction.dealer (kept.auction.calls ++ call ∷ []));
+  play = option_map (begun_with hands kept.claims) (contract_of kept.auction.dealer (kept.auction.calls ++ call ∷ []));
 }
 after_deed hands seat deed kept = after_play seat deed kept
 
@@ -78,7 +78,7 @@ board_kept kept = kept.board
 
 -- a record in which nothing has happened
 abbrev pub new_record : ℕ → Record
-new_record board = record { board = board; auction = record { dealer = dealer_of board; calls = [] }; play = None; ruling = None }
+new_record board = record { board = board; auction = record { dealer = dealer_of board; calls = [] }; claims = 0; play = None; ruling = None }
 
 -- the record after a ruling
 abbrev pub with_kept_ruling : Correction → Record → Record
@@ -95,7 +95,7 @@ abbrev pub less_in_play : Record → Option PlayValue → Record
 less_in_play kept None = record kept { auction = without_last_call kept.auction; play = None }
 less_in_play kept (Some play) =
     if is_some play.claim || nat_lt 0 (length play.cards) then record kept { play = Some (without_latest play) }
-    else record kept { auction = without_last_call kept.auction; play = None }
+    else record kept { auction = without_last_call kept.auction; claims = play.claims; play = None }
 
 -- the record less the latest thing done: the claim that stands or was agreed, the last card, or the last call
 abbrev pub less_latest_kept : Record → Record

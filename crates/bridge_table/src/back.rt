@@ -25,6 +25,9 @@ impl Record {
         ensures { self.new ≡ less_latest_kept self.old }
     {
         if !self.take_back_in_play() {
+            if let Some(play) = &self.play {
+                self.claims = play.claim_count();
+            }
             self.play = None;
             let _call = self.auction.take_back();
         }

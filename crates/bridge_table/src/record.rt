@@ -16,7 +16,7 @@ ghost use Rattle.session_rules.specs.declared.deed.Deed.TheVariants as deed;
 use crate::refusals::{call_result, card_result, claim_result, consent_result};
 use bridge_auction::{Auction, Call, Contract};
 use bridge_cards::{BoardNumber, Card, Deal, Seat, dealer};
-use bridge_play::Play;
+use bridge_play::{ClaimCount, Play};
 use bridge_score::Scoring;
 use session_rules::{Correction, Deed, MadeCount, Outcome, Refused, Ruling, TrickCount};
 
@@ -27,6 +27,8 @@ pub struct Record {
     pub board: BoardNumber,
     /// Its calls.
     pub auction: Auction,
+    /// How many claims were made in contracts of which a call was taken back.
+    pub claims: ClaimCount,
     /// Its cards and claims, once there is a contract.
     pub play: Option<Play>,
     /// The latest ruling, unless it was taken back.
@@ -52,6 +54,7 @@ impl Record {
         Record {
             board,
             auction: Auction::new(dealer(board)),
+            claims: ClaimCount::default(),
             play: None,
             ruling: None,
         }
@@ -161,10 +164,11 @@ impl Record {
         }
         let answer = call_result(self.auction.try_call(call));
         if answer.is_ok() {
+            let claims = self.claims;
             self.play = self
                 .auction
                 .contract()
-                .map(|contract| Play::new(deal, contract));
+                .map(|contract| Play::after_claims(deal, contract, claims));
         }
         answer
     }

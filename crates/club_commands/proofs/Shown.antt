@@ -15,7 +15,7 @@ use Rattle.table_server.specs.declared.line_set.LineSet.TheVariants.{Protocol, C
 use Rattle.web_loop.specs.Turns.{LeadsTo}
 use Rattle.web_requests.specs.Route.{route_for}
 use Rattle.web_requests.specs.declared.route.Route.{Route}
-use Rattle.web_requests.specs.declared.route.Route.TheVariants.{Page, TextsScript, SharedScript, TableScript, BoardsScript, DeskScript, DirectorScript, Style, Lines, Correct, Place, Tables, Boards, Results, Desk, Wait, Refused}
+use Rattle.web_requests.specs.declared.route.Route.TheVariants.{Page, TextsScript, SharedScript, TableScript, BoardsScript, DeskScript, DirectorScript, Style, Lines, Correct, Place, Tables, Boards, Results, Desk, Wait, Names, Refused}
 use Rattle.table_pages.specs.Answered.{AnswersLines, place_told, tables_told, wait_told, boards_told, desks_told}
 use Rattle.page_replies.specs.ToldResults.{results_told}
 use Rattle.table_pages.specs.declared.host_names.HostNames.{HostNames}
@@ -28,7 +28,9 @@ use Rattle.command_line.specs.declared.command.WebHost.{WebHost}
 use Rattle.club_commands.specs.Basis.{System, Store, DiskFault}
 use Rattle.club_commands.specs.declared.fault.SystemFault.TheVariants.{Clock}
 use Rattle.club_commands.specs.Ended.{Ended}
-use Rattle.club_commands.specs.Web.{host_at, alias_at, site_at, ended_by, IsUnshown, ShowsAt, ShowsOver, ShowsPages}
+use Rattle.club_commands.specs.Web.{host_at, alias_at, site_at, ended_by, IsUnshown, ShowsAt, ShowsWith, ShowsPages}
+use Rattle.bridge_results.specs.ShownPairs.{Names as Shown}
+use Rattle.evening_commands.specs.People.{people_text}
 
 module _ {D : Type 0} (disk : Disk D) where
   -- over one body of lines
@@ -39,25 +41,26 @@ module _ {D : Type 0} (disk : Disk D) where
   lines set false old body response new refused = same_store disk old new refused.1
 
   -- over one request
-  one : (texts : PageTexts) (route : Route) (old : StoreValue D SessionValue Action) (body : List ℕ) (response : Response) (new : StoreValue D SessionValue Action)
-      → Responds (AnswersLines disk) place_told tables_told wait_told boards_told desks_told results_told texts route old body response new → FailsWithDisk disk old new
-  one texts Page old body response new x = same_store disk old new x.1
-  one texts TextsScript old body response new x = same_store disk old new x.1
-  one texts SharedScript old body response new x = same_store disk old new x.1
-  one texts TableScript old body response new x = same_store disk old new x.1
-  one texts BoardsScript old body response new x = same_store disk old new x.1
-  one texts DeskScript old body response new x = same_store disk old new x.1
-  one texts DirectorScript old body response new x = same_store disk old new x.1
-  one texts Style old body response new x = same_store disk old new x.1
-  one texts Lines old body response new x = lines Protocol (nat_lt (length body) 65536) old body response new x
-  one texts Correct old body response new x = lines Corrections (nat_lt (length body) 65536) old body response new x
-  one texts Place old body response new x = same_store disk old new x.1
-  one texts Tables old body response new x = same_store disk old new x.1
-  one texts Boards old body response new x = same_store disk old new x.1
-  one texts Results old body response new x = same_store disk old new x.1
-  one texts Desk old body response new x = same_store disk old new x.1
-  one texts Wait old body response new x = same_store disk old new x.1
-  one texts (Refused why) old body response new x = same_store disk old new x.1
+  one : (texts : PageTexts) (people : List ℕ) (route : Route) (old : StoreValue D SessionValue Action) (body : List ℕ) (response : Response) (new : StoreValue D SessionValue Action)
+      → Responds (AnswersLines disk) place_told tables_told wait_told boards_told desks_told results_told texts people route old body response new → FailsWithDisk disk old new
+  one texts people Page old body response new x = same_store disk old new x.1
+  one texts people TextsScript old body response new x = same_store disk old new x.1
+  one texts people SharedScript old body response new x = same_store disk old new x.1
+  one texts people TableScript old body response new x = same_store disk old new x.1
+  one texts people BoardsScript old body response new x = same_store disk old new x.1
+  one texts people DeskScript old body response new x = same_store disk old new x.1
+  one texts people DirectorScript old body response new x = same_store disk old new x.1
+  one texts people Style old body response new x = same_store disk old new x.1
+  one texts people Lines old body response new x = lines Protocol (nat_lt (length body) 65536) old body response new x
+  one texts people Correct old body response new x = lines Corrections (nat_lt (length body) 65536) old body response new x
+  one texts people Place old body response new x = same_store disk old new x.1
+  one texts people Tables old body response new x = same_store disk old new x.1
+  one texts people Boards old body response new x = same_store disk old new x.1
+  one texts people Results old body response new x = same_store disk old new x.1
+  one texts people Desk old body response new x = same_store disk old new x.1
+  one texts people Wait old body response new x = same_store disk old new x.1
+  one texts people Names old body response new x = same_store disk old new x.1
+  one texts people (Refused why) old body response new x = same_store disk old new x.1
 
   module _ (site : Site) where
     -- over requests, one after another
@@ -65,7 +68,7 @@ module _ {D : Type 0} (disk : Disk D) where
         → Chain (Answering (AnswersLines disk) place_told tables_told wait_told boards_told desks_told results_told site) old calls new → FailsWithDisk disk old new
     all [] old new same = same_store disk old new same
     all (c ∷ calls) old new x =
-        fails_on disk old x.0 new (one site.texts (route_for site.host site.alias (head_of c.0)) old (body_of c.0) c.1 x.0 x.1) (all calls x.0 new x.2)
+        fails_on disk old x.0 new (one site.texts site.people (route_for site.host site.alias (head_of c.0)) old (body_of c.0) c.1 x.0 x.1) (all calls x.0 new x.2)
 
     -- pages were shown until an end, and the store works
     shows_pages : (start store : StoreValue D SessionValue Action) (ended : Ended)
@@ -98,16 +101,18 @@ pub on_ok : {A E P : Type 0} (r : Result A E) → P → OnOk r P
 on_ok (Ok x) p = p
 on_ok (Err e) p = tt
 
--- the site of pages that were made with the texts of the program and the names of the words
-pub made_site : (web : WebHost) (made texts : PageTexts) (used names : HostNames) → used ≡ names → made ≡ texts
-    → string_bytes names.host ≡ host_at web → string_bytes names.alias ≡ alias_at web → site_of made used ≡ site_at texts web
-made_site web made texts used names n t host alias = rw (n, t, host, alias) refl
+-- the site of pages that were made with the texts of the program, the names of the words and these lines
+pub made_site : (web : WebHost) (made texts : PageTexts) (used names : HostNames) (lines people : List ℕ) → used ≡ names → made ≡ texts
+    → lines ≡ people → string_bytes names.host ≡ host_at web → string_bytes names.alias ≡ alias_at web
+    → site_of made used lines ≡ site_at texts web people
+made_site web made texts used names lines people n t p host alias = rw (n, t, p, host, alias) refl
 
 -- pages were shown over a store at the site of the program and the words, and its disk is handed out
-pub shows_over : (texts : PageTexts) (web : WebHost) (site : Site) (start served last : ClubStore) (output : Stream) (ended handed : Ended) (left : ClubDisk)
-    → site ≡ site_at texts web → served ≡ start → handed ≡ ended → left ≡ last.disk
-    → ShowsAt (IsUnshown web) site served last output ended → Leads (ShowsOver texts web output handed) start left
-shows_over texts web site start served last output ended handed left p s is left_by shown =
+pub shows_over : (texts : PageTexts) (web : WebHost) (names : Shown) (site : Site) (start served last : ClubStore) (output : Stream) (ended handed : Ended) (left : ClubDisk)
+    → site ≡ site_at texts web (people_text names start.state.configuration.pairs) → served ≡ start → handed ≡ ended → left ≡ last.disk
+    → ShowsAt (IsUnshown web) site served last output ended → Leads (ShowsWith texts web output handed names) start left
+shows_over texts web names site start served last output ended handed left p s is left_by shown =
+    let at_site = site_at texts web (people_text names start.state.configuration.pairs) in
     let there = subst (λ (at : Site). ShowsAt (IsUnshown web) at served last output ended) p shown in
-    let over = subst (λ (first : ClubStore). ShowsAt (IsUnshown web) (site_at texts web) first last output ended) s there in
-    (last, left_by, subst (λ (way : Ended). ShowsAt (IsUnshown web) (site_at texts web) start last output way) (sym is) over)
+    let over = subst (λ (first : ClubStore). ShowsAt (IsUnshown web) at_site first last output ended) s there in
+    (last, left_by, subst (λ (way : Ended). ShowsAt (IsUnshown web) at_site start last output way) (sym is) over)

@@ -1,8 +1,9 @@
 -- How a command ends: what stands on its output then, and the line on standard error and the exit status that a fault has.
 use Rattle.std.specs.Prelude.{◌≡◌, ◌⊎◌, ◌++◌, ℕ, true, false, List, codes, Result, Err, IfErr, IsErrAnd}
 use Rattle.club_commands.specs.Basis.{Stream, Takes, TakesPrefix, Written, IsUntouched, Disk, Rose, StoreOn, decimal, StoreFault, TooSmall, DiskFault, NotFormatted, Damaged, EpochsSpent, NoMemory, ServeFault, Read, Write, RunFault, StreamFault, System, Config, Store}
-use Rattle.club_commands.specs.declared.fault.RunFault.TheVariants.{Evening}
+use Rattle.club_commands.specs.declared.fault.RunFault.TheVariants.{Evening, Makeable}
 use Rattle.evening_commands.specs.Fault.{config_line, evening_line}
+use Rattle.makeable_deals.specs.FaultLine.{makeable_line}
 
 -- how a command ended
 abbrev pub Ended : Type 0
@@ -48,6 +49,7 @@ fault_line (StreamFault fault) = stream_line fault
 fault_line (System fault) = stream_line Read
 fault_line (Config fault) = config_line fault
 fault_line (Evening fault) = evening_line fault
+fault_line (Makeable fault) = makeable_line fault
 fault_line (Store fault) = store_line fault
 
 -- the exit status at a fault: 4 where the disk holds no session, and 3 otherwise

@@ -1,11 +1,13 @@
--- How the commands `draft` and `slips` end.
-use Rattle.std.specs.Prelude.{◌≡◌, Ok, Err}
+-- How the commands `draft` and `slips` end, and `plan` with a list of names or without.
+use Rattle.std.specs.Prelude.{◌≡◌, ℕ, List, Option, None, Some, Ok, Err}
 use Rattle.command_line.specs.declared.command.DraftWords.{DraftWords}
 use Rattle.command_line.specs.declared.command.SlipWords.{SlipWords}
 use Rattle.evening_commands.specs.Evenings.{Drafts, Slips}
 use Rattle.evening_commands.specs.Fault.{Made}
+use Rattle.evening_commands.specs.Plans as named
 use Rattle.evening_commands.specs.TextFile.{OfFile}
-use Rattle.club_commands.specs.Basis.{Stream}
+use Rattle.club_commands.specs.Basis.{Bor, Stream}
+use Rattle.club_commands.specs.ConfigFile.{Plans}
 use Rattle.club_commands.specs.Ended.{Ended}
 use Rattle.club_commands.specs.declared.fault.RunFault.TheVariants.{Evening}
 
@@ -21,3 +23,8 @@ HasDrafted words output ended = (made : Made) × OfFile (Drafts words output mad
 -- the slips are written of the configuration in a file
 abbrev pub HasSlips : SlipWords → Stream → Ended → Type 0
 HasSlips words output ended = (made : Made) × OfFile (Slips words output made) × EndsAs made ended
+
+-- the plan of the configuration in a file is written, with its own names or those of a list in another file
+abbrev pub HasPlanned : Option (Bor (List ℕ)) → Stream → Ended → Type 0
+HasPlanned None output ended = OfFile (Plans output ended)
+HasPlanned (Some names) output ended = (made : Made) × OfFile (named.Plans output made) × EndsAs made ended

@@ -4,9 +4,13 @@ pub mod Basis
 pub mod Ended
 pub mod ConfigFile
 pub mod Evenings
+pub mod Listed
+pub mod MakeableDeals
 pub mod Results
+pub mod Exports
 pub mod Checked
 pub mod Serving
 pub mod Web
 pub mod Works
+pub mod Evening
 pub mod Run

@@ -1,8 +1,13 @@
 -- What the commands `rank`, `pbn` and `results` write, and how `results` leaves a disk.
-use Rattle.std.specs.Prelude.{◌≡◌, ◌⊎◌, ◌++◌, [], ℕ, Bool, if◌then◌else◌, List, map, codes, MatchBool}
+use Rattle.std.specs.Prelude.{◌≡◌, ◌⊎◌, ◌++◌, [], ℕ, Bool, if◌then◌else◌, List, length, map, codes, MatchBool}
 use Rattle.club_commands.specs.Basis.{Disk, header_in, Stream, Ranking, Games, RefusesReading, RefusesDisk, ClubDisk, Over, file_disk, SessionValue}
 use Rattle.club_commands.specs.declared.work.Told.{Told}
+use Rattle.bridge_results.specs.ResultsText.{IsNamedPageText}
+use Rattle.bridge_results.specs.ShownPairs.{Names}
 use Rattle.club_commands.specs.Ended.{Ended, Writes, IsRefusedFor}
+use Rattle.club_commands.specs.Listed.{RefusesList}
+use Rattle.evening_commands.specs.People.{fits}
+use Rattle.evening_commands.specs.declared.fault.EveningFault.TheVariants.{OtherPairs}
 use Rattle.club_disk.specs.Stored.{ReadsSession}
 use Rattle.bridge_score.specs.declared.ranking.Ranked.{Ranked}
 use Rattle.bridge_ranking.specs.declared.field.Field.{Field}
@@ -43,10 +48,19 @@ IsToldText Games s text = text ≡ session_text s
 abbrev pub Tells : (SessionValue → List ℕ → Type 0) → SessionValue → Stream → Ended → Type 0
 Tells IsText s output ended = (text : List ℕ) × IsText s text × Writes output text ended
 
--- the same of the session that was read of a disk, which it left so; or none was
-abbrev pub ReadsAndTells : {D : Type 0} → (SessionValue → List ℕ → Type 0) → Disk D → Stream → Ended → D → D → Type 0
-ReadsAndTells IsText disk output ended d left = IsRefusedFor (RefusesReading disk header_in d left) output ended
-    ⊎ ((s : SessionValue) × ReadsSession disk d left s × Tells IsText s output ended)
+-- the page of a session's results is written with these names; or that the list has another number of pairs, which is the fault
+abbrev pub TellsPage : Format → Names → SessionValue → Stream → Ended → Type 0
+TellsPage format names s output ended = MatchBool (fits names (length s.configuration.pairs))
+    (Tells (IsNamedPageText format names) s output ended) (RefusesList OtherPairs output ended)
+
+-- that was done with the session that was read of a disk, which it left so; or none was
+abbrev pub ReadsAnd : {D : Type 0} → (SessionValue → Stream → Ended → Type 0) → Disk D → Stream → Ended → D → D → Type 0
+ReadsAnd Does disk output ended d left = IsRefusedFor (RefusesReading disk header_in d left) output ended
+    ⊎ ((s : SessionValue) × ReadsSession disk d left s × Does s output ended)
+
+-- its page was written
+abbrev pub ReadsAndTells : {D : Type 0} → Format → Names → Disk D → Stream → Ended → D → D → Type 0
+ReadsAndTells format names disk output ended d left = ReadsAnd (TellsPage format names) disk output ended d left
 
 -- the same of the session that was opened on a disk, which is as opening left it; or none was
 abbrev pub TellsDisk : Told → Stream → Ended → ClubDisk → ClubDisk → Type 0

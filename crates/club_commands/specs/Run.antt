@@ -6,18 +6,22 @@ use Rattle.bridge_cards.specs.Board.{dealer_of}
 use Rattle.auction_command.specs.Heard.{AnswersAll, StopsAt}
 use Rattle.command_line.specs.Words.{club_app, AsksCommand}
 use Rattle.command_line.specs.declared.command.Command.{Command}
-use Rattle.command_line.specs.declared.command.Command.TheVariants.{Auction, Format, Script, Correct, Serve, Web, Rank, Pbn, Results, Check, Plan, Draft, Slips, Version}
+use Rattle.command_line.specs.declared.command.Command.TheVariants.{Auction, Format, Script, Correct, Serve, Web, Rank, Pbn, Results, Export, Check, Plan, Draft, Slips, Evening, Makeable, Version}
 use Rattle.command_line.specs.declared.command.WordsFault.{WordsFault}
 use Rattle.command_line.specs.declared.command.WordsFault.TheVariants.{Usage, Memory}
 use Rattle.table_pages.specs.declared.page_texts.PageTexts.{PageTexts}
 use Rattle.club_commands.specs.declared.release.TheConstants.{VERSION, KIT}
 use Rattle.table_server.specs.declared.line_set.LineSet.TheVariants.{Protocol, Corrections}
 use Rattle.club_commands.specs.declared.work.Service.TheVariants as service
+use Rattle.club_commands.specs.declared.work.Listed.TheVariants as listed
+use Rattle.club_commands.specs.declared.work.Misfit.TheVariants.{Refused}
 use Rattle.club_commands.specs.declared.work.Work.TheVariants as work
-use Rattle.club_commands.specs.ConfigFile.{OfFile, Plans}
-use Rattle.club_commands.specs.Evenings.{HasDrafted, HasSlips}
+use Rattle.club_commands.specs.Evening.{HasEvening}
+use Rattle.club_commands.specs.Evenings.{HasDrafted, HasPlanned, HasSlips}
+use Rattle.club_commands.specs.Listed.{WithList}
+use Rattle.club_commands.specs.MakeableDeals.{HasMade}
 use Rattle.club_commands.specs.Ended.{Ended, Writes, store_line, fault_line, fault_status}
-use Rattle.club_commands.specs.Works.{HasWorked, HasFormatted}
+use Rattle.club_commands.specs.Works.{HasWorked, HasFormatted, HasListed}
 
 -- the output of a board's auction is written for what was read of the input, all or up to a fault of the streams
 abbrev pub HoldsAuction : ℕ → Stream → Stream → Ended → Type 0
@@ -35,14 +39,17 @@ Runs texts (Format disk config) input output ended = HasFormatted input output e
 Runs texts (Script disk) input output ended = HasWorked input output ended (work.Serve (service.Input Protocol))
 Runs texts (Correct disk) input output ended = HasWorked input output ended (work.Serve (service.Input Corrections))
 Runs texts (Serve disk port count) input output ended = HasWorked input output ended (work.Serve (service.Connections port count))
-Runs texts (Web disk host minutes) input output ended = HasWorked input output ended (work.Serve (service.Pages texts host minutes))
+Runs texts (Web disk host minutes names) input output ended = WithList (HasListed (listed.Pages texts host minutes disk Refused)) names input output ended
 Runs texts (Rank disk) input output ended = HasWorked input output ended (work.Tell Ranking)
 Runs texts (Pbn disk) input output ended = HasWorked input output ended (work.Tell Games)
-Runs texts (Results disk html) input output ended = HasWorked input output ended (work.Results html)
+Runs texts (Results disk html names) input output ended = WithList (HasListed (listed.Results html)) names input output ended
+Runs texts (Export disk rankings) input output ended = HasWorked input output ended (work.Export rankings)
 Runs texts (Check disk) input output ended = HasWorked input output ended work.Check
-Runs texts (Plan config) input output ended = OfFile (Plans output ended) × IsUntouched input
+Runs texts (Plan config names) input output ended = HasPlanned names output ended × IsUntouched input
 Runs texts (Draft names wishes) input output ended = HasDrafted wishes output ended × IsUntouched input
 Runs texts (Slips config slips) input output ended = HasSlips slips output ended × IsUntouched input
+Runs texts (Evening words) input output ended = HasEvening texts words input output ended
+Runs texts (Makeable file pbn) input output ended = HasMade pbn output ended × IsUntouched input
 Runs texts Version input output ended = Writes output version_line ended × IsUntouched input
 
 -- How a command ended, and with which exit status: it was done, and nothing stands on standard error; or it stopped at a fault,

@@ -1,5 +1,5 @@
 -- What the command `web` does.
-use Rattle.std.specs.Prelude.{◌≡◌, ◌⊎◌, ◌++◌, ℕ, Bool, true, false, List, [], ◌∷◌, codes, Option, Some, None, Result, Ok, Err, IsErrAnd, IsSomeAnd, MatchOption}
+use Rattle.std.specs.Prelude.{◌≡◌, ◌⊎◌, ◌++◌, ℕ, Bool, true, false, List, [], ◌∷◌, codes, Option, Some, None, Result, Ok, Err, IsErrAnd, IsSomeAnd, MatchBool, MatchOption, length}
 use Rattle.club_commands.specs.Basis.{Bor, Stream, Takes, TakesPrefix, IsUntouched, Disk, file_disk, NoMemory, DiskFault, StoreOn, ClubStore, Write, RunFault, StreamFault, System, Store, Listener}
 use Rattle.std.specs.Net.Addr.{ipv4_octets}
 use Rattle.std.specs.Net.Grammar.{IsIpv4Text}
@@ -13,7 +13,13 @@ use Rattle.table_pages.specs.declared.page_texts.PageTexts.{PageTexts}
 use Rattle.table_pages.specs.Site.{Site}
 use Rattle.command_line.specs.declared.command.WebHost.{WebHost}
 use Rattle.club_commands.specs.declared.fault.SystemFault.TheVariants.{Address, Random, Clock}
+use Rattle.bridge_results.specs.ShownPairs.{Names}
 use Rattle.club_commands.specs.Ended.{Ended, EndsOver}
+use Rattle.club_commands.specs.Listed.{RefusesList}
+use Rattle.evening_commands.specs.People.{fits, people_text}
+use Rattle.evening_commands.specs.declared.fault.EveningFault.TheVariants.{OtherPairs}
+use Rattle.club_commands.specs.declared.work.Misfit.{Misfit}
+use Rattle.club_commands.specs.declared.work.Misfit.TheVariants.{Refused, LeftOut}
 
 -- what is given, or else that
 abbrev pub given_or : Option (Bor (List ℕ)) → List ℕ → List ℕ
@@ -32,9 +38,9 @@ host_at web = with_port (name_of web (codes "127.0.0.1")) web.port
 abbrev pub alias_at : WebHost → List ℕ
 alias_at web = name_of web (with_port (codes "localhost") web.port)
 
--- the pages of these texts, at these names
-abbrev pub site_at : PageTexts → WebHost → Site
-site_at texts web = record { texts = texts; host = host_at web; alias = alias_at web }
+-- the pages of these texts, at these names, with these lines of the players' names
+abbrev pub site_at : PageTexts → WebHost → List ℕ → Site
+site_at texts web people = record { texts = texts; host = host_at web; alias = alias_at web; people = people }
 
 -- the address to listen at, which is this computer's own where none is given
 abbrev pub IsAddress : Option (Bor (List ℕ)) → Option Ipv4Addr → Type 0
@@ -72,6 +78,19 @@ ShowsAt Why site start store output ended = (Takes output (listening_line site.h
     ⊎ ((TakesPrefix output (listening_line site.host) × (ended ≡ Err (StreamFault Write)) × (store ≡ start))
     ⊎ IsNoneShown Why start store output ended)
 
--- the same where the words say
-abbrev pub ShowsOver : PageTexts → WebHost → Stream → Ended → ClubStore → ClubStore → Type 0
-ShowsOver texts web output ended start store = ShowsAt (IsUnshown web) (site_at texts web) start store output ended
+-- over what pages are shown and where, and over what was written and how it ended
+module _ (texts : PageTexts) (web : WebHost) (output : Stream) (ended : Ended) where
+  -- the same where the words say, with the names of a list or none
+  abbrev pub ShowsWith : Names → ClubStore → ClubStore → Type 0
+  ShowsWith names start store =
+      ShowsAt (IsUnshown web) (site_at texts web (people_text names start.state.configuration.pairs)) start store output ended
+
+  -- where the list has another number of pairs that is said, and is the fault, and the store is as it was; or it is left out
+  abbrev pub ShowsOther : Misfit → ClubStore → ClubStore → Type 0
+  ShowsOther Refused start store = RefusesList OtherPairs output ended × (store ≡ start)
+  ShowsOther LeftOut start store = ShowsWith None start store
+
+  -- by whether it has as many pairs as the session
+  abbrev pub ShowsListed : Misfit → Names → ClubStore → ClubStore → Type 0
+  ShowsListed misfit names start store =
+      MatchBool (fits names (length start.state.configuration.pairs)) (ShowsWith names start store) (ShowsOther misfit start store)

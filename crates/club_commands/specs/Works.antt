@@ -6,20 +6,23 @@ use Rattle.sector_disk.specs.Runs.{Remains}
 use Rattle.session_store.specs.Layout.{sector_count}
 use Rattle.session_store.specs.Base.{HasEpoch}
 use Rattle.session_store.specs.Sound.{IsSoundDisk, StandsOnlyFor}
-use Rattle.bridge_results.specs.ResultsText.{IsPageText}
+use Rattle.bridge_results.specs.ShownPairs.{Names}
 use Rattle.club_disk.specs.declared.access.Access.{Access}
 use Rattle.club_disk.specs.declared.access.Access.TheVariants as access
 use Rattle.club_disk.specs.Stored.{Leads}
 use Rattle.club_commands.specs.declared.work.Service.{Service}
 use Rattle.club_commands.specs.declared.work.Service.TheVariants.{Input, Connections, Pages}
+use Rattle.club_commands.specs.declared.work.Listed.{Listed}
+use Rattle.club_commands.specs.declared.work.Listed.TheVariants as listed
 use Rattle.club_commands.specs.declared.work.Work.{Work}
-use Rattle.club_commands.specs.declared.work.Work.TheVariants.{Serve, Tell, Results, Check, Format}
+use Rattle.club_commands.specs.declared.work.Work.TheVariants.{Serve, Tell, Results, Export, Check, Format}
 use Rattle.club_commands.specs.Ended.{Ended, Writes}
 use Rattle.club_commands.specs.ConfigFile.{OfFile, Begins}
-use Rattle.club_commands.specs.Results.{page_format, ReadsAndTells, TellsDisk}
+use Rattle.club_commands.specs.Results.{page_format, Tells, ReadsAnd, ReadsAndTells, TellsDisk}
+use Rattle.club_commands.specs.Exports.{IsExportText}
 use Rattle.club_commands.specs.Checked.{Checks}
 use Rattle.club_commands.specs.Serving.{Scripts, ServesPort}
-use Rattle.club_commands.specs.Web.{ShowsOver}
+use Rattle.club_commands.specs.Web.{ShowsListed}
 
 -- how a disk is taken for a work
 abbrev pub access_of : Work → Access
@@ -50,7 +53,8 @@ module _ (input output : Stream) (ended : Ended) where
   abbrev pub Serves : Service → ClubStore → ClubStore → Type 0
   Serves (Input set) start last = Scripts file_disk set start last input output ended
   Serves (Connections port count) start last = ServesPort count start last ended × IsUntouched input × IsUntouched output
-  Serves (Pages texts host minutes) start last = ShowsOver texts host output ended start last × IsUntouched input
+  Serves (Pages texts host minutes disk misfit names) start last =
+      ShowsListed texts host output ended misfit names start last × IsUntouched input
 
   -- that is the fault, and nothing was read or written
   abbrev pub IsNothingDone : StoreFault → Type 0
@@ -70,7 +74,8 @@ module _ (input output : Stream) (ended : Ended) where
   abbrev pub Works : Work → ClubDisk → ClubDisk → Type 0
   Works (Serve service) d left = ServesDisk service d left
   Works (Tell told) d left = TellsDisk told output ended d left × IsUntouched input
-  Works (Results html) d left = ReadsAndTells (IsPageText (page_format html)) file_disk output ended d left × IsUntouched input
+  Works (Results html names) d left = ReadsAndTells (page_format html) names file_disk output ended d left × IsUntouched input
+  Works (Export rankings) d left = ReadsAnd (Tells (IsExportText rankings)) file_disk output ended d left × IsUntouched input
   Works Check d left = Checks file_disk d left output ended × IsUntouched input
   Works (Format session) d left = Formats d left session.now output ended × IsUntouched input
 
@@ -87,3 +92,12 @@ module _ (input output : Stream) (ended : Ended) where
   abbrev pub HasFormatted : Type 0
   HasFormatted = ((session : Bor SessionValue) × OfFile (Begins (Ok session.now)) × HasWorked (Format session))
       ⊎ ((fault : RunFault) × OfFile (Begins (Err fault)) × (ended ≡ Err fault) × IsUntouched input × IsUntouched output)
+
+-- what is done over a disk where names are shown
+abbrev pub work_with : Listed → Names → Work
+work_with (listed.Results html) names = Results html names
+work_with (listed.Pages texts host minutes disk misfit) names = Serve (Pages texts host minutes disk misfit names)
+
+-- that was done with these names
+abbrev pub HasListed : Listed → Names → Stream → Stream → Ended → Type 0
+HasListed asked names input output ended = HasWorked input output ended (work_with asked names)

@@ -1,6 +1,7 @@
 //! Why a command stops.
 use bridge_config::ConfigFault;
 use evening_commands::{EveningFault, NoRead};
+use makeable_deals::MakeableFault;
 use session_store::StoreFault;
 use table_server::ServeFault;
 
@@ -28,6 +29,8 @@ pub enum RunFault {
     Config(ConfigFault),
     /// No evening is made of a list of names, or no slips.
     Evening(EveningFault),
+    /// Not all of what deals could make was written.
+    Makeable(MakeableFault),
     /// The disk is refused or has failed, or memory is refused.
     Store(StoreFault),
 }

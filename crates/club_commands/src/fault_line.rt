@@ -1,10 +1,11 @@
 //! The line of standard error and the exit status that a fault has.
-ghost use Rattle.std.specs.Prelude.{◌≡◌, ◌≤◌, length};
+ghost use Rattle.std.specs.Prelude.{◌≡◌};
 ghost use Rattle.club_commands.specs.Ended.{stream_line, store_line, fault_line, fault_status};
 
 use crate::fault::RunFault;
-use evening_commands::{FAULT_LINE_BYTES, FaultLine, config_line, evening_line};
+use evening_commands::{FaultLine, config_line, evening_line, line_of};
 use itoa::Buffer;
+use makeable_deals::makeable_line;
 use session_store::StoreFault;
 use table_server::ServeFault;
 
@@ -26,6 +27,7 @@ pub fn fault_status(fault: RunFault) -> u8
         RunFault::System(_) => FAULT,
         RunFault::Config(_) => FAULT,
         RunFault::Evening(_) => FAULT,
+        RunFault::Makeable(_) => FAULT,
         RunFault::Store(fault) => store_status(fault),
     }
 }
@@ -49,18 +51,9 @@ pub fn fault_line(fault: RunFault) -> FaultLine
         RunFault::System(_) => line_of(SYSTEM_LINE),
         RunFault::Config(fault) => config_line(fault),
         RunFault::Evening(fault) => evening_line(fault),
+        RunFault::Makeable(fault) => makeable_line(fault),
         RunFault::Store(fault) => store_line(fault),
     }
-}
-
-/// The text as a line.
-fn line_of(text: &str) -> FaultLine
-    requires { length text.now ≤ FAULT_LINE_BYTES }
-    ensures { result.bytes ≡ text.now }
-{
-    let mut line = FaultLine::new();
-    line.push_str(text);
-    line
 }
 
 fn stream_line(fault: ServeFault) -> FaultLine

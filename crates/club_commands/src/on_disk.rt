@@ -9,6 +9,7 @@ ghost use Rattle.club_disk.specs.declared.access.Access.TheVariants.{Make};
 ghost use Rattle.club_commands.specs.Works.{access_of, Works, WorksFound, HasWorked};
 
 use crate::check::check_over;
+use crate::exports::export_over;
 use crate::fault::RunFault;
 use crate::formatting::format_disk;
 use crate::machine::{Host, Machine};
@@ -30,6 +31,7 @@ fn access_of(work: &Work<'_>) -> Access
         Work::Serve(_) => Access::Write,
         Work::Tell(_) => Access::Write,
         Work::Results { .. } => Access::Read,
+        Work::Export { .. } => Access::Read,
         Work::Check => Access::Read,
         Work::Format(_) => Access::Make,
     }
@@ -51,7 +53,8 @@ fn do_work<S: Host, R: Read, W: Write>(
     match *work {
         Work::Serve(service) => serve_over(rt, alloc, &service, disk, input, output),
         Work::Tell(told) => tell_over(alloc, told, disk, output),
-        Work::Results { html } => results_over(alloc, html, disk, output),
+        Work::Results { html, names } => results_over(alloc, html, names, disk, output),
+        Work::Export { rankings } => export_over(alloc, rankings, disk, output),
         Work::Check => check_over(alloc, disk, output),
         Work::Format(session) => format_disk(disk, session, output),
     }

@@ -2,17 +2,20 @@
 ghost use Rattle.std.specs.Prelude.{◌≡◌};
 ghost use Rattle.line_text.specs.Streams.{stream};
 ghost use Rattle.bridge_pbn.specs.Games.{session_text};
-ghost use Rattle.bridge_results.specs.ResultsText.{IsPageText};
-ghost use Rattle.club_commands.specs.Results.{field_heading, IsFieldText, IsRankingText, page_format, Tells, ReadsAndTells};
+ghost use Rattle.bridge_results.specs.ResultsText.{IsNamedPageText};
+ghost use Rattle.club_commands.specs.Results.{field_heading, IsFieldText, IsRankingText, page_format, Tells, TellsPage, ReadsAndTells};
 ghost use Rattle.club_commands.specs.Ended.{Writes};
 ghost use Rattle.sector_disk.specs.File.{file_disk};
 
 use crate::fault::RunFault;
+use crate::listed::refuse_list;
 use crate::output::write_output;
 use bridge_pbn::write_pbn;
-use bridge_results::write_results;
+use bridge_results::write_results_with;
 use bridge_session::{Field, Session};
 use club_disk::{ClubDisk, Left, read_disk};
+use evening_commands::{EveningFault, has_pairs};
+use evening_draft::PairNames;
 use page_layout::Format;
 use sector_disk::SectorDisk;
 use std::alloc::Global;
@@ -70,13 +73,34 @@ fn page_format(html: bool) -> Format
     if html { Format::Html } else { Format::Plain }
 }
 
-/// Writes the results as a page.
-pub fn write_page<W: Write>(session: &Session, html: bool, output: &mut W) -> Result<(), RunFault>
-    ensures { Tells (IsPageText (page_format html)) session.now (stream W.contents output.old output.new) result }
+/// Writes the results as a page, with these names or the configuration's.
+fn write_named<W: Write>(
+    session: &Session,
+    html: bool,
+    names: Option<&[PairNames]>,
+    output: &mut W,
+) -> Result<(), RunFault>
+    ensures { Tells (IsNamedPageText (page_format html) names.entry) session.now (stream W.contents output.old output.new) result }
 {
-    match write_results(session, page_format(html), output) {
+    match write_results_with(session, names, page_format(html), output) {
         Ok(()) => Ok(()),
         Err(_) => Err(RunFault::Stream(ServeFault::Write)),
+    }
+}
+
+/// The same; or that the list has another number of pairs, which is the fault.
+fn write_page<W: Write>(
+    session: &Session,
+    html: bool,
+    names: Option<&[PairNames]>,
+    output: &mut W,
+) -> Result<(), RunFault>
+    ensures { TellsPage (page_format html) names.entry session.now (stream W.contents output.old output.new) result }
+{
+    if has_pairs(names, session.config()) {
+        write_named(session, html, names, output)
+    } else {
+        refuse_list(EveningFault::OtherPairs, output)
     }
 }
 
@@ -84,14 +108,15 @@ pub fn write_page<W: Write>(session: &Session, html: bool, output: &mut W) -> Re
 fn tell_disk<D: SectorDisk, W: Write>(
     alloc: Global,
     html: bool,
+    names: Option<&[PairNames]>,
     disk: &mut D,
     output: &mut W,
 ) -> Result<(), RunFault>
-    ensures { ReadsAndTells (IsPageText (page_format html)) D.disk (stream W.contents output.old output.new) result
+    ensures { ReadsAndTells (page_format html) names.entry D.disk (stream W.contents output.old output.new) result
         disk.old disk.new }
 {
     match read_disk(alloc, disk) {
-        Ok(session) => write_page(&session, html, output),
+        Ok(session) => write_page(&session, html, names, output),
         Err(cause) => Err(RunFault::Store(cause)),
     }
 }
@@ -100,13 +125,14 @@ fn tell_disk<D: SectorDisk, W: Write>(
 pub fn results_over<W: Write>(
     alloc: Global,
     html: bool,
+    names: Option<&[PairNames]>,
     disk: ClubDisk,
     output: &mut W,
 ) -> Left<ClubDisk, RunFault>
-    ensures { ReadsAndTells (IsPageText (page_format html)) file_disk (stream W.contents output.old output.new) result.ended
+    ensures { ReadsAndTells (page_format html) names.entry file_disk (stream W.contents output.old output.new) result.ended
         disk result.disk }
 {
     let mut disk = disk;
-    let ended = tell_disk(alloc, html, &mut disk, output);
+    let ended = tell_disk(alloc, html, names, &mut disk, output);
     Left { disk, ended }
 }

@@ -4,22 +4,28 @@ ghost use Rattle.line_text.specs.Streams.{stream, TakesPrefix, IsUntouched};
 ghost use Rattle.line_replies.specs.declared.fault.ServeFault.TheVariants.{Read as ReadFault};
 ghost use Rattle.club_commands.specs.Ended.{stream_line, store_line, fault_line, fault_status};
 ghost use Rattle.club_commands.specs.Run.{HoldsAuction, Runs, EndsWith, RefusesWords, IsUsage, HasRun, HasFailed};
-ghost use Rattle.club_commands.specs.Works.{HasWorked};
-ghost use Rattle.club_commands.specs.declared.work.Service.TheVariants.{Input};
-ghost use Rattle.club_commands.specs.declared.work.Work.TheVariants.{Serve, Tell};
+ghost use Rattle.table_server.specs.declared.line_set.LineSet.TheVariants.{Corrections};
+ghost use Rattle.club_commands.specs.Listed.{WithList};
+ghost use Rattle.club_commands.specs.Works.{HasListed, HasWorked};
+ghost use Rattle.club_commands.specs.declared.work.Listed.TheVariants.{Pages as ListedPages, Results as ListedResults};
+ghost use Rattle.club_commands.specs.declared.work.Misfit.TheVariants.{Refused};
+ghost use Rattle.club_commands.specs.declared.work.Service.TheVariants.{Connections, Input};
+ghost use Rattle.club_commands.specs.declared.work.Work.TheVariants.{Export, Serve, Tell};
 
-use crate::evenings::{make_draft, make_slips};
+use crate::evening::run_evening;
+use crate::evenings::{make_draft, make_plan, make_slips};
 use crate::fault::RunFault;
 use crate::fault_line::{fault_line, fault_status};
 use crate::formatting::run_format;
+use crate::listed::run_listed;
 use crate::machine::Machine;
+use crate::makeable::write_makeable;
 use crate::on_disk::run_over;
-use crate::planning::run_plan;
 use crate::printable::Printable;
 use crate::version::run_version;
-use crate::work::{Service, Told, Work};
+use crate::work::{Listed, Misfit, Service, Told, Work};
 use bridge_cards::BoardNumber;
-use command_line::{Command, WordsFault, read_words};
+use command_line::{Command, WebHost, WordsFault, read_words};
 use line_text::write_text;
 use session_store::StoreFault;
 use std::alloc::Global;
@@ -42,8 +48,9 @@ const NOT_TEXT: &str = "a word of the command line is not UTF-8\n";
 ///
 /// 0: done. 2: the words are no command, or call for help; what clap says of them goes to `errors`, and no clause speaks of
 /// that text. At 3 and 4 `errors` takes the line that names the fault, or a prefix of it where it fails itself. 3: `cannot
-/// read input`, `cannot write output`, `config line N: Name`, `names line N: Name`, `evening: Name`, `disk fault`, `epochs spent` or `no memory`. 4: the disk holds
-/// no session, being `disk too small`, `not formatted` or `damaged sector N`.
+/// read input`, `cannot write output`, `config line N: Name`, `names line N: Name`, `evening: Name`, `deals line N: Name`,
+/// `deals: LongText`, `disk fault`, `epochs spent` or `no memory`. 4: the disk holds no session, being `disk too small`,
+/// `not formatted` or `damaged sector N`.
 pub fn run_words_with<S: Machine, R: Read, W: Write, E: Write>(
     rt: &S,
     alloc: Global,
@@ -117,35 +124,26 @@ fn do_command<S: Machine, R: Read, W: Write>(
         Command::Auction(board) => hold_auction(board, input, output),
         Command::Format { disk, config } => run_format(rt, alloc, disk, config, input, output),
         Command::Script { disk } => serve_set(rt, alloc, disk, LineSet::Protocol, input, output),
-        Command::Correct { disk } => serve_set(
-            rt,
-            alloc,
-            disk,
-            LineSet::Corrections,
-            input,
-            output,
-        ),
-        Command::Serve { disk, port, count } => {
-            let service = Service::Connections { port, count };
-            serve(rt, alloc, disk, service, input, output)
-        }
+        Command::Correct { disk } => correct(rt, alloc, disk, input, output),
+        Command::Serve { disk, port, count } => accept(rt, alloc, disk, port, count, input, output),
         Command::Web {
             disk,
             host,
             minutes,
-        } => {
-            let service = Service::pages(texts, host, minutes);
-            serve(rt, alloc, disk, service, input, output)
-        }
+            names,
+        } => show_tables(rt, alloc, texts, disk, host, minutes, names, input, output),
         Command::Rank { disk } => tell(rt, alloc, disk, Told::Ranking, input, output),
         Command::Pbn { disk } => tell(rt, alloc, disk, Told::Games, input, output),
-        Command::Results { disk, html } => {
-            run_over(rt, alloc, disk, &Work::Results { html }, input, output)
-        }
+        Command::Results { disk, html, names } => write_page(
+            rt, alloc, disk, html, names, input, output,
+        ),
+        Command::Export { disk, rankings } => export(rt, alloc, disk, rankings, input, output),
         Command::Check { disk } => run_over(rt, alloc, disk, &Work::Check, input, output),
-        Command::Plan { config } => run_plan(rt, config, output),
+        Command::Plan { config, names } => make_plan(rt, config, names, output),
         Command::Draft { names, wishes } => make_draft(rt, names, &wishes, output),
         Command::Slips { config, slips } => make_slips(rt, config, &slips, output),
+        Command::Evening(words) => run_evening(rt, alloc, texts, &words, input, output),
+        Command::Makeable { file, pbn } => write_makeable(rt, alloc, pbn, file, output),
         Command::Version => run_version(output),
     }
 }
@@ -163,6 +161,94 @@ fn serve_set<S: Machine, R: Read, W: Write>(
         (Serve (Input set)) }
 {
     serve(rt, alloc, disk, Service::Input(set), input, output)
+}
+
+/// The same with corrections.
+fn correct<S: Machine, R: Read, W: Write>(
+    rt: &S,
+    alloc: Global,
+    disk: &str,
+    input: &mut R,
+    output: &mut W,
+) -> Result<(), RunFault>
+    ensures { HasWorked (stream R.remaining input.old input.new) (stream W.contents output.old output.new) result
+        (Serve (Input Corrections)) }
+{
+    serve_set(rt, alloc, disk, LineSet::Corrections, input, output)
+}
+
+/// The same with the lines of so many connections.
+fn accept<S: Machine, R: Read, W: Write>(
+    rt: &S,
+    alloc: Global,
+    disk: &str,
+    port: u16,
+    count: u16,
+    input: &mut R,
+    output: &mut W,
+) -> Result<(), RunFault>
+    ensures { HasWorked (stream R.remaining input.old input.new) (stream W.contents output.old output.new) result
+        (Serve (Connections port count)) }
+{
+    let service = Service::Connections { port, count };
+    serve(rt, alloc, disk, service, input, output)
+}
+
+/// Opens the session that the disk in a file holds, and shows its tables to browsers, with the names of a list where one is given.
+fn show_tables<S: Machine, R: Read, W: Write>(
+    rt: &S,
+    alloc: Global,
+    texts: PageTexts,
+    disk: &str,
+    host: WebHost<'_>,
+    minutes: u16,
+    names: Option<&str>,
+    input: &mut R,
+    output: &mut W,
+) -> Result<(), RunFault>
+    ensures { WithList (HasListed (ListedPages texts host.entry minutes disk.entry Refused)) names.entry
+        (stream R.remaining input.old input.new) (stream W.contents output.old output.new) result }
+{
+    let pages = Listed::Pages {
+        texts,
+        host,
+        minutes,
+        disk,
+        misfit: Misfit::Refused,
+    };
+    run_listed(rt, alloc, disk, &pages, names, input, output)
+}
+
+/// Reads the session that the disk in a file holds, and writes its results as a page, with the names of a list likewise.
+fn write_page<S: Machine, R: Read, W: Write>(
+    rt: &S,
+    alloc: Global,
+    disk: &str,
+    html: bool,
+    names: Option<&str>,
+    input: &mut R,
+    output: &mut W,
+) -> Result<(), RunFault>
+    ensures { WithList (HasListed (ListedResults html)) names.entry (stream R.remaining input.old input.new)
+        (stream W.contents output.old output.new) result }
+{
+    let page = Listed::Results { html };
+    run_listed(rt, alloc, disk, &page, names, input, output)
+}
+
+/// Reads it, and writes its rankings or its plays as comma-separated values.
+fn export<S: Machine, R: Read, W: Write>(
+    rt: &S,
+    alloc: Global,
+    disk: &str,
+    rankings: bool,
+    input: &mut R,
+    output: &mut W,
+) -> Result<(), RunFault>
+    ensures { HasWorked (stream R.remaining input.old input.new) (stream W.contents output.old output.new) result
+        (Export rankings) }
+{
+    run_over(rt, alloc, disk, &Work::Export { rankings }, input, output)
 }
 
 /// Opens the session that the disk in a file holds, and answers lines over it.

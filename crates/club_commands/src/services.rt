@@ -10,10 +10,11 @@ use crate::fault::{RunFault, SystemFault};
 use crate::machine::Host;
 use crate::script::serve_store;
 use crate::serving::serve_connections;
-use crate::web::show_over;
+use crate::web::{Shown, show_over};
 use crate::work::Service;
 use bridge_endings::Cache;
 use club_disk::{ClubDisk, ClubStore, Left, open_session, with_disk};
+use desk_replies::Desk;
 use session_store::StoreFault;
 use std::alloc::{AllocError, Global};
 use std::io::{self, Read, Write};
@@ -79,7 +80,20 @@ fn serve_with<S: Host, R: Read, W: Write>(
             texts,
             host,
             minutes,
-        } => show_over(rt, alloc, texts, &host, minutes, store, cache, output),
+            disk,
+            misfit,
+            names,
+        } => {
+            let desk = Desk::new(60 * u32::from(minutes), disk);
+            let shown = Shown {
+                texts,
+                host,
+                minutes,
+                misfit,
+                names,
+            };
+            show_over(rt, alloc, &shown, store, cache, desk, output)
+        }
     }
 }
 

@@ -1,23 +1,29 @@
 //! Pages for browsers, as the command `web` shows them.
-ghost use Rattle.std.specs.Prelude.{◌≡◌, [], false, string_bytes, OnOk, IfErr};
+ghost use Rattle.std.specs.Prelude.{◌≡◌, ◌≤◌, [], false, length, string_bytes, OnOk, IfOk, IfErr, IfSome};
 ghost use Rattle.line_text.specs.Streams.{stream};
 ghost use Rattle.table_pages.specs.Site.{site_of};
 ghost use Rattle.club_commands.specs.declared.fault.RunFault.TheVariants.{System};
 ghost use Rattle.club_commands.specs.declared.fault.SystemFault.TheVariants.{Random};
 ghost use Rattle.club_disk.specs.Stored.{Leads};
-ghost use Rattle.club_commands.specs.Web.{listening_line, ended_by, ShowsPages, IsNoneShown, ShowsAt, IsUnshown, ShowsOver};
+ghost use Rattle.evening_commands.specs.People.{people_text};
+ghost use Rattle.club_commands.specs.Web.{listening_line, ended_by, ShowsPages, IsNoneShown, ShowsAt, IsUnshown, ShowsWith, ShowsOther, ShowsListed};
 
 use crate::fault::{RunFault, SystemFault};
+use crate::listed::refuse_list;
 use crate::listening::{listen_at, listening_line, names_of};
 use crate::machine::Host;
 use crate::output::write_output;
+use crate::work::Misfit;
 use bridge_endings::Cache;
 use bridge_session::Session;
 use club_disk::{ClubDisk, ClubStore, Left, with_disk};
 use command_line::WebHost;
+use desk_replies::Desk;
+use evening_commands::{EveningFault, has_pairs, people_text};
+use evening_draft::PairNames;
 use sector_disk::SectorDisk;
 use session_store::{Store, StoreFault};
-use std::alloc::Global;
+use std::alloc::{AllocError, Global};
 use std::hash::RandomState;
 use std::io::{self, Write};
 use std::net::{Net, TcpListener, TcpStream};
@@ -53,7 +59,7 @@ pub fn show_pages<
     minutes: u16,
 ) -> Result<(), RunFault>
     requires { pages.old.server.failed ≡ false }
-    ensures { ShowsPages D.disk (site_of pages.old.texts pages.old.names) pages.old.server pages.new.server result }
+    ensures { ShowsPages D.disk (site_of pages.old.texts pages.old.names pages.old.people.items) pages.old.server pages.new.server result }
 {
     let shown = show_minutes(rt, alloc, keys, listener, pages, minutes);
     ended(pages.server().has_failed(), shown)
@@ -72,7 +78,7 @@ fn show_heard<N: Host, W: Write, K: Seconds>(
 ) -> Result<(), RunFault>
     requires works { pages.old.server.failed ≡ false }
     requires line { line.now ≡ listening_line (string_bytes pages.old.names.host) }
-    ensures heard { OnOk found (ShowsAt (λ fault. fault ≡ System Random) (site_of pages.old.texts pages.old.names)
+    ensures heard { OnOk found (ShowsAt (λ fault. fault ≡ System Random) (site_of pages.old.texts pages.old.names pages.old.people.items)
         pages.old.server pages.new.server (stream W.contents output.old output.new) result) }
     ensures unheard { IfErr found (λ refused. IsNoneShown (λ fault. fault ≡ refused)
         pages.old.server pages.new.server (stream W.contents output.old output.new) result) }
@@ -95,19 +101,22 @@ fn listen_and_show<N: Host, W: Write, K: Seconds>(
 ) -> Result<(), RunFault>
     requires works { pages.old.server.failed ≡ false }
     requires line { line.now ≡ listening_line (string_bytes pages.old.names.host) }
-    ensures { ShowsAt (IsUnshown host.now) (site_of pages.old.texts pages.old.names)
+    ensures { ShowsAt (IsUnshown host.now) (site_of pages.old.texts pages.old.names pages.old.people.items)
         pages.old.server pages.new.server (stream W.contents output.old output.new) result }
 {
     show_heard(rt, alloc, listen_at(rt, host), minutes, line, pages, output)
 }
 
-/// The pages of these texts over a store, by this clock, where players are told of other tables or not.
+/// The pages of these texts over a store, by this clock, with the lines of the players' names and what stands beside its session,
+/// where players are told of other tables or not.
 fn pages_over<K: Seconds>(
     alloc: Global,
     names: HostNames,
     texts: PageTexts,
+    people: Vec<u8>,
     store: ClubStore,
     cache: Cache,
+    desk: Desk,
     open_boards: bool,
     clock: K,
 ) -> TablePages<ClubStore, K>
@@ -116,38 +125,143 @@ fn pages_over<K: Seconds>(
     ensures server { result.server ≡ store }
     ensures names { result.names ≡ names }
     ensures texts { result.texts ≡ texts }
+    ensures people { result.people ≡ people }
     ensures open { result.is_open ≡ open_boards }
+    ensures desk { result.desk ≡ desk }
 {
-    let mut pages = TablePages::new(alloc, names, texts, store, cache, clock);
+    let mut pages = TablePages::new(alloc, names, texts, store, cache, desk, clock);
+    pages.show_names(people);
     if open_boards {
         pages.open_boards();
     }
     pages
 }
 
-/// Shows pages for so many minutes over a store, and hands its disk out.
-pub fn show_over<N: Host, W: Write>(
+/// What pages are shown, where, for how many minutes, and with which names in place of the configuration's.
+#[derive(Clone, Copy)]
+pub struct Shown<'a> {
+    /// What the pages are.
+    pub texts: PageTexts,
+    /// Where they are shown.
+    pub host: WebHost<'a>,
+    /// For how many minutes, from 1 to 1440.
+    pub minutes: u16,
+    /// What comes of a list with another number of pairs.
+    pub misfit: Misfit,
+    /// The names of a list.
+    pub names: Option<&'a [PairNames]>,
+}
+
+/// The lines that tell the names of the players of a store's session.
+fn people_of(
+    alloc: Global,
+    names: Option<&[PairNames]>,
+    store: &ClubStore,
+) -> Result<Vec<u8>, AllocError>
+    requires { IfSome names (λ names. length names.now ≤ 24) }
+    ensures { IfOk result (λ people. people.items ≡ people_text names.entry store.now.state.configuration.pairs) }
+{
+    let fields = store.state().config().fields();
+    people_text(alloc, names, fields.pairs.as_slice())
+}
+
+/// Shows pages over a store, with what stands beside its session, and hands its disk out.
+fn show_named<N: Host, W: Write>(
     rt: &N,
     alloc: Global,
-    texts: PageTexts,
-    host: &WebHost<'_>,
-    minutes: u16,
+    shown: &Shown<'_>,
     store: ClubStore,
     cache: Cache,
+    desk: Desk,
     output: &mut W,
 ) -> Left<ClubDisk, RunFault>
     requires works { store.failed ≡ false }
     requires none_pending { store.pending ≡ [] }
-    ensures { Leads (ShowsOver texts host.now (stream W.contents output.old output.new) result.ended) store result.disk }
+    requires few { IfSome shown.now.names (λ names. length names.now ≤ 24) }
+    ensures { Leads (ShowsWith shown.now.texts shown.now.host (stream W.contents output.old output.new) result.ended shown.now.names)
+        store result.disk }
 {
-    let Ok(names) = names_of(alloc, host) else {
+    let Ok(names) = names_of(alloc, &shown.host) else {
         return with_disk(store, Err(RunFault::Store(StoreFault::NoMemory)));
     };
     let Ok(line) = listening_line(alloc, names.host()) else {
         return with_disk(store, Err(RunFault::Store(StoreFault::NoMemory)));
     };
+    let Ok(people) = people_of(alloc, shown.names, &store) else {
+        return with_disk(store, Err(RunFault::Store(StoreFault::NoMemory)));
+    };
     let clock = ServerClock::new(rt);
-    let mut pages = pages_over(alloc, names, texts, store, cache, host.open_boards, clock);
-    let ended = listen_and_show(rt, alloc, host, minutes, line.as_str(), &mut pages, output);
+    let open = shown.host.open_boards;
+    let mut pages = pages_over(
+        alloc,
+        names,
+        shown.texts,
+        people,
+        store,
+        cache,
+        desk,
+        open,
+        clock,
+    );
+    let ended = listen_and_show(
+        rt,
+        alloc,
+        &shown.host,
+        shown.minutes,
+        line.as_str(),
+        &mut pages,
+        output,
+    );
     with_disk(pages.into_server(), ended)
+}
+
+/// The same where the list has another number of pairs than the session: it is refused, or left out.
+fn show_misfit<N: Host, W: Write>(
+    rt: &N,
+    alloc: Global,
+    shown: &Shown<'_>,
+    store: ClubStore,
+    cache: Cache,
+    desk: Desk,
+    output: &mut W,
+) -> Left<ClubDisk, RunFault>
+    requires works { store.failed ≡ false }
+    requires none_pending { store.pending ≡ [] }
+    ensures { Leads (ShowsOther shown.now.texts shown.now.host (stream W.contents output.old output.new) result.ended shown.now.misfit)
+        store result.disk }
+{
+    match shown.misfit {
+        Misfit::Refused => {
+            let ended = refuse_list(EveningFault::OtherPairs, output);
+            with_disk(store, ended)
+        }
+        Misfit::LeftOut => {
+            let own = Shown {
+                names: None,
+                ..*shown
+            };
+            show_named(rt, alloc, &own, store, cache, desk, output)
+        }
+    }
+}
+
+/// Shows pages for so many minutes over a store, with what stands beside its session, and hands its disk out.
+pub fn show_over<N: Host, W: Write>(
+    rt: &N,
+    alloc: Global,
+    shown: &Shown<'_>,
+    store: ClubStore,
+    cache: Cache,
+    desk: Desk,
+    output: &mut W,
+) -> Left<ClubDisk, RunFault>
+    requires works { store.failed ≡ false }
+    requires none_pending { store.pending ≡ [] }
+    ensures { Leads (ShowsListed shown.now.texts shown.now.host (stream W.contents output.old output.new) result.ended
+        shown.now.misfit shown.now.names) store result.disk }
+{
+    if has_pairs(shown.names, store.state().config()) {
+        return show_named(rt, alloc, shown, store, cache, desk, output);
+    }
+    show_misfit(rt, alloc, shown, store, cache, desk, output)
 }

@@ -1,9 +1,10 @@
 //! What commands do over a disk in a file.
 ghost use Rattle.std.specs.Prelude.{◌≡◌};
-ghost use Rattle.club_commands.specs.declared.work.Service.TheVariants.{Pages};
+ghost use Rattle.club_commands.specs.Works.{work_with};
 
 use bridge_session::Session;
 use command_line::WebHost;
+use evening_draft::PairNames;
 use table_pages::PageTexts;
 use table_server::LineSet;
 
@@ -27,18 +28,68 @@ pub enum Service<'a> {
         host: WebHost<'a>,
         /// For how many minutes, from 1 to 1440.
         minutes: u16,
+        /// The name of the disk's file, which the director is told.
+        disk: &'a str,
+        /// What comes of a list with another number of pairs.
+        misfit: Misfit,
+        /// The names that are shown, in place of the configuration's.
+        names: Option<&'a [PairNames]>,
     },
 }
 
-impl<'a> Service<'a> {
-    /// To browsers, by pages of these texts, shown there for so many minutes.
-    pub fn pages(texts: PageTexts, host: WebHost<'a>, minutes: u16) -> Service<'a>
-        ensures { result ≡ Pages texts host.entry minutes }
+/// What comes of a list of names with another number of pairs than the session has.
+#[derive(Clone, Copy, Debug, PartialEq, Eq)]
+pub enum Misfit {
+    /// It is refused.
+    Refused,
+    /// It is left out, and the configuration's names are shown.
+    LeftOut,
+}
+
+/// What is done over a disk where names may be shown in place of the configuration's.
+#[derive(Clone, Copy, Debug)]
+pub enum Listed<'a> {
+    /// The results of its session are written as a page.
+    Results {
+        /// Whether the page is of HTML, and not of plain text.
+        html: bool,
+    },
+    /// Its session is opened, and browsers are shown pages.
+    Pages {
+        /// What the pages are.
+        texts: PageTexts,
+        /// Where the pages are shown.
+        host: WebHost<'a>,
+        /// For how many minutes, from 1 to 1440.
+        minutes: u16,
+        /// The name of the disk's file, which the director is told.
+        disk: &'a str,
+        /// What comes of a list with another number of pairs.
+        misfit: Misfit,
+    },
+}
+
+impl<'a> Listed<'a> {
+    /// The same with these names.
+    pub fn with(&self, names: Option<&'a [PairNames]>) -> Work<'a>
+        ensures { result ≡ work_with self.now names.entry }
     {
-        Service::Pages {
-            texts,
-            host,
-            minutes,
+        match *self {
+            Listed::Results { html } => Work::Results { html, names },
+            Listed::Pages {
+                texts,
+                host,
+                minutes,
+                disk,
+                misfit,
+            } => Work::Serve(Service::Pages {
+                texts,
+                host,
+                minutes,
+                disk,
+                misfit,
+                names,
+            }),
         }
     }
 }
@@ -63,6 +114,13 @@ pub enum Work<'a> {
     Results {
         /// Whether the page is of HTML, and not of plain text.
         html: bool,
+        /// The names that are shown, in place of the configuration's.
+        names: Option<&'a [PairNames]>,
+    },
+    /// Its session is read, and written as comma-separated values.
+    Export {
+        /// Whether these are the rankings, and not the plays.
+        rankings: bool,
     },
     /// What it holds is said.
     Check,

@@ -7,7 +7,7 @@ use std::os::unix::fs::OpenOptionsExt;
 use std::rt::Files;
 
 /// The permission bits of a disk's file that is made: a disk holds the keys of all players.
-const OWNER_ONLY: u32 = 0o600;
+pub const OWNER_ONLY: u32 = 0o600;
 
 /// The file, opened and locked for as long as it is kept. The fault of a file that cannot be had, or that another run has
 /// locked, is that of the disk.

@@ -13,10 +13,12 @@ mod disk_lock;
 mod disk_types;
 mod handing_out;
 mod moving_aside;
+mod own_file;
 mod stored_session;
 
 pub use access::{Access, lock_for, locked_disk};
 pub use disk_lock::{lock, lock_to_read};
 pub use disk_types::{ClubDisk, ClubStore};
 pub use handing_out::{Left, let_go, with_disk};
+pub use own_file::new_file;
 pub use stored_session::{open_session, read_disk};

@@ -41,7 +41,7 @@ fn is_spare<S: Files<File = File>>(rt: &S, alloc: Global, disk: &str, file: &Fil
 
 /// Gives a file the first name that is free among `NAME.1`, `NAME.2` and so on, in place of its own: no file that is there is
 /// written over. At an error it has its name.
-fn move_aside<S: Files<File = File>>(rt: &S, alloc: Global, name: &str) -> io::Result<()> {
+pub fn move_aside<S: Files<File = File>>(rt: &S, alloc: Global, name: &str) -> io::Result<()> {
     for number in 1..=u16::MAX {
         let aside = format!(in alloc; "{name}.{number}")?;
         match rt.hard_link(name, aside.as_str()) {

@@ -126,7 +126,7 @@ fn words_of(alloc: Global, text: &str) -> Result<Vec<&str>, AllocError> {
 
 /// Each command with its words. Numbers are taken from the least to the most, a sign and zeros before them too, and the
 /// options before, between and behind the other words.
-const COMMANDS: [&str; 28] = [
+const COMMANDS: [&str; 35] = [
     "auction 1",
     "auction 36",
     "auction +7",
@@ -142,18 +142,25 @@ const COMMANDS: [&str; 28] = [
     "web club.disk 4000 --name club.test 60",
     "web club.disk 4000 60 --name=b --address=a",
     "web --open-boards club.disk 4000 60",
+    "web club.disk 4000 60 --names names.txt",
     "rank club.disk",
     "pbn club.disk",
     "results club.disk",
     "results club.disk --html",
     "results --html club.disk",
+    "results club.disk --names names.txt --html",
     "check club.disk",
     "plan club.txt",
+    "plan --names names.txt club.txt",
     "draft names.txt",
     "draft names.txt --movement howell --boards 36 --scoring imp --event A --site B --date 2026.03.14 --seed 0f",
     "draft --boards=1 names.txt",
     "slips club.txt",
     "slips club.txt --names names.txt --address http://a:1 --text",
+    "makeable deals.pbn",
+    "makeable deals.pbn --pbn",
+    "export club.disk",
+    "export club.disk --rankings",
     "version",
 ];
 
@@ -168,7 +175,7 @@ fn words_of_commands_are_taken(rt: HostRuntime) -> Result<(), Fail> {
 }
 
 /// Words, and behind `: ` how what is written of them begins.
-const OTHER_WORDS: [&str; 25] = [
+const OTHER_WORDS: [&str; 26] = [
     "format club.disk: error: the following required arguments were not provided:\n  <CONFIG>\n",
     "rank: error: the following required arguments were not provided:\n  <DISK>\n",
     "auction: error: the following required arguments were not provided:\n  <BOARD>\n",
@@ -188,6 +195,7 @@ const OTHER_WORDS: [&str; 25] = [
     "web club.disk 4000 1 --address a --address b: error: the argument '--address <IP>' cannot be used multiple times\n",
     "auction 0: error: invalid value '0' for '<BOARD>': 0 is not in 1..=36\n",
     "auction 37: error: invalid value '37' for '<BOARD>': 37 is not in 1..=36\n",
+    "rank club.disk --names a: error: unexpected argument '--names' found\n",
     "draft: error: the following required arguments were not provided:\n  <NAMES>\n",
     "draft a --boards 37: error: invalid value '37' for '--boards <N>': 37 is not in 1..=36\n",
     "auctions 1: error: unrecognized subcommand 'auctions'\n",

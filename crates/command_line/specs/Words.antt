@@ -7,10 +7,11 @@ use Rattle.clap.specs.Words.{App, Row, Rule, Text, new_app, new_rule, with_rule,
 use Rattle.clap.specs.declared.builder.action.ArgAction.TheVariants.{SetTrue}
 use Rattle.clap.specs.declared.builder.value_parser.ValueParser.TheVariants as parser
 use Rattle.command_line.specs.declared.command.Command.{Command}
-use Rattle.command_line.specs.declared.command.Command.TheVariants.{Auction, Format, Script, Correct, Serve, Web, Rank, Pbn, Results, Check, Plan, Draft, Slips, Version}
+use Rattle.command_line.specs.declared.command.Command.TheVariants.{Auction, Format, Script, Correct, Serve, Web, Rank, Pbn, Results, Check, Plan, Draft, Slips, Evening, Makeable, Export, Version}
 use Rattle.command_line.specs.declared.command.WebHost.{WebHost}
 use Rattle.command_line.specs.declared.command.DraftWords.{DraftWords}
 use Rattle.command_line.specs.declared.command.SlipWords.{SlipWords}
+use Rattle.command_line.specs.declared.command.EveningWords.{EveningWords}
 use Rattle.command_line.specs.declared.command.WordsFault.{WordsFault}
 use Rattle.command_line.specs.declared.command.WordsFault.TheVariants.{Usage, Memory}
 
@@ -86,9 +87,13 @@ flag_rule name = record (new_rule name) { long = Some name; action = Some SetTru
 abbrev pub open_boards_rule : Rule
 open_boards_rule = flag_rule (codes "open-boards")
 
+-- the option `--names NAMES`
+abbrev pub names_option_rule : Rule
+names_option_rule = option_rule (codes "names")
+
 -- with those options and that flag or without
 abbrev pub web_app : App
-web_app = with_rule (with_rule (with_rule plain_web_app address_rule) name_rule) open_boards_rule
+web_app = with_rule (with_rule (with_rule (with_rule plain_web_app address_rule) name_rule) open_boards_rule) names_option_rule
 
 -- the command `rank DISK`
 abbrev pub rank_app : App
@@ -102,17 +107,17 @@ pbn_app = disk_app (codes "pbn")
 abbrev pub html_rule : Rule
 html_rule = flag_rule (codes "html")
 
--- the command `results DISK`, with that flag or without
+-- the command `results DISK`, with that flag and that option or without
 abbrev pub results_app : App
-results_app = with_rule (disk_app (codes "results")) html_rule
+results_app = with_rule (with_rule (disk_app (codes "results")) html_rule) names_option_rule
 
 -- the command `check DISK`
 abbrev pub check_app : App
 check_app = disk_app (codes "check")
 
--- the command `plan CONFIG`
+-- the command `plan CONFIG`, with that option or without
 abbrev pub plan_app : App
-plan_app = with_rule (new_app (codes "plan")) config_rule
+plan_app = with_rule (with_rule (new_app (codes "plan")) config_rule) names_option_rule
 
 -- the argument NAMES, which is required
 abbrev pub names_rule : Rule
@@ -155,10 +160,6 @@ plain_draft_app =
 abbrev pub draft_app : App
 draft_app = with_rule (with_rule (with_rule (with_rule plain_draft_app event_rule) site_rule) date_rule) seed_rule
 
--- the option `--names NAMES`
-abbrev pub names_option_rule : Rule
-names_option_rule = option_rule (codes "names")
-
 -- the option `--address URL`
 abbrev pub url_rule : Rule
 url_rule = option_rule (codes "address")
@@ -171,6 +172,43 @@ text_rule = flag_rule (codes "text")
 abbrev pub slips_app : App
 slips_app =
     with_rule (with_rule (with_rule (with_rule (new_app (codes "slips")) config_rule) names_option_rule) url_rule) text_rule
+
+-- the command `evening NAMES DISK PORT MINUTES`
+abbrev pub plain_evening_app : App
+plain_evening_app =
+    with_rule (with_rule (with_rule (with_rule (new_app (codes "evening")) names_rule) disk_rule) port_rule) minutes_rule
+
+-- with what is played
+abbrev pub played_evening_app : App
+played_evening_app = with_rule (with_rule (with_rule plain_evening_app movement_rule) boards_rule) scoring_rule
+
+-- with the other options of `draft` or without
+abbrev pub wished_evening_app : App
+wished_evening_app = with_rule (with_rule (with_rule (with_rule played_evening_app event_rule) site_rule) date_rule) seed_rule
+
+-- and with those of `web` or without
+abbrev pub evening_app : App
+evening_app = with_rule (with_rule (with_rule wished_evening_app address_rule) name_rule) open_boards_rule
+
+-- the argument FILE, which is required
+abbrev pub file_rule : Rule
+file_rule = record (new_rule (codes "FILE")) { required = true }
+
+-- the flag `--pbn`
+abbrev pub pbn_rule : Rule
+pbn_rule = flag_rule (codes "pbn")
+
+-- the command `makeable FILE`, with that flag or without
+abbrev pub makeable_app : App
+makeable_app = with_rule (with_rule (new_app (codes "makeable")) file_rule) pbn_rule
+
+-- the flag `--rankings`
+abbrev pub rankings_rule : Rule
+rankings_rule = flag_rule (codes "rankings")
+
+-- the command `export DISK`, with that flag or without
+abbrev pub export_app : App
+export_app = with_rule (disk_app (codes "export")) rankings_rule
 
 -- the command `version`
 abbrev pub version_app : App
@@ -188,7 +226,7 @@ bare_app = record named_app { top = record named_app.top { no_binary_name = true
 abbrev pub command_apps : List App
 command_apps =
     auction_app ∷ format_app ∷ script_app ∷ serve_app ∷ web_app ∷ rank_app ∷ pbn_app ∷ results_app ∷ check_app ∷ plan_app
-    ∷ correct_app ∷ draft_app ∷ slips_app ∷ version_app ∷ []
+    ∷ correct_app ∷ draft_app ∷ slips_app ∷ evening_app ∷ makeable_app ∷ export_app ∷ version_app ∷ []
 
 -- a program with these commands, one after another
 abbrev pub with_commands : App → List App → App
@@ -235,6 +273,11 @@ abbrev pub HasSlips : List Row → SlipWords → Type 0
 HasSlips rows slips = HasOption rows (codes "names") slips.names
     × HasOption rows (codes "address") slips.address × HasFlag rows (codes "text") slips.text
 
+-- the list, the disk, the options of `draft`, and the arguments of `web`
+abbrev pub HasEvening : List Row → EveningWords → Type 0
+HasEvening rows words = HasText rows (codes "NAMES") words.names.now × HasText rows (codes "DISK") words.disk.now
+    × HasWishes rows words.wishes × HasHost rows words.host × HasNumber 16 rows (codes "MINUTES") words.minutes
+
 -- the arguments are those of a command
 abbrev pub HasWords : List Row → Command → Type 0
 HasWords rows (Auction board) = HasNumber 8 rows (codes "BOARD") board
@@ -243,15 +286,19 @@ HasWords rows (Script disk) = HasText rows (codes "DISK") disk.now
 HasWords rows (Correct disk) = HasText rows (codes "DISK") disk.now
 HasWords rows (Serve disk port count) = HasText rows (codes "DISK") disk.now
     × HasNumber 16 rows (codes "PORT") port × HasNumber 16 rows (codes "COUNT") count
-HasWords rows (Web disk host minutes) = HasText rows (codes "DISK") disk.now
-    × HasHost rows host × HasNumber 16 rows (codes "MINUTES") minutes
+HasWords rows (Web disk host minutes names) = HasText rows (codes "DISK") disk.now
+    × HasHost rows host × HasNumber 16 rows (codes "MINUTES") minutes × HasOption rows (codes "names") names
 HasWords rows (Rank disk) = HasText rows (codes "DISK") disk.now
 HasWords rows (Pbn disk) = HasText rows (codes "DISK") disk.now
-HasWords rows (Results disk html) = HasText rows (codes "DISK") disk.now × HasFlag rows (codes "html") html
+HasWords rows (Results disk html names) = HasText rows (codes "DISK") disk.now × HasFlag rows (codes "html") html
+    × HasOption rows (codes "names") names
 HasWords rows (Check disk) = HasText rows (codes "DISK") disk.now
-HasWords rows (Plan config) = HasText rows (codes "CONFIG") config.now
+HasWords rows (Plan config names) = HasText rows (codes "CONFIG") config.now × HasOption rows (codes "names") names
 HasWords rows (Draft names wishes) = HasText rows (codes "NAMES") names.now × HasWishes rows wishes
 HasWords rows (Slips config slips) = HasText rows (codes "CONFIG") config.now × HasSlips rows slips
+HasWords rows (Evening words) = HasEvening rows words
+HasWords rows (Makeable file pbn) = HasText rows (codes "FILE") file.now × HasFlag rows (codes "pbn") pbn
+HasWords rows (Export disk rankings) = HasText rows (codes "DISK") disk.now × HasFlag rows (codes "rankings") rankings
 HasWords rows Version = Unit {0}
 
 -- the name of a command
@@ -261,14 +308,17 @@ name_of (Format disk config) = codes "format"
 name_of (Script disk) = codes "script"
 name_of (Correct disk) = codes "correct"
 name_of (Serve disk port count) = codes "serve"
-name_of (Web disk host minutes) = codes "web"
+name_of (Web disk host minutes names) = codes "web"
 name_of (Rank disk) = codes "rank"
 name_of (Pbn disk) = codes "pbn"
-name_of (Results disk html) = codes "results"
+name_of (Results disk html names) = codes "results"
 name_of (Check disk) = codes "check"
-name_of (Plan config) = codes "plan"
+name_of (Plan config names) = codes "plan"
 name_of (Draft names wishes) = codes "draft"
 name_of (Slips config slips) = codes "slips"
+name_of (Evening words) = codes "evening"
+name_of (Makeable file pbn) = codes "makeable"
+name_of (Export disk rankings) = codes "export"
 name_of Version = codes "version"
 
 -- the command of that name, with these arguments

@@ -1,7 +1,7 @@
 //! The arguments of the commands, as they are declared to clap.
 ghost use Rattle.std.specs.Prelude.{◌≡◌, false};
 ghost use Rattle.clap.specs.Words.{rule_of};
-ghost use Rattle.command_line.specs.Words.{board_rule, disk_rule, config_rule, port_rule, count_rule, minutes_rule, address_rule, name_rule, open_boards_rule, html_rule};
+ghost use Rattle.command_line.specs.Words.{board_rule, disk_rule, config_rule, file_rule, port_rule, count_rule, minutes_rule, address_rule, name_rule, open_boards_rule, html_rule, rankings_rule, pbn_rule};
 
 use clap::builder::ValueParser;
 use clap::{Arg, ArgAction};
@@ -28,6 +28,28 @@ pub fn html_argument<'a>(alloc: Global) -> Arg<'a>
         .action(ArgAction::SetTrue)
 }
 
+/// The flag `--rankings`.
+pub fn rankings_argument<'a>(alloc: Global) -> Arg<'a>
+    ensures rule { rule_of result ≡ rankings_rule }
+    ensures local { result.global ≡ false }
+{
+    Arg::new(alloc, "rankings")
+        .long("rankings")
+        .help("The rankings in place of the plays")
+        .action(ArgAction::SetTrue)
+}
+
+/// The flag `--pbn`.
+pub fn pbn_argument<'a>(alloc: Global) -> Arg<'a>
+    ensures rule { rule_of result ≡ pbn_rule }
+    ensures local { result.global ≡ false }
+{
+    Arg::new(alloc, "pbn")
+        .long("pbn")
+        .help("As the file's own games, with tags for them")
+        .action(ArgAction::SetTrue)
+}
+
 /// The argument CONFIG.
 pub fn config_argument<'a>(alloc: Global) -> Arg<'a>
     ensures rule { rule_of result ≡ config_rule }
@@ -35,6 +57,16 @@ pub fn config_argument<'a>(alloc: Global) -> Arg<'a>
 {
     Arg::new(alloc, "CONFIG")
         .help("The file with the configuration")
+        .required(true)
+}
+
+/// The argument FILE.
+pub fn file_argument<'a>(alloc: Global) -> Arg<'a>
+    ensures rule { rule_of result ≡ file_rule }
+    ensures local { result.global ≡ false }
+{
+    Arg::new(alloc, "FILE")
+        .help("The file with the deals")
         .required(true)
 }
 

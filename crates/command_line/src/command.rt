@@ -33,8 +33,8 @@ pub enum Command<'a> {
         /// COUNT, from 1 to 1000.
         count: u16,
     },
-    /// `web DISK PORT MINUTES [--address IP] [--name HOST] [--open-boards]`: pages for browsers, for so many minutes, over the
-    /// session that a disk holds.
+    /// `web DISK PORT MINUTES [--address IP] [--name HOST] [--open-boards] [--names NAMES]`: pages for browsers, for so many
+    /// minutes, over the session that a disk holds.
     Web {
         /// DISK, the name of the disk's file.
         disk: &'a str,
@@ -42,6 +42,8 @@ pub enum Command<'a> {
         host: WebHost<'a>,
         /// MINUTES, from 1 to 1440.
         minutes: u16,
+        /// The file with the names as people write them, in place of the configuration's names.
+        names: Option<&'a str>,
     },
     /// `rank DISK`: the ranking of each field of the session that a disk holds.
     Rank {
@@ -53,22 +55,27 @@ pub enum Command<'a> {
         /// DISK, the name of the disk's file.
         disk: &'a str,
     },
-    /// `results DISK`: the results of the session that a disk holds, as a page of text, or with `--html` of HTML.
+    /// `results DISK [--html] [--names NAMES]`: the results of the session that a disk holds, as a page of text, or with `--html`
+    /// of HTML.
     Results {
         /// DISK, the name of the disk's file.
         disk: &'a str,
         /// Whether `--html` is among the words.
         html: bool,
+        /// The file with the names as people write them, in place of the configuration's names.
+        names: Option<&'a str>,
     },
     /// `check DISK`: what a disk holds, in words, or where it is damaged and what its older snapshot holds.
     Check {
         /// DISK, the name of the disk's file.
         disk: &'a str,
     },
-    /// `plan CONFIG`: the evening that the configuration in a file plans, in words, or what is wrong with it.
+    /// `plan CONFIG [--names NAMES]`: the evening that the configuration in a file plans, in words, or what is wrong with it.
     Plan {
         /// CONFIG, the name of the configuration's file.
         config: &'a str,
+        /// The file with the names as people write them, in place of the configuration's names.
+        names: Option<&'a str>,
     },
     /// `draft NAMES [--movement mitchell|howell] [--boards N] [--scoring mp|imp] [--event TEXT] [--site TEXT] [--date DATE]
     /// [--seed HEX]`: the configuration of an evening for the pairs in a list of names.
@@ -84,6 +91,24 @@ pub enum Command<'a> {
         config: &'a str,
         /// How slips are written.
         slips: SlipWords<'a>,
+    },
+    /// `evening NAMES DISK PORT MINUTES` with the options of `draft` and `web`: pages for browsers over the session that a disk
+    /// holds, and where it holds none over that of an evening that is made for the pairs in a list of names.
+    Evening(EveningWords<'a>),
+    /// `makeable FILE`: what each deal of a text in Portable Bridge Notation could make, and its par, as lines of numbers or with
+    /// `--pbn` as tags in the text.
+    Makeable {
+        /// FILE, the name of the text's file.
+        file: &'a str,
+        /// Whether `--pbn` is among the words.
+        pbn: bool,
+    },
+    /// `export DISK`: the plays of the session that a disk holds, or with `--rankings` its rankings, as comma-separated values.
+    Export {
+        /// DISK, the name of the disk's file.
+        disk: &'a str,
+        /// Whether `--rankings` is among the words.
+        rankings: bool,
     },
     /// `version`: the program's name, its version, and the kit that proved it.
     Version,
@@ -130,6 +155,21 @@ pub struct SlipWords<'a> {
     pub address: Option<&'a str>,
     /// Whether `--text` is among the words.
     pub text: bool,
+}
+
+/// What the command `evening` is given.
+#[derive(Clone, Copy, Debug, PartialEq, Eq)]
+pub struct EveningWords<'a> {
+    /// NAMES, the name of the list's file.
+    pub names: &'a str,
+    /// DISK, the name of the disk's file.
+    pub disk: &'a str,
+    /// What is wished of the evening.
+    pub wishes: DraftWords<'a>,
+    /// Where the pages are shown.
+    pub host: WebHost<'a>,
+    /// MINUTES, from 1 to 1440.
+    pub minutes: u16,
 }
 
 /// Why the words ask for no command.

@@ -2,13 +2,15 @@
 ghost use Rattle.std.specs.Prelude.{◌≡◌, IfOk, false};
 ghost use Rattle.clap.specs.Words.{app_of, shape_of};
 ghost use Rattle.clap.specs.declared.builder.command.Command.TheViews.{out-Command as fields_of};
-ghost use Rattle.command_line.specs.Words.{auction_app, format_app, script_app, serve_app, plain_web_app, web_app, rank_app, pbn_app, results_app, check_app, plan_app, correct_app, bare_app, version_app, club_app};
+ghost use Rattle.command_line.specs.Words.{auction_app, format_app, script_app, serve_app, plain_web_app, web_app, rank_app, pbn_app, results_app, check_app, plan_app, correct_app, bare_app, makeable_app, export_app, version_app, club_app};
 
 use crate::arguments::{
     address_argument, board_argument, config_argument, count_argument, disk_argument,
-    html_argument, minutes_argument, name_argument, open_boards_argument, port_argument,
+    file_argument, html_argument, minutes_argument, name_argument, open_boards_argument,
+    pbn_argument, port_argument, rankings_argument,
 };
-use crate::evening_declaration::{draft_command, slips_command};
+use crate::evening_arguments::names_option;
+use crate::evening_declaration::{draft_command, evening_command, slips_command};
 use std::alloc::{AllocError, Global};
 
 /// The program's command line: its commands, in the order in which the usage lists them.
@@ -29,6 +31,9 @@ pub fn club_command<'a>(alloc: Global) -> Result<clap::Command<'a>, AllocError>
         .subcommand(correct_command(alloc)?)?
         .subcommand(draft_command(alloc)?)?
         .subcommand(slips_command(alloc)?)?
+        .subcommand(evening_command(alloc)?)?
+        .subcommand(makeable_command(alloc)?)?
+        .subcommand(export_command(alloc)?)?
         .subcommand(version_command(alloc))
 }
 
@@ -98,7 +103,7 @@ fn serve_command<'a>(alloc: Global) -> Result<clap::Command<'a>, AllocError>
         .arg(count_argument(alloc))
 }
 
-/// The command `web DISK PORT MINUTES`, with an address or none, a name or none, and with the boards open or not.
+/// The command `web DISK PORT MINUTES`, with an address, a name and a list of names or none, and with the boards open or not.
 fn web_command<'a>(alloc: Global) -> Result<clap::Command<'a>, AllocError>
     ensures shape { IfOk result (λ command. shape_of command ≡ web_app.top) }
     ensures local { IfOk result (λ command. (fields_of command).has_globals ≡ false) }
@@ -106,7 +111,8 @@ fn web_command<'a>(alloc: Global) -> Result<clap::Command<'a>, AllocError>
     plain_web_command(alloc)?
         .arg(address_argument(alloc))?
         .arg(name_argument(alloc))?
-        .arg(open_boards_argument(alloc))
+        .arg(open_boards_argument(alloc))?
+        .arg(names_option(alloc))
 }
 
 /// The command `web DISK PORT MINUTES`.
@@ -141,7 +147,7 @@ fn pbn_command<'a>(alloc: Global) -> Result<clap::Command<'a>, AllocError>
         .arg(disk_argument(alloc))
 }
 
-/// The command `results DISK`, or `results DISK --html`.
+/// The command `results DISK`, with `--html` or without, and with a list of names or none.
 fn results_command<'a>(alloc: Global) -> Result<clap::Command<'a>, AllocError>
     ensures shape { IfOk result (λ command. shape_of command ≡ results_app.top) }
     ensures local { IfOk result (λ command. (fields_of command).has_globals ≡ false) }
@@ -149,7 +155,8 @@ fn results_command<'a>(alloc: Global) -> Result<clap::Command<'a>, AllocError>
     clap::Command::new(alloc, "results")
         .about("Prints the rankings, travellers and score cards of the session on a disk")
         .arg(disk_argument(alloc))?
-        .arg(html_argument(alloc))
+        .arg(html_argument(alloc))?
+        .arg(names_option(alloc))
 }
 
 /// The command `check DISK`.
@@ -162,14 +169,37 @@ fn check_command<'a>(alloc: Global) -> Result<clap::Command<'a>, AllocError>
         .arg(disk_argument(alloc))
 }
 
-/// The command `plan CONFIG`.
+/// The command `plan CONFIG`, with a list of names or none.
 fn plan_command<'a>(alloc: Global) -> Result<clap::Command<'a>, AllocError>
     ensures shape { IfOk result (λ command. shape_of command ≡ plan_app.top) }
     ensures local { IfOk result (λ command. (fields_of command).has_globals ≡ false) }
 {
     clap::Command::new(alloc, "plan")
         .about("Says in words what a configuration plans, or what is wrong with it; makes nothing")
-        .arg(config_argument(alloc))
+        .arg(config_argument(alloc))?
+        .arg(names_option(alloc))
+}
+
+/// The command `makeable FILE`, or `makeable FILE --pbn`.
+fn makeable_command<'a>(alloc: Global) -> Result<clap::Command<'a>, AllocError>
+    ensures shape { IfOk result (λ command. shape_of command ≡ makeable_app.top) }
+    ensures local { IfOk result (λ command. (fields_of command).has_globals ≡ false) }
+{
+    clap::Command::new(alloc, "makeable")
+        .about("Prints how many tricks each declarer takes on each deal of a file, and par")
+        .arg(file_argument(alloc))?
+        .arg(pbn_argument(alloc))
+}
+
+/// The command `export DISK`, or `export DISK --rankings`.
+fn export_command<'a>(alloc: Global) -> Result<clap::Command<'a>, AllocError>
+    ensures shape { IfOk result (λ command. shape_of command ≡ export_app.top) }
+    ensures local { IfOk result (λ command. (fields_of command).has_globals ≡ false) }
+{
+    clap::Command::new(alloc, "export")
+        .about("Prints the plays of the session on a disk as comma-separated values")
+        .arg(disk_argument(alloc))?
+        .arg(rankings_argument(alloc))
 }
 
 /// The command `version`.

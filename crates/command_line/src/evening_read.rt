@@ -1,10 +1,10 @@
-//! Reads the words of `draft` and `slips`.
+//! Reads the words of `draft`, `slips` and `evening`.
 ghost use Rattle.std.specs.Prelude.{IfSome, codes};
 ghost use Rattle.clap.specs.Words.{rows_of, found_of};
-ghost use Rattle.command_line.specs.Words.{HasNumber, HasText, HasWishes, HasSlips, IsNamed};
+ghost use Rattle.command_line.specs.Words.{HasNumber, HasText, HasWishes, HasSlips, HasEvening, IsNamed};
 
-use crate::command::{Command, DraftWords, SlipWords};
-use crate::read::{has_flag, option_of};
+use crate::command::{Command, DraftWords, EveningWords, SlipWords};
+use crate::read::{has_flag, host_of, number_of, option_of};
 use clap::ArgMatches;
 
 /// The text that an argument is.
@@ -69,4 +69,30 @@ pub fn slips_of<'a>(found: &ArgMatches<'a>) -> Option<Command<'a>>
     let config = text_of(found, "CONFIG")?;
     let slips = slip_words_of(found);
     Some(Command::Slips { config, slips })
+}
+
+/// What the command `evening` is given.
+fn evening_words_of<'a>(found: &ArgMatches<'a>) -> Option<EveningWords<'a>>
+    ensures { IfSome result (HasEvening (rows_of (found_of found.now))) }
+{
+    let names = text_of(found, "NAMES")?;
+    let disk = text_of(found, "DISK")?;
+    let wishes = wishes_of(found)?;
+    let host = host_of(found)?;
+    let minutes = number_of(found, "MINUTES")?;
+    Some(EveningWords {
+        names,
+        disk,
+        wishes,
+        host,
+        minutes,
+    })
+}
+
+/// The command `evening` with its list, its disk and its options.
+pub fn evening_of<'a>(found: &ArgMatches<'a>) -> Option<Command<'a>>
+    ensures { IfSome result (IsNamed (codes "evening") (rows_of (found_of found.now))) }
+{
+    let words = evening_words_of(found)?;
+    Some(Command::Evening(words))
 }

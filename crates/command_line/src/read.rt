@@ -5,7 +5,7 @@ ghost use Rattle.command_line.specs.Words.{HasNumber, HasFlag, HasOption, HasHos
 
 use crate::command::{Command, WebHost, WordsFault};
 use crate::declaration::club_command;
-use crate::evening_read::{draft_of, slips_of};
+use crate::evening_read::{draft_of, evening_of, slips_of};
 use bridge_cards::BoardNumber;
 use clap::ArgMatches;
 use clap::error::ErrorKind;
@@ -53,6 +53,9 @@ fn asked<'a>(matches: &ArgMatches<'a>) -> Option<Command<'a>>
         ("correct", found) => correct_of(found),
         ("draft", found) => draft_of(found),
         ("slips", found) => slips_of(found),
+        ("evening", found) => evening_of(found),
+        ("makeable", found) => makeable_of(found),
+        ("export", found) => export_of(found),
         ("version", _) => Some(Command::Version),
         // clap's checks leave no other name. The contract allows the answer of memory refused alone here.
         _ => None,
@@ -102,22 +105,24 @@ fn serve_of<'a>(found: &ArgMatches<'a>) -> Option<Command<'a>>
     Some(Command::Serve { disk, port, count })
 }
 
-/// The command `web` with its disk and its numbers.
+/// The command `web` with its disk, its numbers and its list of names.
 fn web_of<'a>(found: &ArgMatches<'a>) -> Option<Command<'a>>
     ensures { IfSome result (IsNamed (codes "web") (rows_of (found_of found.now))) }
 {
     let disk = found.get_str("DISK")?;
     let host = host_of(found)?;
     let minutes = number_of(found, "MINUTES")?;
+    let names = option_of(found, "names");
     Some(Command::Web {
         disk,
         host,
         minutes,
+        names,
     })
 }
 
 /// Where pages are shown, by which name, and how they begin.
-fn host_of<'a>(found: &ArgMatches<'a>) -> Option<WebHost<'a>>
+pub fn host_of<'a>(found: &ArgMatches<'a>) -> Option<WebHost<'a>>
     ensures { IfSome result (HasHost (rows_of (found_of found.now))) }
 {
     let port = number_of(found, "PORT")?;
@@ -140,7 +145,7 @@ pub fn option_of<'a>(found: &ArgMatches<'a>, name: &str) -> Option<&'a str>
 }
 
 /// The number that an argument is.
-fn number_of(found: &ArgMatches<'_>, name: &str) -> Option<u16>
+pub fn number_of(found: &ArgMatches<'_>, name: &str) -> Option<u16>
     ensures { IfSome result (HasNumber 16 (rows_of (found_of found.now)) name.now) }
 {
     let number = found.get_one::<u16>(name)?;
@@ -163,13 +168,14 @@ fn pbn_of<'a>(found: &ArgMatches<'a>) -> Option<Command<'a>>
     Some(Command::Pbn { disk })
 }
 
-/// The command `results` with its disk, and whether it asks for HTML.
+/// The command `results` with its disk, whether it asks for HTML, and its list of names.
 fn results_of<'a>(found: &ArgMatches<'a>) -> Option<Command<'a>>
     ensures { IfSome result (IsNamed (codes "results") (rows_of (found_of found.now))) }
 {
     let disk = found.get_str("DISK")?;
     let html = has_flag(found, "html");
-    Some(Command::Results { disk, html })
+    let names = option_of(found, "names");
+    Some(Command::Results { disk, html, names })
 }
 
 /// Whether a flag is given.
@@ -177,6 +183,15 @@ pub fn has_flag(found: &ArgMatches<'_>, name: &str) -> bool
     ensures { HasFlag (rows_of (found_of found.now)) name.now result }
 {
     found.get_flag(name)
+}
+
+/// The command `export` with its disk, and whether it asks for rankings.
+fn export_of<'a>(found: &ArgMatches<'a>) -> Option<Command<'a>>
+    ensures { IfSome result (IsNamed (codes "export") (rows_of (found_of found.now))) }
+{
+    let disk = found.get_str("DISK")?;
+    let rankings = has_flag(found, "rankings");
+    Some(Command::Export { disk, rankings })
 }
 
 /// The command `check` with its disk.
@@ -187,10 +202,20 @@ fn check_of<'a>(found: &ArgMatches<'a>) -> Option<Command<'a>>
     Some(Command::Check { disk })
 }
 
-/// The command `plan` with its configuration.
+/// The command `plan` with its configuration and its list of names.
 fn plan_of<'a>(found: &ArgMatches<'a>) -> Option<Command<'a>>
     ensures { IfSome result (IsNamed (codes "plan") (rows_of (found_of found.now))) }
 {
     let config = found.get_str("CONFIG")?;
-    Some(Command::Plan { config })
+    let names = option_of(found, "names");
+    Some(Command::Plan { config, names })
+}
+
+/// The command `makeable` with its file, and whether it asks for games.
+fn makeable_of<'a>(found: &ArgMatches<'a>) -> Option<Command<'a>>
+    ensures { IfSome result (IsNamed (codes "makeable") (rows_of (found_of found.now))) }
+{
+    let file = found.get_str("FILE")?;
+    let pbn = has_flag(found, "pbn");
+    Some(Command::Makeable { file, pbn })
 }

@@ -32,6 +32,12 @@ pub listed_more : (x : List ℕ) (xs : List (List ℕ)) (a b c d e more : List �
 listed_more x xs a b c d e more one two is three four =
     rw (four, three, is, two, one, lines_append (x ∷ xs) (codes "." ∷ [])) (simp append_assoc)
 
+-- what stands around a line and two lists of others
+pub listed_both : (x : List ℕ) (xs ys : List (List ℕ)) (a b c d e f more : List ℕ) → b ≡ a ++ codes "OK\n" → c ≡ b ++ (x ++ 10 ∷ []) → d ≡ c ++ lines_text xs → more ≡ lines_text ys
+    → e ≡ d ++ more → f ≡ e ++ codes ".\n" → f ≡ a ++ listed_text (x ∷ (xs ++ ys))
+listed_both x xs ys a b c d e f more one two three is four five =
+    listed_more x (xs ++ ys) a b c e f (lines_text (xs ++ ys)) one two refl (two_added xs ys c d e three (four ∙ ap (λ (l : List ℕ). d ++ l) is)) five
+
 -- the lines of one element more
 pub one_more : {X : Type 0} (lines : X → List (List ℕ)) (all : List X) (i : ℕ) (d : X) (a b c : List ℕ) → i < length all → b ≡ a ++ lines_text (flat_map lines (take i all))
     → c ≡ b ++ lines_text (lines (get_or all i d)) → c ≡ a ++ lines_text (flat_map lines (take (i + 1) all))

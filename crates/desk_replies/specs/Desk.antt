@@ -6,10 +6,19 @@ use Rattle.desk_replies.specs.declared.desk.RoundClock.{RoundClock}
 use Rattle.desk_replies.specs.declared.desk.StandingClaim.{StandingClaim}
 use Rattle.desk_replies.specs.declared.desk.Statement.{Statement}
 use Rattle.desk_replies.specs.declared.desk.TableCall.{TableCall}
+use Rattle.desk_replies.specs.PlainText.{plain_text_of}
 
--- nothing stands
-abbrev pub new_desk : Desk
-new_desk = record { notice = None; noticed = None; clock = None; calls = replicate 12 None; statements = replicate 12 None }
+-- nothing stands beside a session on this disk, which is shown up to that second
+abbrev pub new_desk : ℕ → List ℕ → Desk
+new_desk ends disk = record {
+  ends = ends;
+  disk = plain_text_of 1 200 disk;
+  notice = None;
+  noticed = None;
+  clock = None;
+  calls = replicate 12 None;
+  statements = replicate 12 None;
+}
 
 -- the call of a table, if there is one
 abbrev pub call_at : Desk → ℕ → Option TableCall
@@ -27,6 +36,8 @@ is_soon at (Some last) = at == last
 -- with this notice, which is put up at that second
 abbrev pub with_notice : Desk → ℕ → List ℕ → Desk
 with_notice desk at text = record {
+  ends = desk.ends;
+  disk = desk.disk;
   notice = Some text;
   noticed = Some at;
   clock = desk.clock;
@@ -37,6 +48,8 @@ with_notice desk at text = record {
 -- with no notice
 abbrev pub without_notice : Desk → Desk
 without_notice desk = record {
+  ends = desk.ends;
+  disk = desk.disk;
   notice = None;
   noticed = desk.noticed;
   clock = desk.clock;
@@ -47,6 +60,8 @@ without_notice desk = record {
 -- with that clock, or none
 abbrev pub with_clock : Desk → Option RoundClock → Desk
 with_clock desk clock = record {
+  ends = desk.ends;
+  disk = desk.disk;
   notice = desk.notice;
   noticed = desk.noticed;
   clock = clock;
@@ -57,6 +72,8 @@ with_clock desk clock = record {
 -- with that call of a table, or none
 abbrev pub set_call : Desk → ℕ → Option TableCall → Desk
 set_call desk table call = record {
+  ends = desk.ends;
+  disk = desk.disk;
   notice = desk.notice;
   noticed = desk.noticed;
   clock = desk.clock;
@@ -86,6 +103,8 @@ is_said_with claim (Some statement) = same_claim statement.claim claim
 -- with that statement at a table
 abbrev pub set_statement : Desk → ℕ → Statement → Desk
 set_statement desk table statement = record {
+  ends = desk.ends;
+  disk = desk.disk;
   notice = desk.notice;
   noticed = desk.noticed;
   clock = desk.clock;

@@ -85,13 +85,22 @@ concerns s desk key = if key == s.configuration.director then all_call_lines s d
 abbrev pub standing_lines : SessionValue → Desk → ℕ → List (List ℕ)
 standing_lines s desk key = notice_lines desk.notice ++ (clock_lines desk.clock ++ concerns s desk key)
 
--- the second of the server
-abbrev pub now_line : ℕ → List ℕ
-now_line at = spaced_line (codes "NOW") (decimal at ∷ [])
+-- the second of the server, and the one at which the pages are shown no longer
+abbrev pub now_line : ℕ → ℕ → List ℕ
+now_line at ends = spaced_line (codes "NOW") (decimal at ∷ decimal ends ∷ [])
 
--- the second, and the standing lines
+-- the name of the disk, where it can be shown
+abbrev pub named_lines : Option (List ℕ) → List (List ℕ)
+named_lines None = []
+named_lines (Some name) = spaced_line (codes "DISK") (name ∷ []) ∷ []
+
+-- which the director alone is told
+abbrev pub disk_lines : SessionValue → Desk → ℕ → List (List ℕ)
+disk_lines s desk key = if key == s.configuration.director then named_lines desk.disk else []
+
+-- the second, the disk, and the standing lines
 abbrev pub standing_text : SessionValue → Desk → ℕ → ℕ → List ℕ
-standing_text s desk at key = listed_text (now_line at ∷ standing_lines s desk key)
+standing_text s desk at key = listed_text (now_line at desk.ends ∷ (disk_lines s desk key ++ standing_lines s desk key))
 
 -- the line of a refusal
 abbrev pub refused_text : DeskRefused → List ℕ

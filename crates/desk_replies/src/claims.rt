@@ -24,15 +24,13 @@ pub struct SeenClaim {
 fn claim_of(view: &View<'_>) -> Option<StandingClaim>
     ensures { result ≡ claim_of_view view.now }
 {
-    match view.claim {
-        Some((claimer, _)) => Some(StandingClaim {
-            round: view.play.round.number(),
-            index: view.play.index.number(),
-            number: view.claims_made,
-            claimer,
-        }),
-        None => None,
-    }
+    let (claimer, _) = view.claim?;
+    Some(StandingClaim {
+        round: view.play.round.number(),
+        index: view.play.index.number(),
+        number: view.claims_made,
+        claimer,
+    })
 }
 
 /// Where the viewer sits, and the claim that a view shows.

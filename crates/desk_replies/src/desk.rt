@@ -4,7 +4,7 @@ ghost use Rattle.std.specs.Option.{option_copied};
 ghost use Rattle.session_rules.specs.Numbers.{IsTableNumber};
 ghost use Rattle.desk_replies.specs.Desk.{new_desk, call_at, statement_at, is_soon, with_notice, without_notice, with_clock, set_call, with_call, is_said_with, with_statement};
 
-use crate::plain_text::PlainText;
+use crate::plain_text::{MOST_CHARACTERS, PlainText};
 use bridge_cards::Seat;
 use session_rules::Player;
 
@@ -58,6 +58,10 @@ pub struct Statement {
 /// What stands beside the session, in the server's memory alone.
 #[derive(Drop)]
 pub struct Desk {
+    /// The second at which the pages are shown no longer, since the server began.
+    pub(crate) ends: u32,
+    /// The name of the session's disk, where it is 1 to 200 characters that show themselves.
+    pub(crate) disk: Option<PlainText>,
     /// The director's notice.
     pub(crate) notice: Option<PlainText>,
     /// When a notice was put up last, in seconds since the server began.
@@ -80,11 +84,13 @@ fn index_of(table: u8) -> usize
 }
 
 impl Desk {
-    /// Nothing stands.
-    pub fn new() -> Desk
-        ensures { result ≡ new_desk }
+    /// Nothing stands beside a session on a disk of this name, which is shown up to that second since the server began.
+    pub fn new(ends: u32, disk: &str) -> Desk
+        ensures { result ≡ new_desk ends disk.now }
     {
         Desk {
+            ends,
+            disk: PlainText::read(1, MOST_CHARACTERS, disk.as_bytes()),
             notice: None,
             noticed: None,
             clock: None,

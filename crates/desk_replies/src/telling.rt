@@ -6,15 +6,16 @@ ghost use Rattle.bridge_config.specs.ConfigValue.{pair_of};
 ghost use Rattle.line_text.specs.Lines.{lines_text};
 ghost use Rattle.session_rules.specs.State.{seating_of};
 ghost use Rattle.desk_replies.specs.Claims.{claim_to};
-ghost use Rattle.desk_replies.specs.Told.{notice_lines, end_of_clock, clock_lines, call_line, call_lines, said_lines, own_call_lines, own_said_lines, own_lines, all_call_lines, concerns, now_line, standing_lines, standing_text};
+ghost use Rattle.desk_replies.specs.Told.{notice_lines, end_of_clock, clock_lines, call_line, call_lines, said_lines, own_call_lines, own_said_lines, own_lines, all_call_lines, concerns, now_line, named_lines, disk_lines, standing_lines, standing_text};
 
 use crate::claims::claim_to;
 use crate::desk::{Desk, RoundClock, StandingClaim, Statement, TableCall};
+use crate::plain_text::PlainText;
 use crate::standing::{
     CALL_BYTES, CLOCK_BYTES, NOTICE_BYTES, STANDING_BYTES, STATEMENT_BYTES, StandingText,
     push_line, push_number, push_word,
 };
-use crate::text::{push_number as add_number, push_str};
+use crate::text::{push_number as add_number, push_str, push_word as add_word};
 use bridge_config::{Key, PairFields, player_name};
 use bridge_session::Session;
 use bridge_table::seat_by;
@@ -182,12 +183,38 @@ pub fn standing_lines(session: &Session, desk: &Desk, key: Key) -> StandingText
 }
 
 /// Adds the line of the second.
-fn push_now(text: &mut Vec<u8>, at: u32) -> Result<(), AllocError>
-    ensures { OnOk result (text.new.items ≡ text.old.items ++ (now_line at ++ 10 ∷ [])) }
+fn push_now(text: &mut Vec<u8>, at: u32, ends: u32) -> Result<(), AllocError>
+    ensures { OnOk result (text.new.items ≡ text.old.items ++ (now_line at ends ++ 10 ∷ [])) }
 {
     push_str(text, "NOW")?;
     add_number(text, at)?;
+    add_number(text, ends)?;
     push_str(text, "\n")
+}
+
+/// Adds the line of the disk, where its name can be shown.
+fn push_named(text: &mut Vec<u8>, disk: &Option<PlainText>) -> Result<(), AllocError>
+    ensures { OnOk result (text.new.items ≡ text.old.items ++ lines_text (named_lines disk.now)) }
+{
+    match disk {
+        Some(name) => {
+            push_str(text, "DISK")?;
+            add_word(text, name.as_str())?;
+            push_str(text, "\n")
+        }
+        None => Ok(()),
+    }
+}
+
+/// Adds the line of the disk, where the key is the director's.
+fn push_disk(text: &mut Vec<u8>, session: &Session, desk: &Desk, key: Key) -> Result<(), AllocError>
+    ensures { OnOk result (text.new.items ≡ text.old.items ++ lines_text (disk_lines session.now desk.now key.0)) }
+{
+    if key == session.config().fields().director {
+        push_named(text, &desk.disk)
+    } else {
+        Ok(())
+    }
 }
 
 /// Adds what is told to the holder of a key at a second.
@@ -201,7 +228,8 @@ pub(crate) fn push_standing(
     ensures { OnOk result (text.new.items ≡ text.old.items ++ standing_text session.now desk.now at key.0) }
 {
     push_str(text, "OK\n")?;
-    push_now(text, at)?;
+    push_now(text, at, desk.ends)?;
+    push_disk(text, session, desk, key)?;
     push_str(text, standing_lines(session, desk, key).as_str())?;
     push_str(text, ".\n")
 }

@@ -127,6 +127,11 @@ Drafts words output ended None = (ended ≡ Err Read) × IsUntouched output
 Drafts words output ended (Some text) =
     (found : Result (List PairNames) EveningFault) × ReadsList text found × DraftsList words output ended found
 
+-- the pairs that a text has, or what is wrong with it
+abbrev pub ListOf : Result (List PairNames) EveningFault → Option (List ℕ) → Type 0
+ListOf result None = result ≡ Err Read
+ListOf result (Some text) = ReadsList text result
+
 -- a list is to have so many pairs
 abbrev pub FitsPairs : ℕ → Result (List PairNames) EveningFault → Result (List PairNames) EveningFault → Type 0
 FitsPairs pairs (Ok names) result = ((length names ≡ pairs) × (result ≡ Ok names))

@@ -1,4 +1,4 @@
--- Why `draft` or `slips` stops: the line that names it, and what is said before.
+-- Why `draft`, `slips` or `evening` stops: the line that names it, and what is said before.
 use Rattle.std.specs.Prelude.{◌≡◌, ◌⊎◌, ℕ, List, [], ◌++◌, codes, Result, IfErr, IsErrAnd}
 use Rattle.std.specs.Fmt.{decimal}
 use Rattle.bridge_config.specs.Refused.{refusal_name}
@@ -20,9 +20,12 @@ abbrev pub Writes : Stream → List ℕ → Made → Type 0
 Writes output text ended = Written output text ended × IfErr ended (λ fault. fault ≡ Write)
 
 -- a text is written, and that is the fault; or a prefix of it, as a write failed, which is the fault then
+abbrev pub StopsBy : Stream → List ℕ → EveningFault → EveningFault → Type 0
+StopsBy output text cause fault = (Takes output text × (fault ≡ cause)) ⊎ (TakesPrefix output text × (fault ≡ Write))
+
+-- so a command stops
 abbrev pub WritesAndStops : Stream → List ℕ → EveningFault → Made → Type 0
-WritesAndStops output text cause ended =
-    IsErrAnd ended (λ fault. (Takes output text × (fault ≡ cause)) ⊎ (TakesPrefix output text × (fault ≡ Write)))
+WritesAndStops output text cause ended = IsErrAnd ended (StopsBy output text cause)
 
 -- what is due, and why it is refused; of a list's line, a configuration and the system nothing
 abbrev pub due_words : EveningFault → List ℕ

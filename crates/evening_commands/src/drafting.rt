@@ -120,7 +120,7 @@ fn evening_on(
 }
 
 /// The configuration of an evening for these pairs.
-fn evening_for<S: Giver>(
+pub fn evening_for<S: Giver>(
     rt: &S,
     words: &DraftWords<'_>,
     names: &[PairNames],
@@ -139,7 +139,7 @@ fn evening_for<S: Giver>(
 }
 
 /// Writes a configuration.
-fn write_drafted<W: Write>(config: &Config, output: &mut W) -> Result<(), EveningFault>
+pub fn write_drafted<W: Write>(config: &Config, output: &mut W) -> Result<(), EveningFault>
     ensures { WritesConfig (stream W.contents output.old output.new) config.now result }
 {
     match write_config(config, output) {

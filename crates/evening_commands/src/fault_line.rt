@@ -14,8 +14,8 @@ pub const FAULT_LINE_BYTES: usize = 40;
 /// The line of a fault.
 pub type FaultLine = ArrayString<FAULT_LINE_BYTES>;
 
-/// The text as a line.
-fn line_of(text: &str) -> FaultLine
+/// A text as a line.
+pub fn line_of(text: &str) -> FaultLine
     requires { length text.now ≤ FAULT_LINE_BYTES }
     ensures { result.bytes ≡ text.now }
 {

@@ -2,7 +2,7 @@
 ghost use Rattle.std.specs.Prelude.{◌≡◌, Some};
 ghost use Rattle.line_text.specs.Streams.{stream};
 ghost use Rattle.evening_commands.specs.TextFile.{OfReader, OfFound, OfFile};
-ghost use Rattle.evening_commands.specs.Evenings.{ReadsList, FitsPairs, NamesOf};
+ghost use Rattle.evening_commands.specs.Evenings.{ReadsList, ListOf, FitsPairs, NamesOf};
 ghost use Rattle.evening_commands.specs.NamesView.{list_seen};
 
 use crate::fault::EveningFault;
@@ -79,4 +79,32 @@ pub fn names_of_file<S: Files<File = File>>(
     ensures { OfFile (NamesOf pairs (list_seen result)) }
 {
     names_found(File::open(rt, names), pairs)
+}
+
+/// The pairs of the list that a reader gives.
+fn list_read<R: Read>(reader: &mut R) -> Result<Names, EveningFault>
+    ensures { OfReader (ListOf (list_seen result)) (stream R.remaining reader.old reader.new) }
+{
+    let mut text = Text::new();
+    match read_text(reader, &mut text) {
+        Ok(()) => read_list(text.as_slice()),
+        Err(NoRead) => Err(EveningFault::Read),
+    }
+}
+
+/// The same of a file, where one was found; otherwise the fault is that of a read.
+fn list_found<R: Read + Drop>(found: io::Result<R>) -> Result<Names, EveningFault>
+    ensures { OfFound R.remaining (ListOf (list_seen result)) found }
+{
+    match found {
+        Ok(mut file) => list_read(&mut file),
+        Err(_) => Err(EveningFault::Read),
+    }
+}
+
+/// The pairs of the list in a file. One that cannot be opened counts as one that cannot be read.
+pub fn list_of_file<S: Files<File = File>>(rt: &S, names: &str) -> Result<Names, EveningFault>
+    ensures { OfFile (ListOf (list_seen result)) }
+{
+    list_found(File::open(rt, names))
 }

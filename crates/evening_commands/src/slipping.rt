@@ -92,7 +92,7 @@ fn slips_of_config<S: Files<File = File>, W: Write>(
 }
 
 /// Writes what is wrong with a text of that fault.
-fn write_refusal<W: Write>(
+pub(crate) fn write_refusal<W: Write>(
     text: &[u8],
     fault: ConfigFault,
     output: &mut W,

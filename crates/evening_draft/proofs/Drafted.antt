@@ -1,5 +1,5 @@
 -- What is drafted is within the limits of a configuration.
-use Rattle.std.proofs.Common.{◌≡◌, ◌↔◌, ℕ, ◌*◌, ◌≤◌, Bool, true, false, cond, ◌&&◌, codes, chars, List, [], ◌∷◌, length, map, drop, refl, sym, ap, subst, ◌∙◌, arith}
+use Rattle.std.proofs.Common.{◌≡◌, ◌↔◌, ℕ, ◌+◌, ◌*◌, ◌<◌, ◌≤◌, Bool, true, false, cond, ◌&&◌, codes, chars, List, [], ◌∷◌, length, map, drop, refl, sym, ap, subst, ◌∙◌, arith}
 use Rattle.std.specs.Prelude.{All, nat_le}
 use Rattle.std.proofs.lemmas.Bool.{and_from}
 use Rattle.std.proofs.lemmas.Bool.Decides.{nat_tests}
@@ -11,64 +11,70 @@ use Rattle.bridge_config.specs.ConfigValue.{ConfigValue, Pair, keys_of, keys_in}
 use Rattle.bridge_config.specs.Limits.{is_name, IsPair, IsConfiguration, AreKeys, are_distinct}
 use Rattle.evening_draft.specs.declared.wishes.PairNames.{PairNames}
 use Rattle.evening_draft.specs.declared.wishes.Wishes.{Wishes}
-use Rattle.evening_draft.specs.AsciiName.{ascii_name, with_characters}
-use Rattle.evening_draft.specs.Draft.{names_of, drafted_pairs, drafted, HasHeading, boards_for}
+use Rattle.evening_draft.specs.AsciiName.{player_word, player_name, with_characters}
+use Rattle.evening_draft.specs.Draft.{names_of, names_from, drafted_pairs, drafted, HasHeading, boards_for}
 use Rattle.evening_draft.specs.Keys.{HasNineDigits, key_count}
+use Rattle.evening_draft.proofs.PlayerWord.{word_is_name}
 
 -- as many pairs as names
-pub pairs_count : (names : List PairNames) (keys : List ℕ) → length keys ≡ 2 * length names →
-    length (drafted_pairs names keys) ≡ length names
-pairs_count [] keys twice = refl
-pairs_count (n ∷ names) [] twice = absurd (omega arith)
-pairs_count (n ∷ names) (k ∷ []) twice = absurd (omega arith)
-pairs_count (n ∷ names) (k ∷ l ∷ keys) twice =
-    let rest : length (drafted_pairs names keys) ≡ length names = pairs_count names keys (omega arith) in omega arith
+pub pairs_count : (number : ℕ) (names : List PairNames) (keys : List ℕ) → length keys ≡ 2 * length names →
+    length (drafted_pairs number names keys) ≡ length names
+pairs_count number [] keys twice = refl
+pairs_count number (n ∷ names) [] twice = absurd (omega arith)
+pairs_count number (n ∷ names) (k ∷ []) twice = absurd (omega arith)
+pairs_count number (n ∷ names) (k ∷ l ∷ keys) twice =
+    let rest : length (drafted_pairs (number + 1) names keys) ≡ length names = pairs_count (number + 1) names keys (omega arith) in
+    omega arith
 
 -- the pairs have the keys in order
-pub pairs_keys : (names : List PairNames) (keys : List ℕ) → length keys ≡ 2 * length names →
-    keys_in (drafted_pairs names keys) ≡ keys
-pairs_keys [] [] twice = refl
-pairs_keys [] (k ∷ keys) twice = absurd (omega arith)
-pairs_keys (n ∷ names) [] twice = absurd (omega arith)
-pairs_keys (n ∷ names) (k ∷ []) twice = absurd (omega arith)
-pairs_keys (n ∷ names) (k ∷ l ∷ keys) twice = ap (λ rest. k ∷ l ∷ rest) (pairs_keys names keys (omega arith))
+pub pairs_keys : (number : ℕ) (names : List PairNames) (keys : List ℕ) → length keys ≡ 2 * length names →
+    keys_in (drafted_pairs number names keys) ≡ keys
+pairs_keys number [] [] twice = refl
+pairs_keys number [] (k ∷ keys) twice = absurd (omega arith)
+pairs_keys number (n ∷ names) [] twice = absurd (omega arith)
+pairs_keys number (n ∷ names) (k ∷ []) twice = absurd (omega arith)
+pairs_keys number (n ∷ names) (k ∷ l ∷ keys) twice =
+    ap (λ rest. k ∷ l ∷ rest) (pairs_keys (number + 1) names keys (omega arith))
 
 -- and the names in ASCII
-pub pairs_names : (names : List PairNames) (keys : List ℕ) → length keys ≡ 2 * length names →
-    map (λ (pair : Pair). pair.names) (drafted_pairs names keys) ≡ map names_of names
-pairs_names [] keys twice = refl
-pairs_names (n ∷ names) [] twice = absurd (omega arith)
-pairs_names (n ∷ names) (k ∷ []) twice = absurd (omega arith)
-pairs_names (n ∷ names) (k ∷ l ∷ keys) twice = ap (λ rest. names_of n ∷ rest) (pairs_names names keys (omega arith))
+pub pairs_names : (number : ℕ) (names : List PairNames) (keys : List ℕ) → length keys ≡ 2 * length names →
+    map (λ (pair : Pair). pair.names) (drafted_pairs number names keys) ≡ names_from number names
+pairs_names number [] keys twice = refl
+pairs_names number (n ∷ names) [] twice = absurd (omega arith)
+pairs_names number (n ∷ names) (k ∷ []) twice = absurd (omega arith)
+pairs_names number (n ∷ names) (k ∷ l ∷ keys) twice =
+    ap (λ rest. names_of number n ∷ rest) (pairs_names (number + 1) names keys (omega arith))
 
 chosen : (b : Bool) (x y : List ℕ) → (b ≡ true → is_name x ≡ true) → is_name y ≡ true → is_name (cond b x y) ≡ true
 chosen true x y given other = given refl
 chosen false x y given other = other
 
 -- a name in ASCII is a name
-pub ascii_is_name : (name : List ℕ) → is_name (ascii_name name) ≡ true
-ascii_is_name name =
+pub player_is_name : (pair : ℕ) (first : Bool) (name : List ℕ) → pair < 256 → is_name (player_name pair first name) ≡ true
+player_is_name pair first name small =
     let kept : List ℕ = with_characters [] (chars name) in
-    chosen (is_name kept) kept (codes "Player") (λ is. is) refl
+    chosen (is_name kept) kept (player_word pair first) (λ is. is) (word_is_name pair first small)
 
-pub pairs_are : (names : List PairNames) (keys : List ℕ) → length keys ≡ 2 * length names →
-    All IsPair (drafted_pairs names keys)
-pairs_are [] keys twice = All-nil IsPair
-pairs_are (n ∷ names) [] twice = absurd (omega arith)
-pairs_are (n ∷ names) (k ∷ []) twice = absurd (omega arith)
-pairs_are (n ∷ names) (k ∷ l ∷ keys) twice =
-    All-cons IsPair (record { names = names_of n; keys = k ∷ l ∷ [] }) (drafted_pairs names keys)
+pub pairs_are : (number : ℕ) (names : List PairNames) (keys : List ℕ) → length keys ≡ 2 * length names →
+    number + length names ≤ 256 → All IsPair (drafted_pairs number names keys)
+pairs_are number [] keys twice few = All-nil IsPair
+pairs_are number (n ∷ names) [] twice few = absurd (omega arith)
+pairs_are number (n ∷ names) (k ∷ []) twice few = absurd (omega arith)
+pairs_are number (n ∷ names) (k ∷ l ∷ keys) twice few =
+    let one = player_is_name number true n.first.bytes (omega arith) in
+    let other = player_is_name number false n.second.bytes (omega arith) in
+    All-cons IsPair (record { names = names_of number n; keys = k ∷ l ∷ [] }) (drafted_pairs (number + 1) names keys)
     (record {
       two_names = refl;
       two_keys = refl;
-      names = and_from _ _ (ascii_is_name n.first.bytes) (and_from _ _ (ascii_is_name n.second.bytes) refl);
-    }) (pairs_are names keys (omega arith))
+      names = and_from _ _ one (and_from _ _ other refl);
+    }) (pairs_are (number + 1) names keys (omega arith) (omega arith))
 
 -- the keys of the draft are those that were drawn
 pub drafted_keys : (wishes : Wishes) (names : List PairNames) (movement : MovementValue) (keys : List ℕ) →
     length keys ≡ key_count (length names) → keys_of (drafted wishes names movement keys) ≡ keys
 drafted_keys wishes names movement [] count = absurd (omega arith)
-drafted_keys wishes names movement (k ∷ keys) count = ap (λ rest. k ∷ rest) (pairs_keys names keys (omega arith))
+drafted_keys wishes names movement (k ∷ keys) count = ap (λ rest. k ∷ rest) (pairs_keys 1 names keys (omega arith))
 
 boards_within : (boards : ℕ) → 1 ≤ boards → boards ≤ 3 → (nat_le 1 boards && nat_le boards 3) ≡ true
 boards_within boards least most = grind (arith, nat_tests)
@@ -86,6 +92,7 @@ pub is_configuration : (wishes : Wishes) (names : List PairNames) (movement : Mo
 is_configuration wishes names movement keys count distinct nine pairs limits fair least most heading =
     let twice = rest_count names keys count in
     let same : keys_of (drafted wishes names movement keys) ≡ keys = drafted_keys wishes names movement keys count in
+    let few : length names ≤ 24 = let most = limits.pairs.1 in omega arith in
     record {
       event = heading.event;
       site = heading.site;
@@ -94,8 +101,8 @@ is_configuration wishes names movement keys count distinct nine pairs limits fai
       boards = boards_within (boards_for movement.shape.rounds wishes.boards) least most;
       shape = limits;
       movement = fair;
-      count = pairs_count names (drop 1 keys) twice ∙ sym pairs;
-      pairs = pairs_are names (drop 1 keys) twice;
+      count = pairs_count 1 names (drop 1 keys) twice ∙ sym pairs;
+      pairs = pairs_are 1 names (drop 1 keys) twice (omega arith);
       keys = subst AreKeys (sym same) (record {
         numbers = λ k d within. let digits = (nine k d within).1 in omega arith;
         distinct = distinct;
@@ -107,7 +114,7 @@ pub heading_decides : (wishes : Wishes) (names : List PairNames) (movement : Mov
     (boards : ℕ) (pairs : List Pair) → length keys ≡ key_count (length names) → are_distinct keys ≡ true →
     All HasNineDigits keys → movement.shape.pairs ≡ length names → IsShape movement.shape →
     IsMovement movement.shape movement.rows → 1 ≤ boards → boards ≤ 3 →
-    boards ≡ boards_for movement.shape.rounds wishes.boards → pairs ≡ drafted_pairs names (drop 1 keys) →
+    boards ≡ boards_for movement.shape.rounds wishes.boards → pairs ≡ drafted_pairs 1 names (drop 1 keys) →
     (some ↔ IsConfiguration (record (drafted wishes names movement keys) { boards = boards; pairs = pairs })) →
     some ↔ HasHeading wishes
 heading_decides wishes names movement keys some boards pairs count distinct nine shape_pairs limits fair least most boards_are pairs_are_these is =
@@ -128,7 +135,7 @@ heading_decides wishes names movement keys some boards pairs count distinct nine
 pub record IsDraftOf (wishes : Wishes) (names : List PairNames) (seed_keys : List ℕ) (config : ConfigValue) : Type 0 where
   pub keys : keys_of config ≡ seed_keys
   pub nine : All HasNineDigits (keys_of config)
-  pub ascii : map (λ (pair : Pair). pair.names) config.pairs ≡ map names_of names
+  pub ascii : map (λ (pair : Pair). pair.names) config.pairs ≡ names_from 1 names
   pub stated : config ≡ drafted wishes names config.movement (keys_of config)
 
 pub is_draft : (wishes : Wishes) (names : List PairNames) (movement : MovementValue) (keys seed_keys : List ℕ) (config : ConfigValue) →
@@ -141,7 +148,7 @@ is_draft wishes names movement keys seed_keys config from count nine is =
       keys = same ∙ from;
       nine = subst (All HasNineDigits) (sym same) nine;
       ascii = ap (λ (c : ConfigValue). map (λ (pair : Pair). pair.names) c.pairs) is
-          ∙ pairs_names names (drop 1 keys) (rest_count names keys count);
+          ∙ pairs_names 1 names (drop 1 keys) (rest_count names keys count);
       stated = is ∙ ap (λ m. drafted wishes names m keys) (sym moved)
           ∙ ap (λ k. drafted wishes names config.movement k) (sym same);
     }

@@ -7,3 +7,4 @@ pub mod ConfigSpelled
 pub mod DrawnKeys
 pub mod Drafted
 pub mod NamesRead
+pub mod PlayerWord

@@ -4,7 +4,7 @@ ghost use Rattle.bridge_movement.specs.Fair.{IsMovement};
 ghost use Rattle.bridge_movement.specs.Named.{IsNamed};
 ghost use Rattle.bridge_config.specs.ConfigValue.{keys_of};
 ghost use Rattle.bridge_config.specs.Limits.{are_distinct};
-ghost use Rattle.evening_draft.specs.Draft.{HasHeading, drafted, names_of};
+ghost use Rattle.evening_draft.specs.Draft.{HasHeading, drafted, names_from};
 ghost use Rattle.evening_draft.specs.Drafted.{IsDraftRefused};
 ghost use Rattle.evening_draft.specs.Keys.{HasNineDigits, key_count, evening_keys};
 
@@ -56,7 +56,7 @@ pub fn draft(names: &[PairNames], wishes: &Wishes) -> Result<Config, DraftRefuse
     // The keys come from the seed and the number of pairs alone.
     ensures keys { IfOk result (λ config. keys_of config ≡ evening_keys wishes.now.seed (length names.now)) }
     ensures nine_digits { IfOk result (λ config. All HasNineDigits (keys_of config)) }
-    ensures names { IfOk result (λ config. map (λ pair. pair.names) config.pairs ≡ map names_of names.now) }
+    ensures names { IfOk result (λ config. map (λ pair. pair.names) config.pairs ≡ names_from 1 names.now) }
     ensures stated { IfOk result (λ config. config ≡ drafted wishes.now names.now config.movement (keys_of config)) }
     ensures refused { IfErr result (IsDraftRefused wishes.now (length names.now)) }
 {

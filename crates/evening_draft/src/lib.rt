@@ -24,13 +24,11 @@ pub mod refused;
 mod rows;
 mod seed;
 mod shown;
-#[cfg(test)]
-mod tests;
 mod text;
 pub mod wishes;
 mod wishing;
 
-pub use ascii::ascii_name;
+pub use ascii::{ascii_name, player_name};
 pub use day::{DateText, date_at};
 pub use drafting::draft;
 pub use fault::write_names_fault;

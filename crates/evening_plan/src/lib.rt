@@ -24,11 +24,9 @@ mod reason;
 mod rule;
 mod seat;
 mod shown;
-#[cfg(test)]
-mod tests;
 mod text;
 mod word;
 
 pub use fault::write_fault;
 pub use law::a_line_out_of_form_has_a_word_that_is_named;
-pub use plan::write_plan;
+pub use plan::{write_plan, write_plan_with};

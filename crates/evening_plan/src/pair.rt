@@ -1,45 +1,66 @@
 //! Where a pair sits in each round.
-ghost use Rattle.std.specs.Prelude.{◌≡◌, ◌≤◌, ◌-◌, [], length, flat_map, slice_index_or};
+ghost use Rattle.std.specs.Prelude.{◌≡◌, ◌≤◌, ◌-◌, ◌∷◌, [], length, flat_map, slice_index_or};
 ghost use Rattle.std.specs.List.{range_with_len};
 ghost use Rattle.line_text.specs.Streams.{stream, Written};
-ghost use Rattle.bridge_config.specs.ConfigValue.{pair_of};
+ghost use Rattle.bridge_config.specs.ConfigValue.{both_names};
 ghost use Rattle.page_layout.specs.declared.format.Format.TheVariants.{Plain};
-ghost use Rattle.evening_plan.specs.Evening.{evening_of, names_in};
+ghost use Rattle.evening_plan.specs.Evening.{evening_of, shown_evening};
 ghost use Rattle.evening_plan.specs.PairText.{pair_words, round_titles, boards_cell, played_row, rest_row, round_row, round_text, rounds_text, pair_plan};
 
 use crate::columns::{PLAY_COLUMNS, REST_COLUMNS};
 use crate::seat::seat_row;
 use crate::text::push_number;
 use arrayvec::ArrayString;
-use bridge_config::{Config, PairFields};
+use bridge_config::Config;
 use bridge_movement::{Row, boards_before, last_board};
+use evening_draft::{PairNames, shown_name};
 use line_text::{number_text, write_text};
 use page_layout::{Format, PageText, push_bytes, push_row, push_titles};
 use std::io::{Error, Write};
 
+/// Both names of a pair.
+fn both_names(first: &str, second: &str) -> ArrayString<325>
+    requires first { length first.now ≤ 160 }
+    requires second { length second.now ≤ 160 }
+    ensures { result.bytes ≡ both_names (first.now ∷ second.now ∷ []) }
+{
+    let mut names = ArrayString::new();
+    names.push_str(first);
+    names.push_str(" and ");
+    names.push_str(second);
+    names
+}
+
 /// The heading of a pair: its number and its names.
 #[tactic(auto, unfolding(crate::specs::PairText::pair_words))]
-fn pair_words(pair: u8, players: &PairFields) -> PageText
-    ensures { result.items ≡ pair_words pair (names_in (pair_of players.now)) }
+fn pair_words(pair: u8, first: &str, second: &str) -> PageText
+    requires first { length first.now ≤ 160 }
+    requires second { length second.now ≤ 160 }
+    ensures { result.items ≡ pair_words pair (first.now ∷ second.now ∷ []) }
 {
     let mut text = PageText::new();
     push_bytes(&mut text, b"\nPair ");
     push_number(&mut text, u32::from(pair));
     push_bytes(&mut text, b": ");
-    push_bytes(&mut text, players.both_names().as_str().as_bytes());
+    push_bytes(&mut text, both_names(first, second).as_str().as_bytes());
     push_bytes(&mut text, b"\n");
     text
 }
 
 /// Writes the heading of the pair of that number.
-fn write_words<W: Write>(config: &Config, pair: u8, writer: &mut W) -> Result<(), Error>
-    requires least { 1 ≤ pair }
-    requires most { pair ≤ config.now.movement.shape.pairs }
+fn write_words<W: Write>(
+    config: &Config,
+    names: Option<&[PairNames]>,
+    pair: u8,
+    writer: &mut W,
+) -> Result<(), Error>
     ensures { Written (stream W.contents writer.old writer.new)
-        (pair_words pair (slice_index_or (evening_of config.now).names (pair - 1) [])) result }
+        (pair_words pair (slice_index_or (shown_evening config.now names.entry).names (pair - 1) [])) result }
 {
     let pairs = config.fields().pairs.as_slice();
-    let text = pair_words(pair, &pairs[usize::from(pair - 1)]);
+    let first = shown_name(names, pairs, pair, true);
+    let second = shown_name(names, pairs, pair, false);
+    let text = pair_words(pair, first, second);
     write_text(writer, text.as_slice())
 }
 
@@ -168,13 +189,16 @@ fn write_rounds<W: Write>(config: &Config, pair: u8, writer: &mut W) -> Result<(
     write_first_rounds(config, pair, rounds, writer)
 }
 
-/// Writes a pair: its heading, and a row for each round.
-pub fn write_pair<W: Write>(config: &Config, pair: u8, writer: &mut W) -> Result<(), Error>
-    requires least { 1 ≤ pair }
-    requires most { pair ≤ config.now.movement.shape.pairs }
-    ensures { Written (stream W.contents writer.old writer.new) (pair_plan (evening_of config.now) pair) result }
+/// Writes a pair, with these names or its own: its heading, and a row for each round.
+pub fn write_pair<W: Write>(
+    config: &Config,
+    names: Option<&[PairNames]>,
+    pair: u8,
+    writer: &mut W,
+) -> Result<(), Error>
+    ensures { Written (stream W.contents writer.old writer.new) (pair_plan (shown_evening config.now names.entry) pair) result }
 {
-    write_words(config, pair, writer)?;
+    write_words(config, names, pair, writer)?;
     write_titles(writer)?;
     write_rounds(config, pair, writer)
 }

@@ -1,5 +1,5 @@
 -- Slips to cut out: one for the director, and one for each player.
-use Rattle.std.specs.Prelude.{ℕ, ◌≤◌, ◌-◌, Bool, true, false, if◌then◌else◌, List, [], ◌++◌, codes, length, flat_map, slice_get, slice_index_or, Option, None, Some, IfSome}
+use Rattle.std.specs.Prelude.{ℕ, ◌≤◌, ◌-◌, Bool, true, false, if◌then◌else◌, List, [], ◌∷◌, ◌++◌, codes, length, flat_map, slice_get, slice_index_or, slice_range, Option, None, Some, IfSome}
 use Rattle.std.specs.Borrow.{Bor}
 use Rattle.std.specs.Fmt.{decimal}
 use Rattle.std.specs.List.{range_with_len}
@@ -37,9 +37,20 @@ place_words first (Some place) = ((codes "Table " ++ decimal place.table) ++ cod
 abbrev pub pair_words : ℕ → List ℕ
 pair_words pair = codes "Pair " ++ decimal pair
 
--- a key
-abbrev pub key_words : ℕ → List ℕ
-key_words key = codes "Key " ++ decimal key
+-- digits, and behind a blank a further group of them; the first group stands alone
+abbrev pub with_group : List ℕ → List ℕ → List ℕ
+with_group [] group = group
+with_group (digit ∷ digits) group = ((digit ∷ digits) ++ codes " ") ++ group
+
+-- at most twelve digits in groups of three, counted from the last, with blanks between
+unfoldable pub in_threes : List ℕ → List ℕ
+in_threes digits = let count = length digits in
+    with_group (with_group (with_group (slice_range digits 0 (count - 9)) (slice_range digits (count - 9) (count - 6)))
+    (slice_range digits (count - 6) (count - 3))) (slice_range digits (count - 3) count)
+
+-- a key, its digits in threes
+unfoldable pub key_words : ℕ → List ℕ
+key_words key = codes "Key " ++ in_threes (decimal key)
 
 -- where the pages are, if that is known
 abbrev pub address_text : Format → Option (Bor (List ℕ)) → List ℕ

@@ -7,13 +7,12 @@
 //! ```
 #![tactic(auto)]
 
+mod key;
 mod player;
 mod sheet;
 mod slip;
 mod slips;
 mod style;
-#[cfg(test)]
-mod tests;
 
 pub use sheet::{ADDRESS_BYTES, SlipSheet};
 pub use slips::write_slips;

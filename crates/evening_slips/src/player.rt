@@ -1,7 +1,7 @@
 //! Where a player begins, and its key.
 ghost use Rattle.std.specs.Prelude.{◌≡◌, ◌≤◌, length, map};
 ghost use Rattle.bridge_config.specs.ConfigValue.{pair_of};
-ghost use Rattle.evening_slips.specs.Slips.{player_key, seat_name, place_words, pair_words, key_words};
+ghost use Rattle.evening_slips.specs.Slips.{player_key, seat_name, place_words, pair_words};
 
 use arrayvec::ArrayString;
 use bridge_cards::Side;
@@ -63,15 +63,5 @@ pub fn pair_words(pair: u8) -> Words
     let mut words = Words::new();
     words.push_str("Pair ");
     words.push_str(number_text(u32::from(pair)).as_str());
-    words
-}
-
-/// A key.
-pub fn key_words(key: Key) -> Words
-    ensures { result.bytes ≡ key_words key.0 }
-{
-    let mut words = Words::new();
-    words.push_str("Key ");
-    words.push_str(number_text(key.0).as_str());
     words
 }

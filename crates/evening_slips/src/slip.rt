@@ -3,7 +3,8 @@ ghost use Rattle.std.specs.Prelude.{◌≡◌, ◌+◌, ◌≤◌, ◌++◌, len
 ghost use Rattle.arrayvec.specs.ArrayVec.{array_vec_len};
 ghost use Rattle.evening_slips.specs.Slips.{HasAddress, address_text, slip_start, slip_head, slip_tail, slip_text, director_text};
 
-use crate::player::{Words, key_words, pair_words};
+use crate::key::key_words;
+use crate::player::{Words, pair_words};
 use crate::sheet::SlipSheet;
 use bridge_config::Key;
 use page_layout::{
@@ -55,7 +56,7 @@ fn push_tail(text: &mut PageText, sheet: &SlipSheet<'_>, key: Key)
     ensures { text.new.items ≡ text.old.items ++ slip_tail sheet.now key.0 }
 {
     let words = key_words(key);
-    push_heading(text, sheet.format, Level::Part, words.as_str().as_bytes());
+    push_heading(text, sheet.format, Level::Part, words.as_slice());
     push_address(text, sheet);
     push_section_end(text, sheet.format);
 }

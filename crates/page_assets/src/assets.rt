@@ -24,6 +24,7 @@ pub const PAGE: &str = r##"<!doctype html>
 <p id="clock" hidden></p>
 <button id="bell" type="button" aria-controls="calling" hidden>Director</button>
 <button id="menu" type="button" aria-controls="choices" hidden>Menu</button>
+<nav id="tabs" hidden></nav>
 </header>
 <div id="notes"><p id="notice" role="alert"></p><div id="desk" role="alert"></div></div>
 <main id="main"><noscript>This page needs JavaScript.</noscript></main>
@@ -91,7 +92,7 @@ button:focus-visible, input:focus-visible, textarea:focus-visible, select:focus-
 input, textarea, select { padding: .4rem; background: var(--panel); border: 1px solid var(--edge); border-radius: .5rem; max-width: 100%; }
 input { min-height: 2.75rem; width: 12rem; }
 select { min-height: 2.75rem; }
-input[type=checkbox], input[type=radio] { width: 1.4rem; min-height: 1.4rem; }
+input[type=checkbox], input[type=radio] { width: 1.4rem; min-height: 1.4rem; accent-color: var(--blue); }
 textarea { width: 100%; min-height: 8rem; font-family: ui-monospace, monospace; }
 label { display: inline-flex; align-items: center; gap: .4rem; min-height: 2.75rem; }
 
@@ -122,9 +123,6 @@ label { display: inline-flex; align-items: center; gap: .4rem; min-height: 2.75r
 .reasons { display: grid; grid-template-columns: 1fr 1fr; gap: .6rem; margin: .6rem 0; }
 .reasons [aria-pressed=true] { color: var(--page); background: var(--ink); }
 #claim-says, #tell-text { width: 100%; }
-.director #tables .called { border-color: var(--vul); }
-.director #tables .called td:nth-child(7) { color: #fff; background: var(--vul); }
-@media (min-width: 80em) { #rankings { max-height: max(6.4rem, calc(100vh - 49.7rem)); overflow: auto; } }
 #status {
   grid-area: say; justify-self: center; margin: .25rem .5rem; padding: .2rem 1rem; max-width: calc(100% - 1rem); border-radius: 1rem; text-align: center;
   background: var(--soft);
@@ -155,6 +153,7 @@ body.login { background: var(--felt); }
 body.login #bar { background: transparent; }
 body.login .panel { max-width: 24rem; margin-top: 8vh; }
 body.login .panel input { width: 100%; font-size: 1.75rem; letter-spacing: .06em; text-align: center; }
+body.login .panel input[aria-invalid=true] { border: 2px solid var(--bad); }
 body.login .panel button { width: 100%; min-height: 3.25rem; margin-top: .75rem; }
 body.login .panel label { display: block; min-height: 0; margin-bottom: .3rem; font-weight: bold; }
 .names { list-style: none; margin: .3rem 0; padding: 0; }
@@ -173,8 +172,10 @@ details { margin: .6rem 0; border-top: 1px solid var(--edge); padding-top: .4rem
 .sides { display: grid; grid-template-columns: repeat(auto-fit, minmax(min(100%, 24rem), 1fr)); gap: 0 1rem; }
 .sides .panel { width: 100%; max-width: none; }
 .sides table { width: 100%; }
-.sides th, .sides td { border: 0; border-bottom: 1px solid var(--edge); padding: .35rem .3rem; }
-.who { text-align: left; overflow-wrap: anywhere; }
+.sides th, .sides td { border: 0; border-bottom: 1px solid var(--edge); padding: .35rem .3rem; text-align: right; font-variant-numeric: tabular-nums; }
+.sides th { font-size: .8125rem; }
+.sides td:first-child { font-weight: bold; }
+.who, .sides .who { text-align: left; overflow-wrap: anywhere; }
 .banner {
   display: grid; grid-template-columns: 1fr auto; align-items: baseline; padding: .5rem 1rem; margin-bottom: .75rem; color: var(--on-felt);
   background: var(--felt); border-radius: .75rem;
@@ -184,44 +185,84 @@ details { margin: .6rem 0; border-top: 1px solid var(--edge); padding-top: .4rem
 .sheet fieldset { border: 1px solid var(--edge); border-radius: .5rem; margin: .5rem 0; }
 .sheet fieldset label { display: flex; }
 #chosen { width: 100%; color: var(--on-blue); background: var(--blue); }
-/* The director's tables: a card each. */
+/* The director's page: parts, of which one is in sight. */
+#tabs { flex-basis: 100%; display: flex; gap: .25rem; margin: 0 -.4rem -.25rem; overflow-x: auto; }
+#tabs[hidden], .director [hidden] { display: none !important; }
+#bar #tabs button { flex: none; padding: .2rem .75rem; font-size: 1rem; border: 0; border-bottom: 3px solid transparent; border-radius: 0; }
+#bar #tabs [aria-pressed=true] { font-weight: bold; border-bottom-color: var(--gold); }
+body.director main { max-width: 90rem; }
+.director #status:not(.lost) { position: absolute; width: 1px; height: 1px; overflow: hidden; clip-path: inset(50%); }
+.director .panel { width: 100%; max-width: none; }
+.director h2 { font-size: 1.0625rem; margin: 0 0 .4rem; }
+.subject + .subject { border-top: 1px solid var(--line); margin-top: .6rem; }
+.director .send { width: auto; }
+#end-round { width: 100%; min-height: 3.25rem; }
+#choosing .row { margin: 0; }
+#choosing input { width: 4.5rem; }
+#tables thead { position: absolute; width: 1px; height: 1px; overflow: hidden; clip-path: inset(50%); }
 .director #tables { display: block; background: none; }
-.director #tables thead { position: absolute; width: 1px; height: 1px; overflow: hidden; clip-path: inset(50%); }
 .director #tables tbody { display: grid; grid-template-columns: repeat(auto-fill, minmax(min(100%, 18rem), 1fr)); gap: .6rem; }
 .director #tables tr {
-  display: grid; grid-template: "n b s" auto "w w w" auto "p p o" auto "q q o" auto "m m o" 1fr / auto 1fr auto; gap: .1rem .75rem; align-items: baseline;
-  align-content: start; padding: .5rem .75rem; background: var(--panel); border: 1px solid var(--edge); border-left: .5rem solid var(--edge);
+  display: grid; grid-template: "n b s" auto "w w w" auto "p p p" auto "q q q" auto "m m o" 1fr / auto 1fr auto; gap: .1rem .75rem; align-items: baseline;
+  align-content: start; padding: .5rem .75rem; background: var(--panel); border: 1px solid var(--line); border-left: .5rem solid var(--edge);
   border-radius: .75rem;
 }
-.director #tables td { border: 0; padding: 0; text-align: left; overflow-wrap: anywhere; }
+.director #tables td { border: 0; padding: 0; text-align: left; overflow-wrap: anywhere; background: none; }
 .director #tables td:nth-child(1) { grid-area: n; font-size: 1.5rem; font-weight: bold; }
 .director #tables td:nth-child(2) { grid-area: p; }
-.director #tables td:nth-child(2)::before { content: "N\2013S "; }
 .director #tables td:nth-child(3) { grid-area: q; }
-.director #tables td:nth-child(3)::before { content: "E\2013W "; }
-.director #tables td:nth-child(2), .director #tables td:nth-child(3) { color: var(--second); font-size: .9375rem; }
+.director #tables td:nth-child(2), .director #tables td:nth-child(3) { color: var(--second); font-size: .875rem; }
 .director #tables td:nth-child(4) { grid-area: b; font-weight: bold; }
 .director #tables td:nth-child(4):not(:empty)::before { content: "Board "; }
 .director #tables td:nth-child(5) { grid-area: w; }
-.director #tables td:nth-child(6) { grid-area: m; font-size: .875rem; color: var(--second); }
+.director #tables td:nth-child(6) { grid-area: m; align-self: center; font-size: .875rem; color: var(--second); }
 .director #tables td:nth-child(7) {
   grid-area: s; padding: .05rem .6rem; border-radius: 1rem; font-size: .875rem; font-weight: bold; background: var(--soft); justify-self: end;
   white-space: nowrap;
 }
 .director #tables td:nth-child(8) { grid-area: o; align-self: end; }
+.marks { display: inline-flex; gap: .2rem; margin-right: .6rem; }
+.marks i { width: 1.5rem; height: .55rem; border: 1px solid var(--good); border-radius: .2rem; }
+.marks .all { background: var(--good); }
+.marks .half { background: linear-gradient(90deg, var(--good) 50%, transparent 50%); }
 .director #tables .done { border-left-color: var(--good); }
 .director #tables .done td:nth-child(7) { color: #fff; background: var(--not-vul); }
 .director #tables .waits { border-left-color: var(--blue); }
 .director #tables .slow { border-color: var(--wait); }
 .director #tables .slow td:nth-child(7) { color: var(--gold-ink); background: var(--gold); }
 .director #tables .slow td:nth-child(6) { color: var(--ink); font-weight: bold; }
+.director #tables .called { border-color: var(--vul); }
+.director #tables .called td:nth-child(7) { color: #fff; background: var(--vul); }
+#aside { margin-top: .75rem; }
+@media (max-width: 59.99em) { #aside #ranking { display: none; } }
+@media (max-width: 39.99em) {
+  :is(.sides, #rankings) :is(th, td):nth-child(4):not(:last-child) { display: none; }
+  #tabs { justify-content: space-between; }
+  #bar #tabs button { padding: .2rem .35rem; font-size: .9375rem; }
+  .director #tables .called { order: -2; }
+  .director #tables .slow { order: -1; }
+  .director #tables .done { order: 1; }
+}
 @media (min-width: 60em) {
-  .director #main { display: grid; grid-template-columns: minmax(0, 1fr) 22rem; gap: 0 1rem; align-items: start; max-width: 90rem; }
-  .director #main > * { grid-column: 2; min-width: 0; }
-  .director #main > #told, .director #main > #opened { grid-column: 1 / -1; }
-  .director #main > #tables { grid-column: 1; grid-row: 3 / span 7; }
-  .director #main > .row { grid-row: 3; margin-top: 0; }
-  .director #main > #publishing, .director #main > #lines { grid-column: 1 / -1; }
+  #on-tables { display: grid; grid-template-columns: minmax(0, 1fr) 19rem; gap: .75rem; align-items: start; }
+  #aside { margin: 0; }
+  #aside .panel { padding: .6rem .75rem; margin-bottom: .6rem; }
+  #aside #rankings :is(th, td):nth-child(4):not(:last-child) { display: none; }
+  #aside #rankings { max-height: 18rem; overflow: auto; }
+  #dealing { display: grid; grid-template-columns: 1fr 1fr; gap: 0 1.5rem; }
+  #dealing > h2, #dealing > p, #deal-question { grid-column: 1 / -1; }
+  #dealing .subject + .subject { border-top: 0; margin-top: 0; }
+  #on-rulings { display: grid; grid-template: "c c" auto "o r" auto "s r" 1fr / minmax(0, 1fr) 26rem; gap: 0 .75rem; align-items: start; }
+  #choosing { grid-area: c; }
+  #opened { grid-area: o; }
+  #ruling { grid-area: r; }
+  #standing { grid-area: s; }
+  .director.on-rulings #opened .parts { grid-template: "h" auto "p" auto / 1fr; }
+  #on-standings #rankings { display: grid; grid-template: auto auto auto / 1fr 1fr; gap: 0 1.5rem; align-items: start; }
+  #on-standings #rankings > p { grid-column: 1 / -1; }
+  #on-standings #rankings > :nth-child(n+4) { grid-column: 2; }
+  #on-standings #rankings > :nth-child(2), #on-standings #rankings > :nth-child(4) { grid-row: 2; }
+  #on-standings #rankings > :nth-child(3), #on-standings #rankings > :nth-child(5) { grid-row: 3; }
 }
 #opened:empty { display: none; }
 #opened { padding: .5rem .75rem; margin-bottom: .75rem; border: 2px solid var(--gold); border-radius: .75rem; background: var(--page); }
@@ -231,16 +272,14 @@ details { margin: .6rem 0; border-top: 1px solid var(--edge); padding-top: .4rem
 #opened .row [aria-pressed=true] { color: var(--page); background: var(--ink); }
 #opened-close { margin-left: auto; }
 #rankings table { width: 100%; }
-#rankings th, #rankings td { border: 0; border-bottom: 1px solid var(--edge); padding: .25rem .2rem; }
-@media (min-width: 60em) {
-  #rankings :is(th, td):nth-child(2):not(:nth-last-child(-n+2)), #rankings :is(th, td):nth-child(4):not(:last-child) { display: none; }
-}
+#rankings th, #rankings td { border: 0; border-bottom: 1px solid var(--line); padding: .25rem .2rem; text-align: right; font-variant-numeric: tabular-nums; }
+#rankings th { font-size: .8125rem; }
+#rankings .who { text-align: left; }
+#rankings h2 { margin: .6rem 0 .2rem; font-size: 1rem; }
 #ruled { margin: 0; padding-left: 1.2rem; }
 #ruled li { margin: .2rem 0; }
 h3 { font-size: 1rem; margin: .6rem 0 .2rem; }
 #others:empty { display: none; }
-.director summary { min-height: 0; padding: .45rem 0; }
-.director details { padding: .5rem 1rem; background: var(--panel); border: 1px solid var(--edge); border-radius: .75rem; }
 summary { cursor: pointer; min-height: 2.2rem; font-weight: bold; }
 .tables td, .tables th { padding: .2rem .35rem; }
 #told { position: sticky; top: 0; z-index: 1; color: var(--note-ink); background: var(--note); padding: .4rem .6rem; border-radius: .5rem; }
@@ -399,7 +438,7 @@ td.turn { font-weight: bold !important; }
 #dock.play button { min-height: 2.75rem; }
 #dock.claimed { grid-template-columns: 1fr 1fr; color: var(--gold-ink); background: var(--gold); }
 #dock.claimed p { grid-column: 1 / -1; margin: 0; }
-#refuse { color: #a8001c; background: #fff; }
+#refuse { color: #a8001c; background: #fff; border-color: #a8001c; }
 #agree { color: #fff; background: #0b57a4; border-color: #0b57a4; }
 #dock.claimed button:disabled { color: #5b645f; background: #ece8dc; }
 .sheet {
@@ -740,29 +779,13 @@ td.turn { font-weight: bold !important; }
 #options > fieldset { flex-basis: 100%; min-width: 0; }
 .sheet fieldset { padding: 0 .5rem; margin: .3rem 0; }
 legend { font-weight: bold; padding: 0 .3rem; }
-.director > #main > .row #end-round, #end-round { width: 100%; min-height: 3.25rem; }
-@media (min-width: 60em) {
-  .director #main:has(#opened:not(:empty)) > #opened { grid-column: 1; grid-row: 2; }
-  .director #main:has(#opened:not(:empty)) > #ruling { grid-row: 2; margin: 0; }
-  #opened .parts { grid-template: "h" auto "p" auto / 1fr; }
-  .director #main > #told { grid-row: 1; }
-  .director #main > #opened { grid-row: 2; }
-  .director #main > .row { grid-row: 3; }
-  #end-question { grid-row: 4; }
-  #dealing { grid-row: 5; }
-  #ruling { grid-row: 6; }
-  #telling { grid-row: 7; }
-  #solving { grid-row: 8; }
-  #ranking { grid-row: 9; }
-  #publishing { grid-row: 10; }
-  #lines { grid-row: 11; }
-}
-@media (min-width: 80em) { #opened .parts { grid-template: "h p" auto / 1fr 1fr; } }
+@media (min-width: 80em) { .director.on-rulings #opened .parts { grid-template: "h p" auto / 1fr 1fr; } }
 
 :root { --line: #d9d4c6; }
-@media (prefers-color-scheme: dark) { :root:not(.light) { --line: #33403a; } }
-:root.dark { --line: #33403a; }
-.panel, .director #tables tr, .director details { border-color: var(--line); }
+@media (prefers-color-scheme: dark) { :root:not(.light) { --line: #33403a; --plate-edge: var(--edge); } }
+:root.dark { --line: #33403a; --plate-edge: var(--edge); }
+.plate { box-shadow: inset 0 0 0 1px var(--plate-edge, transparent); }
+.panel { border-color: var(--line); }
 .list th, .list td { border-bottom-color: var(--line); }
 .list thead th { border-bottom-color: var(--edge); }
 #chip { font-size: 1.0625rem; border-width: .55rem; }
@@ -831,8 +854,11 @@ body.login::before {
   .bidding .auction td { font-size: 1.375rem; padding: .35rem .1rem; }
 }
 @media print {
-  #bar button, button, summary, label, input, select, textarea, #status, #told, #tables, .director details:not(#publishing) { display: none !important; }
-  body, #bar { color: #000; background: #fff; }
+  #bar button, button, summary, label, input, select, textarea, #status, #told, #tabs, #dock, #serving, #others, #on-tables, #lines, .director .panel:not(#publishing):not(#ranking) { display: none !important; }
+  body, #bar, .banner { color: #000; background: #fff; }
+  .banner { border: 1px solid #000; }
+  td button { display: inline !important; min-height: 0; min-width: 0; padding: 0; border: 0; }
+  pre { overflow: visible; padding: 0; font-size: 7pt; }
 }
 "##;
 
@@ -867,7 +893,7 @@ const TEXTS = {
   // To log in, and the menu.
   yourKey: "Your key",
   keyHelp: "The number on your slip. Spaces do not matter.",
-  slipLost: "Slip lost? The director has a new one.",
+  slipLost: "Slip lost? The director can print it again.",
   sitDown: "Sit down",
   noKey: "That is no key.",
   leave: "Leave",
@@ -885,7 +911,7 @@ const TEXTS = {
 
   // What is said of a refusal.
   refusals: {
-    NoKey: "Nobody has this key.",
+    NoKey: "Nobody has this key. Compare it with your slip, digit by digit.",
     NotAllowed: "That is not yours to do.",
     Closed: "The session is closed.",
     SitsOut: "You sit out in this round.",
@@ -923,10 +949,10 @@ const TEXTS = {
     NotFinished: "the play is not over",
     NotAnEnding: "at most six whole tricks may be left, and so many must have been played",
     NotMatchPoints: "averages are for matchpoints alone",
-    NothingToTakeBack: "Nothing was done yet that could be taken back.",
-    NotThisRound: "That is possible in the current round alone.",
-    RulingStands: "A ruling stands: take it back first.",
-    BoardBegun: "A call was made on this board already.",
+    NothingToTakeBack: "nothing was done yet that could be taken back",
+    NotThisRound: "that is possible in the current round alone",
+    RulingStands: "a ruling stands: take it back first",
+    BoardBegun: "a call was made on this board already",
     WrongPhase: "that is not possible now",
     Stale: "that is not the round at play",
     Closed: "the session is closed",
@@ -1012,7 +1038,11 @@ const TEXTS = {
   answerWaited: "Your answer is waited for",
   waitPlease: "Please wait.",
   claimed: (seat, tricks) => seat + " claimed " + tricks + (tricks === "1" ? " trick" : " tricks") + ", and it was agreed.",
-  claimRefused: "The claim was not agreed. Play goes on; call the director if need be.",
+  claimWaits: (seat, tricks) => seat + " claims " + tricks + (tricks === "1" ? " trick" : " tricks") + ", and not all have answered.",
+  hasClaimed: (seat, tricks) => seat + " claimed " + tricks + (tricks === "1" ? " trick." : " tricks."),
+  callBack: "The director has taken back the last call.",
+  cardBack: "The director has taken back the last card.",
+  claimRefused: "The claim stands no more: it was refused, or the director took it back. Play goes on.",
 
   // Between the boards, and at the end.
   boardsOf: (first, last) => (first === last ? "Board " + first : "Boards " + first + " to " + last),
@@ -1036,11 +1066,14 @@ const TEXTS = {
   atPlace: (place) => "at place " + place,
   youAreOf: (place, among) => "You are " + place + " of " + among,
   pointsOf: (score) => score.replace("/", " of "),
-  percent: (number) => number + " %",
-  ranking: (field) => "Ranking, field " + field,
-  rankingOf: (field) => "Ranking of field " + field,
+  percent: (number) => number + "\u00a0%",
+  ranking: "Ranking",
+  rankingOfPairs: (first, last) => "Ranking, pairs " + first + " to " + last,
+  places: "Places of all pairs",
+  placesOfPairs: (first, last) => "Places of pairs " + first + " to " + last,
   rankingHeads: ["Place", "Pair", "Score", "Per cent"],
   names: "Names",
+  both: (first, second) => first + " and " + second,
   allBoards: "All boards",
   roundSoFar: "This round",
   eveningSoFar: "Evening so far: ",
@@ -1056,7 +1089,7 @@ const TEXTS = {
   result: "The result",
   noResult: "at play",
   takenOut: "taken out by the director",
-  average: (ns, ew) => "average, " + ns + " % and " + ew + " %",
+  average: (ns, ew) => "average, " + TEXTS.percent(ns) + " and " + TEXTS.percent(ew),
   passedOut: "passed out",
   assigned: "(assigned)",
   tricks: (tricks) => tricks + (tricks === 1 ? " trick" : " tricks"),
@@ -1087,7 +1120,7 @@ const TEXTS = {
   boardsPlayed: (count) => (count === 1 ? "board played" : "boards played"),
   ofPoints: (of) => "of " + of + " matchpoints",
   noBoards: "No board is over yet.",
-  ruledOn: (number) => "The director has ruled on board " + number + ".",
+  ruledOn: (boards) => "The director has ruled on " + (boards.length === 1 ? "board " : "boards ") + boards.join(", ") + ".",
 
   // What stands beside the session.
   bell: "Director",
@@ -1099,6 +1132,9 @@ const TEXTS = {
   directorCalled: "Director called.",
   waitForDirector: "Please wait, play nothing.",
   noticeOf: "The director:",
+  pagesEnd: (minutes, isDirector) => (minutes === 1 ? "In a minute" : "In " + minutes + " minutes") + " the pages close. What was played is kept"
+    + (isDirector ? "; start the command again to go on." : "."),
+  serving: (disk, time) => (disk ? "Disk: " + disk + ". " : "") + "The pages close at " + time + ".",
   clockLeft: "left",
   minutesLeft: (minutes) => (minutes === 1 ? "One minute left" : minutes + " minutes left") + " in this round",
   claimSays: "What you say with it (may be left out)",
@@ -1118,6 +1154,7 @@ const TEXTS = {
 
   // The director.
   director: "Director",
+  tabs: { tables: "Tables", boards: "Boards", rulings: "Rulings", standings: "Standings", evening: "Evening" },
   answerAwaited: "An answer is still waited for; nothing was sent.",
   unknownDone: "No answer came. It may or may not have been done; what you see next tells.",
   noAnswer: "No answer came.",
@@ -1150,11 +1187,17 @@ const TEXTS = {
   dealThese: (boards) => "Deal " + (boards.length === 1 ? "board " : "boards ") + boards.join(", "),
   notOfSession: (boards) => "The session has no " + (boards.length === 1 ? "board " : "boards ") + boards.join(", ") + ": left out.",
   dealBoards: "Deal boards",
-  shuffleFrom: "Shuffle boards",
+  boardsInSets: (all, boards) => all + " boards in sets of " + boards + ". A board is dealt once, before it is played.",
+  shuffleHere: "Shuffle here",
+  seedSecret: "A secret number is drawn anew on this device. Nobody sees a deal before the evening ends.",
+  shuffleFrom: "Boards",
   to: "to",
   shuffle: "Shuffle",
-  dealFile: "Or a file of deals (PBN)",
-  dealText: "Or their text: PBN, or lines such as 1 N:AKQJ.T98.765.432 ...",
+  dealFile: "Or from a dealing program",
+  chooseFile: "A file of deals (PBN)",
+  dealText: "or their text: PBN, or lines such as 1 N:AKQJ.T98.765.432 ...",
+  dealtWrongly: "A board that was dealt wrongly",
+  undealHelp: "As long as nobody has called on it.",
   deal: "Deal these",
   fillIn: "Each number has to be there, and in its range.",
   tableHas: (round, table, first, last) => "In round " + round + " table " + table + " has " + (first === last ? "board " + first : "boards " + first + " to " + last) + ".",
@@ -1173,8 +1216,12 @@ const TEXTS = {
   takeBack: "Take the ruling back",
   asPlayed: "as it was played",
   takeBackButton: "Take a ruling back",
+  declarerField: "Declarer",
   declarersTricks: "Declarer's tricks",
+  setTheTricks: "Tricks",
   setTricks: "Set the tricks",
+  averages: "Average: 60, 50 or 40 per cent",
+  outAndBack: "Out, and back",
   northSouthPer: "North and South, per cent",
   eastWestPer: "East and West, per cent",
   awardAverages: "Award averages",
@@ -1299,6 +1346,14 @@ function refusal(reply) {
 
 // ---- what is shown
 
+// Whether keys were pressed last; and the call or card that was chosen last. Where the focus was lost while nothing could be
+// chosen, keys find it there again.
+let byKeys = false;
+let held = "";
+window.addEventListener("keydown", () => { byKeys = true; });
+window.addEventListener("pointerdown", () => { byKeys = false; });
+const isLost = () => document.activeElement === null || document.activeElement === document.body;
+
 // Shows these nodes on a page of that shape, where what they are made of is new; the focus and what is open stay, but where
 // the focus has a reason to move.
 function show(made, status, shape, nodes, moveFocus = () => {}) {
@@ -1308,7 +1363,7 @@ function show(made, status, shape, nodes, moveFocus = () => {}) {
   if (mark === shown) return;
   shown = mark;
   const main = at("main");
-  const focus = document.activeElement && main.contains(document.activeElement) ? document.activeElement.id : "";
+  const focus = isLost() ? (byKeys ? held : "") : main.contains(document.activeElement) ? document.activeElement.id : "";
   const open = [...main.querySelectorAll("details[open]")].map((node) => node.id);
   document.body.className = shape;
   main.replaceChildren(...nodes());
@@ -1327,18 +1382,89 @@ const rankingLines = (reply) => reply.split("\n").filter((line) => /^\d/.test(li
 // The names of each pair, as the results have them.
 const namesIn = (text) => new Map([...text.matchAll(/^Pair (\d+): (.*)$/gm)].map((found) => [Number(found[1]), found[2]]));
 
-// A field's ranking, with the names of the pairs where they are known.
-function rankingNode(field, reply, own, names = new Map()) {
+// ---- the names of the list that the program was given, in place of the configuration's
+
+// By pair, the names that the configuration has and those that are shown; none where no list was given.
+let people = new Map();
+let peopleFor = null;
+// A name that may run from the right to the left is kept apart from what stands beside it.
+const apart = (name) => (/[^\u0000-\u058f]/.test(name) ? "\u2068" + name + "\u2069" : name);
+
+// What is told of the names: a line a pair, with tabs between its number, its two names in the configuration, and those of the list.
+function readPeople(reply) {
+  const lines = reply.split("\n").map((line) => line.split("\t")).filter((words) => words.length === 5);
+  return new Map(lines.map((words) => [Number(words[0]), { own: words.slice(1, 3), shown: words.slice(3).map(apart) }]));
+}
+
+// Asks for them once; until there is an answer the configuration's are shown.
+async function askNames(asked) {
+  if (peopleFor === asked) return;
+  const reply = await ask("/names", asked);
+  if (reply === null || key !== asked) return;
+  people = readPeople(reply);
+  peopleFor = asked;
+}
+
+// The name that is shown for a player of that pair; where both have one name in the configuration, that.
+function shownName(pair, name) {
+  const found = people.get(Number(pair));
+  const [first, second] = found ? found.own.map((one) => one === name) : [false, false];
+  return first === second ? name : found.shown[first ? 0 : 1];
+}
+
+// The names that are shown for those who sit so; the first of a pair sits North or East. Where several pairs have the same names in
+// the configuration, those.
+function shownAt(names) {
+  const shown = { ...names };
+  for (const [first, second] of [["N", "S"], ["E", "W"]]) {
+    const found = [...people.values()].filter(({ own }) => own[0] === names[first] && own[1] === names[second]);
+    if (found.length === 1) [shown[first], shown[second]] = found[0].shown;
+  }
+  return shown;
+}
+
+// The names of pairs, with those that are shown in their place.
+const shownPairs = (names) => new Map([...names].map(([pair, both]) => [pair, people.has(pair) ? TEXTS.both(...people.get(pair).shown) : both]));
+
+// About how many columns of a text with letters of one width a name takes: marks none, and the signs of East Asia two.
+const NO_COLUMN = /[\p{M}\u200b-\u200f\u2068\u2069]/u;
+const TWO_COLUMNS = /[\u1100-\u115f\u2e80-\ua4cf\uac00-\ud7a3\uf900-\ufaff\ufe30-\ufe6f\uff00-\uff60\uffe0-\uffe6\u{1f300}-\u{1faff}\u{20000}-\u{3fffd}]/u;
+const columnsOf = (text) => [...text].reduce((sum, sign) => sum + (NO_COLUMN.test(sign) ? 0 : TWO_COLUMNS.test(sign) ? 2 : 1), 0);
+
+// The text of the results with those names: in the headings of score cards, and in the rankings, where they have 53 columns.
+function shownResults(text) {
+  const names = shownPairs(namesIn(text));
+  const inColumns = (both) => both + " ".repeat(Math.max(0, 53 - columnsOf(both)));
+  const row = (line, start, pair) => (names.has(Number(pair)) ? start + inColumns(names.get(Number(pair))) : line);
+  return text.replace(/^Pair (\d+): .*$/gm, (_line, pair) => "Pair " + pair + ": " + names.get(Number(pair)))
+    .replace(/^( {3,}\d+ {3,}(\d+) {2})(?=\S+ and \S).{53}/gm, row);
+}
+
+// What stands above a ranking: where there are two, between which pairs it is.
+function rankingTitles(lines, alone) {
+  const pairs = lines.map((words) => Number(words[1]));
+  const ends = [Math.min(...pairs), Math.max(...pairs)];
+  return alone ? [TEXTS.ranking, TEXTS.places] : [TEXTS.rankingOfPairs(...ends), TEXTS.placesOfPairs(...ends)];
+}
+
+// The rankings among some replies, each by itself.
+function rankings(replies, own, names) {
+  const there = replies.filter((reply) => !refusal(reply));
+  return there.map((reply) => rankingNode(reply, there.length === 1, own, names));
+}
+
+// A ranking, with the names of the pairs where they are known.
+function rankingNode(reply, alone, own, names) {
   const lines = rankingLines(reply);
+  const [title, label] = rankingTitles(lines, alone);
   const named = names.size > 0;
   const titles = TEXTS.rankingHeads.slice(0, lines.length ? lines[0].length : 0);
   if (named) titles.splice(2, 0, TEXTS.names);
-  const head = make("tr", null, ...titles.map((title) => make("th", { scope: "col" }, title)));
+  const head = make("tr", null, ...titles.map((title, i) => make("th", { scope: "col", className: named && i === 2 ? "who" : "" }, title)));
   const cells = (words) => (named ? [...words.slice(0, 2), names.get(Number(words[1])) || "", ...words.slice(2)] : words);
   const rows = lines.map((words) => make("tr", { className: Number(words[1]) === own ? "own" : "" },
-    ...cells(words).map((word, i) => make("td", { className: named && i === 2 ? "who" : "" }, word))));
-  return [make("h2", null, TEXTS.ranking(field)),
-    make("table", { aria_label: TEXTS.rankingOf(field) }, make("thead", null, head), make("tbody", null, ...rows))];
+    ...cells(words).map((word, i) => (named && i === 2 ? make("td", { className: "who" }, ...nameNodes(word)) : make("td", null, word)))));
+  return [make("h2", null, title), make("table", { aria_label: label }, make("thead", null, head), make("tbody", null, ...rows))];
 }
 
 // ---- who has logged in, and when the page looks
@@ -1347,6 +1473,7 @@ function showLogin() {
   at("title").textContent = TEXTS.title;
   at("below").textContent = "";
   at("chip").hidden = true;
+  at("tabs").hidden = true;
   at("menu").hidden = true;
   at("choices").hidden = true;
   document.title = TEXTS.title;
@@ -1362,6 +1489,7 @@ function showLogin() {
       make("p", { className: "second" }, TEXTS.keyHelp), make("button", { type: "submit", className: "send" }, TEXTS.sitDown),
       make("p", { className: "second" }, TEXTS.slipLost));
     field.oninput = () => {
+      field.setAttribute("aria-invalid", "false");
       if (field.selectionStart === field.value.length) field.value = field.value.replace(/\s/g, "").replace(/(\d{3})(?=\d)/g, "$1 ");
     };
     return [form];
@@ -1372,6 +1500,8 @@ function showLogin() {
 function leave() {
   key = null;
   role = { key: null, isDirector: false };
+  people = new Map();
+  peopleFor = null;
   awaited = { text: null, at: 0 };
   turn += 1;
   sessionStorage.removeItem("key");
@@ -1431,8 +1561,8 @@ async function awaitNews(text) {
   else lookAfter(LOOK);
 }
 
-// What an answer of the desk tells that is not of the clock's hand.
-const standing = (reply) => reply.split("\n").slice(2, -2).map((line) => line + "\n").join("");
+// What an answer of the desk tells that stands, and is neither of the clock's hand nor of the disk.
+const standing = (reply) => reply.split("\n").slice(2, -2).filter((line) => !line.startsWith("DISK ")).map((line) => line + "\n").join("");
 
 async function lookOnce(asked) {
   turn += 1;
@@ -1449,6 +1579,8 @@ async function lookOnce(asked) {
     role = { key: asked, isDirector: refused === "NotAllowed" };
     enter(asked);
   }
+  await askNames(asked);
+  if (mine !== turn) return;
   const told = role.isDirector ? [ask("/tables", asked)] : [place || ask("/place", asked), ask("/lines", "SEE " + asked + "\n")];
   const replies = await Promise.all([...told, ask("/desk", asked)]);
   if (mine !== turn) return;
@@ -1464,6 +1596,7 @@ async function lookOnce(asked) {
 function refuse(refused) {
   leave();
   say("notice", TEXTS.refusals[refused] || TEXTS.noKey);
+  at("key").setAttribute("aria-invalid", "true");
 }
 
 function enter(asked) {
@@ -1526,7 +1659,7 @@ function readPlace(reply) {
     pair: Number(f.PLAYER[0]),
     name: f.PLAYER[1],
     table: some(f.TABLE, (w) => ({ number: w[0], seat: w[1], first: w[2], last: w[3] })),
-    names: some(f.NAMES, (w) => ({ N: w[0], E: w[1], S: w[2], W: w[3] })),
+    names: some(f.NAMES, (w) => shownAt({ N: w[0], E: w[1], S: w[2], W: w[3] })),
     contract: some(f.CONTRACT, (w) => ({ bid: w[0], declarer: w[1] })),
     answer: f.ANSWER[0] === "DUE",
     next: some(f.NEXT, (w) => ({ number: w[0], seat: w[1], first: w[2], last: w[3] })),
@@ -1656,6 +1789,7 @@ function unmark() {
 // What is tapped is marked, and sent by a second tap, or sent at once.
 function choose(what, line, event) {
   if (isDeaf(event)) return;
+  held = what;
   if (!isSafe()) return send(line);
   if (marked && marked.what === what) {
     if (Date.now() - marked.at >= TWICE) send(line);
@@ -1807,6 +1941,11 @@ function boxKey(event) {
   const chosen = { p: "PASS", x: "X", r: "XX" }[word] || (level && strain ? level + strain : "");
   level = "";
   choseKey(chosen ? at("call-" + chosen) : null);
+}
+
+// The newest row of a long auction is in view.
+function showNewest() {
+  if (at("auction")) at("auction").scrollTop = at("auction").scrollHeight;
 }
 
 function auctionTable(place, view) {
@@ -1995,7 +2134,7 @@ function claimSheet(place, view) {
   const said = make("input", { id: "claim-says", type: "text", maxLength: 100, value: saying, oninput: () => { saying = said.value; } });
   // What is said goes with the claim once that stands.
   const makeIt = async () => {
-    const words = saying.trim();
+    const words = plainText(saying);
     saying = "";
     if (await send(line) && words) askDesk("STATEMENT " + words);
   };
@@ -2082,6 +2221,25 @@ function playNodes(place, view) {
   return nodes;
 }
 
+// ---- what is told in passing
+
+// Where the play was when the page looked last; and a notice that stands until the play is elsewhere: its text and where it stands.
+let playIs = "";
+let passing = null;
+
+function sayPassing(text, where = playIs) {
+  passing = { text, where };
+  say("notice", text);
+}
+
+// The play is where it is shown now.
+function playGoesOn(place, view) {
+  playIs = [place.round, view ? [view.board, view.made.calls, view.made.cards, view.made.claims].join(" ") : "-"].join(" ");
+  if (passing === null || playIs.startsWith(passing.where)) return;
+  if (at("notice").textContent === passing.text) say("notice", "");
+  passing = null;
+}
+
 // ---- what is heard, and what plays itself
 
 let before = null;
@@ -2096,7 +2254,9 @@ function news(view) {
   const cards = view.trick.length ? view.trick : view.made.cards === old.made.cards ? [] : view.last;
   const fresh = Number(view.made.cards) - Number(old.made.cards);
   cards.slice(Math.max(0, cards.length - fresh)).forEach(({ seat, card }) => said.push(SEAT_NAMES[seat] + ": " + cardName(card)));
-  if (old.claim && !view.claim) say("notice", TEXTS.claimRefused);
+  if (old.claim && !view.claim) sayPassing(TEXTS.claimRefused);
+  if (fresh < 0) sayPassing(TEXTS.cardBack);
+  else if (view.calls.length < old.calls.length) sayPassing(TEXTS.callBack);
   if (view.last.length && view.trick.length === 0 && fresh > 0) said.push(TEXTS.trickTo(SEAT_NAMES[view.turn]));
   return said.join(". ");
 }
@@ -2128,7 +2288,7 @@ function nextText(place) {
 }
 
 function headText(place) {
-  return TEXTS.ofPair(place.name, place.pair);
+  return TEXTS.ofPair(shownName(place.pair, place.name), place.pair);
 }
 
 // Who sits at a table, this player and his partner first.
@@ -2165,6 +2325,7 @@ function betweenNodes(place, done) {
   const played = told.boards.filter((board) => board.round === String(place.round));
   if (played.length) nodes.push(make("section", { className: "panel wide-panel" }, make("h2", null, TEXTS.roundSoFar), cardTable(place, played),
     ...soFarNodes()));
+  else if (told.boards.length) nodes.push(make("section", { className: "panel" }, ...soFarNodes()));
   return nodes;
 }
 
@@ -2219,6 +2380,7 @@ function showView(placeReply, reply) {
     return;
   }
   const view = readView(reply);
+  playGoesOn(place, view);
   if (unsure) sayFate(place, view);
   if (marked && !marked.line.startsWith(marked.what.startsWith("card-") ? "CARD " + key + " " + view.board + " " + view.made.cards + " " : "CALL " + key + " " + view.board + " " + view.made.calls + " ")) marked = null;
   const mine = isMine(place, view);
@@ -2230,8 +2392,7 @@ function showView(placeReply, reply) {
   drawn = () => show(made + JSON.stringify([marked, claiming, looking, isSafe(), desk.said]),
     waiting(place, view), shapeOf(place, view) + (mine ? " mine" : ""), () => playNodes(place, view), moveFocus);
   drawn();
-  // The newest row of a long auction is in view.
-  if (at("auction")) at("auction").scrollTop = at("auction").scrollHeight;
+  showNewest();
   playLast(place, view);
 }
 
@@ -2247,6 +2408,8 @@ async function showClosed(placeReply, asked, mine) {
     const text = await ask("/results", asked);
     if (mine !== turn) return;
     if (text === null) return unreachable();
+    // What boards are worth may have changed as well.
+    told.at = -BOARDS_LAST;
     results = { made, text, at: Date.now() };
   }
   await lookAtBoards(asked, place, null);
@@ -2255,7 +2418,7 @@ async function showClosed(placeReply, asked, mine) {
   drawn = () => {};
   if (showLeaf(place, TEXTS.toNext)) return;
   barFor(place, null);
-  const both = [[1, first], [2, second]].filter((one) => !refusal(one[1]));
+  const both = [first, second].filter((reply) => !refusal(reply));
   show(made + results.text + told.text, TEXTS.closed, "final", () => finalNodes(place, both));
 }
 
@@ -2267,17 +2430,17 @@ function bannerNode(place, own, among, names) {
 }
 
 function finalNodes(place, both) {
-  const names = namesIn(results.text);
+  const names = shownPairs(namesIn(results.text));
   const nodes = [];
-  for (const lines of both.map((one) => rankingLines(one[1]))) {
+  for (const lines of both.map(rankingLines)) {
     const own = lines.find((words) => Number(words[1]) === place.pair);
     if (own) nodes.push(bannerNode(place, own, lines.length, names));
   }
   nodes.push(make("div", { className: "sides" },
-    ...both.map((one) => make("section", { className: "panel" }, ...rankingNode(one[0], one[1], place.pair, names)))));
+    ...rankings(both, place.pair, names).map((nodes) => make("section", { className: "panel" }, ...nodes))));
   if (told.boards.length) nodes.push(make("section",
     { id: "own-card", className: "panel wide-panel" }, make("h2", null, TEXTS.scoreCard), cardTable(place, told.boards)));
-  nodes.push(make("details", { id: "all-results" }, make("summary", null, TEXTS.allBoards), make("pre", { id: "results" }, results.text)),
+  nodes.push(make("details", { id: "all-results" }, make("summary", null, TEXTS.allBoards), make("pre", { id: "results" }, shownResults(results.text))),
     button(TEXTS.print, "", "print", true, () => window.print()));
   return nodes;
 }
@@ -2285,8 +2448,10 @@ function finalNodes(place, both) {
 // Shows where a player sits, and the play there, or what came of the session.
 async function showPlayer(place, view, asked, mine) {
   const where = readPlace(place);
+  const seen = refusal(view) ? null : readView(view);
+  playGoesOn(where, seen);
   if (where.round > where.rounds) return showClosed(place, asked, mine);
-  await lookAtBoards(asked, where, refusal(view) ? null : readView(view).board);
+  await lookAtBoards(asked, where, seen ? seen.board : null);
   if (mine !== turn) return;
   lastPlace = place;
   showView(place, view);
@@ -2381,6 +2546,7 @@ at("menu").onclick = () => { if (at("choices").hidden) showMenu(); else closeMen
 at("chosen").onclick = () => { closeMenu(); at("menu").focus(); };
 at("menu").textContent = TEXTS.menu;
 at("chosen").textContent = TEXTS.done;
+window.addEventListener("resize", showNewest);
 document.addEventListener("keydown", (event) => {
   if (event.key !== "Escape") return;
   if (!at("choices").hidden) at("chosen").onclick();
@@ -2414,7 +2580,7 @@ function readResult(words) {
 
 // What each line says of a board, by its first word.
 const BOARD_LINES = {
-  NAMES: (board, w) => { board.names = { N: w[0], E: w[1], S: w[2], W: w[3] }; },
+  NAMES: (board, w) => { board.own = { N: w[0], E: w[1], S: w[2], W: w[3] }; board.names = shownAt(board.own); },
   DEAL: (board, w) => { board.deal = readDeal(w); },
   CALLS: (board, w) => { board.calls = w; },
   CARDS: (board, w) => { board.cards = w[0] === "-" ? [] : readPlay(w, board.calls); },
@@ -2484,7 +2650,7 @@ function viewOf(board, seat) {
 function ownSeat(board, name) {
   if (board.side === "-") return "S";
   const [first, second] = board.side === "NS" ? ["N", "S"] : ["E", "W"];
-  return board.names[second] === name ? second : first;
+  return board.own[second] === name ? second : first;
 }
 
 // ---- results in words
@@ -2505,7 +2671,7 @@ function resultNodes(result, seat) {
 const isScored = (result) => result.score !== undefined;
 
 // What stands for the score of one side, or nothing.
-const scoreText = (board) => (isScored(board.result) ? signed(ownScore(board)) : board.result.average ? board.result.average[board.side] + " %" : "");
+const scoreText = (board) => (isScored(board.result) ? signed(ownScore(board)) : board.result.average ? TEXTS.percent(board.result.average[board.side]) : "");
 
 // The worth so far, of matchpoints in per cent.
 function worthText(worth) {
@@ -2525,7 +2691,7 @@ function bandNode(board, seat) {
     " " + TEXTS.by(lead.seat, lead.seat === seat));
   return make("section", { id: "band", className: "banner", aria_label: TEXTS.result },
     make("p", { className: "large" }, ...words), make("p", { className: "large" }, scoreText(board)),
-    make("p", null, ...below), make("p", null, board.worth ? TEXTS.soFar(worthText(board.worth)) : ""));
+    make("p", null, ...below), make("p", null, worthText(board.worth) && TEXTS.soFar(worthText(board.worth))));
 }
 
 // ---- hands, auction and play
@@ -2626,12 +2792,19 @@ function tricksTable(board, step) {
   return make("table", { id: "tricks", className: "list", aria_label: TEXTS.play }, listHeads(TEXTS.trickHeads, 0), make("tbody", null, ...rows));
 }
 
+// A claim: players are told of one that was agreed, the director of one that stands too, also under a ruling.
+function claimText({ claim: { seat, tricks }, result, side }) {
+  const isPlayed = isScored(result) && !result.assigned;
+  const words = result.none ? TEXTS.claimWaits : side !== "-" || isPlayed ? TEXTS.claimed : TEXTS.hasClaimed;
+  return words(SEAT_NAMES[seat], tricks);
+}
+
 function playedNode(board, own, step) {
   const node = make("section",
     { className: "panel part play", aria_label: TEXTS.auctionAndPlay }, make("h2", null, TEXTS.auction),
     auctionTable({ names: board.names }, viewOf(board, own)));
   if (board.cards.length) node.append(make("h2", null, TEXTS.play), tricksTable(board, step));
-  if (board.claim) node.append(make("p", null, TEXTS.claimed(SEAT_NAMES[board.claim.seat], board.claim.tricks)));
+  if (board.claim) node.append(make("p", null, claimText(board)));
   return node;
 }
 
@@ -2670,7 +2843,7 @@ function scoresNode(board) {
     numberCell(tricksText(one.result)), numberCell(isScored(one.result) ? signed(one.result.score) : "")));
   node.append(make("h2", null, TEXTS.tablesSoFar(lines.length)),
     make("table", { className: "list", aria_label: TEXTS.scores }, listHeads(TEXTS.scoreHeads, 2), make("tbody", null, ...rows)));
-  if (board.worth) node.append(make("p", { className: "second" }, TEXTS.ours(board.worth)));
+  if (worthText(board.worth)) node.append(make("p", { className: "second" }, TEXTS.ours(board.worth)));
   return node;
 }
 
@@ -2735,7 +2908,9 @@ function worthOfAll(boards) {
   if (worths.length === 0) return null;
   const sum = (i) => worths.reduce((all, worth) => all + (worth[i] || 0), 0);
   if (worths[0].length === 1) return { points: signed(Number(sum(0).toFixed(1))), of: null, percent: null };
-  return { points: sum(0).toFixed(1), of: sum(1), percent: sum(1) ? (100 * sum(0) / sum(1)).toFixed(1) : null };
+  // Nobody else has played any of these boards.
+  if (sum(1) === 0) return null;
+  return { points: sum(0).toFixed(1), of: sum(1), percent: (100 * sum(0) / sum(1)).toFixed(1) };
 }
 
 function scoreCardNodes(place) {
@@ -2783,7 +2958,8 @@ async function loadBoards(asked) {
   told = { key: asked, at: Date.now(), ...readBoards(reply) };
   const same = (one, other) => one.number === other.number && one.round === other.round;
   const isRuled = (board) => old.some((one) => same(one, board) && JSON.stringify(one.result) !== JSON.stringify(board.result));
-  for (const board of told.boards.filter(isRuled)) say("notice", TEXTS.ruledOn(board.number));
+  const ruled = told.boards.filter(isRuled).map((board) => board.number);
+  if (ruled.length) sayPassing(TEXTS.ruledOn(ruled), playIs.split(" ").slice(0, 2).join(" "));
 }
 
 // Looks at the boards where one was over since the page looked last, which is shown then; and else now and then.
@@ -2806,7 +2982,9 @@ pub const DESK_SCRIPT: &str = r##""use strict";
 const CLOCK_SAID = [300, 60];
 const SECOND = 1000;
 
-const nothingStands = () => ({ notice: "", clock: null, calls: [], said: "", now: 0, at: 0 });
+const nothingStands = () => ({ notice: "", clock: null, calls: [], said: "", now: 0, at: 0, ends: null, disk: "" });
+// Minutes before the end of the pages from which on they say so.
+const ENDS_SOON = 10;
 let desk = nothingStands();
 let clockTimer = 0;
 // What is on the page of it; and the reason that is chosen while the director is being called, or null.
@@ -2817,7 +2995,12 @@ let reason = null;
 const wordsFrom = (line, count) => line.split(" ").slice(count).join(" ");
 
 const DESK_LINES = {
-  NOW: (found, line) => { found.now = Number(wordsFrom(line, 1)); },
+  NOW: (found, line) => {
+    const [, now, ends] = line.split(" ");
+    found.now = Number(now);
+    if (ends !== undefined) found.ends = Number(ends) - found.now;
+  },
+  DISK: (found, line) => { found.disk = wordsFrom(line, 1); },
   NOTICE: (found, line) => { found.notice = wordsFrom(line, 1); },
   CLOCK: (found, line) => { found.clock = Number(wordsFrom(line, 1)) - found.now; },
   CALL: (found, line) => {
@@ -2838,6 +3021,9 @@ function readDesk(reply) {
 }
 
 const isDirector = () => role.isDirector;
+
+// A text without what the server takes in none: control characters, and those that turn the direction of others.
+const plainText = (text) => text.replace(/[\p{Cc}\u061c\u200e\u200f\u2028-\u202e\u2066-\u2069]/gu, " ").trim();
 
 // Shows what an answer says that stands.
 function takeDesk(reply) {
@@ -2884,7 +3070,7 @@ function showClock() {
 
 // ---- what stands above the page
 
-const whoCalls = ({ pair, name }) => TEXTS.ofPair(name, pair);
+const whoCalls = ({ pair, name }) => TEXTS.ofPair(shownName(pair, name), pair);
 
 function callNodesOf(call) {
   if (!isDirector()) return [make("p", null, make("b", null, TEXTS.directorCalled), " ", call.text ? call.text + ". " : "", TEXTS.waitForDirector)];
@@ -2902,12 +3088,14 @@ function callNodesOf(call) {
 function showDesk() {
   showClock();
   at("bell").hidden = key === null || isDirector();
-  const made = JSON.stringify([desk.notice, desk.calls, desk.said, isDirector()]);
+  const minutes = desk.ends === null ? ENDS_SOON + 1 : Math.max(1, Math.ceil(desk.ends / 60));
+  const made = JSON.stringify([desk.notice, desk.calls, desk.said, isDirector(), minutes <= ENDS_SOON ? minutes : 0]);
   if (made === deskShown) return;
   deskShown = made;
   const focus = document.activeElement ? document.activeElement.id : "";
   const notice = desk.notice ? [make("p", null, make("b", null, TEXTS.noticeOf), " ", desk.notice)] : [];
-  at("desk").replaceChildren(...notice, ...desk.calls.flatMap(callNodesOf));
+  const end = minutes <= ENDS_SOON ? [make("p", null, TEXTS.pagesEnd(minutes, isDirector()))] : [];
+  at("desk").replaceChildren(...end, ...notice, ...desk.calls.flatMap(callNodesOf));
   if (focus && at(focus)) at(focus).focus();
   drawn();
 }
@@ -2944,7 +3132,7 @@ at("calling").onkeydown = holdTab;
 
 function tellingNodes() {
   const field = make("input", { id: "tell-text", type: "text", maxLength: 200 });
-  const telling = () => { const words = field.value.trim(); if (words) askDesk("NOTICE " + words); };
+  const telling = () => { const words = plainText(field.value); if (words) askDesk("NOTICE " + words); };
   const start = () => { if (isFilledIn("telling")) askDesk("CLOCK " + numberAt("clock-minutes")); };
   const more = () => { if (desk.clock !== null) askDesk("CLOCK " + (Math.ceil(secondsLeft() / 60) + 2)); };
   return [make("label", { for: "tell-text" }, TEXTS.tellText), make("div", { className: "row" }, field, button(TEXTS.tellAll, "", "tell-all", true, telling),
@@ -2966,6 +3154,9 @@ const MINUTE = 60000;
 // Milliseconds: how long standings that are in sight last.
 const STANDINGS_LAST = 30000;
 let standingsAt = 0;
+// The parts of the page, one of which is in sight.
+const TABS = ["tables", "boards", "rulings", "standings", "evening"];
+let tab = "tables";
 
 // When each table's line was first seen as it is.
 const since = new Map();
@@ -3026,6 +3217,32 @@ async function doOne(line, what, isCorrection = false) {
   look();
 }
 
+// ---- the parts of the page
+
+// Puts a part of the page in sight. Where there is room the standings stand beside the tables too.
+function showTab(name) {
+  tab = name;
+  document.body.className = "director on-" + name;
+  for (const one of TABS) {
+    at("on-" + one).hidden = one !== name;
+    at("tab-" + one).setAttribute("aria-pressed", String(one === name));
+  }
+  at(name === "tables" ? "aside" : "on-standings").append(at("ranking"));
+}
+
+function openTab(name) {
+  tell("");
+  showTab(name);
+  look();
+}
+
+// The buttons of the parts; that of the tables says how many of them call.
+function tabNodes() {
+  return TABS.map((name) => make("button", { type: "button", id: "tab-" + name, onclick: () => openTab(name) }, TEXTS.tabs[name]));
+}
+
+const seesStandings = () => tab === "standings" || (tab === "tables" && typeof matchMedia === "function" && matchMedia("(min-width: 60em)").matches);
+
 // ---- tables
 
 function readTables(reply) {
@@ -3073,6 +3290,14 @@ function noteSets(state) {
   }
 }
 
+// How many of a table's boards are done, as marks beside the words.
+function marksOf(table) {
+  const done = table.idle ? (table.idle === "NotCurrent" ? boardsOfSet : 0) : placeInSet(Number(table.board)) - 1;
+  const marks = Array.from({ length: table.idle === "SitsOut" ? 0 : boardsOfSet },
+    (_none, i) => make("i", { className: i < done ? "all" : i === done && !table.idle ? "half" : "" }));
+  return make("span", { className: "marks", aria_hidden: "true" }, ...marks);
+}
+
 const pairText = (pair) => (pair === "0" ? "\u2013" : pairNames.has(Number(pair)) ? pair + " " + pairNames.get(Number(pair)) : pair);
 
 function tablesTable(state) {
@@ -3082,9 +3307,9 @@ function tablesTable(state) {
     const stands = standsAs(table, Number(minutes));
     const open = make("button", { type: "button", id: "open-" + table.number, aria_label: TEXTS.openTable(table.number), onclick: () => openTable(table) }, TEXTS.open);
     return make("tr", { className: stands },
-      ...[table.number, pairText(table.ns), pairText(table.ew),
-        table.idle ? "" : table.board, progressText(table), table.idle ? "" : TEXTS.stillFor(Number(minutes)),
-        TEXTS.stands[stands]].map((word) => make("td", null, word)),
+      ...[[table.number], [pairText(table.ns)], [pairText(table.ew)],
+        [table.idle ? "" : table.board], [progressText(table)], [marksOf(table), table.idle ? "" : TEXTS.stillFor(Number(minutes))],
+        [TEXTS.stands[stands]]].map((words) => make("td", null, ...words)),
       make("td", null, ...(table.idle === "SitsOut" ? [] : [open])));
   });
   return make("table", { id: "tables", className: "tables", hidden: rows.length === 0, aria_label: TEXTS.tables },
@@ -3113,6 +3338,8 @@ function showTables(state) {
   lastTables = state;
   noteSets(state);
   say("status", roundText(state));
+  say("below", state.round > state.rounds ? "" : TEXTS.roundOf(state.round, state.rounds));
+  say("tab-tables", TEXTS.tabs.tables + (desk.calls.length ? " (" + desk.calls.length + ")" : ""));
   const old = at("tables");
   const tables = tablesTable(state);
   // What stands in the focus stays there.
@@ -3140,7 +3367,7 @@ const askPlay = (words) => ask("/boards", key + " " + words.join(" "));
 async function openPlay(words) {
   tell("");
   opened = { words, text: "" };
-  at("ruling").open = true;
+  showTab("rulings");
   await showOpened();
   if (at("opened").scrollIntoView) at("opened").scrollIntoView({ block: "nearest" });
 }
@@ -3312,9 +3539,8 @@ function playName(prefix) {
 }
 
 function playFields(prefix) {
-  return make("div", { className: "row" },
-    numberField(prefix + "-round", TEXTS.round, 1, MOST_TABLES, 1), numberField(prefix + "-table", TEXTS.tableField, 1, MOST_TABLES, 1),
-    numberField(prefix + "-board", TEXTS.boardField, 1, MOST_BOARDS, 1));
+  return [numberField(prefix + "-round", TEXTS.round, 1, MOST_TABLES, 1), numberField(prefix + "-table", TEXTS.tableField, 1, MOST_TABLES, 1),
+    numberField(prefix + "-board", TEXTS.boardField, 1, MOST_BOARDS, 1)];
 }
 
 // ---- rulings
@@ -3330,7 +3556,7 @@ function beforeAndAfter(board, after) {
 
 // Rules on the play of the fields: a keyword, what follows the play, what the result becomes, and whether it is a correction.
 async function rule(what, word, rest, after, isCorrection = false) {
-  if (!isFilledIn("ruling")) return;
+  if (!isFilledIn("on-rulings")) return;
   const words = playWords("rule");
   if (words === null) return;
   const name = what + ", " + playName("rule");
@@ -3357,18 +3583,30 @@ function rulingNodes() {
     const score = TEXTS.assignedAs(callName(contract), SEAT_NAMES[declarer], TEXTS.made(tricks - 6 - Number(contract[0])));
     rule(TEXTS.assignScore, "ASSIGN", [contract, declarer, tricks].join(" "), () => score, true);
   };
-  const show = () => { if (isFilledIn("ruling")) { const words = playWords("rule"); if (words) openPlay(words); } };
-  return [playFields("rule"), make("div", { className: "row" }, button(TEXTS.openPlay, "", "rule-open", true, show)),
-    make("div", { className: "row" },
-      numberField("rule-tricks", TEXTS.declarersTricks, 0, 13, 7), button(TEXTS.setTricks, "", "rule-set", true, setTricks)),
-    make("div", { className: "row" }, choice("assign-bid", TEXTS.contract, ALL_BIDS.map((bid) => [bid, callName(bid)])),
-      choice("assign-doubled", TEXTS.double, TEXTS.doublings), choice("assign-declarer", TEXTS.declarer, SEATS.map((seat) => [seat, SEAT_NAMES[seat]])),
-      numberField("assign-tricks", TEXTS.declarersTricks, 0, 13, 7), button(TEXTS.assignScore, "", "rule-assign", true, assign)),
-    make("div", { className: "row" }, choice("rule-ns", TEXTS.northSouthPer, TEXTS.per), choice("rule-ew", TEXTS.eastWestPer, TEXTS.per),
-      button(TEXTS.awardAverages, "", "rule-average", true, average)),
-    make("div", { className: "row" }, button(TEXTS.takeOut, "", "rule-void", true, () => rule(TEXTS.takeOut, "VOID", "", () => TEXTS.takenOut)),
-      button(TEXTS.takeBackButton, "", "rule-restore", true, () => rule(TEXTS.takeBack, "RESTORE", "", () => TEXTS.asPlayed))),
-    make("div", { id: "rule-question" }), make("h3", null, TEXTS.rulingsStand), make("ul", { id: "ruled" })];
+  const show = () => { if (isFilledIn("on-rulings")) { const words = playWords("rule"); if (words) openPlay(words); } };
+  const row = (...nodes) => make("div", { className: "row" }, ...nodes);
+  return [
+    make("section", { id: "choosing", className: "panel", aria_label: TEXTS.openPlay }, row(...playFields("rule"), button(TEXTS.openPlay, "", "rule-open", true, show))),
+    make("section", { id: "opened", aria_label: TEXTS.theBoard }),
+    section("ruling", TEXTS.rulings, make("div", { id: "rule-question" }),
+      group(TEXTS.setTheTricks, row(numberField("rule-tricks", TEXTS.declarersTricks, 0, 13, 7), button(TEXTS.setTricks, "", "rule-set", true, setTricks))),
+      group(TEXTS.assignScore, row(choice("assign-bid", TEXTS.contract, ALL_BIDS.map((bid) => [bid, callName(bid)])),
+        choice("assign-doubled", TEXTS.double, TEXTS.doublings), choice("assign-declarer", TEXTS.declarerField, SEATS.map((seat) => [seat, SEAT_NAMES[seat]])),
+        numberField("assign-tricks", TEXTS.declarersTricks, 0, 13, 7), button(TEXTS.assignScore, "", "rule-assign", true, assign))),
+      group(TEXTS.averages, row(choice("rule-ns", TEXTS.northSouthPer, TEXTS.per), choice("rule-ew", TEXTS.eastWestPer, TEXTS.per),
+        button(TEXTS.awardAverages, "", "rule-average", true, average))),
+      group(TEXTS.outAndBack, row(button(TEXTS.takeOut, "", "rule-void", true, () => rule(TEXTS.takeOut, "VOID", "", () => TEXTS.takenOut)),
+        button(TEXTS.takeBackButton, "", "rule-restore", true, () => rule(TEXTS.takeBack, "RESTORE", "", () => TEXTS.asPlayed)))),
+      group(TEXTS.solving, row(numberField("solve-tricks", TEXTS.afterTricks, 7, 13, 7), button(TEXTS.solve, "", "solve", true, solve)),
+        make("p", { id: "solved", role: "status" }))),
+    section("standing", TEXTS.rulingsStand, make("ul", { id: "ruled" }))];
+}
+
+// Whether players see what other tables did, and how to turn that; before it is told the same place is taken, so that nothing moves.
+function othersNodes(open) {
+  const turn = make("button", { type: "button", id: "others-turn", disabled: open === null, onclick: () => turnOthers(open ? "SHUT" : "OPEN") },
+    open ? TEXTS.othersShut : TEXTS.othersOpen);
+  return [make("p", null, TEXTS.othersTitle + " ", make("b", null, open === null ? "\u2026" : TEXTS.othersAre[open])), turn];
 }
 
 // The rulings that stand, and whether players see what other tables did.
@@ -3384,8 +3622,7 @@ async function showRulings() {
   });
   at("ruled").replaceChildren(...(ruled.length ? ruled : [make("li", null, TEXTS.noRulings)]));
   const open = lines.some((words) => words[0] === "OTHERS" && words[1] === "OPEN");
-  at("others").replaceChildren(make("p", null, TEXTS.othersTitle + " ", make("b", null, TEXTS.othersAre[open])),
-    make("button", { type: "button", id: "others-turn", onclick: () => turnOthers(open ? "SHUT" : "OPEN") }, open ? TEXTS.othersShut : TEXTS.othersOpen));
+  at("others").replaceChildren(...othersNodes(open));
 }
 
 async function turnOthers(word) {
@@ -3397,8 +3634,8 @@ async function turnOthers(word) {
 // ---- endings, rankings, results, lines
 
 async function solve() {
-  if (!isFilledIn("solving")) return;
-  const play = playWords("solve");
+  if (!isFilledIn("on-rulings")) return;
+  const play = playWords("rule");
   const reply = play === null ? null : await order(["SOLVE " + play.join(" ") + " " + 4 * numberAt("solve-tricks")]);
   if (reply === null) return;
   const words = reply.split("\n")[0].split(" ");
@@ -3417,20 +3654,25 @@ async function showRankings() {
   const text = await ask("/results", asked);
   if (key !== asked) return;
   if (text === null || replies.includes(null)) return tell(TEXTS.noAnswer);
-  pairNames = namesIn(text);
+  pairNames = shownPairs(namesIn(text));
   const time = make("p", { className: "small" }, TEXTS.asOf(new Date().toLocaleTimeString()));
   if (at("rankings")) at("rankings").replaceChildren(time,
-    ...replies.flatMap((reply, i) => (refusal(reply) ? [] : rankingNode(i + 1, reply, 0, pairNames))));
+    ...rankings(replies, 0, pairNames).flat());
 }
 
 async function showResults() {
   const asked = key;
   const text = await ask("/results", asked);
-  if (key === asked) say("results", text === null ? TEXTS.noAnswer : text);
+  if (key === asked) say("results", text === null ? TEXTS.noAnswer : shownResults(text));
 }
 
 function section(id, title, ...nodes) {
-  return make("details", { id }, make("summary", null, title), ...nodes);
+  return make("section", { id, className: "panel", aria_label: title }, make("h2", null, title), ...nodes);
+}
+
+// A part of a section, under a heading of its own.
+function group(title, ...nodes) {
+  return make("div", { className: "subject" }, make("h3", null, title), ...nodes);
 }
 
 function linesNodes() {
@@ -3452,61 +3694,63 @@ function undeal() {
 
 function dealNodes() {
   const file = make("input", { id: "deal-file", type: "file", onchange: async () => { at("deal-text").value = await file.files[0].text(); } });
+  const main = (node) => { node.className = "send"; return node; };
   return [
-    make("div", { className: "row" },
+    make("p", { id: "deal-of", className: "second" }),
+    group(TEXTS.shuffleHere, make("div", { className: "row" },
       numberField("shuffle-first", TEXTS.shuffleFrom, 1, MOST_BOARDS, 1), numberField("shuffle-last", TEXTS.to, 1, MOST_BOARDS, ""),
-      button(TEXTS.shuffle, "", "shuffle", true, shuffleBoards)),
-    make("div", { className: "row" }, make("label", { for: "deal-file" }, TEXTS.dealFile), file),
-    make("label", { for: "deal-text" }, TEXTS.dealText),
-    make("textarea", { id: "deal-text", spellcheck: false }),
-    button(TEXTS.deal, "", "deal", true, () => dealText(at("deal-text").value)), make("div", { id: "deal-question" }),
-    make("div", { className: "row" }, numberField("undeal-board", TEXTS.boardField, 1, MOST_BOARDS, 1), button(TEXTS.undeal, "", "undeal", true, undeal))];
+      main(button(TEXTS.shuffle, "", "shuffle", true, shuffleBoards))), make("p", { className: "second" }, TEXTS.seedSecret)),
+    group(TEXTS.dealFile, make("label", { for: "deal-file" }, TEXTS.chooseFile), file,
+      make("label", { for: "deal-text" }, TEXTS.dealText), make("textarea", { id: "deal-text", spellcheck: false }),
+      button(TEXTS.deal, "", "deal", true, () => dealText(at("deal-text").value))), make("div", { id: "deal-question" }),
+    group(TEXTS.dealtWrongly, make("div", { className: "row" }, numberField("undeal-board", TEXTS.boardField, 1, MOST_BOARDS, 1),
+      button(TEXTS.undeal, "", "undeal", true, undeal)), make("p", { className: "second" }, TEXTS.undealHelp))];
 }
 
 function directorNodes() {
+  const on = (name, ...nodes) => make("div", { id: "on-" + name, hidden: name !== tab }, ...nodes);
   return [
     make("p", { id: "told", role: "status" }),
-    make("section", { id: "opened", aria_label: TEXTS.theBoard }),
-    make("table", { id: "tables" }),
-    make("div", { className: "row" }, button(TEXTS.endTheRound, "", "end-round", false, () => {})),
-    make("div", { id: "end-question" }),
-    section("dealing", TEXTS.dealBoards, ...dealNodes()),
-    section("ruling", TEXTS.rulings, ...rulingNodes()),
-    section("solving", TEXTS.solving, playFields("solve"),
-      make("div", { className: "row" }, numberField("solve-tricks", TEXTS.afterTricks, 7, 13, 7), button(TEXTS.solve, "", "solve", true, solve)),
-      make("p", { id: "solved", role: "status" })),
-    section("telling", TEXTS.telling, ...tellingNodes()),
-    section("ranking", TEXTS.standings, button(TEXTS.showRanking, "", "rank", true, askRankings), make("div", { id: "rankings" })),
-    section("publishing", TEXTS.results, make("div", { id: "others" }),
+    on("tables", make("table", { id: "tables" }), make("div", { id: "aside" },
+      make("section", { id: "round", className: "panel", aria_label: TEXTS.round }, button(TEXTS.endTheRound, "", "end-round", false, () => {}),
+        make("div", { id: "end-question" })),
+      section("telling", TEXTS.telling, ...tellingNodes()))),
+    on("boards", section("dealing", TEXTS.dealBoards, ...dealNodes())),
+    on("rulings", ...rulingNodes()),
+    on("standings", section("ranking", TEXTS.standings, button(TEXTS.showRanking, "", "rank", true, askRankings), make("div", { id: "rankings" }))),
+    on("evening", make("p", { id: "serving", className: "second" }), section("publishing", TEXTS.results, make("div", { id: "others" }, ...othersNodes(null)),
       make("div", { className: "row" },
         button(TEXTS.showResults, "", "show-results", true, showResults), button(TEXTS.print, "", "print", true, () => window.print())),
       make("pre", { id: "results" })),
-    section("lines", TEXTS.lines, ...linesNodes())];
+    section("lines", TEXTS.lines, ...linesNodes()))];
 }
 
 // Shows the director's page, built once, with its tables as they are now.
 async function showDirector(reply, asked, mine) {
   at("title").textContent = TEXTS.director;
-  at("below").textContent = "";
   at("chip").hidden = true;
-  document.body.className = "director";
   const state = readTables(reply);
   if (!at("tables")) {
     shown = "director";
     opened = null;
     showRulings.shown = "";
+    tab = "tables";
     at("main").replaceChildren(...directorNodes());
+    at("tabs").replaceChildren(...tabNodes());
+    at("tabs").hidden = false;
+    showTab("tables");
     showTables(state);
     at("shuffle-last").value = state.all;
+    say("deal-of", TEXTS.boardsInSets(state.all, state.boards));
     standingsAt = 0;
-    at("ranking").open = typeof matchMedia === "function" && matchMedia("(min-width: 80em)").matches;
-    pairNames = namesIn((await ask("/results", asked)) || "");
+    pairNames = shownPairs(namesIn((await ask("/results", asked)) || ""));
   }
   if (mine !== turn) return;
   showTables(state);
+  if (desk.ends !== null) say("serving", TEXTS.serving(desk.disk, new Date(desk.at + SECOND * desk.ends).toLocaleTimeString([], { hour: "2-digit", minute: "2-digit" })));
   await showOpened();
-  if (at("ruling").open || at("publishing").open) await showRulings();
-  if (at("ranking").open && Date.now() - standingsAt > STANDINGS_LAST) await showRankings();
+  if (tab === "rulings" || tab === "evening") await showRulings();
+  if (seesStandings() && Date.now() - standingsAt > STANDINGS_LAST) await showRankings();
 }
 "##;
 

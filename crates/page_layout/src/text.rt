@@ -5,7 +5,7 @@ ghost use Rattle.arrayvec.specs.ArrayVec.{array_vec_len};
 use arrayvec::ArrayVec;
 
 /// The room for a part of a page, in bytes.
-pub const PAGE_BYTES: usize = 12288;
+pub const PAGE_BYTES: usize = 16384;
 
 /// The bytes of a part of a page.
 pub type PageText = ArrayVec<u8, PAGE_BYTES>;

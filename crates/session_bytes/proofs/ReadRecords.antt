@@ -22,7 +22,7 @@ use Rattle.bridge_auction.proofs.CallNumbers.{call_at-call_number, call_at-is}
 use Rattle.bridge_auction.proofs.LegalLength.{legal_length}
 use Rattle.bridge_play.specs.declared.claim.Claim.{Claim}
 use Rattle.bridge_play.specs.Legal as cards
-use Rattle.bridge_play.specs.Play.{PlayValue, IsPlay, is_over}
+use Rattle.bridge_play.specs.Play.{PlayValue, IsClaimCount, IsPlay, is_over}
 use Rattle.bridge_play.specs.Trick.{turn_of}
 use Rattle.bridge_score.specs.declared.ranking.Scoring.{Scoring}
 use Rattle.bridge_score.specs.declared.ranking.Scoring.TheVariants.{MatchPoints, Imps}
@@ -37,7 +37,7 @@ use Rattle.session_rules.specs.State.{deal_on}
 use Rattle.session_bytes.specs.Parts.{HasRecord, is_agreed_in, record_part}
 use Rattle.session_rules.specs.StateRange.{AreHands, AreHandsOrNone, IsOfFourSeats, IsRulingInRange, IsRecordInRange}
 use Rattle.session_rules.specs.Valid.{MayStand, IsUnplayed, IsValidRecord}
-use Rattle.session_bytes.specs.Reading.{some_call, Fields, fields_at, fields_of, plain_from, IsPlayed, is_by_matchpoints, may_stand, is_in_place}
+use Rattle.session_bytes.specs.Reading.{some_call, Fields, fields_at, fields_of, plain_from, IsPlayed, is_by_matchpoints, may_stand, is_untouched, is_in_place}
 use Rattle.session_store.specs.declared.disk_format.DiskFormat.{DiskFormat}
 use Rattle.session_rules.proofs.Lists.{all_at, not_true}
 use Rattle.session_bytes.proofs.FieldLaws.{fields_again}
@@ -45,6 +45,7 @@ use Rattle.session_bytes.proofs.Options.{some_is, not_some}
 use Rattle.session_rules.proofs.StaysValid.{mapped_from}
 use Rattle.session_rules.proofs.PlainRecords.{no_contract}
 use Rattle.bridge_table.proofs.Tied.{open_same}
+use Rattle.session_rules.proofs.ValidBack.{claims_few}
 use Rattle.session_rules.proofs.ValidRuling.{over_done}
 
 -- Calls by their numbers
@@ -147,32 +148,32 @@ is_unplayed hands plain none unplayed = record {
 -- what the code keeps of a play, as contracts see it
 kept_from : (hands : List ℕ) (board : ℕ) (auction : AuctionValue) (fields : Fields) (contract : Option Contract)
     → (contract ≡ None → IsUnplayed (plain_from board auction.calls fields))
-    → plain_of (record { board = board; auction = auction; play = option_map (playing_in hands (plain_from board auction.calls fields)) contract; ruling = fields.ruling })
+    → plain_of (record { board = board; auction = auction; claims = fields.claims; play = option_map (playing_in hands (plain_from board auction.calls fields)) contract; ruling = fields.ruling })
     ≡ plain_from board auction.calls fields
 kept_from hands board auction fields None unplayed =
     let before = unplayed refl in
-    ap (λ cs. record { board = board; calls = auction.calls; cards = cs; claims = 0; claim = None; ruling = fields.ruling }) (sym before.cards)
-    ∙ ap (λ n. record { board = board; calls = auction.calls; cards = fields.cards; claims = n; claim = None; ruling = fields.ruling }) (sym before.claims)
+    ap (λ cs. record { board = board; calls = auction.calls; cards = cs; claims = fields.claims; claim = None; ruling = fields.ruling }) (sym before.cards)
     ∙ ap (λ c. record { board = board; calls = auction.calls; cards = fields.cards; claims = fields.claims; claim = c; ruling = fields.ruling }) (sym before.claim)
 kept_from hands board auction fields (Some contract) unplayed = refl
 
-abbrev kept_of : ℕ → AuctionValue → Option PlayValue → Option Ruling → Record
-kept_of board auction play ruling = record { board = board; auction = auction; play = play; ruling = ruling }
+abbrev kept_of : ℕ → AuctionValue → Fields → ℕ → Option PlayValue → Record
+kept_of board auction fields claims play = record { board = board; auction = auction; claims = claims; play = play; ruling = fields.ruling }
 
-pub kept_is : (hands : List ℕ) (board : ℕ) (auction : AuctionValue) (fields : Fields) (play : Option PlayValue)
+pub kept_is : (hands : List ℕ) (board : ℕ) (auction : AuctionValue) (fields : Fields) (claims : ℕ) (play : Option PlayValue) → claims ≡ fields.claims
     → play ≡ play_of hands (plain_from board auction.calls fields) → IsPlayed hands (plain_from board auction.calls fields)
-    → plain_of (kept_of board auction play fields.ruling) ≡ plain_from board auction.calls fields
-kept_is hands board auction fields play is played =
+    → plain_of (kept_of board auction fields claims play) ≡ plain_from board auction.calls fields
+kept_is hands board auction fields claims play counted is played =
     let plain = plain_from board auction.calls fields in
-    ap (λ p. plain_of (kept_of board auction p fields.ruling)) is
+    ap (λ n. plain_of (kept_of board auction fields n play)) counted
+    ∙ ap (λ p. plain_of (kept_of board auction fields fields.claims p)) is
     ∙ kept_from hands board auction fields (contract_in plain) played.unplayed
 
-pub kept_tied : (hands : List ℕ) (board : ℕ) (auction : AuctionValue) (fields : Fields) (play : Option PlayValue) → auction.dealer ≡ dealer_of board
-    → play ≡ play_of hands (plain_from board auction.calls fields) → IsPlayed hands (plain_from board auction.calls fields)
-    → IsTied hands (kept_of board auction play fields.ruling)
-kept_tied hands board auction fields play dealer is played = record {
+pub kept_tied : (hands : List ℕ) (board : ℕ) (auction : AuctionValue) (fields : Fields) (claims : ℕ) (play : Option PlayValue) → auction.dealer ≡ dealer_of board
+    → claims ≡ fields.claims → play ≡ play_of hands (plain_from board auction.calls fields) → IsPlayed hands (plain_from board auction.calls fields)
+    → IsTied hands (kept_of board auction fields claims play)
+kept_tied hands board auction fields claims play dealer counted is played = record {
   dealer = dealer;
-  play = is ∙ ap (play_of hands) (sym (kept_is hands board auction fields play is played));
+  play = is ∙ ap (play_of hands) (sym (kept_is hands board auction fields claims play counted is played));
 }
 
 -- Where the record may stand
@@ -221,16 +222,24 @@ no_ruling : (made : Option Ruling) → is_some made ≡ false → made ≡ None
 no_ruling None is = refl
 no_ruling (Some r) is = absurd cc
 
--- a record without calls in which nothing was played is empty
-empty_is : (plain : PlainRecord) → plain.calls ≡ [] → IsUnplayed plain → plain.ruling ≡ None → plain ≡ empty_record plain.board
-empty_is plain calls unplayed ruled =
+-- a record without calls and claims in which nothing was played is empty
+empty_is : (plain : PlainRecord) → plain.calls ≡ [] → IsUnplayed plain → plain.claims ≡ 0 → plain.ruling ≡ None → plain ≡ empty_record plain.board
+empty_is plain calls unplayed claims ruled =
     let made : List Call → List ℕ → ℕ → Option Claim → Option Ruling → PlainRecord
     = λ cs ds n c r. record { board = plain.board; calls = cs; cards = ds; claims = n; claim = c; ruling = r } in
     ap (λ cs. made cs plain.cards plain.claims plain.claim plain.ruling) calls
     ∙ ap (λ ds. made [] ds plain.claims plain.claim plain.ruling) unplayed.cards
-    ∙ ap (λ n. made [] [] n plain.claim plain.ruling) unplayed.claims
+    ∙ ap (λ n. made [] [] n plain.claim plain.ruling) claims
     ∙ ap (λ c. made [] [] 0 c plain.ruling) unplayed.claim
     ∙ ap (λ r. made [] [] 0 None r) ruled
+
+-- without a call the claims are those that are kept
+claims_kept : (hands : List ℕ) (kept : Record) → IsTied hands kept → kept.auction.calls ≡ [] → (plain_of kept).claims ≡ kept.claims
+claims_kept hands kept tied none =
+    let plain = plain_of kept in
+    let no = no_contract (dealer_of plain.board) plain.calls (ap is_ended none) in
+    ap (λ (play : Option PlayValue). option_map_or (λ (p : PlayValue). p.claims) play kept.claims)
+    (tied.play ∙ ap (option_map (playing_in hands plain)) no)
 
 -- what the test of a record's index says
 pub record IsInPlace (scoring : Scoring) (now round : ℕ) (plain : PlainRecord) : Type 0 where
@@ -242,15 +251,18 @@ pub in_place : (scoring : Scoring) (hands : List ℕ) (now round : ℕ) (kept : 
     → is_in_place scoring now round kept ≡ true → IsInPlace scoring now round (plain_of kept)
 in_place scoring hands now round kept tied unplayed is =
     let plain = plain_of kept in
-    let untouched : Bool = length kept.auction.calls == 0 && not (is_some kept.ruling) in
+    let untouched : Bool = is_untouched kept in
     let first = and_parts (may_stand scoring kept.play kept.ruling) ((nat_le round now || untouched) && (nat_le now round || not (is_kept_open kept))) is in
     let second = and_parts (nat_le round now || untouched) (nat_le now round || not (is_kept_open kept)) first.1 in
     record {
       ruled = ruling_stands scoring hands plain kept.play kept.ruling tied.play first.0;
       later = λ less.
-          let both = and_parts (length kept.auction.calls == 0) (not (is_some kept.ruling)) (or_right (nat_le round now) untouched second.0 (lt-leb round now less)) in
-          let none : kept.auction.calls ≡ [] = nil_from_length kept.auction.calls (eqb-true (length kept.auction.calls) 0 both.0) in
-          empty_is plain none (unplayed (no_contract (dealer_of plain.board) plain.calls (ap is_ended none))) (no_ruling kept.ruling (not_true (is_some kept.ruling) both.1));
+          let all = and_parts (length kept.auction.calls == 0) (kept.claims == 0 && not (is_some kept.ruling)) (or_right (nat_le round now) untouched second.0 (lt-leb round now less)) in
+          let rest = and_parts (kept.claims == 0) (not (is_some kept.ruling)) all.1 in
+          let none : kept.auction.calls ≡ [] = nil_from_length kept.auction.calls (eqb-true (length kept.auction.calls) 0 all.0) in
+          let claims : plain.claims ≡ 0 = claims_kept hands kept tied none ∙ eqb-true kept.claims 0 rest.0 in
+          empty_is plain none (unplayed (no_contract (dealer_of plain.board) plain.calls (ap is_ended none))) claims
+          (no_ruling kept.ruling (not_true (is_some kept.ruling) rest.1));
       earlier = λ less.
           open_same hands kept tied
           ∙ not_true (is_kept_open kept) (or_right (nat_le now round) (not (is_kept_open kept)) second.1 (lt-leb now round less));
@@ -260,11 +272,12 @@ pub placed_in : (scoring : Scoring) (hands : List ℕ) (now round : ℕ) (kept :
 placed_in scoring hands now round kept tied placed =
     let plain = plain_of kept in
     let first = stands_ruling scoring hands plain kept.play kept.ruling tied.play placed.ruled in
-    let second = or_either (nat_le round now) (length kept.auction.calls == 0 && not (is_some kept.ruling)) (λ after.
+    let second = or_either (nat_le round now) (is_untouched kept) (λ after.
     let empty = placed.later (leb-false round now after) in
     let calls : kept.auction.calls ≡ [] = ap (λ (x : PlainRecord). x.calls) empty in
     let made : kept.ruling ≡ None = ap (λ (x : PlainRecord). x.ruling) empty in
-    rw (calls, made) refl) in
+    let claims : kept.claims ≡ 0 = sym (claims_kept hands kept tied calls) ∙ ap (λ (x : PlainRecord). x.claims) empty in
+    rw (calls, claims, made) refl) in
     let third = or_either (nat_le now round) (not (is_kept_open kept)) (λ before. ap not (sym (open_same hands kept tied) ∙ placed.earlier (leb-false now round before))) in
     rw (first, second, third) refl
 
@@ -276,10 +289,11 @@ is_undealt None is = refl
 is_undealt (Some hands) is = absurd cc
 
 -- what is known where the auction and the play were read
-pub record AreRead (deal : Option (List ℕ)) (board : ℕ) (auction : AuctionValue) (fields : Fields) (play : Option PlayValue) : Type 0 where
+pub record AreRead (deal : Option (List ℕ)) (board : ℕ) (auction : AuctionValue) (fields : Fields) (claims : ℕ) (play : Option PlayValue) : Type 0 where
   pub dealer : auction.dealer ≡ dealer_of board
   pub legal : IsLegal auction.calls
   pub undealt : is_some deal ≡ false → auction.calls ≡ []
+  pub counted : claims ≡ fields.claims
   pub play_is : play ≡ play_of (unwrap_or deal []) (plain_from board auction.calls fields)
   pub played : IsPlayed (unwrap_or deal []) (plain_from board auction.calls fields)
 
@@ -297,15 +311,15 @@ module _ (scoring : Scoring) (deals : List (Option (List ℕ))) (now round : ℕ
     play = subst (λ d. IfSome (play_of (unwrap_or d []) (plain_from board auction.calls fields)) IsPlay) (sym deal_is) valid.play;
   }
 
-  pub read_valid : (play : Option PlayValue) → deal ≡ deal_on deals board → AreRead deal board auction fields play
-      → is_in_place scoring now round (kept_of board auction play fields.ruling) ≡ true
-      → IsValidRecord scoring deals now round (plain_of (kept_of board auction play fields.ruling))
-  read_valid play deal_is read is =
+  pub read_valid : (claims : ℕ) (play : Option PlayValue) → deal ≡ deal_on deals board → AreRead deal board auction fields claims play
+      → is_in_place scoring now round (kept_of board auction fields claims play) ≡ true
+      → IsValidRecord scoring deals now round (plain_of (kept_of board auction fields claims play))
+  read_valid claims play deal_is read is =
       let hands : List ℕ = unwrap_or deal [] in
-      let kept = kept_of board auction play fields.ruling in
+      let kept = kept_of board auction fields claims play in
       let plain = plain_from board auction.calls fields in
-      let same : plain_of kept ≡ plain = kept_is hands board auction fields play read.play_is read.played in
-      let tied = kept_tied hands board auction fields play read.dealer read.play_is read.played in
+      let same : plain_of kept ≡ plain = kept_is hands board auction fields claims play read.counted read.play_is read.played in
+      let tied = kept_tied hands board auction fields claims play read.dealer read.counted read.play_is read.played in
       let unplayed : contract_in (plain_of kept) ≡ None → IsUnplayed (plain_of kept)
       = subst (λ (x : PlainRecord). contract_in x ≡ None → IsUnplayed x) (sym same) read.played.unplayed in
       let placed = subst (IsInPlace scoring now round) same (in_place scoring hands now round kept tied unplayed is) in
@@ -320,40 +334,46 @@ module _ (scoring : Scoring) (deals : List (Option (List ℕ))) (now round : ℕ
       })
 
   -- what is kept is within the ranges of the fields
-  pub read_in_range : (play : Option PlayValue) → AreRead deal board auction fields play → IfSome fields.claim IsOfFourSeats → IfSome fields.ruling IsRulingInRange
-      → IsRecordInRange (plain_of (kept_of board auction play fields.ruling))
-  read_in_range play read claim made =
-      subst IsRecordInRange (sym (kept_is (unwrap_or deal []) board auction fields play read.play_is read.played)) (record { claim = claim; ruling = made })
+  pub read_in_range : (claims : ℕ) (play : Option PlayValue) → AreRead deal board auction fields claims play → IfSome fields.claim IsOfFourSeats → IfSome fields.ruling IsRulingInRange
+      → IsRecordInRange (plain_of (kept_of board auction fields claims play))
+  read_in_range claims play read claim made =
+      subst IsRecordInRange (sym (kept_is (unwrap_or deal []) board auction fields claims play read.counted read.play_is read.played)) (record { claim = claim; ruling = made })
 
   -- what is kept says what the fields do
-  pub read_is_said : (play : Option PlayValue) → AreRead deal board auction fields play → map call_number auction.calls ≡ fields.calls
-      → is_agreed_in (plain_of (kept_of board auction play fields.ruling)) ≡ fields.agreed → fields_of (plain_of (kept_of board auction play fields.ruling)) ≡ fields
-  read_is_said play read numbers agreed =
-      let kept = kept_of board auction play fields.ruling in
+  pub read_is_said : (claims : ℕ) (play : Option PlayValue) → AreRead deal board auction fields claims play → map call_number auction.calls ≡ fields.calls
+      → is_agreed_in (plain_of (kept_of board auction fields claims play)) ≡ fields.agreed → fields_of (plain_of (kept_of board auction fields claims play)) ≡ fields
+  read_is_said claims play read numbers agreed =
+      let kept = kept_of board auction fields claims play in
       let said : List ℕ → Bool → PlainRecord → Fields
       = λ calls marked x. record { calls = calls; cards = x.cards; claims = x.claims; claim = x.claim; agreed = marked; ruling = x.ruling } in
-      ap (said (map call_number auction.calls) (is_agreed_in (plain_of kept))) (kept_is (unwrap_or deal []) board auction fields play read.play_is read.played)
+      ap (said (map call_number auction.calls) (is_agreed_in (plain_of kept))) (kept_is (unwrap_or deal []) board auction fields claims play read.counted read.play_is read.played)
       ∙ ap (λ calls. said calls (is_agreed_in (plain_of kept)) (plain_from board auction.calls fields)) numbers
       ∙ ap (λ marked. said fields.calls marked (plain_from board auction.calls fields)) agreed
 
   -- where the record of the fields is valid it is taken
-  pub valid_taken : (play : Option PlayValue) → AreRead deal board auction fields play → IsValidRecord scoring deals now round (plain_from board auction.calls fields)
-      → is_in_place scoring now round (kept_of board auction play fields.ruling) ≡ true
-  valid_taken play read valid =
+  pub valid_taken : (claims : ℕ) (play : Option PlayValue) → AreRead deal board auction fields claims play → IsValidRecord scoring deals now round (plain_from board auction.calls fields)
+      → is_in_place scoring now round (kept_of board auction fields claims play) ≡ true
+  valid_taken claims play read valid =
       let hands : List ℕ = unwrap_or deal [] in
-      let kept = kept_of board auction play fields.ruling in
+      let kept = kept_of board auction fields claims play in
       let plain = plain_from board auction.calls fields in
-      let same : plain_of kept ≡ plain = kept_is hands board auction fields play read.play_is read.played in
-      placed_in scoring hands now round kept (kept_tied hands board auction fields play read.dealer read.play_is read.played)
+      let same : plain_of kept ≡ plain = kept_is hands board auction fields claims play read.counted read.play_is read.played in
+      placed_in scoring hands now round kept (kept_tied hands board auction fields claims play read.dealer read.counted read.play_is read.played)
       (subst (IsInPlace scoring now round) (sym same) (record { ruled = valid.ruled; later = valid.later; earlier = valid.earlier }))
 
-  pub valid_agreed : (play : Option PlayValue) (plain : PlainRecord) → AreRead deal board auction fields play → map call_number auction.calls ≡ fields.calls
+  pub valid_agreed : (claims : ℕ) (play : Option PlayValue) (plain : PlainRecord) → AreRead deal board auction fields claims play → map call_number auction.calls ≡ fields.calls
       → plain.board ≡ board → IsLegal plain.calls → fields_of plain ≡ fields
-      → is_agreed_in (plain_of (kept_of board auction play fields.ruling)) ≡ fields.agreed
-  valid_agreed play plain read numbers board_is legal is =
-      ap is_agreed_in (kept_is (unwrap_or deal []) board auction fields play read.play_is read.played
+      → is_agreed_in (plain_of (kept_of board auction fields claims play)) ≡ fields.agreed
+  valid_agreed claims play plain read numbers board_is legal is =
+      ap is_agreed_in (kept_is (unwrap_or deal []) board auction fields claims play read.counted read.play_is read.played
       ∙ sym (plain_is plain board auction.calls fields board_is legal read.legal numbers is))
       ∙ ap (λ (f : Fields). f.agreed) is
+
+-- fields of more than 99 claims are of no valid record
+pub too_many : (scoring : Scoring) (deals : List (Option (List ℕ))) (now round : ℕ) (plain : PlainRecord) (fields : Fields) → (IsClaimCount fields.claims → ⊥)
+    → IsValidRecord scoring deals now round plain → fields_of plain ≢ fields
+too_many scoring deals now round plain fields many valid is =
+    many (subst IsClaimCount (ap (λ (f : Fields). f.claims) is) (claims_few scoring deals now round plain valid))
 
 -- Results
 

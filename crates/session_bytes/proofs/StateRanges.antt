@@ -82,7 +82,7 @@ ruled_in_range s play made few is = record {
 }
 
 -- the latest thing that is taken back
-left_in_range : (b : Bool) (plain : PlainRecord) → IsRecordInRange plain → IsRecordInRange (cond b (record plain { cards = cards_left_by plain.claim plain.cards; claim = None }) (record plain { calls = less_last plain.calls; claims = 0 }))
+left_in_range : (b : Bool) (plain : PlainRecord) → IsRecordInRange plain → IsRecordInRange (cond b (record plain { cards = cards_left_by plain.claim plain.cards; claim = None }) (record plain { calls = less_last plain.calls }))
 left_in_range true plain is = record { claim = tt; ruling = is.ruling }
 left_in_range false plain is = record { claim = is.claim; ruling = is.ruling }
 

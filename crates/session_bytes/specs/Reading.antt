@@ -180,7 +180,7 @@ pub record AreFieldsOf (format : DiskFormat) (part : List ℕ) (fields : Fields)
   pub ruled : IfSome fields.ruling IsRulingInRange
   pub of_format : IfSome fields.ruling (HasRuling format)
 
--- the cards and the claims are those of a play by the rules where the calls made a contract, and otherwise there are none
+-- the cards and the claims are those of a play by the rules where the calls made a contract, and otherwise nothing was played
 pub record IsPlayed (hands : List ℕ) (plain : PlainRecord) : Type 0 where
   pub unplayed : contract_in plain ≡ None → IsUnplayed plain
   pub play : IfSome (play_of hands plain) IsPlay
@@ -198,10 +198,14 @@ may_stand scoring play (Some ruling.Void) = true
 may_stand scoring play (Some (ruling.Assigned contract tricks)) = true
 may_stand scoring play (Some (ruling.Adjusted ns ew)) = is_by_matchpoints scoring
 
+-- no call was made in a play, no claim was, and no ruling stands
+abbrev pub is_untouched : Record → Bool
+is_untouched kept = length kept.auction.calls == 0 && (kept.claims == 0 && not (is_some kept.ruling))
+
 -- the ruling may stand, in a later round than the current one nothing has happened, and in an earlier one the play is not open
 abbrev pub is_in_place : Scoring → ℕ → ℕ → Record → Bool
 is_in_place scoring now round kept =
-    may_stand scoring kept.play kept.ruling && ((nat_le round now || (length kept.auction.calls == 0 && not (is_some kept.ruling)))
+    may_stand scoring kept.play kept.ruling && ((nat_le round now || is_untouched kept)
     && (nat_le now round || not (is_kept_open kept)))
 
 -- a record that was read: of the board, of those bytes, valid, within its ranges and those of the format, and tied to the deal of

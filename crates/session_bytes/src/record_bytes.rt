@@ -101,7 +101,7 @@ fn claims_of(kept: &Record) -> u8
 {
     match &kept.play {
         Some(play) => play.claims(),
-        None => 0,
+        None => kept.claims.number(),
     }
 }
 

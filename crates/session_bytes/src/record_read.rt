@@ -4,19 +4,20 @@ ghost use Rattle.bridge_cards.specs.Board.{dealer_of};
 ghost use Rattle.bridge_auction.specs.declared.call.Call.{Call as CallType};
 ghost use Rattle.bridge_auction.specs.Call.{call_number, call_at};
 ghost use Rattle.bridge_auction.specs.Legal.{IsLegal};
+ghost use Rattle.bridge_play.specs.Play.{IsClaimCount};
 ghost use Rattle.session_rules.specs.Record.{PlainRecord, play_of};
 ghost use Rattle.bridge_table.specs.Kept.{plain_of, IsTiedIn};
 ghost use Rattle.session_bytes.specs.Parts.{HasRecord, record_part};
 ghost use Rattle.session_rules.specs.StateRange.{IsOfFourSeats, IsRulingInRange, IsRecordInRange, AreHandsOrNone};
 ghost use Rattle.session_rules.specs.Valid.{IsValidRecord};
-ghost use Rattle.session_bytes.specs.Reading.{some_call, fields_in, fields_of, plain_from, IsPlayed, may_stand, is_in_place, IsReadFrom, IsOfNoRecord};
+ghost use Rattle.session_bytes.specs.Reading.{some_call, fields_in, fields_of, plain_from, IsPlayed, may_stand, is_untouched, is_in_place, IsReadFrom, IsOfNoRecord};
 
 use crate::record_bytes::is_agreed;
 use crate::record_fields::{RecordFields, read_fields};
 use arrayvec::ArrayVec;
 use bridge_auction::{Auction, Call};
 use bridge_cards::{BoardNumber, Card, Deal, dealer};
-use bridge_play::Play;
+use bridge_play::{ClaimCount, Play};
 use bridge_score::Scoring;
 use bridge_table::{Record, deal_on};
 use session_rules::Ruling;
@@ -95,6 +96,7 @@ fn play_of(
     fields: &RecordFields<'_>,
 ) -> Option<Option<Play>>
     requires few { length fields.now.cards.now ≤ 480 }
+    requires claims { IsClaimCount fields.now.claims }
     requires dealer { auction.now.dealer ≡ dealer_of board }
     requires dealt { deal ≡ None → auction.now.calls ≡ [] }
     requires deal { AreHandsOrNone deal }
@@ -103,7 +105,7 @@ fn play_of(
     ensures none { IfNone result (IsPlayed (unwrap_or deal []) (plain_from board auction.now.calls (fields_in fields.now)) → ⊥) }
 {
     let Some(contract) = auction.contract() else {
-        let is_unplayed = fields.cards.is_empty() && fields.claims == 0 && fields.claim.is_none();
+        let is_unplayed = fields.cards.is_empty() && fields.claim.is_none();
         return if is_unplayed { Some(None) } else { None };
     };
     let deal = deal?;
@@ -135,12 +137,19 @@ fn may_stand(scoring: Scoring, kept: &Record) -> bool
     }
 }
 
+/// Whether no call was made in a play, no claim was, and no ruling stands.
+fn is_untouched(kept: &Record) -> bool
+    ensures { result ≡ is_untouched kept.now }
+{
+    kept.auction.calls().is_empty() && kept.claims.number() == 0 && kept.ruling.is_none()
+}
+
 /// Whether the record may be one of that round in the current one.
 fn is_in_place(scoring: Scoring, kept: &Record, now: u8, round: u8) -> bool
     ensures { result ≡ is_in_place scoring now round kept.now }
 {
     may_stand(scoring, kept)
-        && (round <= now || (kept.auction.calls().is_empty() && kept.ruling.is_none()))
+        && (round <= now || is_untouched(kept))
         && (now <= round || !kept.is_open())
 }
 
@@ -168,10 +177,12 @@ fn record_of(
 {
     let deal = deal_on(deals, board).copied();
     let auction = auction_of(fields.calls, board, deal.is_some())?;
+    let claims = ClaimCount::new(fields.claims)?;
     let play = play_of(&auction, board, deal, fields)?;
     let kept = Record {
         board,
         auction,
+        claims,
         play,
         ruling: fields.ruling,
     };

@@ -1,19 +1,17 @@
 -- What is done in a play makes the plain record, the latest thing done being taken back now and then.
-use Rattle.std.proofs.Common.{◌≡◌, ◌+◌, ◌-◌, ◌<◌, ◌≤◌, ℕ, suc, Bool, true, false, ◌||◌, cond, List, [], ◌∷◌, ◌++◌, length, take, Option, Some, None, refl, sym, ap, ◌∙◌, subst, arith, inl, inr}
-use Rattle.std.specs.Prelude.{nat_lt, is_some, option_and_then}
-use Rattle.std.specs.List.{cons_option, filter, filter_map, list_any}
-use Rattle.std.proofs.lemmas.Bool.{cases_Bool, ltb-true, lt-ltb}
-use Rattle.bridge_auction.specs.declared.call.Call.{Call}
+use Rattle.std.proofs.Common.{◌≡◌, ℕ, Bool, true, false, ◌||◌, cond, List, [], ◌∷◌, ◌++◌, length, Option, Some, None, refl, sym, ap, ◌∙◌}
+use Rattle.std.specs.Prelude.{nat_lt, is_some}
+use Rattle.std.specs.List.{list_any}
+use Rattle.std.proofs.lemmas.Bool.{lt-ltb}
 use Rattle.bridge_auction.specs.Auction.{less_last}
 use Rattle.bridge_play.specs.declared.claim.Claim.{Claim}
 use Rattle.bridge_play.specs.Play.{cards_left_by}
 use Rattle.session_rules.specs.declared.deed.Deed.TheVariants as deed
-use Rattle.session_rules.specs.declared.ruling.Ruling.{Ruling}
 use Rattle.session_rules.specs.Back.{taken_back}
 use Rattle.session_rules.specs.Record.{PlainRecord, empty_record}
-use Rattle.session_rules.specs.Own.{OwnDeed, ByPlayer, ByDirector, TakenBack, call_made, card_played, claim_made, claim_left, is_call, is_card, is_of_no_claim, without_last, less_latest, left_with, left_of, record_made, plain_record}
+use Rattle.session_rules.specs.Own.{OwnDeed, ByPlayer, ByDirector, TakenBack, call_made, card_played, claim_left, is_call, is_card, without_last, less_latest, left_with, left_of, record_made}
 use Rattle.session_rules.proofs.LastGone.{found_none, found_some, last_gone}
-use Rattle.session_rules.proofs.PlainParts.{done_to, all_done, all_is, board_step, calls_are, cards_are}
+use Rattle.session_rules.proofs.PlainParts.{done_to, all_done, all_is, board_step}
 
 -- what happens in a play
 abbrev pub happened : OwnDeed → PlainRecord → PlainRecord
@@ -26,7 +24,7 @@ all_happened [] x = x
 all_happened (deed ∷ later) x = all_happened later (happened deed x)
 
 -- the board stays
-back_board_if : (b : Bool) (x : PlainRecord) → (cond b (record x { cards = cards_left_by x.claim x.cards; claim = None }) (record x { calls = less_last x.calls; claims = 0 })).board ≡ x.board
+back_board_if : (b : Bool) (x : PlainRecord) → (cond b (record x { cards = cards_left_by x.claim x.cards; claim = None }) (record x { calls = less_last x.calls })).board ≡ x.board
 back_board_if true x = refl
 back_board_if false x = refl
 
@@ -71,18 +69,6 @@ module _ (seen : PlainRecord → PlainRecord) (keeps : (deed : OwnDeed) (x : Pla
           ap (λ b. seen (all_done (cond b (deed ∷ without_last test later) (cond (test deed) later (deed ∷ later))) x)) none
           ∙ ap (λ b. seen (all_done (cond b later (deed ∷ later)) x)) is
 
-  filter_same : (test : OwnDeed → Bool) → ((deed : OwnDeed) (x : PlainRecord) → test deed ≡ false → seen (done_to deed x) ≡ seen x) → (deeds : List OwnDeed) (x : PlainRecord) → seen (all_done (filter test deeds) x) ≡ seen (all_done deeds x)
-  filter_same test leaves [] x = refl
-  filter_same test leaves (deed ∷ later) x = by (filter_same test leaves later) (test deed) refl
-    where
-      by : ((y : PlainRecord) → seen (all_done (filter test later) y) ≡ seen (all_done later y)) → (here : Bool) → test deed ≡ here → seen (all_done (filter test (deed ∷ later)) x) ≡ seen (all_done (deed ∷ later) x)
-      by rest true is =
-          ap (λ b. seen (all_done (cond b (deed ∷ filter test later) (filter test later)) x)) is ∙ rest (done_to deed x)
-      by rest false is =
-          ap (λ b. seen (all_done (cond b (deed ∷ filter test later) (filter test later)) x)) is
-          ∙ rest x
-          ∙ same_after later x (done_to deed x) (sym (leaves deed x is))
-
 -- all but the cards
 abbrev but_cards : PlainRecord → PlainRecord
 but_cards x = record x { cards = [] }
@@ -105,20 +91,20 @@ card_leaves (ByPlayer seat deed.Refuse) x is = absurd cc
 card_leaves (ByDirector made) x is = absurd cc
 card_leaves TakenBack x is = absurd cc
 
--- the board, the cards and the ruling alone
-abbrev but_bids : PlainRecord → PlainRecord
-but_bids x = record x { calls = []; claims = 0; claim = None }
+-- all but the calls
+abbrev but_calls : PlainRecord → PlainRecord
+but_calls x = record x { calls = [] }
 
-but_bids_keeps : (deed : OwnDeed) (x : PlainRecord) → but_bids (done_to deed x) ≡ but_bids (done_to deed (but_bids x))
-but_bids_keeps (ByPlayer seat (deed.Call call)) x = refl
-but_bids_keeps (ByPlayer seat (deed.Card card)) x = refl
-but_bids_keeps (ByPlayer seat (deed.Claim tricks)) x = refl
-but_bids_keeps (ByPlayer seat deed.Agree) x = refl
-but_bids_keeps (ByPlayer seat deed.Refuse) x = refl
-but_bids_keeps (ByDirector made) x = refl
-but_bids_keeps TakenBack x = refl
+but_calls_keeps : (deed : OwnDeed) (x : PlainRecord) → but_calls (done_to deed x) ≡ but_calls (done_to deed (but_calls x))
+but_calls_keeps (ByPlayer seat (deed.Call call)) x = refl
+but_calls_keeps (ByPlayer seat (deed.Card card)) x = refl
+but_calls_keeps (ByPlayer seat (deed.Claim tricks)) x = refl
+but_calls_keeps (ByPlayer seat deed.Agree) x = refl
+but_calls_keeps (ByPlayer seat deed.Refuse) x = refl
+but_calls_keeps (ByDirector made) x = refl
+but_calls_keeps TakenBack x = refl
 
-call_leaves : (deed : OwnDeed) (x : PlainRecord) → is_call deed ≡ true → but_bids (done_to deed x) ≡ but_bids x
+call_leaves : (deed : OwnDeed) (x : PlainRecord) → is_call deed ≡ true → but_calls (done_to deed x) ≡ but_calls x
 call_leaves (ByPlayer seat (deed.Call call)) x is = refl
 call_leaves (ByPlayer seat (deed.Card card)) x is = absurd cc
 call_leaves (ByPlayer seat (deed.Claim tricks)) x is = absurd cc
@@ -127,49 +113,18 @@ call_leaves (ByPlayer seat deed.Refuse) x is = absurd cc
 call_leaves (ByDirector made) x is = absurd cc
 call_leaves TakenBack x is = absurd cc
 
-claim_leaves : (deed : OwnDeed) (x : PlainRecord) → is_of_no_claim deed ≡ false → but_bids (done_to deed x) ≡ but_bids x
-claim_leaves (ByPlayer seat (deed.Call call)) x is = absurd cc
-claim_leaves (ByPlayer seat (deed.Card card)) x is = absurd cc
-claim_leaves (ByPlayer seat (deed.Claim tricks)) x is = refl
-claim_leaves (ByPlayer seat deed.Agree) x is = refl
-claim_leaves (ByPlayer seat deed.Refuse) x is = refl
-claim_leaves (ByDirector made) x is = absurd cc
-claim_leaves TakenBack x is = refl
-
--- calls are no claims
-calls_filtered : (deeds : List OwnDeed) → filter_map call_made (filter is_of_no_claim deeds) ≡ filter_map call_made deeds
-calls_filtered [] = refl
-calls_filtered (ByPlayer seat (deed.Call call) ∷ later) = ap (λ rest. call ∷ rest) (calls_filtered later)
-calls_filtered (ByPlayer seat (deed.Card card) ∷ later) = calls_filtered later
-calls_filtered (ByPlayer seat (deed.Claim tricks) ∷ later) = calls_filtered later
-calls_filtered (ByPlayer seat deed.Agree ∷ later) = calls_filtered later
-calls_filtered (ByPlayer seat deed.Refuse ∷ later) = calls_filtered later
-calls_filtered (ByDirector made ∷ later) = calls_filtered later
-calls_filtered (TakenBack ∷ later) = calls_filtered later
-
--- no claim is left
-no_claims : (deeds : List OwnDeed) (x : PlainRecord) → x.claims ≡ 0 → x.claim ≡ None → ((all_done (filter is_of_no_claim deeds) x).claims ≡ 0) × ((all_done (filter is_of_no_claim deeds) x).claim ≡ None)
-no_claims [] x count claim = (count, claim)
-no_claims (ByPlayer seat (deed.Call call) ∷ later) x count claim = no_claims later (done_to (ByPlayer seat (deed.Call call)) x) count claim
-no_claims (ByPlayer seat (deed.Card card) ∷ later) x count claim = no_claims later (done_to (ByPlayer seat (deed.Card card)) x) count claim
-no_claims (ByPlayer seat (deed.Claim tricks) ∷ later) x count claim = no_claims later x count claim
-no_claims (ByPlayer seat deed.Agree ∷ later) x count claim = no_claims later x count claim
-no_claims (ByPlayer seat deed.Refuse ∷ later) x count claim = no_claims later x count claim
-no_claims (ByDirector made ∷ later) x count claim = no_claims later (done_to (ByDirector made) x) count claim
-no_claims (TakenBack ∷ later) x count claim = no_claims later x count claim
-
 -- The latest thing is taken back
 
 -- a record by its cards and all else
 by_cards : (x y : PlainRecord) → but_cards x ≡ but_cards y → x ≡ record y { cards = x.cards }
 by_cards x y same = ap (λ (z : PlainRecord). record z { cards = x.cards }) same
 
--- a record by its calls and claims, and all else
-by_bids : (x y : PlainRecord) → but_bids x ≡ but_bids y → x ≡ record y { calls = x.calls; claims = x.claims; claim = x.claim }
-by_bids x y same = ap (λ (z : PlainRecord). record z { calls = x.calls; claims = x.claims; claim = x.claim }) same
+-- a record by its calls and all else
+by_calls : (x y : PlainRecord) → but_calls x ≡ but_calls y → x ≡ record y { calls = x.calls }
+by_calls x y same = ap (λ (z : PlainRecord). record z { calls = x.calls }) same
 
 abbrev left_if : Bool → PlainRecord → PlainRecord
-left_if b x = cond b (record x { cards = cards_left_by x.claim x.cards; claim = None }) (record x { calls = less_last x.calls; claims = 0 })
+left_if b x = cond b (record x { cards = cards_left_by x.claim x.cards; claim = None }) (record x { calls = less_last x.calls })
 
 card_gone : (board : ℕ) (before : List OwnDeed) → claim_left before ≡ None → list_any is_card before ≡ true → taken_back (record_made board before) ≡ record_made board (without_last is_card before)
 card_gone board before unclaimed some =
@@ -187,29 +142,21 @@ card_gone board before unclaimed some =
     ∙ ap (λ claim. record x { cards = less_last x.cards; claim = claim }) (sym unclaimed)
     ∙ sym (by_cards y x rest ∙ ap (λ cs. record x { cards = cs }) cards)
 
-call_gone : (board : ℕ) (before : List OwnDeed) → claim_left before ≡ None → list_any is_card before ≡ false → taken_back (record_made board before) ≡ record_made board (filter is_of_no_claim (without_last is_call before))
+call_gone : (board : ℕ) (before : List OwnDeed) → claim_left before ≡ None → list_any is_card before ≡ false → taken_back (record_made board before) ≡ record_made board (without_last is_call before)
 call_gone board before unclaimed none =
     let x = record_made board before in
-    let less = without_last is_call before in
-    let after = filter is_of_no_claim less in
+    let after = without_last is_call before in
     let y = record_made board after in
     let no_cards : x.cards ≡ [] = found_none card_played before none in
-    let calls : y.calls ≡ less_last x.calls = calls_filtered less ∙ last_gone call_made before in
-    let claims = no_claims less (empty_record board) refl refl in
-    let count : y.claims ≡ 0 = ap (λ (z : PlainRecord). z.claims) (sym (all_is board after)) ∙ claims.0 in
-    let claim : y.claim ≡ None = ap (λ (z : PlainRecord). z.claim) (sym (all_is board after)) ∙ claims.1 in
-    let rest : but_bids y ≡ but_bids x =
-    ap but_bids (sym (all_is board after))
-    ∙ filter_same but_bids but_bids_keeps is_of_no_claim claim_leaves less (empty_record board)
-    ∙ less_same but_bids but_bids_keeps is_call call_leaves before (empty_record board)
-    ∙ ap but_bids (all_is board before) in
+    let calls : y.calls ≡ less_last x.calls = last_gone call_made before in
+    let rest : but_calls y ≡ but_calls x =
+    ap but_calls (sym (all_is board after))
+    ∙ less_same but_calls but_calls_keeps is_call call_leaves before (empty_record board)
+    ∙ ap but_calls (all_is board before) in
     ap (λ claim. left_if (is_some claim || nat_lt 0 (length x.cards)) (record x { claim = claim })) unclaimed
     ∙ ap (λ (cs : List ℕ). left_if (nat_lt 0 (length cs)) (record x { claim = None })) no_cards
-    ∙ sym
-    (by_bids y x rest
-    ∙ ap (λ cs. record x { calls = cs; claims = y.claims; claim = y.claim }) calls
-    ∙ ap (λ n. record x { calls = less_last x.calls; claims = n; claim = y.claim }) count
-    ∙ ap (λ c. record x { calls = less_last x.calls; claims = 0; claim = c }) claim)
+    ∙ ap (λ claim. record x { calls = less_last x.calls; claim = claim }) (sym unclaimed)
+    ∙ sym (by_calls y x rest ∙ ap (λ cs. record x { calls = cs }) calls)
 
 claim_gone : (board : ℕ) (before : List OwnDeed) (claim : Claim) → claim_left before ≡ Some claim → taken_back (record_made board before) ≡ record_made board (before ++ TakenBack ∷ [])
 claim_gone board before claim stands =
@@ -218,7 +165,7 @@ claim_gone board before claim stands =
     ∙ sym (made_push board before TakenBack)
 
 abbrev less_by : List OwnDeed → Bool → Bool → List OwnDeed
-less_by before claimed played = cond claimed (before ++ TakenBack ∷ []) (cond played (without_last is_card before) (filter is_of_no_claim (without_last is_call before)))
+less_by before claimed played = cond claimed (before ++ TakenBack ∷ []) (cond played (without_last is_card before) (without_last is_call before))
 
 back_is : (board : ℕ) (before : List OwnDeed) → taken_back (record_made board before) ≡ record_made board (less_latest before)
 back_is board before = by (claim_left before) (list_any is_card before) refl refl

@@ -78,34 +78,31 @@ decided_ruling scoring course ruling.Void = inl tt
 decided_ruling scoring course (ruling.Assigned contract tricks) = inl tt
 decided_ruling scoring course (ruling.Adjusted ns ew) = decided_scoring scoring
 
--- whether nothing was played or claimed
+-- whether nothing was played, and no claim stands
 decided_unplayed : (plain : PlainRecord) → Decided (IsUnplayed plain)
 decided_unplayed plain =
-    decided_like (decided_both (decided_empty plain.cards) (decided_both (decided_equal plain.claims 0) (decided_none plain.claim)))
+    decided_like (decided_both (decided_empty plain.cards) (decided_both (decided_most plain.claims 99) (decided_none plain.claim)))
     (λ all. record { cards = all.0; claims = all.1.0; claim = all.1.1 }) (λ is. (is.cards, (is.claims, is.claim)))
 
 -- whether nothing has happened in a play
 decided_untouched : (plain : PlainRecord) → Decided (plain ≡ empty_record plain.board)
 decided_untouched plain =
     decided_like
-    (decided_both (decided_empty plain.calls) (decided_both (decided_unplayed plain) (decided_none plain.ruling)))
+    (decided_both (decided_empty plain.calls) (decided_both (decided_empty plain.cards)
+    (decided_both (decided_equal plain.claims 0) (decided_both (decided_none plain.claim) (decided_none plain.ruling)))))
     (λ all. λ i. record {
       board = plain.board;
       calls = all.0 i;
-      cards = all.1.0.cards i;
-      claims = all.1.0.claims i;
-      claim = all.1.0.claim i;
-      ruling = all.1.1 i;
+      cards = all.1.0 i;
+      claims = all.1.1.0 i;
+      claim = all.1.1.1.0 i;
+      ruling = all.1.1.1.1 i;
     })
     (λ same. (
       ap (λ (p : PlainRecord). p.calls) same,
       (
-        record {
-          cards = ap (λ (p : PlainRecord). p.cards) same;
-          claims = ap (λ (p : PlainRecord). p.claims) same;
-          claim = ap (λ (p : PlainRecord). p.claim) same;
-        },
-        ap (λ (p : PlainRecord). p.ruling) same,
+        ap (λ (p : PlainRecord). p.cards) same,
+        (ap (λ (p : PlainRecord). p.claims) same, (ap (λ (p : PlainRecord). p.claim) same, ap (λ (p : PlainRecord). p.ruling) same)),
       ),
     ))
 

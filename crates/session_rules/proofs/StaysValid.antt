@@ -35,7 +35,7 @@ empty_valid : (scoring : Scoring) (deals : List (Option (List ℕ))) (round boar
 empty_valid scoring deals round board least = record {
   calls = λ row_index call is. absurd (none_of row_index call is);
   dealt = λ none. refl;
-  unplayed = λ none. record { cards = refl; claims = refl; claim = refl };
+  unplayed = λ none. let few : 0 ≤ 99 = omega arith in record { cards = refl; claims = few; claim = refl };
   play = tt;
   ruled = tt;
   later = λ less. refl;

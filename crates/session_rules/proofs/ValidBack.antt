@@ -1,8 +1,8 @@
 -- A session stays valid where the latest thing done in a play is taken back.
-use Rattle.std.proofs.Common.{◌≡◌, ◌+◌, ◌-◌, ◌==◌, ◌<◌, ◌≤◌, ℕ, zero, suc, Bool, true, false, ◌||◌, cond, List, [], ◌∷◌, length, take, Option, Some, None, Result, Ok, Err, refl, sym, ap, ◌∙◌, subst, arith}
+use Rattle.std.proofs.Common.{◌≡◌, ◌-◌, ℕ, Bool, true, false, ◌||◌, cond, List, [], ◌∷◌, length, take, Option, Some, None, Ok, refl, sym, ap, ◌∙◌, subst, arith}
 use Rattle.std.specs.Prelude.{slice_get, nat_lt, is_some, IfSome}
 use Rattle.std.specs.Option.{option_map}
-use Rattle.std.proofs.lemmas.Bool.{ltb-false, leb-true, and_parts, cases_Bool}
+use Rattle.std.proofs.lemmas.Bool.{ltb-false, leb-true, and_parts}
 use Rattle.std.proofs.lemmas.Option.{slice_get-get_or}
 use Rattle.bridge_cards.specs.Board.{dealer_of}
 use Rattle.bridge_auction.specs.declared.call.Call.{Call}
@@ -11,20 +11,18 @@ use Rattle.bridge_auction.specs.declared.contract.Contract.{Contract}
 use Rattle.bridge_auction.specs.Auction.{less_last}
 use Rattle.bridge_auction.specs.Legal.{is_ended, MayFollow, IsLegal}
 use Rattle.bridge_auction.proofs.LessLast.{each_may_follow-less_last}
-use Rattle.bridge_movement.specs.declared.row.Row.{Row}
 use Rattle.bridge_movement.specs.Shape.{index_of_row}
 use Rattle.bridge_play.specs.declared.claim.Claim.{Claim}
 use Rattle.bridge_play.specs.Legal as by_cards
 use Rattle.bridge_play.specs.Legal.{MayPlay}
-use Rattle.bridge_play.specs.Play.{PlayValue, IsPlay, cards_left_by, without_latest}
+use Rattle.bridge_play.specs.Play.{PlayValue, IsClaimCount, IsPlay, cards_left_by, without_latest}
 use Rattle.bridge_score.specs.declared.Scoring.{Scoring}
 use Rattle.session_rules.specs.declared.action.PlayId.{PlayId}
-use Rattle.session_rules.specs.declared.refused.Refused.{Refused}
-use Rattle.session_rules.specs.declared.refused.Refused.TheVariants.{NotYet, NotThisRound, RulingStands, NothingToTakeBack}
+use Rattle.session_rules.specs.declared.refused.Refused.TheVariants.{NotYet, NotThisRound, RulingStands}
 use Rattle.session_rules.specs.declared.ruling.Ruling.{Ruling}
 use Rattle.session_rules.specs.Back.{taken_back, back_answer, less_latest_in}
-use Rattle.session_rules.specs.Record.{PlainRecord, contract_in, course_in, playing_in, play_of}
-use Rattle.session_rules.specs.State.{SessionValue, deal_on, hands_on, row_at, is_row_within, record_of}
+use Rattle.session_rules.specs.Record.{PlainRecord, contract_in, course_in, playing_in}
+use Rattle.session_rules.specs.State.{SessionValue, hands_on, row_at, is_row_within, record_of}
 use Rattle.session_rules.specs.Valid.{MayStand, IsUnplayed, IsPlayId, IsValidRecord, IsValid}
 use Rattle.session_rules.proofs.Lists.{not_refused}
 use Rattle.session_rules.proofs.PlainRecords.{no_contract}
@@ -82,12 +80,20 @@ none_left : (claim : Option Claim) → cards_left_by claim [] ≡ []
 none_left None = refl
 none_left (Some claim) = refl
 
+-- at most 99 claims were made, with a contract and without
+few_by : (hands : List ℕ) (x : PlainRecord) (contract : Option Contract) → contract_in x ≡ contract → (contract_in x ≡ None → IsUnplayed x) → IfSome (option_map (playing_in hands x) contract) IsPlay → IsClaimCount x.claims
+few_by hands x None is unplayed play = let before = unplayed is in before.claims
+few_by hands x (Some contract) is unplayed play = play.few
+
+pub claims_few : (scoring : Scoring) (deals : List (Option (List ℕ))) (now round : ℕ) (x : PlainRecord) → IsValidRecord scoring deals now round x → IsClaimCount x.claims
+claims_few scoring deals now round x valid = few_by (hands_on deals x.board) x (contract_in x) refl valid.unplayed valid.play
+
 -- the records that may be left
 abbrev in_play : PlainRecord → PlainRecord
 in_play x = record x { cards = cards_left_by x.claim x.cards; claim = None }
 
 abbrev in_auction : PlainRecord → PlainRecord
-in_auction x = record x { calls = less_last x.calls; claims = 0 }
+in_auction x = record x { calls = less_last x.calls }
 
 -- a play less the latest thing done is one by the rules
 cards_legal : (hands : List ℕ) (contract : Contract) (cards : List ℕ) (claim : Option Claim) → by_cards.IsLegal hands contract cards → by_cards.IsLegal hands contract (cards_left_by claim cards)
@@ -124,7 +130,7 @@ in_auction_valid scoring deals now round x current unruled cards claim valid =
     record {
       calls = each_may_follow-less_last MayFollow x.calls valid.calls;
       dealt = λ none. ap (λ (calls : List Call). less_last calls) (valid.dealt none);
-      unplayed = λ none. record { cards = cards; claims = refl; claim = claim };
+      unplayed = λ none. record { cards = cards; claims = claims_few scoring deals now round x valid; claim = claim };
       play = subst (λ o. IfSome o IsPlay) (sym (ap (option_map (playing_in hands (in_auction x))) no)) tt;
       ruled = none_ruled scoring x (in_auction x) unruled refl;
       later = λ less. absurd (omega (arith, current, less));

@@ -84,7 +84,7 @@ admissible_is calls call.Redouble is = admitted (is_admissible calls call.Redoub
 new_play : (hands : List ℕ) (contract : Contract) (x : PlainRecord) → IsUnplayed x → IsPlay (playing_in hands x contract)
 new_play hands contract x before = record {
   legal = subst (cards.IsLegal hands contract) (sym before.cards) (λ index card is. absurd (none_of index card is));
-  few = let claims = before.claims in omega arith;
+  few = before.claims;
   claimed = subst (λ o. IfSome o (IsClaimIn (playing_in hands x contract))) (sym before.claim) tt;
 }
 

@@ -9,12 +9,12 @@ use Rattle.session_rules.specs.Answer.{Answer}
 use Rattle.session_rules.specs.Record.{PlainRecord}
 use Rattle.session_rules.specs.State.{SessionValue, changed_at}
 
--- The record less the latest thing done in it: the claim that stands or was agreed, which still counts as made; or else the last
--- card; or else the last call, and with it all claims, since there is no contract any more.
+-- The record less the latest thing done in it: the claim that stands or was agreed, or else the last card, or else the last call.
+-- Each claim still counts as made, so that its number is never another's.
 abbrev pub taken_back : PlainRecord → PlainRecord
 taken_back plain =
     if is_some plain.claim || nat_lt 0 (length plain.cards) then record plain { cards = cards_left_by plain.claim plain.cards; claim = None }
-    else record plain { calls = less_last plain.calls; claims = 0 }
+    else record plain { calls = less_last plain.calls }
 
 -- the answer where the latest thing done in the play of that record is taken back, if there is such a play
 abbrev pub back_answer : ℕ → ℕ → Option PlainRecord → Answer

@@ -1,6 +1,6 @@
 -- The record of a play as its own actions make it, whatever other tables do in between.
 use Rattle.std.specs.Prelude.{◌≡◌, ℕ, ◌+◌, ◌==◌, Bool, true, false, ◌&&◌, if◌then◌else◌, is_some, List, [], ◌∷◌, ◌++◌, length, map, option_and_then, Option, Some, None, Result, Ok, Err}
-use Rattle.std.specs.List.{cons_option, filter, filter_map, list_any}
+use Rattle.std.specs.List.{cons_option, filter_map, list_any}
 use Rattle.std.specs.Option.{option_map, option_or}
 use Rattle.bridge_cards.specs.declared.seat.Seat.{Seat}
 use Rattle.bridge_cards.specs.declared.seat.Seat.TheVariants.{North, East, South, West}
@@ -146,27 +146,19 @@ is_call deed = is_some (call_made deed)
 abbrev pub is_card : OwnDeed → Bool
 is_card deed = is_some (card_played deed)
 
--- no claim, and nothing that answers one or takes it back
-abbrev pub is_of_no_claim : OwnDeed → Bool
-is_of_no_claim (ByPlayer seat (deed.Claim tricks)) = false
-is_of_no_claim (ByPlayer seat deed.Agree) = false
-is_of_no_claim (ByPlayer seat deed.Refuse) = false
-is_of_no_claim TakenBack = false
-is_of_no_claim _ = true
-
 -- a list without the last of its elements that pass the test
 abbrev pub without_last : (OwnDeed → Bool) → List OwnDeed → List OwnDeed
 without_last test [] = []
 without_last test (deed ∷ later) =
     if list_any test later then deed ∷ without_last test later else if test deed then later else deed ∷ later
 
--- The things done less the latest: where a claim stands or was agreed, it is taken back as by a refusal; or else the last card goes;
--- or else the last call, and with it all about claims.
+-- The things done less the latest: where a claim stands or was agreed, it is taken back as by a refusal, and still counts as made; or
+-- else the last card goes; or else the last call.
 abbrev pub less_latest : List OwnDeed → List OwnDeed
 less_latest deeds =
     if is_some (claim_left deeds) then deeds ++ TakenBack ∷ []
     else if list_any is_card deeds then without_last is_card deeds
-    else filter is_of_no_claim (without_last is_call deeds)
+    else without_last is_call deeds
 
 -- what is left of the things done before, and one more
 abbrev pub left_with : OwnDeed → List OwnDeed → List OwnDeed

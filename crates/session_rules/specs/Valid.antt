@@ -7,7 +7,7 @@ use Rattle.bridge_movement.specs.declared.row.Row.{Row}
 use Rattle.bridge_score.specs.declared.Scoring.{Scoring}
 use Rattle.bridge_score.specs.declared.Scoring.TheVariants.{MatchPoints}
 use Rattle.bridge_config.specs.Limits.{IsConfiguration}
-use Rattle.bridge_play.specs.Play.{IsPlay}
+use Rattle.bridge_play.specs.Play.{IsClaimCount, IsPlay}
 use Rattle.session_rules.specs.declared.act.Act.{Act}
 use Rattle.session_rules.specs.declared.act.Act.TheVariants as act
 use Rattle.session_rules.specs.declared.action.Action.{Action}
@@ -28,10 +28,10 @@ MayStand scoring course (ruling.Adjusted ns ew) = scoring ≡ MatchPoints
 MayStand scoring course (ruling.Assigned contract tricks) = Unit {0}
 MayStand scoring course ruling.Void = Unit {0}
 
--- nothing was played or claimed
+-- nothing was played, and no claim stands; claims may have been made in an earlier contract, of which a call was taken back
 pub record IsUnplayed (plain : PlainRecord) : Type 0 where
   pub cards : plain.cards ≡ []
-  pub claims : plain.claims ≡ 0
+  pub claims : IsClaimCount plain.claims
   pub claim : plain.claim ≡ None
 
 -- The record of a play of that round: the calls are a legal list, and there are some only where the board is dealt; without a

@@ -10,6 +10,7 @@ use Rattle.session_store.specs.Keeping.{Keeping, fold}
 use Rattle.session_store.specs.Base.{StandsForPrefix}
 use Rattle.session_store.specs.Value.{StoreValue}
 use Rattle.session_store.specs.Store.{Continues}
+use Rattle.session_store.proofs.AgeLemmas.{ages-begin, ages-join}
 
 module _ {S A R : Type 0} (kept : Keeping S A R) where
   -- the state after some actions and then others
@@ -79,6 +80,7 @@ module _ {D S A R : Type 0} (kept : Keeping S A R) (disk : Disk D) where
     any_moment = λ sound.
         begins disk old.disk (StandsForPrefix kept old.base (old.pending ++ [])) sound.honest
         (λ c left. prefix-longer kept old.base old.pending [] c (sound.images c left));
+    ages = ages-begin kept disk old;
   }
 
   -- calls, and then others
@@ -110,4 +112,5 @@ module _ {D S A R : Type 0} (kept : Keeping S A R) (disk : Disk D) where
             (weakens disk mid.disk new.disk (StandsForPrefix kept mid.base (mid.pending ++ second)) (b.any_moment (a.sound sound)) P
             (λ c from. prefix-behind kept old.base mid.base all a.confirmed c within made
             (subst (λ (xs : List A). StandsForPrefix kept mid.base xs c) behind from)));
+        ages = ages-join kept disk old mid new a.sound a.ages b.ages;
       }

@@ -6,6 +6,7 @@ use Rattle.sector_disk.proofs.RunLaws.{weakens, now_has}
 use Rattle.session_store.specs.Keeping.{Keeping, IsLawful, fold}
 use Rattle.session_store.specs.Stands.{recovered}
 use Rattle.session_store.specs.Base.{IsSettled, StandsForPrefix}
+use Rattle.session_store.specs.Epochs.{IsOfEpochs}
 use Rattle.session_store.specs.Snapshot.{NothingLater, WithSnapshot, IsSnapshotting}
 use Rattle.session_store.specs.Sound.{StandsOnlyFor}
 use Rattle.session_store.specs.Value.{StoreValue, IsStore}
@@ -14,6 +15,7 @@ use Rattle.session_store.specs.Answers.{after_fault, after_snapshot}
 use Rattle.session_store.proofs.StandsLemmas.{fold-nil}
 use Rattle.session_store.proofs.BaseLemmas.{settled-stands, settled-same}
 use Rattle.session_store.proofs.SnapshotLemmas.{settled-nothing_later, with_snapshot-settled}
+use Rattle.session_store.proofs.AgeLemmas.{has_epoch-is, settled-epoch, ages-on}
 use Rattle.session_store.proofs.CallLaws.{prefix-longer}
 use Rattle.session_store.proofs.StoreLemmas.{some_is, prefix-all, settled-sound, fault-sound, sound-stands, continues_all, continues_none}
 
@@ -58,6 +60,21 @@ module _ {D S A R : Type 0} (kept : Keeping S A R) (disk : Disk D) where
       stands_for s zero t made c stands = let same = some_is s t (sym (fold-nil kept s) ∙ made) in stands ∙ ap (λ (x : S). Ok x) (sym same)
       stands_for s (suc k) t made c stands = let same = some_is s t (sym (fold-nil kept s) ∙ made) in stands ∙ ap (λ (x : S). Ok x) (sym same)
 
+  -- and is of the epoch, or of the next
+  pub snapshotting-epochs : IsLawful kept → (images : Image → Type 0) (epoch n : ℕ) (base s : S) (pending : List A)
+      → epoch < 2 ^ 64 - 1 → kept.IsState s
+      → ((c : Image) → images c → IsSettled kept epoch base n pending c)
+      → (c : Image) → IsSnapshotting kept images (epoch + 1) s c → IsOfEpochs epoch (epoch + 1) c
+  snapshotting-epochs lawful images epoch n base s pending room is_state settled c (inl from) =
+      let was = settled-same kept epoch n base pending from.0 c from.2 (settled from.0 from.1) in
+      let is = has_epoch-is epoch c (settled-epoch kept epoch n base pending c was) in
+      (omega (arith, is), omega (arith, is))
+  snapshotting-epochs lawful images epoch n base s pending room is_state settled c (inr written) =
+      let now = with_snapshot-settled kept lawful images epoch (epoch + 1) s c refl (omega (arith, room)) is_state
+      (λ d before. settled-nothing_later kept epoch n base pending d (settled d before)) written in
+      let is = has_epoch-is (epoch + 1) c (settled-epoch kept (epoch + 1) 0 s [] c now) in
+      (omega (arith, is), omega (arith, is))
+
   -- a store is sound once a snapshot of its state was made
   pub snapshot-sound : IsLawful kept → (images : Image → Type 0) (v : StoreValue D S A) (new : D)
       → v.epoch < 2 ^ 64 - 1 → kept.IsState v.state → disk.honest new
@@ -90,6 +107,19 @@ module _ {D S A R : Type 0} (kept : Keeping S A R) (disk : Disk D) where
         (snapshotting-stands lawful images old.epoch n old.base old.state s old.pending more
         (omega (arith, store.recorded, store.records)) room is_state store.accepted made (images-settled old store works sound))
 
+    pub snapshot-epochs : IsSoundStore kept disk old
+        → (disk.honest old.disk → EveryMoment disk old.disk new (IsSnapshotting kept (disk.may_leave old.disk) (old.epoch + 1) s))
+        → (most : ℕ) → old.epoch + 1 ≤ most → EveryMoment disk old.disk new (IsOfEpochs old.epoch most)
+    snapshot-epochs sound run most within =
+        let images = disk.may_leave old.disk in
+        let n = old.records - length old.pending in
+        weakens disk old.disk new (IsSnapshotting kept images (old.epoch + 1) s) (run sound.honest) (IsOfEpochs old.epoch most)
+        (λ c writing.
+        let of = snapshotting-epochs lawful images old.epoch n old.base s old.pending room is_state
+        (images-settled old store works sound) c writing in
+        let last = of.1 in
+        (of.0, omega (arith, last, within)))
+
     pub snapshot-nothing_later : IsSoundStore kept disk old → (d : Image) → disk.may_leave old.disk d → NothingLater old.epoch d
     snapshot-nothing_later sound d left =
         settled-nothing_later kept old.epoch _ old.base old.pending d (images-settled old store works sound d left)
@@ -113,6 +143,8 @@ module _ {D S A R : Type 0} (kept : Keeping S A R) (disk : Disk D) where
     snapshot-continues remains run written =
         continues_all kept disk old (after_snapshot taken new) more made refl remains
         (snapshot-keeps_sound remains written) (λ sound. snapshot-moments sound run)
+        (ages-on kept disk old (after_snapshot taken new) works (omega arith)
+        (λ still sound. snapshot-epochs sound run (old.epoch + 1 + 1) (omega arith)))
 
     -- one that failed confirms nothing
     pub snapshot_fault-continues : Remains disk old.disk new
@@ -123,6 +155,8 @@ module _ {D S A R : Type 0} (kept : Keeping S A R) (disk : Disk D) where
         (λ sound. fault-sound kept disk taken new (remains.stays_honest sound.honest)
         (now_has disk old.disk new (StandsForPrefix kept old.base (old.pending ++ more)) (snapshot-moments sound run)))
         (λ sound. snapshot-moments sound run)
+        (ages-on kept disk old (after_fault taken new) works (omega arith)
+        (λ still sound. snapshot-epochs sound run (old.epoch + 1) (omega arith)))
 
     -- after it, all stands for the state
     pub snapshot-stands : Remains disk old.disk new

@@ -1,4 +1,5 @@
 pub mod CallLaws
+pub mod AgeLemmas
 pub mod FormLemmas
 pub mod PutLemmas
 pub mod ReadLemmas
@@ -14,6 +15,11 @@ pub mod PartsLemmas
 pub mod ReplayLemmas
 pub mod OpeningLemmas
 pub mod OpenLemmas
+pub mod PairLemmas
+pub mod SettlingLemmas
+pub mod CopyLemmas
+pub mod JoinLemmas
+pub mod PairOpeningLemmas
 pub mod LookingLemmas
 pub mod CrashLemmas
 pub mod FormerLemmas

@@ -23,7 +23,7 @@ use Rattle.session_store.proofs.CheckpointLemmas.{snapshotting-stands, snapshot-
 
 module _ {D S A R : Type 0} (kept : Keeping S A R) (disk : Disk D) where
   -- what stands for the base with none of no actions stands for the base
-  prefix-none : (s : S) (c : Image) → StandsForPrefix kept s [] c → recovered kept c ≡ Ok s
+  pub prefix-none : (s : S) (c : Image) → StandsForPrefix kept s [] c → recovered kept c ≡ Ok s
   prefix-none s c from = of_count from.count from.state from.made from.stands
     where
       of_count : (count : ℕ) (t : S) → fold kept s (take count []) ≡ Some t → recovered kept c ≡ Ok t → recovered kept c ≡ Ok s

@@ -10,12 +10,14 @@ use Rattle.session_store.specs.Form.{record_sector, entry_in}
 use Rattle.session_store.specs.declared.disk_format.DiskFormat.TheVariants.{Two}
 use Rattle.session_store.specs.declared.reading.Entry.TheVariants.{Holds}
 use Rattle.session_store.specs.Base.{IsSettled, HoldsAll, StandsForPrefix}
+use Rattle.session_store.specs.Epochs.{IsOfEpochs}
 use Rattle.session_store.specs.Value.{StoreValue, IsStore}
 use Rattle.session_store.specs.Store.{IsSoundStore, Continues}
 use Rattle.session_store.specs.Answers.{after_fault, with_record, with_action, room, after_snapshot, after_submit, after_failed_submit}
 use Rattle.std.proofs.lemmas.Bool.{cond-true, cond-false, eq-eqb, ne_eqb}
 use Rattle.session_store.proofs.FormLemmas.{entry_in-record}
 use Rattle.session_store.proofs.BaseLemmas.{settled-stands, settled-more, settled-written}
+use Rattle.session_store.proofs.AgeLemmas.{has_epoch-is, settled-epoch, epochs-begin, ages-on}
 use Rattle.session_store.proofs.CallLaws.{prefix-longer}
 use Rattle.session_store.proofs.StoreLemmas.{fold-more, holds_all-more, fault-sound, continues_none}
 
@@ -80,6 +82,17 @@ module _ {D S A R : Type 0} (kept : Keeping S A R) (disk : Disk D) (old : StoreV
         (λ c left. settled-stands kept old.epoch n old.base s more c (omega (arith, more-long, count, few)) more-made
         (record-settled sound n count c left))
 
+    pub record-epochs : old.failed ≡ false → IsSoundStore kept disk old
+        → EveryMoment disk old.disk new (IsOfEpochs old.epoch (old.epoch + 1))
+    record-epochs still sound =
+        let n = old.records - length old.pending in
+        goes_on disk old.disk old.disk new (IsOfEpochs old.epoch (old.epoch + 1)) result
+        (epochs-begin kept disk old (old.epoch + 1) (omega arith) still sound) call.called
+        (λ c left.
+        let settled = record-settled sound n (omega (arith, store.recorded)) c left in
+        let is = has_epoch-is old.epoch c (settled-epoch kept old.epoch n old.base more c settled) in
+        (omega (arith, is), omega (arith, is)))
+
     pub record_fault-continues : Continues kept disk old (a ∷ []) (after_fault (with_record old a s) new)
     record_fault-continues =
         continues_none kept disk old (after_fault (with_record old a s) new) (a ∷ []) refl refl
@@ -87,6 +100,7 @@ module _ {D S A R : Type 0} (kept : Keeping S A R) (disk : Disk D) (old : StoreV
         (λ sound. fault-sound kept disk (with_record old a s) new (call.called.stays_honest sound.honest)
         (now_has disk old.disk new (StandsForPrefix kept old.base more) (record-moments sound)))
         record-moments
+        (ages-on kept disk old (after_fault (with_record old a s) new) works (omega arith) record-epochs)
 
   -- a record that was written
   module _ {T E : Type 0} (lawful : IsLawful kept) (new : D) (x : T) (works : old.failed ≡ false)
@@ -112,6 +126,10 @@ module _ {D S A R : Type 0} (kept : Keeping S A R) (disk : Disk D) (old : StoreV
       working = λ still. record {
         settled = λ n count. record-settled lawful new (Ok x) works few is_action call sound n (omega (arith, count, more-long));
         written = λ n count. record-written sound n (omega (arith, count, more-long));
+        of_epoch = λ c left.
+            let n = old.records - length old.pending in
+            settled-epoch kept old.epoch n old.base more c
+            (record-settled lawful new (Ok x) works few is_action call sound n (omega (arith, store.recorded)) c left);
       };
     }
 
@@ -120,6 +138,8 @@ module _ {D S A R : Type 0} (kept : Keeping S A R) (disk : Disk D) (old : StoreV
         continues_none kept disk old (record (with_record old a s) { disk = new }) (a ∷ []) refl refl
         (remains_on disk old.disk old.disk new (Ok x) (remains disk old.disk) call.called) record-sound
         (record-moments lawful new (Ok x) works few is_action call)
+        (ages-on kept disk old (record (with_record old a s) { disk = new }) works (omega arith)
+        (record-epochs lawful new (Ok x) works few is_action call))
 
 -- the room for actions falls by one with each
 pub room-record : {D S A : Type 0} (v w : StoreValue D S A) → v.records < 1024 → w.epoch ≡ v.epoch → w.records ≡ v.records + 1

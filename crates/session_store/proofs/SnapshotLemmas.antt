@@ -17,7 +17,7 @@ use Rattle.session_store.proofs.StandsLemmas.{newer_first, newer_second, newer_i
 use Rattle.session_store.proofs.BaseLemmas.{spare_below, not_spare-header, not_spare-part}
 
 -- the header that counts is one of the two, in its place
-newer_cases : (a b : Option Header) (h : Header) → newer a b ≡ Some h → (a ≡ Some h) ⊎ (b ≡ Some h)
+pub newer_cases : (a b : Option Header) (h : Header) → newer a b ≡ Some h → (a ≡ Some h) ⊎ (b ≡ Some h)
 unfolding newer
 newer_cases None b h is = inr is
 newer_cases (Some a) None h is = inl is
@@ -148,7 +148,7 @@ module _ {S A R : Type 0} (kept : Keeping S A R) where
       (nothing_later image own.0 own.1 (subst (λ (e : ℕ). NoneLater e image) (sym own.2) settled.in_order))
 
   -- nothing is later either after a change of the next snapshot's parts
-  nothing_later-same : (epoch : ℕ) (a b : Image) → SameButParts (epoch + 1) a b → NothingLater epoch a → NothingLater epoch b
+  pub nothing_later-same : (epoch : ℕ) (a b : Image) → SameButParts (epoch + 1) a b → NothingLater epoch a → NothingLater epoch b
   nothing_later-same epoch a b same nothing =
       let first : b 0 ≡ a 0 = same 0 (not_spare-header epoch 0 (inl refl)) in
       let second : b 512 ≡ a 512 = same 512 (not_spare-header epoch 512 (inr refl)) in

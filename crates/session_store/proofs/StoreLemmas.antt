@@ -15,8 +15,9 @@ use Rattle.session_store.specs.declared.reading.Entry.TheVariants.{Holds}
 use Rattle.session_store.specs.Base.{IsSettled, HoldsAll, StandsForPrefix}
 use Rattle.session_store.specs.Sound.{StandsOnlyFor}
 use Rattle.session_store.specs.Value.{StoreValue, IsStore}
-use Rattle.session_store.specs.Store.{IsSoundStore, Continues}
+use Rattle.session_store.specs.Store.{IsSoundStore, Ages, Continues}
 use Rattle.session_store.proofs.CallLaws.{prefix-longer}
+use Rattle.session_store.proofs.AgeLemmas.{settled-epoch, ages-on, sync-epochs}
 use Rattle.session_store.specs.Answers.{after_fault, after_confirm}
 use Rattle.session_store.proofs.StandsLemmas.{fold-nil, fold-step, fold-cons, fold-refused}
 use Rattle.session_store.proofs.BaseLemmas.{settled-stands, settled-confirmed}
@@ -98,8 +99,8 @@ module _ {D S A R : Type 0} (kept : Keeping S A R) (disk : Disk D) where
       → new.pending ≡ old.pending ++ accepted → Remains disk old.disk new.disk
       → (IsSoundStore kept disk old → IsSoundStore kept disk new)
       → (IsSoundStore kept disk old → EveryMoment disk old.disk new.disk (StandsForPrefix kept old.base (old.pending ++ accepted)))
-      → Continues kept disk old accepted new
-  continues_none old new accepted same_base is_pending remain sound moments = record {
+      → Ages kept disk old new → Continues kept disk old accepted new
+  continues_none old new accepted same_base is_pending remain sound moments aged = record {
     remains = remain;
     confirmed = 0;
     few = omega arith;
@@ -107,6 +108,7 @@ module _ {D S A R : Type 0} (kept : Keeping S A R) (disk : Disk D) where
     pending = is_pending;
     sound = sound;
     any_moment = moments;
+    ages = aged;
   }
 
   -- a call that confirms all
@@ -114,8 +116,8 @@ module _ {D S A R : Type 0} (kept : Keeping S A R) (disk : Disk D) where
       → fold kept old.base (old.pending ++ accepted) ≡ Some new.base → new.pending ≡ []
       → Remains disk old.disk new.disk → (IsSoundStore kept disk old → IsSoundStore kept disk new)
       → (IsSoundStore kept disk old → EveryMoment disk old.disk new.disk (StandsForPrefix kept old.base (old.pending ++ accepted)))
-      → Continues kept disk old accepted new
-  continues_all old new accepted made none remain sound moments =
+      → Ages kept disk old new → Continues kept disk old accepted new
+  continues_all old new accepted made none remain sound moments aged =
       let actions = old.pending ++ accepted in record {
         remains = remain;
         confirmed = length actions;
@@ -124,6 +126,7 @@ module _ {D S A R : Type 0} (kept : Keeping S A R) (disk : Disk D) where
         pending = none ∙ sym (drop_all (length actions) actions (omega arith));
         sound = sound;
         any_moment = moments;
+        ages = aged;
       }
 
   -- a store whose disk failed is sound where the images still stand
@@ -152,6 +155,7 @@ module _ {D S A R : Type 0} (kept : Keeping S A R) (disk : Disk D) where
           subst (λ (xs : List A). IsSettled kept v.epoch v.base n xs c) (sym none)
           (subst (λ (k : ℕ). IsSettled kept v.epoch v.base k [] c) (sym same) (settled c left));
       written = λ n is. subst (λ (xs : List A). HoldsAll kept v.epoch n xs (disk.reads v.disk)) (sym none) tt;
+      of_epoch = λ c left. settled-epoch kept v.epoch v.records v.base [] c (settled c left);
     };
   }
 
@@ -235,7 +239,8 @@ module _ {D S A R : Type 0} (kept : Keeping S A R) (disk : Disk D) where
         (continues_all v (after_confirm v new) [] (ap (fold kept v.base) (append-nil v.pending) ∙ store.accepted) refl
         (remains_on disk v.disk v.disk new (Ok x) (remains disk v.disk) called)
         (λ sound. sync-confirms v new x store works called did sound)
-        (λ sound. sync-moments v new (Ok x) [] called did sound))
+        (λ sound. sync-moments v new (Ok x) [] called did sound)
+        (ages-on kept disk v (after_confirm v new) works (omega arith) (sync-epochs kept disk v new (Ok x) called did)))
 
     pub confirmed-stands : {T E : Type 0} (x : T) → IsStore kept disk v → v.failed ≡ false
         → Called {T = T} {E = E} disk v.disk new (Ok x) → (disk.honest v.disk → Syncs {T = T} {E = E} disk v.disk new (Ok x))

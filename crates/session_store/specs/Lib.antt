@@ -2,6 +2,7 @@ pub mod Layout
 pub mod Keeping
 pub mod Form
 pub mod Stands
+pub mod Epochs
 pub mod Base
 pub mod Snapshot
 pub mod Sound
@@ -15,3 +16,7 @@ pub mod Looking
 pub mod Run
 pub mod ReadFaults
 pub mod Formatted
+pub mod Pair
+pub mod Settling
+pub mod Copying
+pub mod PairOpening

@@ -137,3 +137,17 @@ pub enum CheckpointFault {
     #[error("disk fault")]
     Disk,
 }
+
+/// Why a pair of disks was not opened.
+#[derive(Clone, Copy, Debug, PartialEq, Eq, Error)]
+pub enum PairFault {
+    /// The first disk was not opened, or a call of it failed.
+    #[error("the first disk: {0}")]
+    First(StoreFault),
+    /// The second disk is too small, or a call of it failed before anything was written there.
+    #[error("the second disk: {0}")]
+    Second(StoreFault),
+    /// The second disk is of a later epoch than the first.
+    #[error("the second disk is newer")]
+    SecondNewer,
+}

@@ -14,7 +14,7 @@ use sector_disk::{DiskFault, SectorDisk};
 use std::alloc::Global;
 
 /// Brings all that was written before to the device: a barrier, without which a power cut could still lose what is read then.
-fn raise_barrier<D: SectorDisk>(disk: &mut D) -> Result<(), DiskFault>
+pub(crate) fn raise_barrier<D: SectorDisk>(disk: &mut D) -> Result<(), DiskFault>
     ensures called { Called D.disk disk.old disk.new result }
     ensures syncs { D.disk.honest disk.old → Syncs D.disk disk.old disk.new result }
 {

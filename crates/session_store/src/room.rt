@@ -1,5 +1,5 @@
-//! The memory that opening a store takes: room for the parts of a snapshot, and for two states. Only here can it be said
-//! that memory was refused; what reads a disk has no such error to give.
+//! The memory that opening a store takes: room for the parts of a snapshot, and for two states; and that for a state of a
+//! copy. Only here can it be said that memory was refused; what reads a disk has no such error to give.
 ghost use Rattle.std.specs.Prelude.{◌≡◌, ◌≤◌, [], IfOk, OnErr, IfSome, IfNone, None, Some, map, vec_capacity};
 
 use crate::{DiskFormat, Kept, PAYLOAD_BYTES, PartsFault};
@@ -61,4 +61,21 @@ pub(crate) fn make_states<K: Kept>(
         return Ok(None);
     };
     Ok(Some((base, state)))
+}
+
+/// A state equal to this one, in memory of its own.
+pub(crate) fn copy_state<K: Kept>(alloc: Global, state: &K) -> Result<K, NoRoom>
+    ensures { IfOk result (λ copy. copy ≡ state.now) }
+{
+    let count = state.parts();
+    let mut parts = room_for_parts(alloc, count)?;
+    for i in 0..count {
+        let mut part = ArrayVec::new();
+        state.write_part(i, &mut part);
+        parts.push_reserved(part);
+    }
+    match K::from_parts(alloc, DiskFormat::Two, parts.as_slice()) {
+        Ok(copy) => Ok(copy),
+        Err(_) => Err(NoRoom { _refused: () }),
+    }
 }

@@ -1,11 +1,11 @@
 //! A plain twin beside random sessions, the bytes of parts and actions, and the disks that hold sessions. Worked sessions,
 //! with the answer to each action, their rankings and their results, stand in examples/sessions.
 mod action_bytes;
+mod corrections;
 mod disk;
 mod faults;
 mod holder;
 mod mended;
-mod mends;
 mod old_disk;
 mod parts;
 mod random_actions;
@@ -13,8 +13,8 @@ mod random_sessions;
 mod restored;
 mod results;
 mod script;
+mod stack;
 mod story;
-mod taken_back;
 mod twin;
 
 use std::fmt::Debug;

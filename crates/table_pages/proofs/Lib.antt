@@ -4,3 +4,4 @@ pub mod Shown
 mod BodyLines
 mod SameWaits
 mod ToldNow
+pub mod NamesTold

@@ -30,7 +30,7 @@ module _ {P T : Type 0} (answers : LineSet → T → List ℕ → Option (List �
   pub leads : (old new : P) → LeadsTo serves old new → LeadsTo (Answering answers places tables waits boards desks results (site old)) (server old) (server new)
   leads old new x = (x.0, chain x.0 old new (site old) refl x.1)
 
--- the same texts and names, the same site
-pub same_site : (texts other_texts : PageTexts) (names other_names : HostNames) → names ≡ other_names → texts ≡ other_texts
-    → site_of texts names ≡ site_of other_texts other_names
-same_site texts other_texts names other_names n t = rw (n, t) refl
+-- the same texts, names and lines, the same site
+pub same_site : (texts other_texts : PageTexts) (names other_names : HostNames) (people other_people : List ℕ) → names ≡ other_names
+    → texts ≡ other_texts → people ≡ other_people → site_of texts names people ≡ site_of other_texts other_names other_people
+same_site texts other_texts names other_names people other_people n t p = rw (n, t, p) refl

@@ -1,5 +1,6 @@
 pub mod Answered
 pub mod Refused
+pub mod People
 pub mod Responses
 pub mod HostNames
 pub mod Site

@@ -5,7 +5,7 @@ use Rattle.http.specs.Request.{head_of, body_of}
 use Rattle.http_server.specs.declared.response.Response.{Response}
 use Rattle.web_requests.specs.declared.kind.Kind.TheVariants as kind
 use Rattle.web_requests.specs.declared.route.Route.{Route}
-use Rattle.web_requests.specs.declared.route.Route.TheVariants.{Page, TextsScript, SharedScript, TableScript, BoardsScript, DeskScript, DirectorScript, Style, Lines, Correct, Place, Tables, Boards, Results, Desk, Wait, Refused}
+use Rattle.web_requests.specs.declared.route.Route.TheVariants.{Page, TextsScript, SharedScript, TableScript, BoardsScript, DeskScript, DirectorScript, Style, Lines, Correct, Place, Tables, Boards, Results, Desk, Wait, Names, Refused}
 use Rattle.web_requests.specs.declared.route.Refusal.TheVariants.{TooLong}
 use Rattle.web_requests.specs.Route.{route_for}
 use Rattle.web_requests.specs.Filled.{IsText, IsRefused, IsUnavailable}
@@ -15,6 +15,7 @@ use Rattle.line_replies.specs.ReplyTexts.{short_text}
 use Rattle.table_server.specs.declared.line_set.LineSet.{LineSet}
 use Rattle.table_server.specs.declared.line_set.LineSet.TheVariants.{Protocol, Corrections}
 use Rattle.table_pages.specs.declared.page_texts.PageTexts.{PageTexts}
+use Rattle.table_pages.specs.People.{names_text}
 use Rattle.table_pages.specs.Refused.{TellsRefused}
 use Rattle.table_pages.specs.Site.{Site}
 
@@ -34,7 +35,7 @@ module _ {T : Type 0} (answers : T → List ℕ → Option (List ℕ) → T → 
 -- over a server of lines of either set
 module _ {T : Type 0} (answers : LineSet → T → List ℕ → Option (List ℕ) → T → Type 0) where
   module _ (places tables : T → List ℕ → List ℕ) (waits : T → List ℕ → ShortReply) (boards : T → Bool → List ℕ → List ℕ) (desks : T → DeskType → ℕ → List ℕ → List ℕ) (results : T → List ℕ → List ℕ → Type 0) where
-    module _ (texts : PageTexts) where
+    module _ (texts : PageTexts) (people : List ℕ) where
       -- the response to a request on this route: the text of the page, script or style that the pages were made with, the
       -- replies to its lines, or what is told to the holder of the key that it has
       abbrev pub Responds : Route → T → List ℕ → Response → T → Type 0
@@ -55,9 +56,10 @@ module _ {T : Type 0} (answers : LineSet → T → List ℕ → Option (List ℕ
       Responds Desk old body response new =
           ((desk : DeskType) × (at : ℕ) × (IsText kind.Lines (desks old desk at body) response ⊎ IsUnavailable response)) × (new ≡ old)
       Responds Wait old body response new = IsText kind.Lines (short_text (waits old body)) response × (new ≡ old)
+      Responds Names old body response new = IsText kind.Lines (names_text people (waits old body)) response × (new ≡ old)
       Responds (Refused why) old body response new = TellsRefused texts why response × (new ≡ old)
 
     -- the response to a request at this site
     abbrev pub Answering : Site → T → Request (List ℕ) → Response → T → Type 0
     Answering site old request response new =
-        Responds site.texts (route_for site.host site.alias (head_of request)) old (body_of request) response new
+        Responds site.texts site.people (route_for site.host site.alias (head_of request)) old (body_of request) response new

@@ -5,7 +5,7 @@ use Rattle.table_pages.specs.FirstLine.{first_line}
 use Rattle.table_server.specs.declared.line_set.LineSet.{LineSet}
 use Rattle.table_server.specs.declared.line_set.LineSet.TheVariants.{Protocol, Corrections}
 use Rattle.web_requests.specs.declared.route.Route.{Route}
-use Rattle.web_requests.specs.declared.route.Route.TheVariants.{Lines, Correct, Place, Tables, Boards, Results, Desk, Wait}
+use Rattle.web_requests.specs.declared.route.Route.TheVariants.{Lines, Correct, Place, Tables, Boards, Results, Desk, Wait, Names}
 
 -- so many more, as far as 64 bits count
 abbrev pub with_more : ℕ → ℕ → ℕ
@@ -33,4 +33,5 @@ module _ {T : Type 0} (counts : LineSet → T → List ℕ → ℕ → Type 0) (
   Counts Results server body old response new = new ≡ with_key old (wrong_key server body)
   Counts Desk server body old response new = CountsLines (λ count. count ≡ (if wrong_at_desk server body then 1 else 0)) old response new
   Counts Wait server body old response new = new ≡ with_key old (wrong_key server (first_line body))
+  Counts Names server body old response new = new ≡ with_key old (wrong_key server (first_line body))
   Counts _ server body old response new = new ≡ old

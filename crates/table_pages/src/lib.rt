@@ -2,7 +2,7 @@
 //!
 //! ```rust
 //! let names = HostNames::of_this_computer(rt.alloc(), 4000)?;
-//! let mut pages = TablePages::new(rt.alloc(), names, texts, store, cache, ServerClock::new(&rt));
+//! let mut pages = TablePages::new(rt.alloc(), names, texts, store, cache, Desk::new(600, "club.disk"), ServerClock::new(&rt));
 //! show_minutes(&rt, rt.alloc(), RandomState::new(&rt)?, &listener, &mut pages, 180)?;
 //! ```
 #![tactic(auto)]
@@ -13,6 +13,7 @@ mod laws;
 mod line_server;
 mod page_texts;
 mod pages;
+mod people;
 mod refused;
 mod seconds;
 mod showing;

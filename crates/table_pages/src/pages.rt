@@ -1,5 +1,5 @@
 //! The pages, and the lines that they post.
-ghost use Rattle.std.specs.Prelude.{◌≡◌, ◌<◌, ◌⊎◌, ℕ, List, true, false, not, length, nat_lt, string_bytes, OnOk, OnErr, if◌then◌else◌};
+ghost use Rattle.std.specs.Prelude.{◌≡◌, ◌<◌, ◌⊎◌, ℕ, List, [], true, false, not, length, nat_lt, string_bytes, OnOk, OnErr, if◌then◌else◌};
 ghost use Rattle.http_server.specs.Response.{IsBlank};
 ghost use Rattle.http.specs.Request.{head_of};
 ghost use Rattle.web_requests.specs.Filled.{IsText, IsUnavailable};
@@ -22,6 +22,7 @@ use web_requests::{Kind, Refusal, Route, put_refusal, put_text, put_unavailable,
 
 mod beside;
 mod routes;
+mod setting;
 mod telling;
 mod wishes;
 
@@ -55,29 +56,30 @@ pub struct TablePages<T: LineServer, K: Seconds> {
     clock: K,
     /// What requests wish for.
     wishes: Wishes,
+    /// The lines that tell the names of the players.
+    people: Vec<u8>,
     ghost ready: { T.is_ready server ≡ true },
 }
 
 impl<T: LineServer, K: Seconds> TablePages<T, K> {
-    ghost use Rattle.desk_replies.specs.Desk.{new_desk};
     ghost use Rattle.table_pages.specs.Responses.{TellsLines, TellsShort};
 
-    /// Pages of these texts, at a server that goes by these names.
+    /// Pages of these texts, at a server that goes by these names, with what stands beside its session.
     pub fn new(
         alloc: Global,
         names: HostNames,
         texts: PageTexts,
         server: T,
         cache: Cache,
+        desk: Desk,
         clock: K,
     ) -> TablePages<T, K>
         requires { T.is_ready server ≡ true }
         ensures server { result.server ≡ server }
         ensures names { result.names ≡ names }
         ensures texts { result.texts ≡ texts }
-        ensures wrong { result.wrong ≡ 0 }
-        ensures shut { result.is_open ≡ false }
-        ensures desk { result.desk ≡ new_desk }
+        ensures begun { (result.wrong ≡ 0) × (result.is_open ≡ false) × (result.people.items ≡ []) }
+        ensures desk { result.desk ≡ desk }
     {
         TablePages {
             alloc,
@@ -87,9 +89,10 @@ impl<T: LineServer, K: Seconds> TablePages<T, K> {
             cache,
             wrong: 0,
             is_open: false,
-            desk: Desk::new(),
+            desk,
             clock,
             wishes: Wishes::new(),
+            people: Vec::new(alloc),
         }
     }
 
@@ -115,18 +118,6 @@ impl<T: LineServer, K: Seconds> TablePages<T, K> {
         &self.server
     }
 
-    /// From now on players are told of other tables.
-    pub fn open_boards(&mut self)
-        ensures open { self.new.is_open ≡ true }
-        ensures server { self.new.server ≡ self.old.server }
-        ensures names { self.new.names ≡ self.old.names }
-        ensures texts { self.new.texts ≡ self.old.texts }
-        ensures wrong { self.new.wrong ≡ self.old.wrong }
-        ensures desk { self.new.desk ≡ self.old.desk }
-    {
-        self.is_open = true;
-    }
-
     /// Answers posted lines of that set, if they are fewer than 65,536 bytes.
     fn call_lines(
         &mut self,
@@ -137,7 +128,7 @@ impl<T: LineServer, K: Seconds> TablePages<T, K> {
         requires { IsBlank response.old }
         ensures lines { OnOk result (TellsShort (T.answers set) (nat_lt (length body.now) 65536) self.old.server body.now response.new self.new.server) }
         ensures counted { OnOk result (CountsLines (T.counts set self.old.server body.now) self.old.wrong response.new self.new.wrong) }
-        ensures fixed { (self.new.names ≡ self.old.names) × (self.new.texts ≡ self.old.texts) × (self.new.wishes ≡ self.old.wishes) }
+        ensures fixed { (self.new.names ≡ self.old.names) × (self.new.texts ≡ self.old.texts) × (self.new.people ≡ self.old.people) × (self.new.wishes ≡ self.old.wishes) }
         ensures beside { (self.new.is_open ≡ self.old.is_open) × (self.new.desk ≡ self.old.desk) }
         ensures err { OnErr result (self.new ≡ self.old) }
     {
@@ -155,7 +146,7 @@ impl<T: LineServer, K: Seconds> TablePages<T, K> {
         ensures told { OnOk result (IsText Kind.Lines (T.places self.old.server key.now) response.new) }
         ensures counted { OnOk result (self.new.wrong ≡ with_key self.old.wrong (T.wrong_key self.old.server key.now)) }
         ensures server { self.new.server ≡ self.old.server }
-        ensures fixed { (self.new.names ≡ self.old.names) × (self.new.texts ≡ self.old.texts) × (self.new.wishes ≡ self.old.wishes) }
+        ensures fixed { (self.new.names ≡ self.old.names) × (self.new.texts ≡ self.old.texts) × (self.new.people ≡ self.old.people) × (self.new.wishes ≡ self.old.wishes) }
         ensures beside { (self.new.is_open ≡ self.old.is_open) × (self.new.desk ≡ self.old.desk) }
         ensures err { OnErr result (self.new ≡ self.old) }
     {
@@ -171,7 +162,7 @@ impl<T: LineServer, K: Seconds> TablePages<T, K> {
         ensures told { OnOk result (IsText Kind.Lines (T.tables self.old.server key.now) response.new) }
         ensures counted { OnOk result (self.new.wrong ≡ with_key self.old.wrong (T.wrong_key self.old.server key.now)) }
         ensures server { self.new.server ≡ self.old.server }
-        ensures fixed { (self.new.names ≡ self.old.names) × (self.new.texts ≡ self.old.texts) × (self.new.wishes ≡ self.old.wishes) }
+        ensures fixed { (self.new.names ≡ self.old.names) × (self.new.texts ≡ self.old.texts) × (self.new.people ≡ self.old.people) × (self.new.wishes ≡ self.old.wishes) }
         ensures beside { (self.new.is_open ≡ self.old.is_open) × (self.new.desk ≡ self.old.desk) }
         ensures err { OnErr result (self.new ≡ self.old) }
     {
@@ -187,7 +178,7 @@ impl<T: LineServer, K: Seconds> TablePages<T, K> {
         requires short { length body.now < 65536 }
         ensures lines { TellsLines (T.answers set) self.old.server body.now response.new self.new.server }
         ensures counted { CountsLines (T.counts set self.old.server body.now) self.old.wrong response.new self.new.wrong }
-        ensures fixed { (self.new.names ≡ self.old.names) × (self.new.texts ≡ self.old.texts) × (self.new.wishes ≡ self.old.wishes) }
+        ensures fixed { (self.new.names ≡ self.old.names) × (self.new.texts ≡ self.old.texts) × (self.new.people ≡ self.old.people) × (self.new.wishes ≡ self.old.wishes) }
         ensures beside { (self.new.is_open ≡ self.old.is_open) × (self.new.desk ≡ self.old.desk) }
     {
         match self.server.answer(set, self.alloc, &mut self.cache, body) {
@@ -202,7 +193,7 @@ impl<T: LineServer, K: Seconds> TablePages<T, K> {
         ensures text { IsText Kind.Lines replies.now.text.items response.new ⊎ IsUnavailable response.new }
         ensures counted { CountsLines (λ count. count ≡ replies.now.wrong_keys) self.old.wrong response.new self.new.wrong }
         ensures server { self.new.server ≡ self.old.server }
-        ensures fixed { (self.new.names ≡ self.old.names) × (self.new.texts ≡ self.old.texts) × (self.new.wishes ≡ self.old.wishes) }
+        ensures fixed { (self.new.names ≡ self.old.names) × (self.new.texts ≡ self.old.texts) × (self.new.people ≡ self.old.people) × (self.new.wishes ≡ self.old.wishes) }
         ensures beside { (self.new.is_open ≡ self.old.is_open) × (self.new.desk ≡ self.old.desk) }
     {
         let text = replies.text.as_slice();
@@ -222,7 +213,7 @@ impl<T: LineServer, K: Seconds> TablePages<T, K> {
         ensures told { OnOk result (IsText Kind.Lines text.now response.new) }
         ensures counted { OnOk result (self.new.wrong ≡ with_more self.old.wrong wrong_keys) }
         ensures server { self.new.server ≡ self.old.server }
-        ensures fixed { (self.new.names ≡ self.old.names) × (self.new.texts ≡ self.old.texts) × (self.new.wishes ≡ self.old.wishes) }
+        ensures fixed { (self.new.names ≡ self.old.names) × (self.new.texts ≡ self.old.texts) × (self.new.people ≡ self.old.people) × (self.new.wishes ≡ self.old.wishes) }
         ensures beside { (self.new.is_open ≡ self.old.is_open) × (self.new.desk ≡ self.old.desk) }
         ensures err { OnErr result (self.new ≡ self.old) }
     {
@@ -245,13 +236,14 @@ impl<T: LineServer, K: Seconds> Service for TablePages<T, K> {
     ghost use Rattle.table_pages.specs.WrongKeys.{Counts};
 
     ghost answers = { λ old request response new.
-        Answering T.answers T.places T.tables T.waits T.boards T.desks T.results (site_of old.texts old.names) old.server request response new.server
+        Answering T.answers T.places T.tables T.waits T.boards T.desks T.results (site_of old.texts old.names old.people.items) old.server request response new.server
         × (new.names ≡ old.names) × (new.texts ≡ old.texts)
         × Counts T.counts T.wrong_key T.wrong_at_boards T.wrong_at_desk (route_for (string_bytes old.names.host) (string_bytes old.names.alias) (head_of request))
         old.server (body_of request) old.wrong response new.wrong
         × Opens T.boards T.opens (route_for (string_bytes old.names.host) (string_bytes old.names.alias) (head_of request)) old.server old.is_open (body_of request) response new.is_open
         × Stands T.desks T.stands (route_for (string_bytes old.names.host) (string_bytes old.names.alias) (head_of request)) old.server old.desk (body_of request) response new.desk
-        × Keeps (wish_of T.waits (route_for (string_bytes old.names.host) (string_bytes old.names.alias) (head_of request)) old.server (body_of request)) old.wishes new.wishes };
+        × Keeps (wish_of T.waits (route_for (string_bytes old.names.host) (string_bytes old.names.alias) (head_of request)) old.server (body_of request)) old.wishes new.wishes
+        × (new.people ≡ old.people) };
 
     fn call(
         &mut self,

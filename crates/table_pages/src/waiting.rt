@@ -1,10 +1,6 @@
 //! Requests that wait, over a session.
 ghost use Rattle.std.specs.Prelude.{◌≡◌, ◌≢◌, ◌++◌, true, false, ℕ, List, Some, MatchOption};
 ghost use Rattle.line_replies.specs.KeyWord.{key_of_word};
-ghost use Rattle.table_server.specs.declared.asked.Question.TheVariants as question;
-ghost use Rattle.table_server.specs.Told.{Tells};
-ghost use Rattle.line_replies.specs.ReplyTexts.{short_text};
-ghost use Rattle.line_replies.specs.declared.short_reply.ShortReply.TheVariants.{Refused as RefusedReply};
 ghost use Rattle.table_pages.specs.FirstLine.{first_line, behind_line};
 ghost use Rattle.table_pages.specs.Waits.{reply_to, wait_reply, TellsPlayer, director_text, TellsNow, IsToldStill};
 
@@ -12,10 +8,10 @@ use bridge_config::Key;
 use bridge_session::{Refused, Session};
 use bridge_table::is_nobodys;
 use desk_replies::{Desk, standing_lines};
-use line_replies::{ReplyText, ShortReply, push_view, read_key};
+use line_replies::{ReplyText, ShortReply, read_key};
 use line_text::split_once;
 use page_replies::{push_place, push_tables};
-use table_server::a_question_has_one_answer;
+use table_server::{a_question_has_one_answer, view_text};
 
 /// What stands before the first line feed of a body and what stands behind it; all and nothing where there is none.
 pub(crate) fn split_body(body: &[u8]) -> (&[u8], &[u8])
@@ -79,29 +75,6 @@ fn is_all(text: &[u8], one: &[u8], other: &[u8], third: &[u8]) -> bool
     }
 }
 
-/// The text of a refusal.
-fn refusal_text(refused: Refused) -> ReplyText
-    ensures { result.bytes ≡ short_text (RefusedReply refused) }
-{
-    let mut text = ReplyText::new();
-    ShortReply::Refused(refused).push_to(&mut text);
-    text
-}
-
-/// The reply to `SEE`.
-fn seen_text(session: &Session, key: Key) -> ReplyText
-    ensures { Tells session.now (question.See key) result.bytes }
-{
-    match session.see(key) {
-        Err(refused) => refusal_text(refused),
-        Ok(view) => {
-            let mut text = ReplyText::new();
-            push_view(&mut text, &view);
-            text
-        }
-    }
-}
-
 /// Whether a text is what the player of a key is told now.
 fn is_told_to_player(session: &Session, desk: &Desk, key: Key, word: &[u8], text: &[u8]) -> bool
     requires { key_of_word word.now ≡ Some key }
@@ -111,7 +84,7 @@ fn is_told_to_player(session: &Session, desk: &Desk, key: Key, word: &[u8], text
     a_question_has_one_answer();
     let mut place = ReplyText::new();
     push_place(&mut place, session, word);
-    let seen = seen_text(session, key);
+    let seen = view_text(session, key);
     let lines = standing_lines(session, desk, key);
     is_all(
         text,

@@ -43,4 +43,5 @@ pub use line_set::LineSet;
 pub use one_answer::{a_question_has_one_answer, lines_have_one_text_of_replies};
 pub use pbn_reply::write_pbn_reply;
 pub use power_cut::a_power_cut_keeps_what_is_answered;
+pub use question_reply::view_text;
 pub use served::{Served, ServedKeys};

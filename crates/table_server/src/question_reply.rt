@@ -28,8 +28,8 @@ fn refusal_text(refused: Refused) -> ReplyText
     text
 }
 
-/// The text of the reply to `SEE`.
-fn view_text(session: &Session, key: Key) -> ReplyText
+/// The text of the reply to `SEE`: what a key sees, or the refusal of one that sees nothing.
+pub fn view_text(session: &Session, key: Key) -> ReplyText
     ensures { Tells session.now (question.See key) result.bytes }
 {
     match session.see(key) {

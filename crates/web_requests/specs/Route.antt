@@ -5,7 +5,7 @@ use Rattle.http_header.specs.FieldValue.{FieldValue}
 use Rattle.http_header.specs.HeaderMap.{get}
 use Rattle.http_uri.specs.Uri.{uri_authority, uri_path, uri_query}
 use Rattle.web_requests.specs.declared.route.Route.{Route}
-use Rattle.web_requests.specs.declared.route.Route.TheVariants.{Page, TextsScript, SharedScript, TableScript, BoardsScript, DeskScript, DirectorScript, Style, Lines, Correct, Place, Tables, Boards, Results, Desk, Wait, Refused}
+use Rattle.web_requests.specs.declared.route.Route.TheVariants.{Page, TextsScript, SharedScript, TableScript, BoardsScript, DeskScript, DirectorScript, Style, Lines, Correct, Place, Tables, Boards, Results, Desk, Wait, Names, Refused}
 use Rattle.web_requests.specs.declared.route.Refusal.TheVariants.{Misdirected, NotFound, OnlyRead, OnlyPosted, WrongType}
 
 -- there is a value, and it is this text
@@ -69,7 +69,8 @@ route_at path head =
     if bytes_eq path (codes "/boards") then posting Boards head else (
     if bytes_eq path (codes "/results") then posting Results head else (
     if bytes_eq path (codes "/desk") then posting Desk head else (
-    if bytes_eq path (codes "/wait") then posting Wait head else Refused NotFound)))))))))))))))
+    if bytes_eq path (codes "/wait") then posting Wait head else (
+    if bytes_eq path (codes "/names") then posting Names head else Refused NotFound))))))))))))))))
 
 -- where a request goes that came to a server of these two names
 abbrev pub route_for : List ℕ → List ℕ → Parts → Route

@@ -40,6 +40,8 @@ pub enum Route {
     Results,
     /// `POST /desk`: what its body asks of the desk is to be answered, beside the session.
     Desk,
+    /// `POST /names`: the names that are shown in place of the configuration's are to be told to the holder of the key that is its body.
+    Names,
     /// `POST /wait`: it is to be answered once what is told to the key that its body begins with is another text than the rest of it.
     Wait,
     /// Nothing that is here.
@@ -93,6 +95,7 @@ pub fn route_of(host: &str, alias: &str, request: &Request<Bytes>) -> Route
         "/results" => posting(request, Route::Results),
         "/desk" => posting(request, Route::Desk),
         "/wait" => posting(request, Route::Wait),
+        "/names" => posting(request, Route::Names),
         _ => Route::Refused(Refusal::NotFound),
     }
 }

@@ -2,8 +2,9 @@
 ghost use Rattle.std.specs.Prelude.{◌≡◌, ◌<◌, ◌≤◌, ◌↔◌, IsOk, OnOk, OnErr, IfSome};
 ghost use Rattle.bridge_play.specs.Play.{claim_answer, MayBeClaimed, with_claim, consent_answer, MayAnswer, is_awaited, with_agreement, without_claim, IsClaimIn};
 
-use super::{MOST_CLAIMS, Play, TRICKS};
+use super::{Play, TRICKS};
 use crate::claim::{Claim, agreed_by, consent_to};
+use crate::claim_count::{ClaimCount, MOST_CLAIMS};
 use crate::dummy::dummy;
 use crate::refused::{ClaimRefused, ConsentRefused};
 use bridge_cards::Seat;
@@ -15,6 +16,15 @@ impl Play {
         ensures most { result ≤ MOST_CLAIMS }
     {
         self.claims
+    }
+
+    /// The same as a count.
+    pub fn claim_count(&self) -> ClaimCount
+        ensures { result ≡ self.now.claims }
+    {
+        ClaimCount {
+            number: self.claims,
+        }
     }
 
     /// The claim that stands or was agreed. It was made between tricks, before the last was played, not by dummy, for no more

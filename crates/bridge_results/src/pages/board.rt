@@ -71,7 +71,7 @@ fn write_head<W: Write>(format: Format, board: BoardNumber, writer: &mut W) -> R
 }
 
 /// What a side gained, if anything can be.
-fn side_gain(scoring: Scoring, comparison: Option<Comparison>, ns: bool) -> NumberText
+pub fn side_gain(scoring: Scoring, comparison: Option<Comparison>, ns: bool) -> NumberText
     ensures text { result.bytes ≡ side_gain scoring comparison ns }
     ensures short { length result.bytes ≤ 22 }
 {

@@ -15,9 +15,12 @@ const VALUE: Column = Column {
     content: Content::Words,
 };
 
+/// How many columns of a terminal the names of a pair have.
+pub const NAMES_COLUMNS: usize = 53;
+
 /// The names of a pair.
 const NAMES: Column = Column {
-    width: 53,
+    width: NAMES_COLUMNS,
     align: Align::Left,
     content: Content::Words,
 };

@@ -7,7 +7,7 @@ ghost use Rattle.bridge_ranking.specs.declared.field.Field.TheVariants.{First, S
 ghost use Rattle.page_layout.specs.Page.{page_end};
 ghost use Rattle.bridge_results.specs.EventText.{event_text};
 ghost use Rattle.bridge_results.specs.RankingText.{field_text};
-ghost use Rattle.bridge_results.specs.ResultsText.{ranked_text, rankings_text, front_text, sheets_text, page_text, IsFieldRanking, WritesPage};
+ghost use Rattle.bridge_results.specs.ResultsText.{ranked_text, rankings_text, front_text, sheets_text, named_page_text, IsFieldRanking, WritesPage, WritesNamedPage};
 
 use crate::pages::event::event_text;
 use crate::pages::ranking::write_field;
@@ -17,6 +17,7 @@ use bridge_config::Config;
 use bridge_ranking::Field;
 use bridge_score::Ranked;
 use bridge_session::{Ranking, Session};
+use evening_draft::PairNames;
 use line_text::write_text;
 use page_layout::{Format, PageText, push_page_end};
 use std::io::{Error, Write};
@@ -24,30 +25,32 @@ use std::io::{Error, Write};
 /// Writes the ranking of a field of a configuration's pairs.
 fn write_field_of<W: Write>(
     format: Format,
+    names: Option<&[PairNames]>,
     config: &Config,
     field: Field,
     ranking: &[Ranked],
     writer: &mut W,
 ) -> Result<(), Error>
-    ensures { Written (stream W.contents writer.old writer.new) (field_text format config.now.scoring config.now.pairs field ranking.now) result }
+    ensures { Written (stream W.contents writer.old writer.new) (field_text format config.now.scoring names.entry config.now.pairs field ranking.now) result }
 {
     let fields = config.fields();
     let pairs = fields.pairs.as_slice();
-    write_field(format, fields.scoring, pairs, field, ranking, writer)
+    write_field(format, fields.scoring, names, pairs, field, ranking, writer)
 }
 
 /// Writes the ranking of a field, if there is such a field.
 fn write_ranked<W: Write>(
     format: Format,
+    names: Option<&[PairNames]>,
     config: &Config,
     field: Field,
     ranking: &Option<Ranking>,
     writer: &mut W,
 ) -> Result<(), Error>
-    ensures { Written (stream W.contents writer.old writer.new) (ranked_text format config.now field (option_map (λ ranked. ranked.items) ranking.now)) result }
+    ensures { Written (stream W.contents writer.old writer.new) (ranked_text format names.entry config.now field (option_map (λ ranked. ranked.items) ranking.now)) result }
 {
     match ranking {
-        Some(ranking) => write_field_of(format, config, field, ranking.as_slice(), writer),
+        Some(ranking) => write_field_of(format, names, config, field, ranking.as_slice(), writer),
         None => write_text(writer, b""),
     }
 }
@@ -73,30 +76,32 @@ fn write_page_end<W: Write>(format: Format, writer: &mut W) -> Result<(), Error>
 #[tactic(auto, using(page_layout::proofs::Walk::then_written, page_layout::proofs::Walk::failed_before))]
 fn write_rankings<W: Write>(
     format: Format,
+    names: Option<&[PairNames]>,
     config: &Config,
     first: &Option<Ranking>,
     second: &Option<Ranking>,
     writer: &mut W,
 ) -> Result<(), Error>
-    ensures { Written (stream W.contents writer.old writer.new) (rankings_text format config.now (option_map (λ ranked. ranked.items) first.now) (option_map (λ ranked. ranked.items) second.now)) result }
+    ensures { Written (stream W.contents writer.old writer.new) (rankings_text format names.entry config.now (option_map (λ ranked. ranked.items) first.now) (option_map (λ ranked. ranked.items) second.now)) result }
 {
-    write_ranked(format, config, Field::First, first, writer)?;
-    write_ranked(format, config, Field::Second, second, writer)
+    write_ranked(format, names, config, Field::First, first, writer)?;
+    write_ranked(format, names, config, Field::Second, second, writer)
 }
 
 /// Writes the boards and the score cards, and the end of the page.
 #[tactic(auto, using(page_layout::proofs::Walk::then_written, page_layout::proofs::Walk::failed_before))]
 fn write_sheets<W: Write>(
     format: Format,
+    names: Option<&[PairNames]>,
     session: &Session,
     results: &Results<'_>,
     writer: &mut W,
 ) -> Result<(), Error>
     requires { results.now ≡ session.now }
-    ensures { Written (stream W.contents writer.old writer.new) (sheets_text format session.now) result }
+    ensures { Written (stream W.contents writer.old writer.new) (sheets_text format names.entry session.now) result }
 {
     write_board_sheet(format, session, results, writer)?;
-    write_card_sheet(format, session, results, writer)?;
+    write_card_sheet(format, names, session, results, writer)?;
     write_page_end(format, writer)
 }
 
@@ -104,21 +109,23 @@ fn write_sheets<W: Write>(
 #[tactic(auto, using(page_layout::proofs::Walk::then_written, page_layout::proofs::Walk::failed_before))]
 fn write_front<W: Write>(
     format: Format,
+    names: Option<&[PairNames]>,
     config: &Config,
     first: &Option<Ranking>,
     second: &Option<Ranking>,
     writer: &mut W,
 ) -> Result<(), Error>
-    ensures { Written (stream W.contents writer.old writer.new) (front_text format config.now (option_map (λ ranked. ranked.items) first.now) (option_map (λ ranked. ranked.items) second.now)) result }
+    ensures { Written (stream W.contents writer.old writer.new) (front_text format names.entry config.now (option_map (λ ranked. ranked.items) first.now) (option_map (λ ranked. ranked.items) second.now)) result }
 {
     write_event(format, config, writer)?;
-    write_rankings(format, config, first, second, writer)
+    write_rankings(format, names, config, first, second, writer)
 }
 
 /// Writes the page with these rankings.
 #[tactic(auto, using(page_layout::proofs::Walk::then_written, page_layout::proofs::Walk::failed_before))]
 fn write_page<W: Write>(
     format: Format,
+    names: Option<&[PairNames]>,
     session: &Session,
     results: &Results<'_>,
     first: &Option<Ranking>,
@@ -126,10 +133,10 @@ fn write_page<W: Write>(
     writer: &mut W,
 ) -> Result<(), Error>
     requires { results.now ≡ session.now }
-    ensures { Written (stream W.contents writer.old writer.new) (page_text format session.now (option_map (λ ranked. ranked.items) first.now) (option_map (λ ranked. ranked.items) second.now)) result }
+    ensures { Written (stream W.contents writer.old writer.new) (named_page_text format names.entry session.now (option_map (λ ranked. ranked.items) first.now) (option_map (λ ranked. ranked.items) second.now)) result }
 {
-    write_front(format, session.config(), first, second, writer)?;
-    write_sheets(format, session, results, writer)
+    write_front(format, names, session.config(), first, second, writer)?;
+    write_sheets(format, names, session, results, writer)
 }
 
 /// Writes the results of the session as a page: the event, the ranking of each field, each board that was played with its
@@ -144,8 +151,20 @@ pub fn write_results<W: Write>(
 ) -> Result<(), Error>
     ensures { WritesPage (stream W.contents writer.old writer.new) format session.now result }
 {
+    write_results_with(session, None, format, writer)
+}
+
+/// The same with the names of a list in place of the configuration's, by pair and player, where a list is given.
+pub fn write_results_with<W: Write>(
+    session: &Session,
+    names: Option<&[PairNames]>,
+    format: Format,
+    writer: &mut W,
+) -> Result<(), Error>
+    ensures { WritesNamedPage (stream W.contents writer.old writer.new) format names.entry session.now result }
+{
     let results = Results::new(session);
     let first = results.ranking(Field::First);
     let second = results.ranking(Field::Second);
-    write_page(format, session, &results, &first, &second, writer)
+    write_page(format, names, session, &results, &first, &second, writer)
 }

@@ -10,10 +10,12 @@ use crate::pages::cells::{
     contract_cell, declarer_cell, gain_cell, gain_text, score_cell, tricks_cell,
 };
 use crate::pages::columns::CARD_COLUMNS;
+use crate::pages::shown::shown_pair;
 use arrayvec::ArrayString;
 use bridge_cards::Side;
-use bridge_config::{PairFields, pair_names};
+use bridge_config::PairFields;
 use bridge_score::Scoring;
+use evening_draft::PairNames;
 use line_text::{number_text, tenths_text, write_text};
 use page_layout::{
     Format, Level, PageText, Section, push_heading, push_paragraph, push_row, push_section_end,
@@ -22,29 +24,37 @@ use page_layout::{
 use session_rules::Outcome;
 use std::io::{Error, Write};
 
+/// The most bytes of the heading of a card.
+const HEADING_BYTES: usize = 342;
+
 /// The heading of a card: the pair's number and its names.
-fn pair_words(pairs: &[PairFields], pair: u8) -> ArrayString<80>
-    ensures text { result.bytes ≡ pair_words (map pair_of pairs.now) pair }
-    ensures short { length result.bytes ≤ 80 }
+fn pair_words(
+    names: Option<&[PairNames]>,
+    pairs: &[PairFields],
+    pair: u8,
+) -> ArrayString<HEADING_BYTES>
+    ensures text { result.bytes ≡ pair_words names.entry (map pair_of pairs.now) pair }
+    ensures short { length result.bytes ≤ HEADING_BYTES }
 {
     let mut text = ArrayString::new();
     text.push_str("Pair ");
     text.push_str(number_text(u32::from(pair)).as_str());
     text.push_str(": ");
-    text.push_str(pair_names(pairs, pair).as_str());
+    text.push_str(shown_pair(names, pairs, pair).as_str());
     text
 }
 
 /// Writes what stands above the rows of a card.
 fn write_head<W: Write>(
     format: Format,
+    names: Option<&[PairNames]>,
     pairs: &[PairFields],
     pair: u8,
     writer: &mut W,
 ) -> Result<(), Error>
-    ensures { Written (stream W.contents writer.old writer.new) (card_head format (map pair_of pairs.now) pair) result }
+    ensures { Written (stream W.contents writer.old writer.new) (card_head format names.entry (map pair_of pairs.now) pair) result }
 {
-    let heading = pair_words(pairs, pair);
+    let heading = pair_words(names, pairs, pair);
     let titles = [
         b"Round".as_slice(),
         b"Board",
@@ -194,15 +204,16 @@ fn write_end<W: Write>(
 pub fn write_card<W: Write>(
     format: Format,
     scoring: Scoring,
+    names: Option<&[PairNames]>,
     pairs: &[PairFields],
     pair: u8,
     lines: &[CardLine],
     writer: &mut W,
 ) -> Result<(), Error>
     requires { length lines.now ≤ 36 }
-    ensures { Written (stream W.contents writer.old writer.new) (score_card_text format scoring (map pair_of pairs.now) pair lines.now) result }
+    ensures { Written (stream W.contents writer.old writer.new) (score_card_text format scoring names.entry (map pair_of pairs.now) pair lines.now) result }
 {
-    write_head(format, pairs, pair, writer)?;
+    write_head(format, names, pairs, pair, writer)?;
     write_rows(format, scoring, lines, writer)?;
     write_end(format, scoring, lines, writer)
 }

@@ -7,9 +7,11 @@ ghost use Rattle.page_layout.specs.Table.{table_end};
 ghost use Rattle.bridge_results.specs.RankingText.{field_words, share_row, sum_row, ranked_row, ranked_titles, field_head, field_text};
 
 use crate::pages::columns::{SHARE_COLUMNS, SUM_COLUMNS};
-use bridge_config::{PairFields, pair_names};
+use crate::pages::shown::{CELL_BYTES, names_cell};
+use bridge_config::PairFields;
 use bridge_ranking::Field;
 use bridge_score::{Ranked, Scoring, share_percent};
+use evening_draft::PairNames;
 use line_text::{number_text, percent_text, signed_text, tenths_text, write_text};
 use page_layout::{
     Format, Level, PageText, Section, push_heading, push_row, push_section_end, push_section_start,
@@ -19,7 +21,7 @@ use std::io::{Error, Write};
 
 /// The row of a pair by matchpoints.
 fn share_row(format: Format, names: &str, ranked: &Ranked) -> PageText
-    requires { length names.now ≤ 53 }
+    requires { length names.now ≤ CELL_BYTES }
     ensures { result.items ≡ share_row format names.now ranked.now }
 {
     let place = number_text(u32::from(ranked.place));
@@ -42,7 +44,7 @@ fn share_row(format: Format, names: &str, ranked: &Ranked) -> PageText
 
 /// The row of a pair by IMPs.
 fn sum_row(format: Format, names: &str, ranked: &Ranked) -> PageText
-    requires { length names.now ≤ 53 }
+    requires { length names.now ≤ CELL_BYTES }
     ensures { result.items ≡ sum_row format names.now ranked.now }
 {
     let place = number_text(u32::from(ranked.place));
@@ -60,13 +62,19 @@ fn sum_row(format: Format, names: &str, ranked: &Ranked) -> PageText
 }
 
 /// The row of a pair.
-fn ranked_row(format: Format, scoring: Scoring, pairs: &[PairFields], ranked: &Ranked) -> PageText
-    ensures { result.items ≡ ranked_row format scoring (map pair_of pairs.now) ranked.now }
+fn ranked_row(
+    format: Format,
+    scoring: Scoring,
+    names: Option<&[PairNames]>,
+    pairs: &[PairFields],
+    ranked: &Ranked,
+) -> PageText
+    ensures { result.items ≡ ranked_row format scoring names.entry (map pair_of pairs.now) ranked.now }
 {
-    let names = pair_names(pairs, ranked.pair);
+    let cell = names_cell(format, names, pairs, ranked.pair);
     match scoring {
-        Scoring::MatchPoints => share_row(format, names.as_str(), ranked),
-        Scoring::Imps => sum_row(format, names.as_str(), ranked),
+        Scoring::MatchPoints => share_row(format, cell.as_str(), ranked),
+        Scoring::Imps => sum_row(format, cell.as_str(), ranked),
     }
 }
 
@@ -74,13 +82,14 @@ fn ranked_row(format: Format, scoring: Scoring, pairs: &[PairFields], ranked: &R
 fn write_row<W: Write>(
     format: Format,
     scoring: Scoring,
+    names: Option<&[PairNames]>,
     pairs: &[PairFields],
     ranked: &Ranked,
     writer: &mut W,
 ) -> Result<(), Error>
-    ensures { Written (stream W.contents writer.old writer.new) (ranked_row format scoring (map pair_of pairs.now) ranked.now) result }
+    ensures { Written (stream W.contents writer.old writer.new) (ranked_row format scoring names.entry (map pair_of pairs.now) ranked.now) result }
 {
-    let row = ranked_row(format, scoring, pairs, ranked);
+    let row = ranked_row(format, scoring, names, pairs, ranked);
     write_text(writer, row.as_slice())
 }
 
@@ -88,14 +97,15 @@ fn write_row<W: Write>(
 fn write_rows<W: Write>(
     format: Format,
     scoring: Scoring,
+    names: Option<&[PairNames]>,
     pairs: &[PairFields],
     ranking: &[Ranked],
     writer: &mut W,
 ) -> Result<(), Error>
-    ensures { Written (stream W.contents writer.old writer.new) (flat_map (ranked_row format scoring (map pair_of pairs.now)) ranking.now) result }
+    ensures { Written (stream W.contents writer.old writer.new) (flat_map (ranked_row format scoring names.entry (map pair_of pairs.now)) ranking.now) result }
 {
     for ranked in ranking {
-        write_row(format, scoring, pairs, ranked, writer)?;
+        write_row(format, scoring, names, pairs, ranked, writer)?;
     }
     Ok(())
 }
@@ -159,19 +169,20 @@ fn write_end<W: Write>(format: Format, writer: &mut W) -> Result<(), Error>
     write_text(writer, text.as_slice())
 }
 
-/// Writes the ranking of a field.
+/// Writes the ranking of a field, with the names of a list or the configuration's.
 #[tactic(auto, using(page_layout::proofs::Walk::then_written, page_layout::proofs::Walk::failed_before))]
 pub fn write_field<W: Write>(
     format: Format,
     scoring: Scoring,
+    names: Option<&[PairNames]>,
     pairs: &[PairFields],
     field: Field,
     ranking: &[Ranked],
     writer: &mut W,
 ) -> Result<(), Error>
-    ensures { Written (stream W.contents writer.old writer.new) (field_text format scoring (map pair_of pairs.now) field ranking.now) result }
+    ensures { Written (stream W.contents writer.old writer.new) (field_text format scoring names.entry (map pair_of pairs.now) field ranking.now) result }
 {
     write_head(format, scoring, field, writer)?;
-    write_rows(format, scoring, pairs, ranking, writer)?;
+    write_rows(format, scoring, names, pairs, ranking, writer)?;
     write_end(format, writer)
 }

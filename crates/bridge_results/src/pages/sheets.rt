@@ -14,6 +14,7 @@ use crate::traveller::BoardLine;
 use bridge_cards::BoardNumber;
 use bridge_config::Config;
 use bridge_session::Session;
+use evening_draft::PairNames;
 use line_text::write_text;
 use page_layout::{
     Format, Level, PageText, Section, push_heading, push_section_end, push_section_start,
@@ -109,37 +110,47 @@ pub fn write_board_sheet<W: Write>(
 /// Writes the card of a pair with these lines.
 fn write_card_by<W: Write>(
     format: Format,
+    names: Option<&[PairNames]>,
     config: &Config,
     pair: u8,
     lines: &[CardLine],
     writer: &mut W,
 ) -> Result<(), Error>
     requires { length lines.now ≤ 36 }
-    ensures { Written (stream W.contents writer.old writer.new) (score_card_text format config.now.scoring config.now.pairs pair lines.now) result }
+    ensures { Written (stream W.contents writer.old writer.new) (score_card_text format config.now.scoring names.entry config.now.pairs pair lines.now) result }
 {
     let fields = config.fields();
     let pairs = fields.pairs.as_slice();
-    write_card(format, fields.scoring, pairs, pair, lines, writer)
+    write_card(format, fields.scoring, names, pairs, pair, lines, writer)
 }
 
 /// Writes the card of a pair.
 fn write_card_of<W: Write>(
     format: Format,
+    names: Option<&[PairNames]>,
     session: &Session,
     results: &Results<'_>,
     pair: u8,
     writer: &mut W,
 ) -> Result<(), Error>
     requires { results.now ≡ session.now }
-    ensures { Written (stream W.contents writer.old writer.new) (card_on format session.now pair) result }
+    ensures { Written (stream W.contents writer.old writer.new) (card_on format names.entry session.now pair) result }
 {
     let card = results.score_card(pair);
-    write_card_by(format, session.config(), pair, card.as_slice(), writer)
+    write_card_by(
+        format,
+        names,
+        session.config(),
+        pair,
+        card.as_slice(),
+        writer,
+    )
 }
 
 /// Writes the cards of the pairs, by number.
 fn write_cards<W: Write>(
     format: Format,
+    names: Option<&[PairNames]>,
     session: &Session,
     results: &Results<'_>,
     pairs: u8,
@@ -147,10 +158,10 @@ fn write_cards<W: Write>(
 ) -> Result<(), Error>
     requires results { results.now ≡ session.now }
     requires few { pairs ≤ 24 }
-    ensures { Written (stream W.contents writer.old writer.new) (flat_map (card_on format session.now) (range_with_len 1 pairs)) result }
+    ensures { Written (stream W.contents writer.old writer.new) (flat_map (card_on format names.entry session.now) (range_with_len 1 pairs)) result }
 {
     for pair in 1..pairs + 1 {
-        write_card_of(format, session, results, pair, writer)?;
+        write_card_of(format, names, session, results, pair, writer)?;
     }
     Ok(())
 }
@@ -158,29 +169,31 @@ fn write_cards<W: Write>(
 /// Writes the cards of all pairs.
 fn write_all_cards<W: Write>(
     format: Format,
+    names: Option<&[PairNames]>,
     session: &Session,
     results: &Results<'_>,
     writer: &mut W,
 ) -> Result<(), Error>
     requires { results.now ≡ session.now }
-    ensures { Written (stream W.contents writer.old writer.new) (all_cards format session.now) result }
+    ensures { Written (stream W.contents writer.old writer.new) (all_cards format names.entry session.now) result }
 {
     let pairs = session.config().fields().movement.shape().pairs;
-    write_cards(format, session, results, pairs, writer)
+    write_cards(format, names, session, results, pairs, writer)
 }
 
 /// Writes the sheet of the score cards.
 #[tactic(auto, using(page_layout::proofs::Walk::then_written, page_layout::proofs::Walk::failed_before))]
 pub fn write_card_sheet<W: Write>(
     format: Format,
+    names: Option<&[PairNames]>,
     session: &Session,
     results: &Results<'_>,
     writer: &mut W,
 ) -> Result<(), Error>
     requires { results.now ≡ session.now }
-    ensures { Written (stream W.contents writer.old writer.new) (cards_text format session.now) result }
+    ensures { Written (stream W.contents writer.old writer.new) (cards_text format names.entry session.now) result }
 {
     write_sheet_head(format, b"Score cards", writer)?;
-    write_all_cards(format, session, results, writer)?;
+    write_all_cards(format, names, session, results, writer)?;
     write_sheet_end(format, writer)
 }

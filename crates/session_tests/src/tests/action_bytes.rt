@@ -1,9 +1,7 @@
 //! The bytes of actions, worked by hand.
-use super::{expect_eq, mends, script};
+use super::{expect_eq, script};
 use arrayvec::ArrayVec;
-use bridge_auction::Doubling;
-use bridge_cards::Seat;
-use bridge_session::{Action, read_action, write_action};
+use bridge_session::{read_action, write_action};
 use session_store::DiskFormat;
 use std::process::Abort;
 use std::test::Fail;
@@ -49,27 +47,23 @@ fn each_action_has_its_bytes(rt: HostRuntime) -> Result<(), Fail> {
 }
 
 #[test]
-fn what_is_mended_has_its_bytes(rt: HostRuntime) -> Result<(), Fail> {
-    let undeal = mends::undeal(100, 36).ok_or("a board")?;
-    let back = mends::back(100, [1, 2, 3]).ok_or("a play")?;
-    let highest = mends::assign([12, 12, 3], "7NT", Doubling::Redoubled, Seat::West, 13).ok_or(
-        "a score",
-    )?;
-    let lowest = mends::assign([1, 2, 3], "1C", Doubling::Undoubled, Seat::North, 0).ok_or(
-        "a score",
-    )?;
-    let rows: [(Action, &[u8]); 4] = [
-        (undeal, b"\x0d\0\0\0\x64\x24"),
-        (back, b"\x0c\0\0\0\x64\x01\x02\x03"),
-        (highest, b"\x0e\0\0\0\x64\x0c\x0c\x03\x22\xa7"),
-        (lowest, b"\x0e\0\0\0\x64\x01\x02\x03\0\0"),
+fn each_correction_has_its_bytes(rt: HostRuntime) -> Result<(), Fail> {
+    let rows: [(&str, &[u8]); 4] = [
+        ("UNDEAL 100 36", b"\x0d\0\0\0\x64\x24"),
+        ("BACK 100 1 2 3", b"\x0c\0\0\0\x64\x01\x02\x03"),
+        (
+            "ASSIGN 100 12 12 3 7NTXX W 13",
+            b"\x0e\0\0\0\x64\x0c\x0c\x03\x22\xa7",
+        ),
+        ("ASSIGN 100 1 2 3 1C N 0", b"\x0e\0\0\0\x64\x01\x02\x03\0\0"),
     ];
-    for (action, due) in rows {
+    for (line, due) in rows {
+        let action = script::correction(&rt, line);
         let mut bytes = ArrayVec::new();
         write_action(&action, &mut bytes);
-        expect_eq(&rt, bytes.as_slice(), due, action);
-        expect_eq(&rt, read_action(DiskFormat::Two, due), Some(action), action);
-        expect_eq(&rt, read_action(DiskFormat::One, due), None, action);
+        expect_eq(&rt, bytes.as_slice(), due, line);
+        expect_eq(&rt, read_action(DiskFormat::Two, due), Some(action), line);
+        expect_eq(&rt, read_action(DiskFormat::One, due), None, line);
     }
     Ok(())
 }

@@ -85,17 +85,18 @@ fn expect_near(
     Ok(())
 }
 
-/// Those left of part 7 are the contract 7NT, a second claim, a claim of no tricks, and rulings of 0 and 13 tricks.
+/// Those left of part 7 are the contract 7NT, a second claim, a claim of no tricks, and rulings of 0 and 13 tricks; of part 8 a
+/// claim that was made in an earlier contract.
 #[test]
 fn a_byte_changed_once_the_session_is_closed(rt: HostRuntime) -> Result<(), Fail> {
     let session = after(&rt, rt.alloc(), &[A_SLAM, A_CLAIM, A_PASS, CLOSED])?;
-    expect_near(&rt, rt.alloc(), &session, &[(6, 0), (7, 5), (8, 0)])
+    expect_near(&rt, rt.alloc(), &session, &[(6, 0), (7, 5), (8, 1)])
 }
 
 /// Those left of part 7 are the contract 7NT, the 2 of clubs, a second claim, East's claim and a claim of no tricks; of part
-/// 8 no ruling.
+/// 8 no ruling, and a claim that was made in an earlier contract.
 #[test]
 fn a_byte_changed_while_a_claim_stands(rt: HostRuntime) -> Result<(), Fail> {
     let session = after(&rt, rt.alloc(), &STANDING)?;
-    expect_near(&rt, rt.alloc(), &session, &[(6, 0), (7, 5), (8, 1)])
+    expect_near(&rt, rt.alloc(), &session, &[(6, 0), (7, 5), (8, 2)])
 }

@@ -5,7 +5,7 @@ use bridge_config::read_config;
 use bridge_session::{Action, Session};
 use std::alloc::{AllocError, Global};
 use std::process::Abort;
-use table_server::{Asked, asked_by};
+use table_server::{Asked, LineSet, asked_by, asked_in};
 use test_texts::TWO_TABLES;
 
 /// North of pair 1 bids a grand slam in spades, one suit in each hand.
@@ -31,6 +31,15 @@ pub fn action(rt: &impl Abort, line: &str) -> Action {
         _ => None,
     };
     action.expect(rt, "the line of an action")
+}
+
+/// The correction that a line states.
+pub fn correction(rt: &impl Abort, line: &str) -> Action {
+    let action = match asked_in(LineSet::Corrections, line.as_bytes()) {
+        Asked::Change(action) => Some(action),
+        _ => None,
+    };
+    action.expect(rt, "the line of a correction")
 }
 
 /// Takes the actions of each text, with `/` between two, none of which is refused.

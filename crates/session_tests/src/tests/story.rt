@@ -1,4 +1,5 @@
 //! What was done in one play, and the answer to what a player does next.
+use super::stack::Stack;
 use bridge_auction::{Auction, Call, CallRefused, Contract};
 use bridge_cards::{BoardNumber, Card, Deal, Seat, dealer};
 use bridge_play::Play;
@@ -6,6 +7,7 @@ use bridge_session::{Action, Average, Outcome, Refused};
 
 #[derive(Drop)]
 pub struct Story {
+    stack: Stack,
     pub board: BoardNumber,
     pub deal: Option<Deal>,
     pub auction: Auction,
@@ -19,6 +21,7 @@ pub struct Story {
 impl Story {
     pub fn new(board: BoardNumber) -> Story {
         Story {
+            stack: Stack::new(),
             board,
             deal: None,
             auction: Auction::new(dealer(board)),
@@ -36,10 +39,9 @@ impl Story {
             Action::Deal { board, hands, .. } if board == self.board => self.deal =
                 Deal::from_hands(hands).ok(),
             Action::Undeal { board, .. } if board == self.board => self.deal = None,
-            Action::Call { call, .. } if seat.is_some() => self.call(call),
             _ => {
                 if let Some(seat) = seat {
-                    self.play_on(action, seat);
+                    self.stack.push(action, seat);
                 }
             }
         }
@@ -76,39 +78,19 @@ impl Story {
         self.is_void || self.averages.is_some() || self.assigned.is_some()
     }
 
-    /// Takes back the latest thing done: the auction and the play are made anew without it.
+    /// Takes back the latest thing done.
     pub fn back(&mut self) {
-        let left = match (&self.play, &self.deal) {
-            (Some(play), Some(deal)) => less_in_play(play, deal),
+        self.stack.pop();
+    }
+
+    /// Reads the auction and the play off what was done.
+    pub fn settle(&mut self) {
+        if let Some(auction) = self.stack.auction(self.board) {
+            self.auction = auction;
+        }
+        self.play = match (self.auction.contract(), &self.deal) {
+            (Some(contract), Some(deal)) => self.stack.play(deal, contract),
             _ => None,
-        };
-        if left.is_none() {
-            let calls = self.auction.calls();
-            let (front, _) = calls.split_at(calls.len().saturating_sub(1));
-            if let Some(auction) = Auction::from_calls(dealer(self.board), front) {
-                self.auction = auction;
-            }
-        }
-        self.play = left;
-    }
-
-    fn call(&mut self, call: Call) {
-        let _ = self.auction.try_call(call);
-        if let (Some(contract), Some(deal)) = (self.auction.contract(), &self.deal) {
-            self.play = Some(Play::new(deal, contract));
-        }
-    }
-
-    fn play_on(&mut self, action: &Action, seat: Seat) {
-        let Some(play) = &mut self.play else {
-            return;
-        };
-        let claims = play.claims();
-        let _ = match *action {
-            Action::Card { card, .. } => play.try_card(seat, card).is_ok(),
-            Action::Claim { tricks, .. } => play.try_claim(seat, tricks.number()).is_ok(),
-            Action::Agree { .. } => play.agree(seat, claims).is_ok(),
-            _ => play.refuse(seat, claims).is_ok(),
         };
     }
 
@@ -165,18 +147,6 @@ impl Story {
             _ => Ok(()),
         }
     }
-}
-
-/// The play without its claim, or else without its last card, if there is one.
-fn less_in_play(play: &Play, deal: &Deal) -> Option<Play> {
-    let cards = play.cards();
-    let kept = if play.claim().is_some() {
-        cards.len()
-    } else {
-        cards.len().checked_sub(1)?
-    };
-    let (front, _) = cards.split_at(kept);
-    Play::from_parts(deal, *play.contract(), front, play.claims(), None)
 }
 
 fn call_answer(auction: &mut Auction, seat: Seat, at: u16, call: Call) -> Result<(), Refused> {

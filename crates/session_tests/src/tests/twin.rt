@@ -101,6 +101,7 @@ impl Twin {
                 }
             }
         }
+        story.settle();
         Some(story)
     }
 

@@ -23,7 +23,7 @@ impl<T: LineServer, K: Seconds> TablePages<T, K> {
         ensures told { OnOk result (IsText Kind.Lines (T.boards self.old.server self.old.is_open key.now) response.new) }
         ensures counted { OnOk result (self.new.wrong ≡ with_key self.old.wrong (T.wrong_at_boards self.old.server key.now)) }
         ensures server { self.new.server ≡ self.old.server }
-        ensures fixed { (self.new.names ≡ self.old.names) × (self.new.texts ≡ self.old.texts) × (self.new.wishes ≡ self.old.wishes) × (self.new.desk ≡ self.old.desk) }
+        ensures fixed { (self.new.names ≡ self.old.names) × (self.new.texts ≡ self.old.texts) × (self.new.people ≡ self.old.people) × (self.new.wishes ≡ self.old.wishes) × (self.new.desk ≡ self.old.desk) }
         ensures opened { OnOk result (self.new.is_open ≡ T.opens self.old.server self.old.is_open key.now) }
         ensures err { OnErr result (self.new ≡ self.old) }
     {
@@ -47,7 +47,7 @@ impl<T: LineServer, K: Seconds> TablePages<T, K> {
         ensures told { OnOk result ((text : List ℕ) × T.results self.old.server key.now text × IsText Kind.Lines text response.new) }
         ensures counted { OnOk result (self.new.wrong ≡ with_key self.old.wrong (T.wrong_key self.old.server key.now)) }
         ensures server { self.new.server ≡ self.old.server }
-        ensures fixed { (self.new.names ≡ self.old.names) × (self.new.texts ≡ self.old.texts) × (self.new.wishes ≡ self.old.wishes) }
+        ensures fixed { (self.new.names ≡ self.old.names) × (self.new.texts ≡ self.old.texts) × (self.new.people ≡ self.old.people) × (self.new.wishes ≡ self.old.wishes) }
         ensures beside { (self.new.is_open ≡ self.old.is_open) × (self.new.desk ≡ self.old.desk) }
         ensures err { OnErr result (self.new ≡ self.old) }
     {
@@ -64,7 +64,7 @@ impl<T: LineServer, K: Seconds> TablePages<T, K> {
         ensures desk { AnswersDesk T.desks T.stands self.old.server self.old.desk body.now response.new self.new.desk }
         ensures counted { CountsLines (λ count. count ≡ (if T.wrong_at_desk self.old.server body.now then 1 else 0)) self.old.wrong response.new self.new.wrong }
         ensures server { self.new.server ≡ self.old.server }
-        ensures fixed { (self.new.names ≡ self.old.names) × (self.new.texts ≡ self.old.texts) × (self.new.wishes ≡ self.old.wishes) }
+        ensures fixed { (self.new.names ≡ self.old.names) × (self.new.texts ≡ self.old.texts) × (self.new.people ≡ self.old.people) × (self.new.wishes ≡ self.old.wishes) }
         ensures open { self.new.is_open ≡ self.old.is_open }
     {
         let wrong_keys = count_of(self.server.has_wrong_key_at_desk(body));

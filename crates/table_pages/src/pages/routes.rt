@@ -5,12 +5,14 @@ ghost use Rattle.line_replies.specs.ReplyTexts.{short_text};
 ghost use Rattle.web_requests.specs.Filled.{IsText};
 ghost use Rattle.table_pages.specs.FirstLine.{first_line};
 ghost use Rattle.table_pages.specs.Opened.{Opens};
+ghost use Rattle.table_pages.specs.People.{names_text};
 ghost use Rattle.table_pages.specs.Responses.{Responds};
 ghost use Rattle.table_pages.specs.Stands.{Stands};
 ghost use Rattle.table_pages.specs.WrongKeys.{Counts, with_key};
 
 use super::{TablePages, count_of};
 use crate::line_server::LineServer;
+use crate::people::names_text;
 use crate::refused::put_refused;
 use crate::seconds::Seconds;
 use crate::waiting::split_body;
@@ -28,11 +30,11 @@ impl<T: LineServer, K: Seconds> TablePages<T, K> {
         response: &mut Response,
     ) -> Result<(), AllocError>
         requires { IsBlank response.old }
-        ensures responds { OnOk result (Responds T.answers T.places T.tables T.waits T.boards T.desks T.results self.old.texts route self.old.server body.now response.new self.new.server) }
+        ensures responds { OnOk result (Responds T.answers T.places T.tables T.waits T.boards T.desks T.results self.old.texts self.old.people.items route self.old.server body.now response.new self.new.server) }
         ensures counted { OnOk result (Counts T.counts T.wrong_key T.wrong_at_boards T.wrong_at_desk route self.old.server body.now self.old.wrong response.new self.new.wrong) }
         ensures opened { OnOk result (Opens T.boards T.opens route self.old.server self.old.is_open body.now response.new self.new.is_open) }
         ensures stands { OnOk result (Stands T.desks T.stands route self.old.server self.old.desk body.now response.new self.new.desk) }
-        ensures fixed { (self.new.names ≡ self.old.names) × (self.new.texts ≡ self.old.texts) × (self.new.wishes ≡ self.old.wishes) }
+        ensures fixed { (self.new.names ≡ self.old.names) × (self.new.texts ≡ self.old.texts) × (self.new.people ≡ self.old.people) × (self.new.wishes ≡ self.old.wishes) }
         ensures err { OnErr result (self.new ≡ self.old) }
     {
         match route {
@@ -55,6 +57,7 @@ impl<T: LineServer, K: Seconds> TablePages<T, K> {
                 Ok(())
             }
             Route::Wait => self.put_wait(body, response),
+            Route::Names => self.put_names(body, response),
             Route::Refused(refusal) => put_refused(&self.texts, refusal, response),
         }
     }
@@ -65,7 +68,7 @@ impl<T: LineServer, K: Seconds> TablePages<T, K> {
         ensures told { OnOk result (IsText Kind.Lines (short_text (T.waits self.old.server body.now)) response.new) }
         ensures counted { OnOk result (self.new.wrong ≡ with_key self.old.wrong (T.wrong_key self.old.server (first_line body.now))) }
         ensures server { self.new.server ≡ self.old.server }
-        ensures fixed { (self.new.names ≡ self.old.names) × (self.new.texts ≡ self.old.texts) × (self.new.wishes ≡ self.old.wishes) }
+        ensures fixed { (self.new.names ≡ self.old.names) × (self.new.texts ≡ self.old.texts) × (self.new.people ≡ self.old.people) × (self.new.wishes ≡ self.old.wishes) }
         ensures beside { (self.new.is_open ≡ self.old.is_open) × (self.new.desk ≡ self.old.desk) }
         ensures err { OnErr result (self.new ≡ self.old) }
     {
@@ -73,5 +76,21 @@ impl<T: LineServer, K: Seconds> TablePages<T, K> {
         self.server.wait(body).push_to(&mut text);
         let wrong = self.server.has_wrong_key(split_body(body).0);
         self.put_told(response, text.as_str().as_bytes(), count_of(wrong))
+    }
+
+    /// Answers a key with the lines that tell the names of the players.
+    fn put_names(&mut self, body: &[u8], response: &mut Response) -> Result<(), AllocError>
+        requires { IsBlank response.old }
+        ensures told { OnOk result (IsText Kind.Lines (names_text self.old.people.items (T.waits self.old.server body.now)) response.new) }
+        ensures counted { OnOk result (self.new.wrong ≡ with_key self.old.wrong (T.wrong_key self.old.server (first_line body.now))) }
+        ensures server { self.new.server ≡ self.old.server }
+        ensures fixed { (self.new.names ≡ self.old.names) × (self.new.texts ≡ self.old.texts) × (self.new.people ≡ self.old.people) × (self.new.wishes ≡ self.old.wishes) }
+        ensures beside { (self.new.is_open ≡ self.old.is_open) × (self.new.desk ≡ self.old.desk) }
+        ensures err { OnErr result (self.new ≡ self.old) }
+    {
+        let reply = self.server.wait(body);
+        let text = names_text(self.alloc, self.people.as_slice(), reply)?;
+        let wrong = self.server.has_wrong_key(split_body(body).0);
+        self.put_told(response, text.as_slice(), count_of(wrong))
     }
 }

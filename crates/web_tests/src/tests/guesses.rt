@@ -96,7 +96,8 @@ fn wrong_keys_are_counted(rt: HostRuntime) -> Result<(), Fail> {
         ("POST /tables HTTP/1.1", "999", "200", 5),
         ("POST /boards HTTP/1.1", "999", "200", 6),
         ("POST /results HTTP/1.1", "999", "200", 7),
-        ("GET /lines HTTP/1.1", "SEE 1\n", "405", 7),
+        ("POST /names HTTP/1.1", "999", "200", 8),
+        ("GET /lines HTTP/1.1", "SEE 1\n", "405", 8),
     ] {
         let bytes = request(
             alloc,

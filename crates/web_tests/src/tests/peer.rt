@@ -5,6 +5,7 @@ ghost use Rattle.table_pages.specs.Answered.{is_settled};
 use bridge_config::read_config;
 use bridge_endings::Cache;
 use bridge_session::Session;
+use desk_replies::Desk;
 use http_server::Connection;
 use sector_disk::MemoryDisk;
 use session_store::{Store, format};
@@ -84,7 +85,15 @@ pub fn pages_with<K: Seconds>(
     let names = HostNames::of_this_computer(alloc, 4000)?;
     let store = opened(alloc)?;
     let cache = Cache::new(alloc, 16)?;
-    Ok(TablePages::new(alloc, names, TEXTS, store, cache, clock))
+    Ok(TablePages::new(
+        alloc,
+        names,
+        TEXTS,
+        store,
+        cache,
+        Desk::new(600, "club.disk"),
+        clock,
+    ))
 }
 
 /// Gives so many bytes at each read, and blocks before each and once all are given.

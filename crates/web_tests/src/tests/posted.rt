@@ -106,3 +106,31 @@ fn results_wait_for_the_end(rt: HostRuntime) -> Result<(), Fail> {
     }
     Ok(())
 }
+
+// The lines of names are told to whoever has a key.
+#[test]
+fn names_are_told(rt: HostRuntime) -> Result<(), Fail> {
+    let alloc = rt.alloc();
+    let mut pages = pages(alloc)?;
+    let mut people = Vec::new(alloc);
+    people.extend_from_slice("1\tAnn\tBob\tÁnn Lee\t李小龍\n".as_bytes())?;
+    pages.show_names(people);
+    let told = "OK\n1\tAnn\tBob\tÁnn Lee\t李小龍\n.\n";
+    for (body, due) in [
+        ("11", told),
+        ("100", told),
+        ("12345", "ERR 1 NoKey\n"),
+        ("key", "ERR 30 BadLine\n"),
+    ] {
+        let bytes = request(
+            alloc,
+            "POST /names HTTP/1.1",
+            "127.0.0.1:4000",
+            "application/x-table-lines",
+            body,
+        )?;
+        let response = answered(&rt, alloc, &mut pages, bytes.as_slice(), 4096)?;
+        expect_eq(&rt, body_of(response.as_slice()), due.as_bytes(), body);
+    }
+    Ok(())
+}

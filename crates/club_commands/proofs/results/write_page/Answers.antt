@@ -1,12 +1,14 @@
-use Rattle.std.proofs.Common.{refl}
-use Rattle.bridge_results.specs.ResultsText.{page_text}
-use Rattle.club_commands.specs.Results.{page_format}
+use Rattle.std.proofs.Common.{◌∙◌, ap, length}
+use Rattle.bridge_config.specs.ConfigValue.{ConfigValue}
+use Rattle.evening_commands.specs.People.{fits}
 use Rattle.club_commands.proofs.results.write_page.Goals as goal
 
-pub returns-in-Err : goal.returns-in-Err
-returns-in-Err g c =
-    let told = c.in-Err.ensures in (
-      page_text (page_format c.args.html) c.args.session.now told.0 told.1,
-      (told.0, told.1, told.2, told.3, refl),
-      (rw c.page_format.ensures at told.4, refl),
-    )
+pub returns-then-has_pairs : goal.returns-then-has_pairs
+returns-then-has_pairs g c =
+    let same = ap (λ (k : ConfigValue). fits c.args.names (length k.pairs)) c.config.ensures in
+    rw (← same, ← c.has_pairs.ensures.fits, c.if-has_pairs.true) c.write_named.ensures
+
+pub returns-else-has_pairs : goal.returns-else-has_pairs
+returns-else-has_pairs g c =
+    let same = ap (λ (k : ConfigValue). fits c.args.names (length k.pairs)) c.config.ensures in
+    rw (← same, ← c.has_pairs.ensures.fits, c.if-has_pairs.false) c.refuse_list.ensures

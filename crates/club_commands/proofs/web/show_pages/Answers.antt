@@ -9,5 +9,5 @@ use Rattle.club_commands.proofs.web.show_pages.Goals as goal
 pub returns : goal.returns
 returns g c =
     let failed = ap (λ (store : StoreValue g.row.D.Denot SessionValue Action). store.failed) (sym c.server.ensures) ∙ sym c.has_failed.ensures in
-    pages_ended g.D.SectorDisk.disk (site_of c.args.pages.now.texts c.args.pages.now.names) c.has_failed.result c.show_minutes-shown.result
+    pages_ended g.D.SectorDisk.disk (site_of c.args.pages.now.texts c.args.pages.now.names c.args.pages.now.people.items) c.has_failed.result c.show_minutes-shown.result
     c.ended.result c.args.pages.now.server c.show_minutes-shown.new.pages.server c.show_minutes-shown.ensures c.requires failed c.ended.ensures

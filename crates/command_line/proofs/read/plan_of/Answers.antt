@@ -6,5 +6,8 @@ use Rattle.command_line.proofs.read.plan_of.Goals as goal
 pub returns : goal.returns
 returns c = (
   refl,
-  text_given (λ (s : Bor (List ℕ)). s.now) c.get_str.result c.in_ok-config.config (found_of c.args.found.now) (codes "CONFIG") c.get_str.ensures c.in_ok-config.was,
+  (
+    text_given (λ (s : Bor (List ℕ)). s.now) c.get_str.result c.in_ok-config.config (found_of c.args.found.now) (codes "CONFIG") c.get_str.ensures c.in_ok-config.was,
+    c.option_of-names.ensures,
+  ),
 )

@@ -17,4 +17,4 @@ returns-clause-heading c =
     c.requires.nine_digits c.requires.pairs (subst IsShape shape.shape shape.limits) shape.fair
     c.boards_for.ensures.least c.boards_for.ensures.most
     (c.boards_for.ensures.boards ∙ ap (λ (s : Shape). boards_for s.rounds c.args.wishes.now.boards) shape.shape)
-    (c.pairs_with.ensures ∙ ap (drafted_pairs c.args.names.now) rest) c.from_fields.ensures.accepted
+    (c.pairs_with.ensures ∙ ap (drafted_pairs 1 c.args.names.now) rest) c.from_fields.ensures.accepted

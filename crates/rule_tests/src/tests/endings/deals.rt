@@ -1,14 +1,14 @@
 //! A whole deal whose numbers come with libdds (the last of its examples), with spades and with hearts as trumps.
-use super::hands_of;
+use super::deal_of;
 use crate::tests::expect_eq;
-use bridge_cards::{Deal, Seat, Suit};
+use bridge_cards::{Seat, Suit};
 use bridge_endings::DealSolver;
 use std::test::Fail;
 
 /// What is trumps in each row of numbers.
 const TRUMPS: [Option<Suit>; 2] = [Some(Suit::Spades), Some(Suit::Hearts)];
 
-const HANDS: &[u8] = b"N:73.QJT.AQ54.T752 QT6.876.KJ9.AQ84 5.A95432.7632.K6 AKJ9842.K.T8.J93";
+pub const HANDS: &[u8] = b"N:73.QJT.AQ54.T752 QT6.876.KJ9.AQ84 5.A95432.7632.K6 AKJ9842.K.T8.J93";
 
 /// The tricks of North, East, South and West as declarers.
 const NUMBERS: [[u8; 4]; 2] = [[3, 10, 3, 10], [9, 4, 9, 4]];
@@ -16,10 +16,7 @@ const NUMBERS: [[u8; 4]; 2] = [[3, 10, 3, 10], [9, 4, 9, 4]];
 // What was found with one suit as trumps stays in the table for the next.
 #[test]
 fn numbers_are_those_of_the_rows(rt: HostRuntime) -> Result<(), Fail> {
-    let Ok(deal) = Deal::from_hands(hands_of(HANDS)?) else {
-        return Err(Fail::from("a deal"));
-    };
-    let mut solver = DealSolver::new(rt.alloc(), &deal)?;
+    let mut solver = DealSolver::new(rt.alloc(), &deal_of(HANDS)?)?;
     for row in 0..2_usize {
         for seat in 0..4_usize {
             let tricks = solver.tricks(TRUMPS[row], Seat::ALL[seat]);

@@ -8,7 +8,7 @@ use bridge_endings::{Ending, solve};
 use std::process::Abort;
 
 /// The next of a fixed sequence of numbers.
-fn next(state: &mut u32) -> u32 {
+pub fn next(state: &mut u32) -> u32 {
     *state = state.wrapping_mul(1_664_525).wrapping_add(1_013_904_223);
     *state >> 16
 }

@@ -19,6 +19,31 @@ impl Played {
         }
     }
 
+    /// How many cards were played, four at most.
+    pub fn len(&self) -> usize {
+        self.cards.iter().filter(|card| card.is_some()).count()
+    }
+
+    /// The card led, if one was.
+    pub fn led(&self) -> Option<Card> {
+        self.cards[0]
+    }
+
+    /// The hand to play.
+    pub fn turn(&self) -> Seat {
+        self.leader.clockwise(self.len())
+    }
+
+    /// The trick with the card too.
+    pub fn with(self, card: Card) -> Played {
+        let mut after = self;
+        let index = self.len();
+        if index < 4 {
+            after.cards[index] = Some(card);
+        }
+        after
+    }
+
     /// How high the card is: a trump above all others, then the suit led (Law 44).
     fn height(&self, card: Card) -> u8 {
         let index = card.number() % 13;
@@ -32,7 +57,7 @@ impl Played {
     }
 
     /// The seat that played the highest card.
-    fn winner(&self) -> Seat {
+    pub fn winner(&self) -> Seat {
         let mut winner = self.leader;
         let mut highest = 0;
         for (index, card) in self.cards.iter().enumerate() {
@@ -79,7 +104,7 @@ pub fn worth(cards_left: u8, hands: [CardSet; 4], trick: Played) -> u8 {
 }
 
 /// Whether the card is of the suit led, or the hand has none of it.
-fn may_follow(hand: CardSet, led: Option<Card>, card: Card) -> bool {
+pub fn may_follow(hand: CardSet, led: Option<Card>, card: Card) -> bool {
     let Some(led) = led else {
         return true;
     };

@@ -7,4 +7,4 @@ use Rattle.bridge_results.proofs.pages.ranking.write_rows.Given as goal
 
 abbrev pub invariant-loop-ranked : goal.invariant-loop-ranked
 invariant-loop-ranked g l =
-    Takes (between (g.W.Write.contents l.fn.writer) (g.W.Write.contents l.writer)) (flat_map (ranked_row l.format l.scoring (map pair_of l.pairs)) (take l.ranked-index l.ranking))
+    Takes (between (g.W.Write.contents l.fn.writer) (g.W.Write.contents l.writer)) (flat_map (ranked_row l.format l.scoring l.names (map pair_of l.pairs)) (take l.ranked-index l.ranking))

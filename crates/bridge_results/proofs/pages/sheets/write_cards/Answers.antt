@@ -5,14 +5,14 @@ use Rattle.bridge_results.proofs.pages.sheets.write_cards.Goals as goal
 
 pub returns-in_err-write_card_of : goal.returns-in_err-write_card_of
 returns-in_err-write_card_of g c =
-    number_failed (card_on c.args.format c.args.session.now) c.args.pairs c.loop-pair.pair
+    number_failed (card_on c.args.format c.args.names c.args.session.now) c.args.pairs c.loop-pair.pair
     (g.W.Write.contents c.args.writer.now) (g.W.Write.contents c.loop-pair.writer) (g.W.Write.contents c.write_card_of.new.writer) c.from_residual.result
     c.from_residual.ensures.0 c.loop-pair.invariant.least (omega arith) c.loop-pair.invariant.taken c.in_err-write_card_of.ensures
 
 pub loop-pair-preserved : goal.loop-pair-preserved
 loop-pair-preserved g c = record {
   taken =
-      number_taken (card_on c.args.format c.args.session.now) c.args.pairs c.loop-pair.pair
+      number_taken (card_on c.args.format c.args.names c.args.session.now) c.args.pairs c.loop-pair.pair
       (g.W.Write.contents c.args.writer.now) (g.W.Write.contents c.loop-pair.writer) (g.W.Write.contents c.write_card_of.new.writer)
       c.loop-pair.invariant.least (omega arith) c.loop-pair.invariant.taken c.in_ok-write_card_of.ensures;
   least = omega arith;
@@ -20,5 +20,5 @@ loop-pair-preserved g c = record {
 
 pub returns : goal.returns
 returns g c =
-    numbers_taken (card_on c.args.format c.args.session.now) c.args.pairs c.loop-pair.pair
+    numbers_taken (card_on c.args.format c.args.names c.args.session.now) c.args.pairs c.loop-pair.pair
     (g.W.Write.contents c.args.writer.now) (g.W.Write.contents c.loop-pair.writer) (omega arith) c.loop-pair.invariant.taken

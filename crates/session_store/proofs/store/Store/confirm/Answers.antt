@@ -3,6 +3,7 @@ use Rattle.std.proofs.lemmas.Bool.{eqb-true, eqb-false}
 use Rattle.sector_disk.proofs.RunLaws.{remains, remains_on}
 use Rattle.session_store.specs.Keeping.{fold}
 use Rattle.session_store.specs.Value.{StoreValue}
+use Rattle.session_store.proofs.AgeLemmas.{ages-on, sync-epochs}
 use Rattle.session_store.proofs.CallLaws.{continues_begins}
 use Rattle.session_store.proofs.StoreLemmas.{of_nil, sound-stands, continues_none, sync-moments, sync-fault, idle-same, empty_list, some_is, confirmed-same, confirmed-store, confirmed-continues, confirmed-stands}
 use Rattle.session_store.proofs.store.Store.confirm.Goals as goal
@@ -26,7 +27,8 @@ returns-in-Err-clause-continues g c =
     (continues_none kept disk _ _ [] refl (sym (append-nil c.self.inside.pending.items))
     (remains_on disk _ _ _ _ (remains disk c.self.inside.disk) c.sync.ensures.called)
     (λ sound. sync-fault kept disk _ c.sync.new.self _ c.sync.ensures.called c.sync.ensures.syncs sound)
-    (λ sound. sync-moments kept disk _ c.sync.new.self _ [] c.sync.ensures.called c.sync.ensures.syncs sound))
+    (λ sound. sync-moments kept disk _ c.sync.new.self _ [] c.sync.ensures.called c.sync.ensures.syncs sound)
+    (ages-on kept disk _ _ c.if-self.false (omega arith) (sync-epochs kept disk _ c.sync.new.self _ c.sync.ensures.called c.sync.ensures.syncs)))
 
 pub invariant_of-self : goal.invariant_of-self
 invariant_of-self g c =

@@ -1,0 +1,3 @@
+pub mod Tricks
+pub mod Par
+pub mod BestBids

@@ -1,0 +1,73 @@
+//! The command `export`.
+ghost use Rattle.line_text.specs.Streams.{stream};
+ghost use Rattle.sector_disk.specs.File.{file_disk};
+ghost use Rattle.bridge_results.specs.TablesText.{plays_table, IsRankingsTable};
+ghost use Rattle.club_commands.specs.Ended.{Writes};
+ghost use Rattle.club_commands.specs.Exports.{IsExportText};
+ghost use Rattle.club_commands.specs.Results.{Tells, ReadsAnd};
+
+use crate::fault::RunFault;
+use bridge_results::{write_plays_table, write_rankings_table};
+use bridge_session::Session;
+use club_disk::{ClubDisk, Left, read_disk};
+use sector_disk::SectorDisk;
+use std::alloc::Global;
+use std::io::Write;
+use table_server::ServeFault;
+
+/// Writes the plays of a session as comma-separated values.
+fn write_plays<W: Write>(session: &Session, output: &mut W) -> Result<(), RunFault>
+    ensures { Writes (stream W.contents output.old output.new) (plays_table session.now) result }
+{
+    write_plays_table(session, output).map_err(|_| RunFault::Stream(ServeFault::Write))
+}
+
+/// Writes its rankings so.
+fn write_rankings<W: Write>(session: &Session, output: &mut W) -> Result<(), RunFault>
+    ensures { Tells IsRankingsTable session.now (stream W.contents output.old output.new) result }
+{
+    match write_rankings_table(session, output) {
+        Ok(()) => Ok(()),
+        Err(_) => Err(RunFault::Stream(ServeFault::Write)),
+    }
+}
+
+/// Writes its rankings or its plays.
+fn write_export<W: Write>(session: &Session, rankings: bool, output: &mut W) -> Result<(), RunFault>
+    ensures { Tells (IsExportText rankings) session.now (stream W.contents output.old output.new) result }
+{
+    if rankings {
+        write_rankings(session, output)
+    } else {
+        write_plays(session, output)
+    }
+}
+
+/// Reads the session that a disk holds, to which nothing is written, and exports it.
+fn export_disk<D: SectorDisk, W: Write>(
+    alloc: Global,
+    rankings: bool,
+    disk: &mut D,
+    output: &mut W,
+) -> Result<(), RunFault>
+    ensures { ReadsAnd (Tells (IsExportText rankings)) D.disk (stream W.contents output.old output.new) result disk.old disk.new }
+{
+    match read_disk(alloc, disk) {
+        Ok(session) => write_export(&session, rankings, output),
+        Err(cause) => Err(RunFault::Store(cause)),
+    }
+}
+
+/// The same, and hands the disk out.
+pub fn export_over<W: Write>(
+    alloc: Global,
+    rankings: bool,
+    disk: ClubDisk,
+    output: &mut W,
+) -> Left<ClubDisk, RunFault>
+    ensures { ReadsAnd (Tells (IsExportText rankings)) file_disk (stream W.contents output.old output.new) result.ended disk result.disk }
+{
+    let mut disk = disk;
+    let ended = export_disk(alloc, rankings, &mut disk, output);
+    Left { disk, ended }
+}

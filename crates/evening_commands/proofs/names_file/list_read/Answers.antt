@@ -1,0 +1,5 @@
+use Rattle.std.proofs.Common.{inr}
+use Rattle.evening_commands.proofs.names_file.list_read.Goals as goal
+
+pub returns-in-Ok : goal.returns-in-Ok
+returns-in-Ok g c = inr (c.read_text.new.text.items, c.in-Ok.ensures, rw c.as_slice.ensures.value at c.read_list.ensures)

@@ -1,0 +1,6 @@
+pub mod Makeable
+pub mod Reading
+pub mod Making
+pub mod FaultLine
+pub mod Games
+pub mod DealingViews

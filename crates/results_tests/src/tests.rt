@@ -1,0 +1,4 @@
+//! Results, pars and tricks that were worked out by hand.
+mod makeable;
+mod par;
+mod results;

@@ -1,0 +1,116 @@
+//! Pages of the worked session: rows that were worked out by hand.
+use super::script::{IMPS, MATCHPOINTS, dealt, round_1, round_2, round_3};
+use arrayvec::ArrayString;
+use bridge_results::{write_results, write_results_with};
+use evening_draft::PairNames;
+use page_layout::Format;
+use std::alloc::Global;
+use std::process::Abort;
+use std::test::Fail;
+
+fn page_of(rt: &impl Abort, alloc: Global, config: &str, format: Format) -> Result<Vec<u8>, Fail> {
+    page_with(rt, alloc, config, None, format)
+}
+
+fn page_with(
+    rt: &impl Abort,
+    alloc: Global,
+    config: &str,
+    names: Option<&[PairNames]>,
+    format: Format,
+) -> Result<Vec<u8>, Fail> {
+    let mut session = dealt(rt, alloc, config)?;
+    round_1(rt, &mut session);
+    round_2(rt, &mut session);
+    round_3(rt, &mut session);
+    let mut page = Vec::new(alloc);
+    match names {
+        None => write_results(&session, format, &mut page)?,
+        Some(_) => write_results_with(&session, names, format, &mut page)?,
+    }
+    Ok(page)
+}
+
+fn holds(page: &[u8], part: &str) -> bool {
+    let part = part.as_bytes();
+    !part.is_empty() && page.windows(part.len()).any(|found| found == part)
+}
+
+#[test]
+fn plain_text(rt: HostRuntime) -> Result<(), Fail> {
+    let page = page_of(&rt, rt.alloc(), MATCHPOINTS, Format::Plain)?;
+    let rows = [
+        "Club-Night\nTown-Hall, 2026.03.14\nMatchpoints\nTables: 3, boards: 3, rounds: 3\n",
+        "\nRanking, field 2\n",
+        "      1      6  Kim and Lea                                                 ",
+        "     12.0       12.0   100.00\n",
+        "\nBoard 2\nDealer: E, vulnerable: NS\n",
+        "\n  S -                                 S -\n",
+        "\n      1      1      1      4  4H        N     HA         10        420        2.0        2.0\n",
+        "\n        450        1        4.0        0.0\n",
+        "\nPair 6: Kim and Lea\n",
+        "\n      3      1  EW          2  4SX       E           8       -300        4.0\n",
+        "\nTotal: 12.0 of 12.0\n",
+    ];
+    for row in rows {
+        assert!(&rt; holds(page.as_slice(), row), "{row}");
+    }
+    Ok(())
+}
+
+#[test]
+fn html(rt: HostRuntime) -> Result<(), Fail> {
+    let page = page_of(&rt, rt.alloc(), IMPS, Format::Html)?;
+    let parts = [
+        "<title>Club-Night</title>",
+        "<tr><td class=\"r\">1</td><td class=\"r\">2</td><td>Cat and Dan</td><td class=\"r\">33</td></tr>",
+        "<td>4<span class=\"s\">&spades;</span>X</td><td>E</td>",
+        "<td><span class=\"h\">&hearts;</span>A</td><td class=\"r\">10</td>",
+        "<p>Total: 33</p>",
+    ];
+    for part in parts {
+        assert!(&rt; holds(page.as_slice(), part), "{part}");
+    }
+    Ok(())
+}
+
+/// Six pairs, the last with other names: of three signs that take two columns each, and with marks of HTML.
+fn six_pairs() -> [PairNames; 6] {
+    let mut names = [PairNames::default(); 6];
+    for pair in &mut names {
+        let _ = pair.first.try_push_str("A");
+        let _ = pair.second.try_push_str("B");
+    }
+    let mut sixth = PairNames {
+        first: ArrayString::new(),
+        second: ArrayString::new(),
+    };
+    let _ = sixth.first.try_push_str("李小龍");
+    let _ = sixth.second.try_push_str("O'Brien <b>");
+    names[5] = sixth;
+    names
+}
+
+#[test]
+fn pages_with_names(rt: HostRuntime) -> Result<(), Fail> {
+    let names = six_pairs();
+    let names = Some(names.as_slice());
+    let plain = page_with(&rt, rt.alloc(), MATCHPOINTS, names, Format::Plain)?;
+    // 22 columns of 53 are taken.
+    let rows = [
+        "      1      6  李小龍 and O'Brien <b>                                      12.0       12.0   100.00\n",
+        "\nPair 6: 李小龍 and O'Brien <b>\n",
+        "\nPair 1: A and B\n",
+    ];
+    for row in rows {
+        assert!(&rt; holds(plain.as_slice(), row), "{row}");
+    }
+    let html = page_with(&rt, rt.alloc(), MATCHPOINTS, names, Format::Html)?;
+    for part in [
+        "<td>李小龍 and O&#39;Brien &lt;b&gt;</td>",
+        "<h3>Pair 6: 李小龍 and O&#39;Brien &lt;b&gt;</h3>",
+    ] {
+        assert!(&rt; holds(html.as_slice(), part), "{part}");
+    }
+    Ok(())
+}

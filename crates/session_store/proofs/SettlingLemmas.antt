@@ -1,0 +1,142 @@
+-- Settling a pair of stores.
+use Rattle.std.proofs.Common.{◌≡◌, ◌⊎◌, ◌≤◌, ◌+◌, ℕ, List, [], ◌++◌, drop, Result, Ok, Err, true, false, inl, inr, ⊎_elim, refl, sym, ap, subst, ◌∙◌, arith}
+use Rattle.std.proofs.lemmas.List.{drop_all}
+use Rattle.sector_disk.specs.Disk.{Disk}
+use Rattle.session_store.specs.Keeping.{Keeping}
+use Rattle.session_store.specs.Value.{StoreValue}
+use Rattle.session_store.specs.Store.{Continues}
+use Rattle.session_store.specs.Answers.{Confirms}
+use Rattle.session_store.specs.Pair.{IsInStep, IsServedPair, IsToldPair}
+use Rattle.session_store.specs.Settling.{AreBothLost, IsSettledPair, CannotRise, CannotSettle, IsOver}
+use Rattle.session_store.specs.declared.fault.CheckpointFault.{CheckpointFault}
+use Rattle.session_store.specs.declared.fault.CheckpointFault.TheVariants.{Failed, EpochsSpent, Disk as DiskFailed}
+use Rattle.session_store.specs.declared.fault.ConfirmFault.{ConfirmFault}
+use Rattle.session_store.specs.declared.fault.ConfirmFault.TheVariants.{Failed as ConfirmFailed, Disk as ConfirmDisk}
+use Rattle.session_store.proofs.PairLemmas.{side-on, served_law}
+
+-- a store cannot both work and have failed
+pub not_both : {P : Type 0} {D S A : Type 0} (v : StoreValue D S A) → v.failed ≡ true → v.failed ≡ false → P
+not_both v failed works = let never : true ≡ false = sym failed ∙ works in cc
+
+-- nothing is pending after a call that accepted nothing, where nothing was
+pub none-still : {D S A R : Type 0} (kept : Keeping S A R) (disk : Disk D) (v v' : StoreValue D S A) → Continues kept disk v [] v'
+    → v.pending ≡ [] → v'.pending ≡ []
+none-still {D} {S} {A} {R} kept disk v v' call none =
+    call.pending ∙ ap (λ (xs : List A). drop call.confirmed (xs ++ [])) none ∙ drop_all call.confirmed [] (omega arith)
+
+module _ {D E S A R : Type 0} (kept : Keeping S A R) (first : Disk D) (second : Disk E) (v : StoreValue D S A) (w : StoreValue E S A) (s : S) where
+  -- a pair of which both disks are kept is settled
+  pub level-told : v.failed ≡ false → w.failed ≡ false → IsServedPair kept first second v w s → IsToldPair kept first second v w s
+  level-told works works' served = record {
+    served = served;
+    first_behind = λ failed still. not_both v failed works;
+    second_behind = λ failed still. not_both w failed works';
+  }
+
+  -- one of which the first was lost is settled once the second is two epochs above
+  pub second-rises : v.failed ≡ true → w.failed ≡ false → (w' : StoreValue E S A) → Continues kept second w [] w'
+      → w'.failed ≡ w.failed → w'.state ≡ w.state → v.epoch + 2 ≤ w'.epoch
+      → IsServedPair kept first second v w s → IsToldPair kept first second v w' s
+  second-rises failed works w' call same state above served = record {
+    served = record {
+      in_step = record {
+        first_side = served.in_step.first_side;
+        second_side = side-on kept second w w' s s [] served.in_step.second_side call
+            (λ still. state ∙ served.in_step.second_side.state works);
+      };
+      first_none = served.first_none;
+      second_none = λ still. none-still kept second w w' call (served.second_none works);
+    };
+    first_behind = λ _ _. above;
+    second_behind = λ failed' _. not_both w' failed' (same ∙ works);
+  }
+
+  -- and the other way round
+  pub first-rises : w.failed ≡ true → v.failed ≡ false → (v' : StoreValue D S A) → Continues kept first v [] v'
+      → v'.failed ≡ v.failed → v'.state ≡ v.state → w.epoch + 2 ≤ v'.epoch
+      → IsServedPair kept first second v w s → IsToldPair kept first second v' w s
+  first-rises failed works v' call same state above served = record {
+    served = record {
+      in_step = record {
+        first_side = side-on kept first v v' s s [] served.in_step.first_side call
+            (λ still. state ∙ served.in_step.first_side.state works);
+        second_side = served.in_step.second_side;
+      };
+      first_none = λ still. none-still kept first v v' call (served.first_none works);
+      second_none = served.second_none;
+    };
+    first_behind = λ failed' _. not_both v' failed' (same ∙ works);
+    second_behind = λ _ _. above;
+  }
+
+-- a pair that is settled, of which one disk was lost
+pub settled-second : {D E S A : Type 0} (v : StoreValue D S A) (w : StoreValue E S A) → v.failed ≡ true → w.failed ≡ false
+    → IsSettledPair v w → v.epoch + 2 ≤ w.epoch
+settled-second v w failed works (inl both) = not_both v failed both.0
+settled-second v w failed works (inr (inl (one, above))) = above
+settled-second v w failed works (inr (inr (other, above))) = not_both w other.0 works
+
+pub settled-first : {D E S A : Type 0} (v : StoreValue D S A) (w : StoreValue E S A) → w.failed ≡ true → v.failed ≡ false
+    → IsSettledPair v w → w.epoch + 2 ≤ v.epoch
+settled-first v w failed works (inl both) = not_both w failed both.1
+settled-first v w failed works (inr (inl (one, above))) = not_both v one.0 works
+settled-first v w failed works (inr (inr (other, above))) = above
+
+-- why the one that is kept did not rise is why the pair is not settled
+pub second-cannot : {D E S A : Type 0} (v : StoreValue D S A) (w w' : StoreValue E S A) (epoch : ℕ) (fault : CheckpointFault)
+    → v.failed ≡ true → w.failed ≡ false → epoch ≡ v.epoch → CannotRise epoch w w' fault → CannotSettle v w v w' fault
+second-cannot v w w' epoch Failed failed works is why = not_both w why.0 works
+second-cannot v w w' epoch DiskFailed failed works is why = (inl (failed, works), (failed, why.1))
+second-cannot v w w' epoch EpochsSpent failed works is why =
+    let spent = why.0 in (inl ((failed, works), omega (arith, spent, is)), refl, why.1)
+
+pub first-cannot : {D E S A : Type 0} (v v' : StoreValue D S A) (w : StoreValue E S A) (epoch : ℕ) (fault : CheckpointFault)
+    → w.failed ≡ true → v.failed ≡ false → epoch ≡ w.epoch → CannotRise epoch v v' fault → CannotSettle v w v' w fault
+first-cannot v v' w epoch Failed failed works is why = not_both v why.0 works
+first-cannot v v' w epoch DiskFailed failed works is why = (inr (failed, works), (why.1, failed))
+first-cannot v v' w epoch EpochsSpent failed works is why =
+    let spent = why.0 in (inr ((failed, works), omega (arith, spent, is)), why.1, refl)
+
+-- nothing more may be told of a pair that is not settled
+pub cannot-over : {D E S A : Type 0} (v v' : StoreValue D S A) (w w' : StoreValue E S A) (fault : CheckpointFault)
+    → CannotSettle v w v' w' fault → IsOver v' w' fault
+cannot-over v v' w w' Failed why = subst (λ x. AreBothLost x w') (sym why.1) (subst (λ y. AreBothLost v y) (sym why.2) why.0)
+cannot-over v v' w w' DiskFailed why = why.1
+cannot-over v v' w w' EpochsSpent why = subst (λ x. IsOver x w' EpochsSpent) (sym why.1) (subst (λ y. IsOver v y EpochsSpent) (sym why.2) why.0)
+
+-- what confirming leaves: the state, and nothing pending where the store works
+pub confirmed-leaves : {D S A R : Type 0} (kept : Keeping S A R) (disk : Disk D) (v v' : StoreValue D S A)
+    (result : Result (Unit {0}) ConfirmFault) → Confirms kept disk v v' result
+    → (v'.state ≡ v.state) × (v'.failed ≡ v.failed ⊎ v'.failed ≡ true) × (v'.failed ≡ false → v'.pending ≡ [])
+confirmed-leaves {D} {S} {A} {R} kept disk v v' (Ok _) did = (
+  ap (λ (x : StoreValue D S A). x.state) did.1,
+  inl (ap (λ (x : StoreValue D S A). x.failed) did.1),
+  λ works. ap (λ (x : StoreValue D S A). x.pending) did.1,
+)
+confirmed-leaves {D} {S} {A} {R} kept disk v v' (Err ConfirmFailed) did = (
+  ap (λ (x : StoreValue D S A). x.state) did.1,
+  inl (ap (λ (x : StoreValue D S A). x.failed) did.1),
+  λ works. not_both v did.0 (sym (ap (λ (x : StoreValue D S A). x.failed) did.1) ∙ works),
+)
+confirmed-leaves {D} {S} {A} {R} kept disk v v' (Err ConfirmDisk) did = (
+  ap (λ (x : StoreValue D S A). x.state) did.2,
+  inr (ap (λ (x : StoreValue D S A). x.failed) did.2),
+  λ works. not_both v' (ap (λ (x : StoreValue D S A). x.failed) did.2) works,
+)
+
+-- a pair in step, once each store confirmed, was served
+pub confirmed-served : {D E S A R : Type 0} (kept : Keeping S A R) (first : Disk D) (second : Disk E) (v v' : StoreValue D S A)
+    (w w' : StoreValue E S A) (s : S) (a b : Result (Unit {0}) ConfirmFault) → Confirms kept first v v' a → Confirms kept second w w' b
+    → Continues kept first v [] v' → Continues kept second w [] w' → IsInStep kept first second v w s → IsServedPair kept first second v' w' s
+confirmed-served {D} {E} {S} {A} {R} kept first second v v' w w' s a b did did' call call' step =
+    let left = confirmed-leaves kept first v v' a did in
+    let left' = confirmed-leaves kept second w w' b did' in
+    ((served_law kept first second v v' w w' s s [] [] step call call'
+    (λ works. left.0 ∙ step.first_side.state (worked-first works)) (λ works. left'.0 ∙ step.second_side.state (worked-second works))).1
+    left.2 left'.2)
+  where
+    worked-first : v'.failed ≡ false → v.failed ≡ false
+    worked-first works = ⊎_elim (λ same. sym same ∙ works) (λ failed. not_both v' failed works) (confirmed-leaves kept first v v' a did).1
+
+    worked-second : w'.failed ≡ false → w.failed ≡ false
+    worked-second works = ⊎_elim (λ same. sym same ∙ works) (λ failed. not_both w' failed works) (confirmed-leaves kept second w w' b did').1

@@ -1,0 +1,37 @@
+use Rattle.std.proofs.Common.{◌+◌, [], inl, inr, refl, sym, ap, arith, ◌∙◌}
+use Rattle.session_store.proofs.CallLaws.{continues_begins, continues_joins}
+use Rattle.session_store.proofs.settling.rise_above.Goals as goal
+
+pub loop-begun-init : goal.loop-begun-init
+loop-begun-init g c = record {
+  continues = continues_begins g.K.Kept.kept g.D.SectorDisk.disk c.args.store.now;
+  epoch = sym c.epoch-own.ensures.epoch;
+  failed = refl;
+  state = refl;
+  least = omega (arith, c.epoch-own.ensures.epoch);
+  most = inl c.epoch-own.ensures.epoch;
+  so_far = inl refl;
+}
+
+pub loop-begun-preserved : goal.loop-begun-preserved
+loop-begun-preserved g c =
+    let did = c.in-Ok.ensures.answer in
+    let before = c.loop-begun.invariant in
+    record {
+      continues = continues_joins g.K.Kept.kept g.D.SectorDisk.disk c.args.store.now c.loop-begun.store c.checkpoint.new.self [] []
+          before.continues c.checkpoint.ensures.continues;
+      epoch = ap (λ v. v.epoch) did.2 ∙ ap (λ n. n + 1) before.epoch;
+      failed = ap (λ v. v.failed) did.2 ∙ before.failed;
+      state = ap (λ v. v.state) did.2 ∙ before.state;
+      least = omega (arith, before.least);
+      most = inr (omega (arith, c.loop-begun-test.true));
+      so_far = inr (sym before.failed ∙ did.0, omega (arith, before.least));
+    }
+
+pub returns-then-epoch-clause-continues : goal.returns-then-epoch-clause-continues
+returns-then-epoch-clause-continues g c = continues_begins g.K.Kept.kept g.D.SectorDisk.disk c.args.store.now
+
+pub returns-in-Err-clause-continues : goal.returns-in-Err-clause-continues
+returns-in-Err-clause-continues g c =
+    continues_joins g.K.Kept.kept g.D.SectorDisk.disk c.args.store.now c.loop-begun.store c.checkpoint.new.self [] []
+    c.loop-begun.invariant.continues c.checkpoint.ensures.continues
