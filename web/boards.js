@@ -173,12 +173,8 @@ function trickPicture(board, own, step) {
   const view = viewOf(board, own);
   const { trick } = board.cards[step - 1];
   const node = make("div", { className: "trick", role: "group", aria_label: TEXTS.trick(trick + 1) });
-  for (const { seat, card, winner } of board.cards.slice(0, step).filter((one) => one.trick === trick)) {
-    const won = winner === seat && board.cards.slice(0, step).filter((one) => one.trick === trick).length === 4;
-    node.append(make("span",
-      { className: "played " + placeOf(view, seat) + SUIT_CLASSES[card[0]] + (won ? " won" : ""), role: "img", aria_label: SEAT_NAMES[seat] + ": " + cardName(card) },
-      ...cardNodes(card)));
-  }
+  const cards = board.cards.slice(0, step).filter((one) => one.trick === trick);
+  node.append(...cards.map((one) => cardOnTable(view, one, cards.length === 4 && one.winner === one.seat)));
   return node;
 }
 
@@ -338,7 +334,7 @@ function roundNode(place, view) {
   return make("ol", { className: "round" }, ...numbers.map((number) => {
     const over = told.boards.find((board) => board.number === number && board.round === String(place.round));
     const now = String(number) === view.board;
-    const came = over ? worthText(over.worth) || scoreText(over) || "\u2013" : now ? TEXTS.now : "";
+    const came = over ? worthText(over.worth) || scoreText(over) || "\u2013" : now ? TEXTS.now : number === Number(view.board) + 1 ? TEXTS.next : "";
     return make("li", { className: now ? "now" : "" }, make("b", null, String(number)), came);
   }));
 }
@@ -353,6 +349,8 @@ function worthOfAll(boards) {
   if (sum(1) === 0) return null;
   return { points: sum(0).toFixed(1), of: sum(1), percent: (100 * sum(0) / sum(1)).toFixed(1) };
 }
+
+const worthOfSome = (all) => (all.percent ? TEXTS.percent(all.percent) : TEXTS.imps(all.points));
 
 function scoreCardNodes(place) {
   const all = worthOfAll(told.boards);

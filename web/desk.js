@@ -97,7 +97,7 @@ function showClock() {
 const whoCalls = ({ pair, name }) => TEXTS.ofPair(shownName(pair, name), pair);
 
 function callNodesOf(call) {
-  if (!isDirector()) return [make("p", null, make("b", null, TEXTS.directorCalled), " ", call.text ? call.text + ". " : "", TEXTS.waitForDirector)];
+  if (!isDirector()) return [make("p", { className: "called" }, make("span", null, make("b", null, TEXTS.directorCalled), " ", call.text ? call.text + ". " : "", TEXTS.waitForDirector))];
   const stateOf = (number) => lastTables && lastTables.tables.find((one) => one.number === number);
   const open = () => { const state = stateOf(call.table); if (state) openTable(state); };
   const grant = (number) => { const state = stateOf(number); if (state) grantBack(state); };
@@ -148,7 +148,7 @@ function closeCall() {
 }
 
 at("bell").onclick = () => { if (reason === null) showCall(); else closeCall(); };
-at("bell").textContent = TEXTS.bell;
+at("bell").replaceChildren(make("span", null, TEXTS.bell));
 at("bell").setAttribute("aria-label", TEXTS.callDirector);
 at("calling").onkeydown = holdTab;
 

@@ -215,7 +215,7 @@ function biddingBox(view) {
     return node;
   };
   const cells = [call("PASS", TEXTS.pass, "", "box-call"), call("X", "X", TEXTS.double, "box-call"), call("XX", "XX", TEXTS.redouble, "box-call"),
-    confirmButton(mine ? (isSafe() ? TEXTS.tapCall : TEXTS.yourCall) : TEXTS.toCall(SEAT_NAMES[view.turn]), TEXTS.callIt)];
+    confirmButton(mine ? (isSafe() ? TEXTS.tapCall : TEXTS.yourCall) : TEXTS.toCall(SEAT_NAMES[view.turn]), marked && isBid(marked.what.slice(5)) ? TEXTS.bidIt : TEXTS.callIt)];
   for (let level = 1; level <= 7; level += 1) {
     for (const strain of STRAINS) {
       const word = level + strain;
@@ -326,7 +326,8 @@ function auctionTable(place, view) {
     make("span", { aria_label: SEAT_NAMES[seat] }, seat === view.seat && view.isOwn !== false ? TEXTS.you : place.names ? place.names[seat] : ""))));
   const cells = Array(columns.indexOf(view.dealer)).fill("").concat(view.calls);
   const rows = [];
-  for (let i = 0; i < cells.length + (due ? 1 : 0); i += 4) {
+  // An auction at play has room for twelve calls, so that it stays where it is.
+  for (let i = 0; i < Math.max(cells.length + (due ? 1 : 0), due ? 12 : 0); i += 4) {
     rows.push(make("tr", null, ...[0, 1, 2, 3].map((j) => {
       const dueHere = due !== null && i + j === cells.length;
       if (dueHere && marked && marked.what.startsWith("call-")) return make("td", { className: "turn marked" }, ...callNodes(marked.what.slice(5)));
@@ -390,16 +391,18 @@ function plate(place, view, seat) {
   return node;
 }
 
+// A card of a trick, on the side of who played it.
+function cardOnTable(view, { seat, card }, won) {
+  return make("span", { className: "played " + placeOf(view, seat) + SUIT_CLASSES[card[0]] + (won ? " won" : ""), role: "img",
+    aria_label: SEAT_NAMES[seat] + ": " + cardName(card) }, ...cardNodes(card));
+}
+
 // The trick on the table: the one at play, or the last whole one until the next card is led.
 function trickNode(view) {
   const whole = view.trick.length === 0;
   const trick = whole ? view.last : view.trick;
-  const node = make("div", { className: "trick", role: "group", aria_label: whole && trick.length ? TEXTS.lastTrick : TEXTS.trickNow });
-  for (const { seat, card } of trick) {
-    const won = whole && seat === view.turn;
-    node.append(make("span", { className: "played " + placeOf(view, seat) + SUIT_CLASSES[card[0]] + (won ? " won" : ""), role: "img",
-      aria_label: SEAT_NAMES[seat] + ": " + cardName(card) }, ...cardNodes(card)));
-  }
+  const node = make("div", { className: "trick", role: "group", aria_label: whole && trick.length ? TEXTS.lastTrick : TEXTS.trickNow },
+    ...trick.map((one) => cardOnTable(view, one, whole && one.seat === view.turn)));
   if (!whole && onTurn(view)) node.append(make("span", { className: "due " + placeOf(view, view.turn), aria_hidden: "true" }, view.turn));
   return node;
 }
@@ -419,40 +422,53 @@ function stageNode(place, view, middle) {
   return node;
 }
 
+// The tricks of this player's side and of the other.
+const sidesOf = (view) => (view.seat === "N" || view.seat === "S" ? [view.tricks.NS, view.tricks.EW] : [view.tricks.EW, view.tricks.NS]);
+
 // The tricks as cards are turned at a table: ours upright, theirs lying.
-function tallyNode(place, view) {
-  const [we, they] = view.seat === "N" || view.seat === "S" ? [view.tricks.NS, view.tricks.EW] : [view.tricks.EW, view.tricks.NS];
+function tallyNode(view) {
+  const [we, they] = sidesOf(view);
   const marks = Array(Number(we)).fill("ours").concat(Array(Number(they)).fill("theirs"), Array(13 - Number(we) - Number(they)).fill(""));
-  return [make("span",
-    { className: "tally", role: "img", aria_label: TEXTS.tally(we, they) }, ...marks.map((mark) => make("i", { className: mark }))),
-    make("span", { className: "score", aria_hidden: "true" }, we + "\u2013" + they)];
+  return make("span", { className: "tally", role: "img", aria_label: TEXTS.tally(we, they) }, ...marks.map((mark) => make("i", { className: mark })));
 }
 
-function contractNodes(place, view, short) {
-  const { bid, declarer } = place.contract;
-  const ours = declarer === view.seat || declarer === partner(view.seat);
-  const needs = 6 + Number(bid[0]);
-  const words = (short && declarer !== view.seat ? declarer : TEXTS.by(declarer, declarer === view.seat)) + (ours ? TEXTS.needs(needs) : TEXTS.weNeed(14 - needs));
-  return [make("span", { className: "contract", aria_label: callName(bid) }, ...callNodes(bid)), make("span", null, words)];
+// The contract, and how many tricks this side needs.
+const contractNode = ({ bid }) => make("span", { className: "contract", aria_label: callName(bid) }, ...callNodes(bid));
+const isOurs = (view, declarer) => declarer === view.seat || declarer === partner(view.seat);
+const needed = (view, { bid, declarer }) => (isOurs(view, declarer) ? 6 + Number(bid[0]) : 8 - Number(bid[0]));
+
+function stripNode({ contract }, view, auction) {
+  const { declarer } = contract;
+  const words = (declarer === view.seat ? TEXTS.by(declarer, true) : declarer)
+    + (isOurs(view, declarer) ? TEXTS.needs : TEXTS.weNeed)(needed(view, contract));
+  const calls = make("details", { id: "calls" }, make("summary", null, contractNode(contract), make("span", null, words)), make("div", null, auction));
+  return make("section", { id: "strip", aria_label: TEXTS.contract }, calls, tallyNode(view),
+    make("span", { className: "score", aria_hidden: "true" }, sidesOf(view).join("\u2013")));
 }
 
-function stripNode(place, view) {
-  const calls = make("details", { id: "calls" }, make("summary", null, ...contractNodes(place, view, true)), make("div", null, auctionTable(place, view)));
-  return make("section", { id: "strip", aria_label: TEXTS.contract }, calls, ...tallyNode(place, view));
-}
+// Who won the last trick.
+const lastWinner = (place, view) => winnerOf(view.last, strainOf(place.contract.bid)[0]);
 
-function lastTrickNodes(view) {
-  return view.last.map(({ seat, card }) => make("span", { className: "field" },
-    seat + " ",
+function lastTrickNodes(place, view) {
+  const winner = lastWinner(place, view);
+  return view.last.map(({ seat, card }) => make("span", { className: seat === winner ? "won" : "" }, seat + " ",
     make("span", { className: SUIT_CLASSES[card[0]].trim(), role: "img", aria_label: SEAT_NAMES[seat] + ": " + cardName(card) }, ...cardNodes(card).reverse())));
 }
 
+// What stands beside the table: the contract and the tricks, the last trick, the auction and the round.
 function sideNode(place, view) {
+  const { contract } = place;
+  const [we, they] = sidesOf(view);
+  const due = needed(view, contract);
+  const part = (name, title, ...nodes) => make("section", { className: "side-" + name }, make("h2", null, title), ...nodes);
   const node = make("aside", { id: "side", aria_label: TEXTS.theBoard },
-    make("p", null, ...contractNodes(place, view)), make("h2", null, TEXTS.tricksHead),
-    make("p", { className: "row" }, ...tallyNode(place, view)));
-  if (view.last.length) node.append(make("h2", null, TEXTS.lastTrick), make("p", { className: "row" }, ...lastTrickNodes(view)));
-  node.append(make("h2", null, TEXTS.auction), auctionTable(place, view), make("h2", null, TEXTS.roundSoFar), roundNode(place, view));
+    make("section", { className: "side-contract" }, contractNode(contract), make("span", null, make("b", null, TEXTS.bySeat(contract.declarer, contract.declarer === view.seat)), make("br"),
+      (isOurs(view, contract.declarer) ? TEXTS.toMake : TEXTS.toBeat)(due, due - Number(we)))),
+    part("tricks", TEXTS.tricksHead, make("p", null, make("span", null, TEXTS.weTook(we)), tallyNode(view), make("span", null, TEXTS.theyTook(they)))));
+  if (view.last.length) node.append(part("last", TEXTS.lastTrickTo(SEAT_NAMES[lastWinner(place, view)]), make("p", null, ...lastTrickNodes(place, view))));
+  const all = worthOfAll(told.boards);
+  node.append(part("auction", TEXTS.auction, auctionTable(place, view)),
+    part("round", TEXTS.roundSoFar, roundNode(place, view), ...(all ? [make("p", null, TEXTS.eveningSoFar, worthOfSome(all))] : [])));
   return node;
 }
 
@@ -516,9 +532,12 @@ function claimSheet(place, view) {
     make("div", { className: "row" }, button(TEXTS.back, "", "claim-back", true, () => { claiming = null; drawn(); }), claim));
 }
 
-function lastSheet(view) {
-  return sheet("last-trick", TEXTS.lastTrick, make("h2", null, TEXTS.lastTrick),
-    make("div", { className: "row" }, ...lastTrickNodes(view)), button(TEXTS.close, "", "last-close", true, () => { looking = false; drawn(); }));
+function lastSheet(place, view) {
+  const winner = lastWinner(place, view);
+  const close = button(TEXTS.backToPlay, "", "last-close", true, () => { looking = false; drawn(); });
+  close.className = "send";
+  return sheet("last-trick", TEXTS.lastTrick, make("h2", null, TEXTS.lastTrickTo(SEAT_NAMES[winner])),
+    make("div", { className: "trick" }, ...view.last.map((one) => cardOnTable(view, one, one.seat === winner))), close);
 }
 
 // Answers to a claim that this player is asked for.
@@ -579,13 +598,13 @@ function playNodes(place, view) {
   if (!view.playing || !place.contract) {
     const stage = stageNode(place, view, make("div", { id: "auction", className: "auction" }, auctionTable(place, view)));
     // The board lies there while there is room.
-    if (view.calls.length < 8) stage.append(boardPicture({ number: Number(view.board), side: "NS", calls: [] }, view.seat));
+    if (view.calls.length < 9) stage.append(boardPicture({ number: Number(view.board), side: "NS", calls: [] }, view.seat));
     return [stage, own, biddingBox(view)];
   }
-  const nodes = [stripNode(place, view), stageNode(place, view, trickNode(view)), own];
+  const nodes = [stripNode(place, view, auctionTable(place, view)), stageNode(place, view, trickNode(view)), own];
   if (claiming && (claiming.board !== view.board || view.claim || view.trick.length > 0)) claiming = null;
   if (claiming) nodes.push(claimSheet(place, view));
-  else if (looking && view.last.length) nodes.push(lastSheet(view));
+  else if (looking && view.last.length) nodes.push(lastSheet(place, view));
   nodes.push(view.claim && place.answer ? answerDock(place, view) : playDock(place, view), sideNode(place, view));
   return nodes;
 }
@@ -671,7 +690,7 @@ function namesNode(place) {
 // What the evening has come to so far, and the way to the score card.
 function soFarNodes() {
   const all = worthOfAll(told.boards);
-  const words = all ? [make("p", null, TEXTS.eveningSoFar, make("b", null, all.percent ? TEXTS.percent(all.percent) : TEXTS.imps(all.points)))] : [];
+  const words = all ? [make("p", null, TEXTS.eveningSoFar, make("b", null, worthOfSome(all)))] : [];
   return [...words, make("div", { className: "row" }, button(TEXTS.myBoards, "", "between-boards", true, () => turnLeaf({ card: true })))];
 }
 
@@ -716,7 +735,13 @@ function barFor(place, view) {
   chip.setAttribute("aria-label", TEXTS.boardWords(view.board, SEAT_NAMES[view.dealer], vulnerableText(view.vulnerable)));
   at("title").textContent = TEXTS.board(view.board);
   at("below").replaceChildren(TEXTS.dealsShort(view.dealer) + " \u00b7 " + TEXTS.vulnerableShort[view.vulnerable],
-    make("span", { className: "wide" }, place.table ? TEXTS.atTable(place.table.number, place.round, place.rounds) : ""));
+    make("span", { className: "wide" }, place.table ? TEXTS.atTable(place.table.number, place.round, place.rounds) + whichBoard(place.table, view.board) : ""));
+}
+
+// Which of the boards of this round it is, where it is one of them.
+function whichBoard({ first, last }, board) {
+  const [index, count] = [Number(board) - Number(first), Number(last) - Number(first) + 1];
+  return index >= 0 && index < count ? TEXTS.boardOf(index, count) : "";
 }
 
 // The classes by which the style lays the page out.
@@ -913,7 +938,7 @@ function closeMenu() {
 at("choices").onkeydown = holdTab;
 at("menu").onclick = () => { if (at("choices").hidden) showMenu(); else closeMenu(); };
 at("chosen").onclick = () => { closeMenu(); at("menu").focus(); };
-at("menu").textContent = TEXTS.menu;
+at("menu").setAttribute("aria-label", TEXTS.menu);
 at("chosen").textContent = TEXTS.done;
 window.addEventListener("resize", showNewest);
 document.addEventListener("keydown", (event) => {

@@ -131,7 +131,7 @@ run({
 
   "the auction stands under who called": async () => {
     const page = await seated(place(), view({ DEALER: "E VUL None", CALLS: "1C X PASS 2NT XX" }));
-    assert.deepStrictEqual(page.rows(page.named("Auction")), [["WFay", "NCat", "E dealsEve", "SYou"], ["", "", "1\u2663\ufe0e", "X"], ["Pass", "2NT", "XX", "?"]]);
+    assert.deepStrictEqual(page.rows(page.named("Auction")), [["WFay", "NCat", "E dealsEve", "SYou"], ["", "", "1\u2663\ufe0e", "X"], ["Pass", "2NT", "XX", "?"], ["", "", "", ""]]);
     assert.strictEqual(page.named("to call").textContent, "?");
   },
 
@@ -199,7 +199,7 @@ run({
   "the table shows what is seen": async () => {
     const page = await seated(place({ CONTRACT: "4SX W" }), play({ TURN: "N", AT: "9 6 0", TRICK: "W ST H2", LAST: "W CA C2 C3 C4", TRICKS: "1 0", DUMMY: "-" }));
     assert.strictEqual(page.text("title"), "Board 4");
-    assert.strictEqual(page.text("below"), "N deals \u00b7 E\u2013W vul \u00b7 table 2 \u00b7 round 1 of 3");
+    assert.strictEqual(page.text("below"), "N deals \u00b7 E\u2013W vul \u00b7 Table 2 \u00b7 Round 1 of 3 \u00b7 1st of 3 boards");
     assert.strictEqual(page.at("chip").getAttribute("aria-label"), "Board 4, dealer North, East and West vulnerable");
     assert.strictEqual(page.at("chip").className, "vul-they deals-top");
     assert.ok(page.text("strip").includes("4\u2660\ufe0eXW \u00b7 we need 4"), page.text("strip"));
@@ -222,6 +222,27 @@ run({
     assert.ok(page.at("last-trick"));
     await page.click("last-close");
     assert.strictEqual(page.at("last-trick"), null);
+  },
+
+  "the last trick is looked at with its winner marked, a trump too": async () => {
+    for (const [bid, winner, name] of [["4S W", "North", "2 of spades"], ["3NT W", "West", "ace of clubs"]]) {
+      const page = await seated(place({ CONTRACT: bid }), play({ TURN: "E", AT: "9 5 0", TRICK: "N D5", LAST: "W CA S2 C3 C4", TRICKS: "1 0" }));
+      await page.click("last");
+      const sheet = page.at("last-trick");
+      assert.strictEqual(sheet.querySelectorAll("h2")[0].textContent, `Last trick, won by ${winner}`);
+      assert.deepStrictEqual(sheet.all().filter((one) => one.className.endsWith(" won")).map((one) => one.getAttribute("aria-label")), [`${winner}: ${name}`]);
+      assert.ok(page.text("side").includes(`Last trick, won by ${winner}`));
+    }
+  },
+
+  "beside the table stands what the contract still needs, and which board comes next": async () => {
+    for (const [contract, tricks, due] of [
+      ["4S S", "7 2", "by South, you10 tricks needed: 3 to go"], ["4S N", "10 0", "by North10 tricks needed: made"], ["4S E", "3 4", "by EastWe need 4 to beat it: 1 to go"],
+      ["4S E", "4 2", "by EastWe need 4 to beat it: it is down"]]) {
+      const page = await seated(place({ CONTRACT: contract }), play({ AT: "9 40 0", TRICKS: tricks }));
+      assert.ok(page.text("side").includes(due), page.text("side"));
+      assert.ok(page.text("side").endsWith("This round4now5next6"), page.text("side"));
+    }
   },
 
   "where two taps send, the first marks": async () => {

@@ -22,8 +22,8 @@ pub const PAGE: &str = r##"<!doctype html>
 <div id="chip" role="img" hidden></div>
 <div id="heads"><h1 id="title">Bridge table</h1><p id="below"></p></div>
 <p id="clock" hidden></p>
-<button id="bell" type="button" aria-controls="calling" hidden>Director</button>
-<button id="menu" type="button" aria-controls="choices" hidden>Menu</button>
+<button id="bell" type="button" aria-controls="calling" hidden><span>Director</span></button>
+<button id="menu" type="button" aria-controls="choices" aria-label="Menu" hidden></button>
 <nav id="tabs" hidden></nav>
 </header>
 <div id="notes"><p id="notice" role="alert"></p><div id="desk" role="alert"></div></div>
@@ -89,6 +89,19 @@ button {
 button:disabled { color: var(--off); background: var(--soft); border-style: dashed; font-weight: normal; cursor: default; }
 button:focus-visible, input:focus-visible, textarea:focus-visible, select:focus-visible, summary:focus-visible { outline: 3px solid var(--blue); outline-offset: 2px; z-index: 2; }
 .send { color: var(--on-blue); background: var(--blue); border-color: var(--blue); }
+/* Signs before words, in the colour of the words. */
+#bell, #menu, #last, #claim-open, #claim-button, #confirm.send, #agree, #refuse, #call-director { display: inline-flex; justify-content: center; align-items: center; gap: .4rem; }
+:is(#bell, #menu, #last, #claim-open, #claim-button, #confirm.send, #agree, #refuse, #call-director)::before, #desk > .called::before {
+  content: ""; flex: none; width: 1.25rem; height: 1.25rem; background: currentcolor; forced-color-adjust: none; mask: var(--sign) center / contain no-repeat;
+}
+#bell, #call-director, #desk > .called {
+  --sign: url("data:image/svg+xml,%3Csvg xmlns='http://www.w3.org/2000/svg' viewBox='0 0 20 20' fill='none' stroke='%23000' stroke-width='1.6' stroke-linecap='round' stroke-linejoin='round'%3E%3Cpath d='M10 2v1.5M4 14.5h12l-1.6-2.4V8.4a4.4 4.4 0 0 0-8.8 0v3.7zM8.4 17.2a1.7 1.7 0 0 0 3.2 0'/%3E%3C/svg%3E");
+}
+#menu { --sign: url("data:image/svg+xml,%3Csvg xmlns='http://www.w3.org/2000/svg' viewBox='0 0 20 20' fill='none' stroke='%23000' stroke-width='1.8' stroke-linecap='round'%3E%3Cpath d='M3 5h14M3 10h14M3 15h14'/%3E%3C/svg%3E"); }
+#last { --sign: url("data:image/svg+xml,%3Csvg xmlns='http://www.w3.org/2000/svg' viewBox='0 0 20 20' fill='none' stroke='%23000' stroke-width='1.8' stroke-linejoin='round'%3E%3Cpath d='M7 3.5h9v13H7zM3.5 5v10'/%3E%3C/svg%3E"); }
+#claim-open, #claim-button { --sign: url("data:image/svg+xml,%3Csvg xmlns='http://www.w3.org/2000/svg' viewBox='0 0 20 20' fill='none' stroke='%23000' stroke-width='1.7' stroke-linejoin='round'%3E%3Cpath d='M4.5 18V2.5H16L13 6.7l3 4.3H4.5'/%3E%3C/svg%3E"); }
+#confirm.send, #agree { --sign: url("data:image/svg+xml,%3Csvg xmlns='http://www.w3.org/2000/svg' viewBox='0 0 20 20' fill='none' stroke='%23000' stroke-width='2' stroke-linecap='round' stroke-linejoin='round'%3E%3Cpath d='M3.5 10.5l4.5 4.5 8.5-10'/%3E%3C/svg%3E"); }
+#refuse { --sign: url("data:image/svg+xml,%3Csvg xmlns='http://www.w3.org/2000/svg' viewBox='0 0 20 20' fill='none' stroke='%23000' stroke-width='2' stroke-linecap='round'%3E%3Cpath d='M4 4l12 12M16 4L4 16'/%3E%3C/svg%3E"); }
 input, textarea, select { padding: .4rem; background: var(--panel); border: 1px solid var(--edge); border-radius: .5rem; max-width: 100%; }
 input { min-height: 2.75rem; width: 12rem; }
 select { min-height: 2.75rem; }
@@ -98,12 +111,10 @@ label { display: inline-flex; align-items: center; gap: .4rem; min-height: 2.75r
 
 /* The bar, and what is said. */
 #bar {
-  grid-area: bar; display: flex; align-items: center; gap: .6rem; min-height: 3.25rem; padding: .25rem .75rem; color: var(--on-bar); background: var(--bar);
-  padding-top: max(.25rem, env(safe-area-inset-top));
+  grid-area: bar; display: flex; flex-wrap: wrap; align-items: center; gap: .6rem; min-height: 3.25rem; color: var(--on-bar); background: var(--bar);
+  padding: max(.25rem, env(safe-area-inset-top)) .75rem .25rem;
 }
-#bar button { color: inherit; background: transparent; border-color: var(--bar-second); font-weight: normal; }
-#bar button { padding: .2rem .5rem; font-size: .875rem; }
-#bar { flex-wrap: wrap; }
+#bar button { padding: .2rem .6rem; color: inherit; background: transparent; border-color: var(--bar-second); }
 #heads { flex: 1 1 4rem; min-width: 4rem; }
 #below { margin: 0; font-size: .875rem; color: var(--bar-second); white-space: nowrap; overflow: hidden; text-overflow: ellipsis; }
 #below:empty, #notice:empty, #status:empty { display: none; }
@@ -113,6 +124,7 @@ label { display: inline-flex; align-items: center; gap: .4rem; min-height: 2.75r
 .at-table #desk > :not(:last-child) { display: none; }
 #desk > * { padding: .35rem .75rem; color: var(--note-ink); background: var(--note); border-top: 1px solid var(--edge); }
 .at-table #desk > * { padding: .15rem .75rem; font-size: .9375rem; }
+#desk > .called { display: flex; align-items: center; gap: .6rem; }
 #desk .row { margin: 0; justify-content: space-between; color: var(--gold-ink); background: var(--gold); }
 #desk .row p { flex: 1 1 16rem; }
 #desk .row button:not(.send) { color: inherit; background: transparent; border-color: currentcolor; }
@@ -285,19 +297,23 @@ summary { cursor: pointer; min-height: 2.2rem; font-weight: bold; }
 #told { position: sticky; top: 0; z-index: 1; color: var(--note-ink); background: var(--note); padding: .4rem .6rem; border-radius: .5rem; }
 #told:empty, #results:empty, #replies:empty { display: none; }
 
-/* The table: one grid, the player at the bottom. */
-.at-table { display: grid; grid-template: "bar" auto "note" auto "strip" auto "stage" 1fr "say" auto "hand" auto "dock" auto / minmax(0, 1fr); background: var(--felt); }
+/* The table: one grid, the player at the bottom. First what an upright telephone has, and all. */
+.at-table {
+  --tw: 3.125rem; --th: 4.25rem; --cw: calc((100vw - 3.125rem) / 7); --fw: var(--cw); --ch: clamp(3.25rem, 8.65dvh, 4.6rem); display: grid;
+  grid-template: "bar" auto "note" auto "strip" auto "side" auto "stage" 1fr "say" auto "hand" auto "dock" auto / minmax(0, 1fr); background: var(--felt);
+}
 .at-table main { display: contents; }
 .at-table #status { color: var(--plate-ink); background: var(--plate); }
 .at-table #status.turn { color: var(--gold-ink); background: var(--gold); font-weight: bold; }
 #strip {
-  grid-area: strip; display: flex; align-items: center; gap: .5rem; min-height: 2.125rem; padding: .1rem .6rem; color: var(--on-felt);
+  grid-area: strip; display: flex; align-items: center; gap: .5rem; min-height: 2.125rem; padding: .1rem .75rem; color: var(--on-felt);
   background: var(--strip); position: relative;
 }
 #strip .red { color: var(--felt-red); }
 .four #strip .diamond { color: #ffc48a; }
 .four #strip .club { color: #a8e6bd; }
-#strip .suit, .face .suit { font-weight: normal; }
+#strip .suit { font-weight: normal; }
+#strip summary > span:last-child { font-size: .875rem; white-space: nowrap; }
 .contract { font-size: 1.125rem; font-weight: bold; }
 #calls { border: 0; margin: 0; padding: 0; flex: 1; }
 #calls summary { min-height: 2rem; list-style: none; font-weight: normal; display: flex; gap: .4rem; align-items: center; }
@@ -306,66 +322,69 @@ summary { cursor: pointer; min-height: 2.2rem; font-weight: bold; }
   position: absolute; inset: 100% .4rem auto; z-index: 5; padding: .5rem; color: var(--ink); background: var(--panel); border: 1px solid var(--edge);
   border-radius: .75rem;
 }
-#calls .red { color: var(--text-red); }
+#calls div .red { color: var(--text-red); }
 .four #calls td .diamond { color: var(--text-diamond); }
 .four #calls td .club { color: var(--text-club); }
-#calls summary .red { color: var(--felt-red); }
 .tally { display: flex; gap: 2px; align-items: center; }
 .tally i { width: .35rem; height: .35rem; border-radius: 50%; background: var(--bar-second); opacity: .7; }
 .tally .ours { width: .4rem; height: .85rem; border-radius: 1px; background: #fff; opacity: 1; }
 .tally .theirs { width: .85rem; height: .4rem; border-radius: 1px; background: var(--felt-red); opacity: 1; }
+.score { font-weight: bold; }
+#side { display: none; grid-area: side; min-width: 0; color: var(--ink); background: var(--panel); }
+#side h2 { margin: 0 0 .2rem; font-size: .875rem; font-weight: normal; color: var(--second); }
+.side-last p { display: grid; grid-template-columns: repeat(4, auto); justify-content: space-between; margin: 0; }
+.side-last .won { font-weight: bold; }
+.side-round p { margin: .3rem 0 0; font-size: .875rem; }
 #stage {
-  grid-area: stage; display: grid; grid-template: auto minmax(0, 1fr) / 5rem minmax(0, 1fr) 5rem; grid-template-areas: "top top top" "left mid right";
+  grid-area: stage; display: grid; grid-template: auto minmax(0, 1fr) / minmax(0, 1fr) auto minmax(0, 1fr); grid-template-areas: "top top top" "left mid right";
   gap: .4rem; align-items: center; padding: .4rem .5rem; min-height: 0; min-width: 0;
 }
-.at-top { grid-area: top; justify-self: center; max-width: 100%; min-width: 0; }
+.at-top { grid-area: top; min-width: 0; }
 .at-left { grid-area: left; min-width: 0; }
 .at-right { grid-area: right; min-width: 0; }
 .plate {
-  display: flex; flex-wrap: wrap; justify-content: center; align-items: center; gap: .15rem .4rem; padding: .2rem .5rem; color: var(--plate-ink);
-  background: var(--plate); border-radius: 1rem; text-align: center; overflow-wrap: anywhere;
+  display: flex; justify-content: center; align-items: center; gap: .15rem .4rem; width: fit-content; max-width: 100%; padding: .2rem .5rem .2rem .2rem;
+  color: var(--plate-ink); background: var(--plate); border-radius: 1rem; box-shadow: inset 0 0 0 1px var(--plate-edge, transparent); text-align: center;
 }
-.at-left > .plate, .at-right > .plate { border-radius: .5rem; padding: .2rem; font-size: .8125rem; line-height: 1.2; flex-direction: column; }
-.at-top > .plate { width: fit-content; max-width: 100%; margin: 0 auto .2rem; }
+.plate span { min-width: 0; overflow-wrap: break-word; }
 .plate.turn { color: var(--gold-ink); background: var(--gold); }
 .plate b { display: inline-grid; place-items: center; width: 1.6rem; height: 1.6rem; border-radius: 50%; color: #fff; background: var(--not-vul); flex: none; }
 .plate b.vul { background: var(--vul); }
-.plate em { padding: 0 .25rem; border: 1px solid currentcolor; border-radius: .25rem; font-style: normal; font-size: .75rem; font-weight: bold; }
+.plate em { flex: none; padding: 0 .25rem; border: 1px solid currentcolor; border-radius: .25rem; font-style: normal; font-size: .75rem; font-weight: bold; white-space: nowrap; }
+.at-top > .plate { margin: 0 auto .2rem; }
+:is(.at-left, .at-right) > .plate { flex-direction: column; width: 100%; max-width: 6.25rem; padding: .2rem; border-radius: .5rem; font-size: .8125rem; line-height: 1.2; }
+:is(.at-left, .at-right) > .plate span { display: -webkit-box; -webkit-box-orient: vertical; -webkit-line-clamp: 3; max-width: 100%; overflow: hidden; }
+.at-right > .plate { margin-left: auto; }
 .trick {
-  grid-area: mid; justify-self: center; display: grid; grid-template: repeat(3, auto) / repeat(3, auto); grid-template-areas: ". t ." "l . r" ". b .";
-  place-items: center; gap: .15rem;
+  grid-area: mid; justify-self: center; display: grid; grid-template: repeat(4, calc((var(--th) - .15rem) / 2)) / repeat(3, var(--tw));
+  grid-template-areas: ". t ." "l t r" "l b r" ". b ."; place-items: center; gap: .15rem;
 }
 .trick .top { grid-area: t; }
 .trick .left { grid-area: l; }
 .trick .right { grid-area: r; }
 .trick .bottom { grid-area: b; }
-.trick { grid-template-areas: ". t ." "l t r" "l b r" ". b ."; grid-template-rows: repeat(4, auto); }
 .played, .due { display: grid; place-content: center; justify-items: center; width: var(--tw); height: var(--th); border-radius: .375rem; line-height: 1; }
 .played { color: var(--black); background: var(--face); border: 1px solid #8f8b7e; box-shadow: 0 1px 2px rgb(0 0 0 / 35%); font-size: 1.375rem; font-weight: bold; }
 .played.red { color: var(--red); }
 .played.won { outline: 3px solid var(--gold); }
 .due { color: var(--gold); border: 2px solid var(--gold); font-weight: bold; }
-.at-table { --tw: 3.125rem; --th: 4.25rem; --cw: calc((100vw - 3.125rem) / 7); --fw: var(--cw); --ch: clamp(3.25rem, 8.65dvh, 4.6rem); }
 .hand { min-width: 0; }
-#hand { grid-area: hand; padding: .25rem .4rem .4rem; min-width: 0; }
 .hand > h2 { position: absolute; width: 1px; height: 1px; overflow: hidden; clip-path: inset(50%); margin: 0; }
-.cards {
-  display: flex; flex-direction: column; gap: .25rem; width: fit-content; max-width: 100%; margin: 0 auto; padding: .25rem; border: 2px solid transparent;
-  border-radius: .7rem;
-}
+#hand { grid-area: hand; padding: .2rem .4rem .4rem; }
+.cards { display: flex; flex-direction: column; justify-content: center; gap: .25rem; padding: .25rem; border: 2px solid transparent; border-radius: .7rem; }
 .hand.on .cards { border-color: var(--gold); background: rgb(255 216 77 / 16%); }
 .line, .group { display: flex; justify-content: center; min-width: 0; }
 .line { gap: .375rem; }
 .group { gap: .2rem; }
+.more { margin-left: -.2rem; }
 .card {
   display: grid; align-content: start; justify-items: start; width: var(--cw); min-width: 0; height: var(--ch); min-height: 0; padding: .15rem 0 0 .3rem;
   flex: none; color: var(--black); background: var(--face); border: 1px solid #8f8b7e; border-radius: .375rem; box-shadow: 0 1px 2px rgb(0 0 0 / 35%);
   line-height: 1; font-size: 1.375rem; font-weight: bold; text-align: left;
 }
-.card .suit, .played .suit { font-size: 1.25rem; line-height: 1; margin-top: .1rem; }
-.card.red { color: var(--red); }
+.card .suit, .played .suit { font-size: 1.25rem; font-weight: normal; line-height: 1; margin-top: .1rem; }
 .card:disabled { color: var(--black); background: var(--face); border: 1px solid #8f8b7e; font-weight: bold; }
-.card.red:disabled { color: var(--red); }
+.card.red { color: var(--red); }
 .hand.on .card:disabled { background: var(--shut); box-shadow: none; }
 .hand.on .card.red:disabled { color: var(--shut-red); }
 .four .diamond { color: var(--text-diamond); }
@@ -377,260 +396,268 @@ summary { cursor: pointer; min-height: 2.2rem; font-weight: bold; }
 .four .card[aria-pressed=true].diamond { color: #853200; }
 .card[aria-pressed=true] { background: var(--lifted); transform: translateY(-.75rem); outline: 3px solid var(--gold); }
 .ten { letter-spacing: -.12em; }
-.at-left .cards, .at-right .cards { flex-direction: column; padding: .1rem; gap: .15rem; }
-.at-left, .at-right { --cw: 1.375rem; --fw: 2.1rem; --ch: clamp(2rem, 5.3dvh, 3.5rem); }
-.at-left .card, .at-right .card { width: var(--fw); margin-right: calc(var(--cw) - var(--fw)); font-size: 1.125rem; padding-left: .15rem; }
-.at-left .card:last-child, .at-right .card:last-child { margin-right: 0; }
-.at-left .card .suit, .at-right .card .suit { font-size: 1rem; }
-.at-left .line, .at-right .line { flex-direction: column; gap: .15rem; }
-.at-left .group, .at-right .group { justify-content: flex-start; gap: 0; }
+.void-of { display: none; }
 .void { padding: 0 .5rem; border-radius: .5rem; color: var(--plate-ink); background: var(--plate); font-size: .875rem; }
-.dummy-left .at-left > .plate, .dummy-right .at-right > .plate { flex-flow: row wrap; }
+.void .red { color: var(--text-red); }
+/* Dummy at a side: a line or two for each suit. */
 .dummy-left #stage { grid-template-columns: 9rem minmax(0, 1fr) 4rem; }
 .dummy-right #stage { grid-template-columns: 4rem minmax(0, 1fr) 9rem; }
-.dummy-left, .dummy-right { --tw: 2.75rem; --th: 3.75rem; }
+.dummy-left, .dummy-right { --tw: clamp(2rem, calc((100vw - 15.5rem) / 3), 2.875rem); --th: 3.75rem; }
+.at-left, .at-right { --cw: 1.375rem; --fw: 2.1rem; --ch: clamp(2.45rem, 6dvh, 3.5rem); }
+:is(.at-left, .at-right) .cards { gap: .15rem; padding: 0 calc(var(--fw) - var(--cw)) 0 0; border: 0; }
+:is(.at-left, .at-right) .line { flex-direction: column; }
+:is(.at-left, .at-right) .group { flex-wrap: wrap; justify-content: flex-start; gap: .1rem 0; max-width: calc(6 * var(--cw) + 1px); }
+:is(.at-left, .at-right) .void-of { display: flex; }
+:is(.at-left, .at-right) .card { width: var(--fw); margin-right: calc(var(--cw) - var(--fw)); padding: .1rem 0 0 .15rem; font-size: 1.125rem; }
+:is(.at-left, .at-right) .card .suit { font-size: 1rem; }
+:is(.dummy-left .at-left, .dummy-right .at-right) > .plate {
+  display: grid; grid-template: "b n" "b e" / auto minmax(0, 1fr); gap: 0 .35rem; max-width: none; margin: 0 0 .2rem; justify-items: start; text-align: left;
+}
+:is(.dummy-left .at-left, .dummy-right .at-right) > .plate b { grid-area: b; }
+:is(.dummy-left .at-left, .dummy-right .at-right) > .plate span { -webkit-line-clamp: 2; }
 
 /* The auction, and what is pressed. */
-.auction { grid-area: mid; align-self: start; width: 100%; max-height: 100%; overflow-y: auto; border-radius: .6rem; background: var(--panel); color: var(--ink); }
-@media (max-width: 39.99em), (max-height: 30em) {
-  .bidding #stage { position: relative; min-height: 6.5rem; }
-  .bidding .auction { position: absolute; inset: .4rem .5rem auto; width: auto; max-height: calc(100% - .8rem); }
+.bidding #stage { position: relative; grid-template: minmax(0, 1fr) / minmax(0, 1fr); grid-template-areas: "mid"; min-height: 6.5rem; padding: 0; }
+.bidding :is(.at-left, .at-right, .at-top, .board-picture) { display: none; }
+.auction {
+  --head: 2.4rem; --row: 1.65rem; position: absolute; inset: .3rem .5rem auto; max-height: calc(100% - .6rem); overflow-y: auto; border-radius: .6rem; color: var(--ink);
+  background: var(--panel);
 }
-#dock.play #claim-open[hidden] + #confirm { grid-column: span 7; }
-.at-top.none, .bidding .at-left, .bidding .at-right, .bidding .at-top { display: none; }
-.bidding #stage { grid-template: minmax(0, 1fr) / minmax(0, 1fr); grid-template-areas: "mid"; }
-.auction table, #calls table, #side table { width: 100%; table-layout: fixed; background: none; }
-.auction th, .auction td, #calls th, #calls td, #side th, #side td {
-  border: 0; padding: .2rem .1rem; overflow: hidden; text-overflow: ellipsis; white-space: nowrap; font-weight: normal;
-}
-.auction th, #calls th, #side th { font-size: .8125rem; line-height: 1.25; color: var(--plate-ink); background: var(--plate); }
-.auction th { position: sticky; top: 0; }
-.auction tbody tr:nth-child(even), #calls tbody tr:nth-child(even), #side tbody tr:nth-child(even) { background: var(--soft); }
-.auction td .bid, #calls td .bid, #side td .bid { font-weight: bold; }
+/* No row stands half under the heads. */
+@supports (height: round(down, 1px, 1px)) { .auction { max-height: calc(var(--head) + round(down, 100% - .6rem - var(--head), var(--row))); } }
+:where(.auction, #calls, #side) table { width: 100%; table-layout: fixed; background: none; }
+:where(.auction, #calls, #side) :is(th, td) { border: 0; padding: 0 .1rem; overflow: hidden; text-overflow: ellipsis; white-space: nowrap; font-weight: normal; }
+:where(.auction, #calls, #side) th { padding: .15rem .1rem; font-size: .8125rem; line-height: 1.25; color: var(--plate-ink); background: var(--plate); }
+:where(.auction, #calls, #side) td { height: 1.65rem; }
+.auction th { position: sticky; top: 0; height: var(--head); }
+.auction td { height: var(--row); }
+:where(.auction, #calls, #side) tbody tr:nth-child(even) { background: var(--soft); }
+:where(.auction, #calls, #side) td .bid { font-weight: bold; }
 td .pass { color: var(--second); }
 .double, .redouble { padding: 0 .4rem; border-radius: .25rem; color: #fff; background: var(--double); font-weight: bold; }
 .redouble { background: var(--redouble); }
 .seat { display: inline-block; min-width: 1.4rem; border-radius: .25rem; color: #fff; background: var(--not-vul); font-weight: bold; }
 .seat.vul { background: var(--vul); }
-th.turn, td.turn, .auction th.turn { color: var(--gold-ink); background: var(--gold); }
+td.turn, :where(.auction, #calls, #side) th.turn { color: var(--gold-ink); background: var(--gold); }
 td.turn { font-weight: bold !important; }
+td.turn .red { color: var(--red); }
+td.marked { outline: 2px dashed var(--blue); outline-offset: -2px; }
 #dock {
-  grid-area: dock; display: grid; grid-template-columns: repeat(10, minmax(0, 1fr)); gap: .25rem; align-content: start;
-  padding: .4rem .5rem max(.4rem, env(safe-area-inset-bottom)); color: var(--ink); background: var(--page); border-top: 1px solid var(--edge); min-width: 0;
+  grid-area: dock; display: grid; gap: .25rem; align-content: start; padding: .4rem .5rem max(.4rem, env(safe-area-inset-bottom)); color: var(--ink);
+  background: var(--page); border-top: 1px solid var(--edge); min-width: 0;
 }
 #dock button { padding: .1rem; min-width: 0; }
-.box { --bid: clamp(2.25rem, calc((100dvh - 24.2rem) / 7), 3rem); }
-#dock .bid { grid-column: span 2; min-height: var(--bid); color: var(--black); background: #fffdf7; font-size: 1.125rem; line-height: 1; }
-#dock .bid .red { color: #a8001c; }
-.four #dock .bid .diamond { color: #953a00; }
-.four #dock .bid .club { color: #005c2b; }
-#dock .bid:disabled, #dock .bid:disabled .red { color: var(--off); background: var(--soft); border: 1px solid var(--soft); }
-#call-PASS { grid-column: span 3; }
-#call-X, #call-XX { grid-column: span 2; }
-.box #confirm { grid-column: span 3; }
+#dock.box { --bid: clamp(2.25rem, calc((100dvh - 24.2rem) / 7), 2.75rem); grid-template-columns: repeat(20, minmax(0, 1fr)); }
+#dock .bid { grid-column: span 4; min-height: var(--bid); color: var(--black); background: var(--face); font-size: 1.125rem; line-height: 1; }
+#dock .bid .red { color: var(--red); }
+.four #dock .bid .diamond { color: var(--diamond); }
+.four #dock .bid .club { color: var(--club); }
+#dock .box-call { font-size: 1.125rem; }
+#dock .box-call:disabled { border: 1px solid var(--line); }
+#dock .bid:disabled, #dock .bid:disabled .suit { color: var(--off); background: var(--soft); border: 1px solid var(--line); }
+#dock .bid:disabled .suit { border: 0; }
+#call-PASS { grid-column: span 5; }
+#call-X, #call-XX { grid-column: span 4; }
+.box #confirm { grid-column: span 7; }
 #dock #call-PASS:enabled { color: #fff; background: var(--pass); }
 #dock #call-X:enabled { color: #fff; background: var(--double); }
 #dock #call-XX:enabled { color: #fff; background: var(--redouble); }
-#dock .box-call[aria-pressed=true], #dock .bid[aria-pressed=true] { color: var(--gold-ink); background: var(--gold); outline: 3px solid var(--blue); }
-#last { grid-column: span 3; }
-#claim-open { grid-column: span 3; }
-#dock.play #confirm { grid-column: span 4; }
-#dock.play button { min-height: 2.75rem; }
+#dock :is(.box-call, .bid)[aria-pressed=true] { color: var(--gold-ink); background: var(--gold); outline: 3px solid var(--blue); }
+#dock #confirm :is(.bid, .suit) { min-height: 0; color: inherit; background: none; font-size: inherit; }
+#dock.play { grid-template-columns: 4fr 3fr 3.7fr; gap: .4rem; }
+#dock.play #claim-open[hidden] + #confirm { grid-column: span 2; }
 #dock.claimed { grid-template-columns: 1fr 1fr; color: var(--gold-ink); background: var(--gold); }
-#dock.claimed p { grid-column: 1 / -1; margin: 0; }
+#dock.claimed p { grid-column: 1 / -1; margin: 0; line-height: 1.25; }
+#dock.claimed button { min-height: 3.25rem; font-size: 1.0625rem; }
 #refuse { color: #a8001c; background: #fff; border-color: #a8001c; }
 #agree { color: #fff; background: #0b57a4; border-color: #0b57a4; }
 #dock.claimed button:disabled { color: #5b645f; background: #ece8dc; }
 .sheet {
-  position: fixed; inset: auto .5rem 4.5rem; z-index: 6; max-width: 30rem; margin: 0 auto; padding: .75rem; color: var(--ink); background: var(--panel);
-  border: 1px solid var(--edge); border-radius: .75rem; max-height: calc(100dvh - 5rem); overflow-y: auto; box-shadow: 0 0 0 100vmax rgb(10 20 16 / 45%);
+  position: fixed; inset: auto 0 0; z-index: 6; padding: .75rem .75rem max(.75rem, env(safe-area-inset-bottom)); color: var(--ink); background: var(--panel);
+  border: 1px solid var(--edge); border-radius: .75rem .75rem 0 0; max-height: calc(100dvh - 1rem); overflow-y: auto; box-shadow: 0 0 0 100vmax rgb(10 20 16 / 55%);
 }
 .sheet h2 { margin-top: 0; }
-.numbers { display: grid; grid-template-columns: repeat(auto-fill, minmax(2.75rem, 1fr)); gap: .25rem; margin: .5rem 0; }
+.numbers { display: grid; grid-template-columns: repeat(7, minmax(2.75rem, 1fr)); gap: .25rem; margin: .5rem 0; }
 .numbers button { padding: 0; }
+.numbers button:first-child, .numbers button:last-child { grid-column: span 2; }
 .numbers button[aria-pressed=true] { color: var(--gold-ink); background: var(--gold); }
-.sheet .row { justify-content: space-between; }
-#side { display: none; }
-
-/* Shapes of screens. */
+.sheet > p:not(.second) { padding: .5rem .75rem; background: var(--soft); border-radius: .5rem; font-weight: bold; }
+.sheet .row { justify-content: space-between; gap: .6rem; }
+.sheet .row > .send { flex: 1; min-height: 3.25rem; }
+.sheet .trick { --tw: 3.125rem; --th: 4.25rem; justify-content: center; justify-self: stretch; margin-bottom: .75rem; padding: .5rem; border-radius: .75rem; background: var(--felt); }
+#last-close { width: 100%; min-height: 3.25rem; }
+@media (max-width: 39.99em), (orientation: landscape) and (max-height: 30em) {
+  #bell span, .bidding #status:not(.lost) { position: absolute; width: 1px; height: 1px; margin: 0; padding: 0; overflow: hidden; clip-path: inset(50%); }
+}
+/* What stands above a small table takes its room from the cards; whoever waits for the director needs no turn. */
+@media (max-width: 39.99em) and (max-height: 49.99em) { .at-table:has(#desk:not(:empty)) { --ch: max(2.75rem, 7.2dvh); } }
+@media (max-width: 39.99em), (max-height: 30em) {
+  .at-table #desk > * { max-height: 2.75rem; overflow-y: auto; font-size: .875rem; line-height: 1.25; }
+  .at-table:has(#desk > .called) #status:not(.lost) { position: absolute; width: 1px; height: 1px; margin: 0; padding: 0; overflow: hidden; clip-path: inset(50%); }
+}
+@media (max-width: 39.99em) and (orientation: portrait) { .wide { display: none; } }
+@media (max-width: 39.99em) and (orientation: portrait) and (min-height: 50em) {
+  .at-table { --tw: min(3.6875rem, calc((100vw - 12.5rem) / 3)); --th: 5.0625rem; }
+  .dummy-left, .dummy-right { --tw: clamp(2rem, calc((100vw - 15.5rem) / 3), 2.875rem); --th: 4.125rem; }
+}
+/* A hand in one fan: where there is room, and on short telephones in the auction. */
+@media (max-width: 39.99em) and (orientation: portrait) and (max-height: 49.99em) {
+  .bidding { --cw: calc((100vw - 5.2rem) / 12); --fw: 3rem; }
+  .bidding #hand .line { display: contents; }
+  .bidding #hand .cards { flex-direction: row; gap: 0 .2rem; padding-right: calc(.25rem + var(--fw) - var(--cw)); }
+  .bidding #hand .group { gap: 0; }
+  .bidding #hand .card { width: var(--fw); margin-right: calc(var(--cw) - var(--fw)); padding-left: .15rem; }
+  .bidding .in-H { order: 1; }
+  .bidding .in-C { order: 2; }
+  .bidding .in-D { order: 3; }
+}
+@media (min-width: 40em), (orientation: landscape) and (max-height: 30em) {
+  :is(#hand, .at-top) .line { display: contents; }
+  :is(#hand, .at-top) .cards { flex-direction: row; gap: 0 .375rem; padding-right: calc(.25rem + var(--fw) - var(--cw)); }
+  :is(#hand, .at-top) .group { gap: 0; }
+  :is(#hand, .at-top) .card { width: var(--fw); margin-right: calc(var(--cw) - var(--fw)); font-size: 1.9375rem; }
+  :is(#hand, .at-top) .card .suit, .played .suit { font-size: 2rem; }
+  .played { font-size: 1.9375rem; }
+  .more { margin-left: -.375rem; }
+  .in-H { order: 1; }
+  .in-C { order: 2; }
+  .in-D { order: 3; }
+}
+/* Telephones that lie across. */
 @media (orientation: landscape) and (max-height: 30em) {
   .at-table {
-    --ch: 4rem; --cw: min(3rem, calc((100vw - 13rem) / 13.4)); --tw: 2.1rem; --th: 2.75rem;
+    --ch: 4rem; --cw: min(3rem, calc((100vw - 13rem) / 13.4)); --fw: 3.1rem; --tw: 2.75rem; --th: 3.5rem;
     grid-template: "bar bar" auto "note note" auto "stage strip" auto "stage dock" 1fr "say dock" auto "hand dock" auto / minmax(0, 1fr) 11rem;
   }
   .at-table.bidding {
     --cw: min(3rem, calc((100vw - 27rem) / 13.4));
     grid-template: "bar bar" auto "note note" auto "stage dock" 1fr "say dock" auto "hand dock" auto / minmax(0, 1fr) 25rem;
   }
+  .at-table.dummy-left, .at-table.dummy-right { --tw: 2.5rem; --th: 3.5rem; }
   #bar { min-height: 2.75rem; padding-top: 0; padding-bottom: 0; }
+  #bar > button { border-color: transparent; }
   #chip { width: 2.25rem; height: 2.25rem; }
-  .cards { flex-direction: row; }
-  .card { padding-left: .15rem; }
-  .box { --bid: calc((100dvh - 5.4rem) / 8); }
-  #dock.box button { min-height: var(--bid); }
-  #dock { align-content: end; }
-  #dock.play { grid-template-columns: 1fr; align-content: end; }
-  #dock.play button, #dock.play #confirm { grid-column: auto; }
+  .at-table #status { margin: .1rem .5rem; }
+  #hand { padding: .1rem .4rem .25rem; }
+  :is(#hand, .at-top) .cards { padding-top: .15rem; padding-bottom: .15rem; }
+  :is(#hand, .at-top) .card, .played { padding-left: .2rem; font-size: 1.375rem; }
+  .played { padding: 0; }
+  :is(#hand, .at-top) .card .suit, .played .suit { font-size: 1.25rem; }
   #strip { flex-wrap: wrap; align-content: center; }
+  #strip .score { margin-left: auto; }
   #calls { flex-basis: 100%; }
-  .at-left .line, .at-right .line { gap: .1rem; }
-  .at-left, .at-right { --ch: 1.75rem; --cw: 1.9rem; --fw: 2.3rem; }
-  .at-left .card, .at-right .card { align-content: center; justify-content: start; grid-auto-flow: column; padding: 0 0 0 .2rem; }
-  .dummy-left .at-left > .plate, .dummy-right .at-right > .plate { flex-flow: row nowrap; }
-  .dummy-left .at-left > .plate span, .dummy-right .at-right > .plate span { overflow: hidden; text-overflow: ellipsis; white-space: nowrap; }
-  .dummy-left #stage { grid-template-columns: 12rem minmax(0, 1fr) 4rem; }
-  .dummy-right #stage { grid-template-columns: 4rem minmax(0, 1fr) 12rem; }
+  #stage { grid-template-columns: 11rem minmax(0, 1fr) 11rem; padding: .25rem .4rem; gap: .25rem; }
+  :is(.at-left, .at-right) > .plate, .dummy-top .at-top > .plate { flex-direction: row; width: fit-content; max-width: 100%; padding: .1rem .5rem .1rem .1rem; border-radius: 1rem; font-size: .875rem; }
+  :is(.at-left, .at-right) > .plate span, .dummy-top .at-top > .plate span { display: block; overflow: hidden; text-overflow: ellipsis; white-space: nowrap; }
+  .dummy-top .at-top { display: contents; }
+  .dummy-top .at-top > .plate { grid-area: left; place-self: start; margin: 0; }
+  .dummy-top #dummy { grid-area: top; }
+  .dummy-left #stage { grid-template-columns: clamp(9rem, 23vw, 12rem) minmax(0, 1fr) 11rem; grid-template-areas: "left top top" "left mid right"; }
+  .dummy-right #stage { grid-template-columns: 11rem minmax(0, 1fr) clamp(9rem, 23vw, 12rem); grid-template-areas: "top top right" "left mid right"; }
+  .at-left, .at-right { --fw: 2.1rem; --ch: 2.2rem; }
+  :is(.at-left, .at-right) .card { padding-top: 0; font-size: 1.0625rem; }
+  :is(.at-left, .at-right) .card .suit { margin: 0; font-size: .9375rem; }
+  :is(.dummy-left .at-left, .dummy-right .at-right) > .plate { display: flex; width: 100%; margin: 0 0 .15rem; }
+  :is(.dummy-left .at-left, .dummy-right .at-right) > .plate em { margin-left: auto; }
+  .auction { --head: 3.4rem; }
+  .auction th { vertical-align: top; white-space: normal; }
+  .auction th br + span { display: -webkit-box; -webkit-box-orient: vertical; -webkit-line-clamp: 2; overflow: hidden; }
+  #dock { border-top: 0; }
+  #dock.box { grid-template: repeat(14, minmax(0, 1fr)) / 5.75rem repeat(5, minmax(0, 1fr)); gap: 0 .25rem; align-content: stretch; padding: .15rem .4rem; border-left: 1px solid var(--line); }
+  #dock.box button { grid-area: span 2 / auto; min-height: 2.25rem; margin: .125rem 0; }
+  #dock.box #call-PASS { grid-area: 1 / 1 / span 4; }
+  #dock.box #call-X { grid-area: 5 / 1 / span 3; }
+  #dock.box #call-XX { grid-area: 8 / 1 / span 3; }
+  #dock.box #confirm { grid-area: 11 / 1 / span 4; flex-wrap: wrap; }
+  #dock.play { grid-template-columns: 1fr 1fr; align-content: end; background: var(--strip); }
+  #dock.play button { min-height: 3.25rem; }
+  #dock.play #confirm { grid-column: 1 / -1; }
+  #last, #claim-open { flex-direction: column; gap: 0; font-size: .875rem; }
+  #dock.claimed { align-self: end; align-content: end; gap: .4rem; }
+  #dock.claimed button { min-height: 3rem; font-size: .9375rem; }
+  .sheet { inset: auto .5rem .4rem; max-width: 46rem; max-height: calc(100dvh - .8rem); margin: 0 auto; padding: .5rem .75rem; border-radius: .75rem; }
+}
+/* Tablets and laptops. */
+@media (min-width: 40em) and (min-height: 30.01em) {
+  #bar { min-height: 3.5rem; padding: .25rem 1rem; }
+  #chip { width: 2.75rem; height: 2.75rem; }
+  #status { font-size: 1.0625rem; }
+  :is(#hand, .at-top) .card { padding-left: .45rem; }
+  #stage { padding: .75rem 1rem; }
+  :is(.at-left, .at-right) > .plate { max-width: 8rem; font-size: .9375rem; }
+  .at-left, .at-right { --cw: 1.875rem; --fw: 3.25rem; --ch: 4.25rem; }
+  :is(.at-left, .at-right) .card { font-size: 1.5rem; }
+  :is(.at-left, .at-right) .card .suit { font-size: 1.5rem; }
+  .dummy-left #stage { grid-template-columns: 13.5rem minmax(0, 1fr) 8rem; }
+  .dummy-right #stage { grid-template-columns: 8rem minmax(0, 1fr) 13.5rem; }
+  :is(.dummy-left .at-left, .dummy-right .at-right) > .plate { display: flex; max-width: 13rem; }
+  #dock { gap: .4rem; padding: .5rem 1rem max(.5rem, env(safe-area-inset-bottom)); }
+  #dock.play { grid-template-columns: 9.5rem 7.5rem 1fr; }
+  #dock.play button { min-height: 3.25rem; }
+  #dock.claimed { grid-template-columns: minmax(0, 1fr) 10rem 10rem; align-items: center; }
+  #dock.claimed p { grid-column: auto; max-height: 3.25rem; overflow-y: auto; font-size: .875rem; line-height: 1.2; }
+  #dock.claimed b { font-size: 1rem; }
+  .sheet { inset: 0; width: min(34rem, 100% - 2rem); height: fit-content; margin: auto; padding: 1.25rem; border-radius: .75rem; }
+  .bidding #stage { grid-template: auto minmax(0, 1fr) / 8rem minmax(0, 1fr) 8rem; grid-template-areas: "top top top" "left mid right"; padding: .75rem 1rem; }
+  .bidding :is(.at-left, .at-right, .at-top) { display: block; }
+  .auction { --head: 2rem; --row: 2.6rem; grid-area: mid; position: static; align-self: center; max-height: 100%; }
+  .auction th br, #side th br { display: none; }
+  .auction th br + span, #side th br + span { position: absolute; width: 1px; height: 1px; overflow: hidden; clip-path: inset(50%); }
+  .auction td { font-size: 1.375rem; }
+  #dock .bid { font-size: 1.375rem; }
+  #dock.box #confirm { font-size: 1.0625rem; }
 }
 @media (min-width: 40em) and (orientation: portrait) and (min-height: 30.01em) {
   .at-table { --cw: 3.4rem; --fw: 5rem; --ch: 7.5rem; --tw: 5.25rem; --th: 7.25rem; }
-  .cards { flex-direction: row; }
+  .dummy-left, .dummy-right { --tw: 4.25rem; --th: 6rem; }
+  #calls summary::after { content: none; }
+  #side { display: grid; grid-template-columns: 1.3fr 1fr 1fr; gap: 0 1.25rem; height: 8.0625rem; padding: .5rem 1rem; overflow-y: auto; }
+  #side > * { grid-row: 1; min-width: 0; }
+  .side-contract, .side-tricks { display: none; }
+  .side-auction { grid-column: 1; }
+  .side-last { grid-column: 2; }
+  .side-round { grid-column: 3; }
+  .side-last p { grid-template-columns: 1fr 1fr; }
+  .side-auction td { height: 1.4rem; font-size: .9375rem; }
+  .bidding #side { display: none; }
+  .box-call, .box #confirm { min-height: 3.25rem; }
 }
 @media (min-width: 56em) and (orientation: landscape) and (min-height: 30.01em) {
   .at-table {
     --cw: 3.2rem; --fw: 4.375rem; --ch: 6.25rem; --tw: 4.5rem; --th: 6.25rem;
-    grid-template: "bar bar" auto "note side" auto "stage side" 1fr "say side" auto "hand side" auto "dock side" auto / minmax(0, 1fr) 18rem;
+    grid-template: "bar bar" auto "note note" auto "stage side" 1fr "say side" auto "hand side" auto "dock side" auto / minmax(0, 1fr) 18rem;
   }
-  .at-table.bidding { --cw: 2.8rem; grid-template: "bar bar" auto "note dock" auto "stage dock" 1fr "say dock" auto "hand dock" auto / minmax(0, 1fr) 23rem; }
-  .cards { flex-direction: row; }
-  #strip { display: none; }
-  .bidding #side { display: none; }
-  #bar { min-height: 3.5rem; padding: .25rem 1rem; }
-  #chip { width: 2.75rem; height: 2.75rem; }
-  #side { grid-area: side; display: block; padding: .75rem 1rem; color: var(--ink); background: var(--panel); overflow-y: auto; min-width: 0; }
-  #side h2 { font-size: .875rem; font-weight: normal; color: var(--second); margin: .9rem 0 .2rem; }
-  #side .contract { font-size: 2.25rem; line-height: 1; }
-  #side .tally i { background: var(--second); }
-  #side .tally .ours { background: var(--good); }
-  #side .tally .theirs { background: var(--bad); }
-  #side table { border: 1px solid var(--edge); border-radius: .5rem; }
-  .box { --bid: 2.75rem; }
-  #dock.box { grid-template-rows: none; align-content: stretch; border-top: 0; border-left: 1px solid var(--edge); }
+  .at-table.bidding { --cw: 2.8rem; grid-template: "bar bar" auto "note note" auto "stage dock" 1fr "hand dock" auto / minmax(0, 1fr) 23rem; }
+  #strip, .bidding #side { display: none; }
+  #side { display: flex; flex-direction: column; gap: .9rem; padding: .75rem 1rem; overflow-y: auto; }
+  .side-contract { display: flex; align-items: center; gap: .75rem; line-height: 1.25; }
+  .side-contract .contract { font-size: 2.25rem; line-height: 1; }
+  .side-tricks p { display: flex; justify-content: space-between; align-items: center; margin: 0; font-weight: bold; }
+  .side-tricks .tally i { background: var(--second); }
+  .side-tricks .tally .ours { background: var(--good); }
+  .side-tricks .tally .theirs { background: var(--bad); }
+  .side-auction > table { border: 1px solid var(--line); border-radius: .5rem; }
+  .side-round { margin-top: auto; }
+  .bidding #status { grid-area: dock; justify-self: stretch; align-self: start; z-index: 1; max-width: none; margin: .75rem 1rem; padding: .4rem; border-radius: .5rem; font-size: 1.125rem; }
+  .bidding #status:not(.turn) { color: var(--ink); background: var(--soft); }
+  .bidding .board-picture { display: grid; grid-area: mid; place-self: start center; width: 9rem; height: 9rem; }
+  #dock.box { --bid: 2.75rem; align-content: stretch; padding-top: 4.25rem; border-top: 0; border-left: 1px solid var(--line); }
   #dock.box .bid { order: -1; }
-  #dock.box button { min-height: 2.75rem; font-size: 1.375rem; }
-  .box #confirm { grid-column: 1 / -1; font-size: 1.125rem !important; }
-  .box #call-PASS { grid-column: span 4; }
-  .box #call-X, .box #call-XX { grid-column: span 3; }
-  #dock.play button { min-height: 3.25rem; }
-  .bidding #stage { grid-template: auto minmax(0, 1fr) / 8rem minmax(0, 1fr) 8rem; grid-template-areas: "top top top" "left mid right"; }
-  .bidding .at-left, .bidding .at-right, .bidding .at-top { display: block; }
-  .bidding .auction { align-self: center; }
-  .auction td { font-size: 1.0625rem; }
-  #stage { grid-template-columns: 8rem minmax(0, 1fr) 8rem; }
-  .at-left > .plate, .at-right > .plate { font-size: .9375rem; }
-  .dummy-left #stage { grid-template-columns: 13.5rem minmax(0, 1fr) 8rem; }
-  .dummy-right #stage { grid-template-columns: 8rem minmax(0, 1fr) 13.5rem; }
-  .at-left, .at-right { --cw: 1.875rem; --fw: 3.25rem; --ch: 4.25rem; }
-  .at-left .card, .at-right .card { font-size: 1.5rem; }
+  #dock.box .box-call { font-size: 1.375rem; }
+  #dock.box #call-PASS { grid-column: span 8; }
+  #dock.box #call-X, #dock.box #call-XX { grid-column: span 6; }
+  #dock.box #confirm { grid-column: 1 / -1; font-size: 1.125rem; }
 }
 @media (min-width: 75em) and (orientation: landscape) and (min-height: 48em) {
   .at-table { --cw: 4.2rem; --fw: 5.5rem; --ch: 7.75rem; --tw: 5.5rem; --th: 7.75rem; grid-template-columns: minmax(0, 1fr) 22rem; }
   .at-table.bidding { --cw: 4rem; grid-template-columns: minmax(0, 1fr) 27rem; }
-}
-@media (min-width: 40em) {
-  #hand .card, .at-top .card { width: var(--fw); margin-right: calc(var(--cw) - var(--fw)); }
-  #hand .line:last-child .group:last-child .card:last-child, .at-top .line:last-child .group:last-child .card:last-child { margin-right: 0; }
-  #hand .line, .at-top .line, #hand .group, .at-top .group { gap: 0; }
-  #hand .group + .group, #hand .line + .line, .at-top .group + .group, .at-top .line + .line { padding-left: .375rem; }
-  #hand .card, .at-top .card, .played { font-size: 1.9375rem; }
-  #hand .card .suit, .at-top .card .suit, .played .suit { font-size: 2rem; }
-}
-@media (orientation: landscape) and (max-height: 30em) {
-  .at-table { --fw: 3.1rem; }
-  #hand .card, .at-top .card, .played { font-size: 1.375rem; }
-  #hand .card .suit, .at-top .card .suit, .played .suit { font-size: 1.2rem; }
-  .at-left .card .suit, .at-right .card .suit { font-size: 1rem; }
-}
-@media (max-width: 39.99em) and (orientation: portrait) and (max-height: 49.99em) {
-  .bidding #hand .cards { flex-direction: row; }
-  .bidding { --cw: calc((100vw - 4.3rem) / 13); --ch: clamp(3.25rem, 8.65dvh, 4.6rem); }
-  .bidding #hand .card { width: 3rem; margin-right: calc(var(--cw) - 3rem); }
-  .bidding #hand .line, .bidding #hand .group { gap: 0; }
-  .bidding #hand .line:last-child .group:last-child .card:last-child { margin-right: 0; }
+  .bidding .board-picture { width: 11rem; height: 11rem; }
+  .played, :is(#hand, .at-top) .card { font-size: 2.5rem; }
+  .played .suit, :is(#hand, .at-top) .card .suit { font-size: 2.5rem; }
 }
 @media (prefers-reduced-motion: no-preference) {
   .card { transition: transform 120ms ease-out; }
 }
-/* The trick. */
-.trick { grid-template-columns: repeat(3, var(--tw)); grid-template-rows: repeat(4, calc((var(--th) - .15rem) / 2)); }
-/* Dummy at a side. */
-.at-left .cards, .at-right .cards { border: 0; padding: 0 calc(var(--fw) - var(--cw)) 0 0; }
-.at-left .group, .at-right .group { flex-wrap: wrap; max-width: calc(6 * var(--cw) + 1px); row-gap: .1rem; }
-.at-left .card:last-child, .at-right .card:last-child { margin-right: calc(var(--cw) - var(--fw)); }
-.plate em { flex: none; white-space: nowrap; }
-@media (max-width: 39.99em) and (orientation: portrait) {
-  .dummy-left, .dummy-right { --tw: clamp(2rem, calc((100vw - 15.5rem) / 3), 2.75rem); }
-  .at-left, .at-right { --ch: clamp(2.45rem, 6dvh, 3.5rem); }
-  .at-left .card, .at-right .card { padding-top: .1rem; }
-  .dummy-left .at-left > .plate, .dummy-right .at-right > .plate {
-    display: grid; grid-template: "b n" "b e" / auto minmax(0, 1fr); gap: 0 .35rem; justify-items: start; text-align: left; margin-bottom: .2rem;
-  }
-  .dummy-left .at-left > .plate b, .dummy-right .at-right > .plate b { grid-area: b; }
-  #stage { grid-template-columns: clamp(5rem, calc(50vw - 6rem), 6.25rem) minmax(0, 1fr) clamp(5rem, calc(50vw - 6rem), 6.25rem); }
-  .wide { display: none; }
-}
-@media (max-width: 39.99em) and (orientation: portrait) and (max-height: 44em) {
-  .bidding #status:not(.lost) { position: absolute; width: 1px; height: 1px; margin: 0; padding: 0; overflow: hidden; clip-path: inset(50%); }
-}
-/* Tablets that stand upright. */
-@media (min-width: 40em) and (orientation: portrait) and (min-height: 30.01em) {
-  #stage { grid-template-columns: 8rem minmax(0, 1fr) 8rem; }
-  .at-left > .plate, .at-right > .plate { font-size: .9375rem; }
-  .dummy-left #stage { grid-template-columns: 13.5rem minmax(0, 1fr) 8rem; }
-  .dummy-right #stage { grid-template-columns: 8rem minmax(0, 1fr) 13.5rem; }
-  .dummy-left, .dummy-right { --tw: 4.25rem; --th: 6rem; }
-  .at-left, .at-right { --cw: 1.875rem; --fw: 3.25rem; --ch: 4.25rem; }
-  .at-left .card, .at-right .card { font-size: 1.5rem; }
-  #dock button { min-height: 3.25rem; }
-  #dock .bid { font-size: 1.375rem; }
-}
-@media (min-width: 40em) and (min-height: 30.01em) {
-  .at-left .card .suit, .at-right .card .suit { font-size: 1.5rem; }
-}
-/* A hand in one fan. */
-@media (min-width: 40em) {
-  #hand .line, .at-top .line { display: contents; }
-  #hand .cards, .at-top .cards { column-gap: .375rem; padding-right: calc(.25rem + var(--fw) - var(--cw)); }
-  #hand .group + .group, .at-top .group + .group { padding-left: 0; }
-  .in-H { order: 1; }
-  .in-C { order: 2; }
-  .in-D { order: 3; }
-  #hand .line:last-child .group:last-child .card:last-child, .at-top .line:last-child .group:last-child .card:last-child { margin-right: calc(var(--cw) - var(--fw)); }
-}
-@media (max-width: 39.99em) and (orientation: portrait) and (max-height: 49.99em) {
-  .bidding #hand .line { display: contents; }
-  .bidding #hand .cards { gap: 0 .2rem; padding-right: calc(3.25rem - var(--cw)); }
-  .bidding .in-H { order: 1; }
-  .bidding .in-C { order: 2; }
-  .bidding .in-D { order: 3; }
-  .bidding #hand .line:last-child .group:last-child .card:last-child { margin-right: calc(var(--cw) - 3rem); }
-}
-/* Telephones that lie across. */
-@media (orientation: landscape) and (max-height: 30em) {
-  .dummy-left, .dummy-right { --tw: 2.75rem; --th: 3.5rem; }
-  .at-table:not(.dummy-left):not(.dummy-right) .played { font-size: 1.125rem; }
-  .at-table:not(.dummy-left):not(.dummy-right) .played .suit { font-size: 1rem; margin-top: 0; }
-  #dock.play #claim-open[hidden] + #confirm { grid-column: auto; }
-  .sheet { inset: auto .5rem .4rem; max-height: calc(100dvh - .8rem); max-width: 46rem; padding: .5rem .75rem; }
-  #choices { display: grid; grid-template-columns: 1fr 1fr; gap: 0 .75rem; }
-  #choices h2, #choices button { grid-column: 1 / -1; margin: 0; }
-  .dummy-left .at-left wbr, .dummy-right .at-right wbr { display: none; }
-  .at-left .group, .at-right .group { row-gap: .05rem; }
-  .at-left, .at-right { --ch: 1.6rem; }
-  .dummy-left .at-left .cards, .dummy-right .at-right .cards { gap: .05rem; }
-  .at-left .line, .at-right .line { gap: .05rem; }
-}
-/* The panel beside the table. */
-#side > p:first-child { display: flex; align-items: baseline; gap: .6rem; }
-/* Bids are cards, and the answers to a claim stand apart. */
-#dock .bid { background: var(--face); }
-#dock .bid .red { color: var(--red); }
-.four #dock .bid .diamond { color: var(--diamond); }
-.four #dock .bid .club { color: var(--club); }
-#dock .bid:disabled { background: var(--soft); }
-#dock .bid:disabled .suit { color: var(--off); }
-#dock .bid[aria-pressed=true] { background: var(--gold); }
-#dock.claimed { column-gap: clamp(.5rem, 8vw, 6rem); }
-#dock.claimed button { min-height: 3.25rem; }
 /* Between the boards. */
 .between #main { display: grid; grid-template-columns: repeat(auto-fit, minmax(min(100%, 26rem), 1fr)); gap: .75rem; align-items: start; width: 100%; }
 .between .panel { width: 100%; max-width: 40rem; margin: 0 auto; }
@@ -748,10 +775,6 @@ td.turn { font-weight: bold !important; }
   .suit-line > :not(.suit) { margin-right: .14rem; }
   .over #dock.onward { margin: auto -.5rem 0; }
 }
-@media (max-width: 39.99em) and (orientation: portrait) and (max-height: 44em) {
-  #dock.claimed { padding-top: .2rem; }
-  #dock.claimed button { min-height: 2.75rem; }
-}
 /* Large letters on a small screen: one below the other. */
 @media (max-width: 17em) {
   .at-table { --tw: 2rem; --th: 2.75rem; }
@@ -769,11 +792,6 @@ td.turn { font-weight: bold !important; }
   #parts button, #dock.onward button { min-width: 0; max-width: 100%; overflow-wrap: anywhere; }
 }
 /* Nearer to the pictures. */
-.numbers { grid-template-columns: repeat(7, minmax(2.75rem, 1fr)); }
-.numbers button:first-child, .numbers button:last-child { grid-column: span 2; }
-.sheet > p:not(.second) { padding: .5rem .75rem; background: var(--soft); border-radius: .5rem; font-weight: bold; }
-.sheet .row > .send { flex: 1; min-height: 3.25rem; }
-.sheet .row { gap: .6rem; }
 #options { display: flex; flex-wrap: wrap; justify-content: space-between; align-items: center; }
 #options > h2 { margin: 0; }
 #options > fieldset { flex-basis: 100%; min-width: 0; }
@@ -784,30 +802,18 @@ legend { font-weight: bold; padding: 0 .3rem; }
 :root { --line: #d9d4c6; }
 @media (prefers-color-scheme: dark) { :root:not(.light) { --line: #33403a; --plate-edge: var(--edge); } }
 :root.dark { --line: #33403a; --plate-edge: var(--edge); }
-.plate { box-shadow: inset 0 0 0 1px var(--plate-edge, transparent); }
 .panel { border-color: var(--line); }
 .list th, .list td { border-bottom-color: var(--line); }
 .list thead th { border-bottom-color: var(--edge); }
 #chip { font-size: 1.0625rem; border-width: .55rem; }
-#dock #confirm .bid, #dock #confirm .suit { color: inherit; background: none; font-size: inherit; min-height: 0; }
-td.marked { outline: 2px dashed var(--blue); outline-offset: -2px; }
 #band > p:first-child::first-letter { text-transform: uppercase; }
 .banner p:nth-child(even) { text-align: right; }
-td.turn .red { color: var(--red); }
-@media (min-width: 40em) { .more { margin-left: -.375rem; } }
-.bidding .more { margin-left: -.2rem; }
 .part > table:not(.list) th { font-size: .8125rem; color: var(--plate-ink); background: var(--plate); }
 .part > table:not(.list) tbody tr:nth-child(even) { background: var(--soft); }
 .part > table:not(.list) td .bid { font-weight: bold; }
 #tricks td, #tricks th { padding: .1rem .25rem; font-size: .9375rem; }
 .figure { padding: .5rem .6rem; }
 .figure .second { font-size: .8125rem; line-height: 1.2; }
-.void-of { display: none; }
-.at-left .void-of, .at-right .void-of { display: flex; }
-.void .red { color: var(--text-red); }
-#strip summary > span:last-child { font-size: .875rem; white-space: nowrap; }
-.bidding .board-picture { display: none; }
-body.login { background: var(--felt); }
 body.login #bar { position: absolute; width: 1px; height: 1px; min-height: 0; overflow: hidden; clip-path: inset(50%); }
 body.login main { margin: auto !important; }
 body.login .panel { margin: 0 auto; padding: 1.25rem; border: 0; border-radius: 1rem; box-shadow: 0 6px 24px rgb(0 0 0 / 35%); position: relative; }
@@ -825,33 +831,6 @@ body.login::before {
   #options > fieldset { grid-row: 2; }
   #choices .row { grid-column: 1 / -1; flex-wrap: nowrap; margin: 0; }
   #choices { display: block; }
-  #dock.play, #dock.claimed { border-top: 0; }
-  #dock.play { color: var(--on-felt); background: var(--strip); }
-  #dock.play button { color: var(--ink); }
-  #dock.play .send { color: var(--on-blue); }
-  #dock.play button:disabled { color: var(--off); }
-  #dock.claimed { column-gap: .4rem; align-content: end; }
-  #dock.claimed button { min-height: 2.75rem; font-size: .875rem; }
-}
-@media (max-width: 39.99em) and (orientation: portrait) and (min-height: 50em) {
-  .at-table { --tw: min(3.6875rem, calc((100vw - 11.9rem) / 3)); --th: 5.0625rem; }
-  #stage { grid-template-columns: 5rem minmax(0, 1fr) 5rem; }
-  .dummy-left, .dummy-right { --tw: 2.75rem; --th: 4.125rem; }
-}
-@media (min-width: 56em) and (orientation: landscape) and (min-height: 30.01em) {
-  .bidding .auction th br, #side th br { display: none; }
-  .bidding .auction th br + span, #side th br + span { position: absolute; width: 1px; height: 1px; overflow: hidden; clip-path: inset(50%); }
-  .bidding .auction td { font-size: 1.375rem; padding: .35rem .1rem; }
-  .bidding .board-picture { display: grid; grid-area: mid; place-self: start center; width: 9rem; height: 9rem; }
-  #side { display: flex; flex-direction: column; }
-}
-@media (min-width: 40em) and (orientation: portrait) and (min-height: 30.01em) {
-  .bidding #stage { grid-template: auto minmax(0, 1fr) / 8rem minmax(0, 1fr) 8rem; grid-template-areas: "top top top" "left mid right"; }
-  .bidding .at-left, .bidding .at-right, .bidding .at-top { display: block; }
-  .bidding .auction { align-self: center; }
-  .bidding .auction th br { display: none; }
-  .bidding .auction th br + span { position: absolute; width: 1px; height: 1px; overflow: hidden; clip-path: inset(50%); }
-  .bidding .auction td { font-size: 1.375rem; padding: .35rem .1rem; }
 }
 @media print {
   #bar button, button, summary, label, input, select, textarea, #status, #told, #tabs, #dock, #serving, #others, #on-tables, #lines, .director .panel:not(#publishing):not(#ranking) { display: none !important; }
@@ -881,7 +860,7 @@ const TEXTS = {
   bidName: (level, strain, doubled) => level + " " + strain + doubled,
   doubled: { X: " doubled", XX: " redoubled" },
   vulnerable: { None: "nobody vulnerable", NS: "North and South vulnerable", EW: "East and West vulnerable", All: "all vulnerable" },
-  vulnerableShort: { None: "nobody vul", NS: "N\u2013S vul", EW: "E\u2013W vul", All: "all vul" },
+  vulnerableShort: { None: "Nobody vul", NS: "N\u2013S vul", EW: "E\u2013W vul", All: "All vul" },
   you: "You",
   yes: "Yes",
   no: "No",
@@ -975,6 +954,7 @@ const TEXTS = {
   toCall: (seat) => seat + " to call",
   dueCall: "to call",
   callIt: "Call ",
+  bidIt: "Bid ",
   playIt: "Play ",
   sending: "Sending \u2026",
   tapCard: "Tap a card",
@@ -984,7 +964,8 @@ const TEXTS = {
   deals: "deals",
   trickTo: (seat) => "Trick to " + seat,
   dealsShort: (seat) => seat + " deals",
-  atTable: (table, round, rounds) => " \u00b7 table " + table + " \u00b7 round " + round + " of " + rounds,
+  atTable: (table, round, rounds) => " \u00b7 Table " + table + " \u00b7 Round " + round + " of " + rounds,
+  boardOf: (index, count) => " \u00b7 " + (["1st", "2nd", "3rd"][index] || index + 1 + "th") + " of " + count + " boards",
   declarerShort: "decl.",
   declarer: "declarer",
   dummy: "dummy",
@@ -993,11 +974,18 @@ const TEXTS = {
   ownDummy: "Your hand, which is dummy",
   table: "Table",
   lastTrick: "Last trick",
+  lastTrickTo: (seat) => "Last trick, won by " + seat,
+  backToPlay: "Back to the play",
   trickNow: "Trick",
   tally: (we, they) => "Tricks: we " + we + ", they " + they,
   tricksHead: "Tricks",
+  weTook: (tricks) => "We " + tricks,
+  theyTook: (tricks) => "They " + tricks,
   contract: "Contract",
   by: (seat, own) => (own ? "by you" : "by " + (TEXTS.seats[seat] || seat)),
+  bySeat: (seat, own) => "by " + TEXTS.seats[seat] + (own ? ", you" : ""),
+  toMake: (tricks, left) => tricks + " tricks needed: " + (left > 0 ? left + " to go" : "made"),
+  toBeat: (tricks, left) => "We need " + tricks + " to beat it: " + (left > 0 ? left + " to go" : "it is down"),
   needs: (tricks) => " \u00b7 needs " + tricks,
   weNeed: (tricks) => " \u00b7 we need " + tricks,
   theBoard: "The board",
@@ -1078,6 +1066,7 @@ const TEXTS = {
   roundSoFar: "This round",
   eveningSoFar: "Evening so far: ",
   now: "now",
+  next: "next",
 
   // A board that is over, and the score card.
   myBoards: "My boards",
@@ -1846,7 +1835,7 @@ function biddingBox(view) {
     return node;
   };
   const cells = [call("PASS", TEXTS.pass, "", "box-call"), call("X", "X", TEXTS.double, "box-call"), call("XX", "XX", TEXTS.redouble, "box-call"),
-    confirmButton(mine ? (isSafe() ? TEXTS.tapCall : TEXTS.yourCall) : TEXTS.toCall(SEAT_NAMES[view.turn]), TEXTS.callIt)];
+    confirmButton(mine ? (isSafe() ? TEXTS.tapCall : TEXTS.yourCall) : TEXTS.toCall(SEAT_NAMES[view.turn]), marked && isBid(marked.what.slice(5)) ? TEXTS.bidIt : TEXTS.callIt)];
   for (let level = 1; level <= 7; level += 1) {
     for (const strain of STRAINS) {
       const word = level + strain;
@@ -1957,7 +1946,8 @@ function auctionTable(place, view) {
     make("span", { aria_label: SEAT_NAMES[seat] }, seat === view.seat && view.isOwn !== false ? TEXTS.you : place.names ? place.names[seat] : ""))));
   const cells = Array(columns.indexOf(view.dealer)).fill("").concat(view.calls);
   const rows = [];
-  for (let i = 0; i < cells.length + (due ? 1 : 0); i += 4) {
+  // An auction at play has room for twelve calls, so that it stays where it is.
+  for (let i = 0; i < Math.max(cells.length + (due ? 1 : 0), due ? 12 : 0); i += 4) {
     rows.push(make("tr", null, ...[0, 1, 2, 3].map((j) => {
       const dueHere = due !== null && i + j === cells.length;
       if (dueHere && marked && marked.what.startsWith("call-")) return make("td", { className: "turn marked" }, ...callNodes(marked.what.slice(5)));
@@ -2021,16 +2011,18 @@ function plate(place, view, seat) {
   return node;
 }
 
+// A card of a trick, on the side of who played it.
+function cardOnTable(view, { seat, card }, won) {
+  return make("span", { className: "played " + placeOf(view, seat) + SUIT_CLASSES[card[0]] + (won ? " won" : ""), role: "img",
+    aria_label: SEAT_NAMES[seat] + ": " + cardName(card) }, ...cardNodes(card));
+}
+
 // The trick on the table: the one at play, or the last whole one until the next card is led.
 function trickNode(view) {
   const whole = view.trick.length === 0;
   const trick = whole ? view.last : view.trick;
-  const node = make("div", { className: "trick", role: "group", aria_label: whole && trick.length ? TEXTS.lastTrick : TEXTS.trickNow });
-  for (const { seat, card } of trick) {
-    const won = whole && seat === view.turn;
-    node.append(make("span", { className: "played " + placeOf(view, seat) + SUIT_CLASSES[card[0]] + (won ? " won" : ""), role: "img",
-      aria_label: SEAT_NAMES[seat] + ": " + cardName(card) }, ...cardNodes(card)));
-  }
+  const node = make("div", { className: "trick", role: "group", aria_label: whole && trick.length ? TEXTS.lastTrick : TEXTS.trickNow },
+    ...trick.map((one) => cardOnTable(view, one, whole && one.seat === view.turn)));
   if (!whole && onTurn(view)) node.append(make("span", { className: "due " + placeOf(view, view.turn), aria_hidden: "true" }, view.turn));
   return node;
 }
@@ -2050,40 +2042,53 @@ function stageNode(place, view, middle) {
   return node;
 }
 
+// The tricks of this player's side and of the other.
+const sidesOf = (view) => (view.seat === "N" || view.seat === "S" ? [view.tricks.NS, view.tricks.EW] : [view.tricks.EW, view.tricks.NS]);
+
 // The tricks as cards are turned at a table: ours upright, theirs lying.
-function tallyNode(place, view) {
-  const [we, they] = view.seat === "N" || view.seat === "S" ? [view.tricks.NS, view.tricks.EW] : [view.tricks.EW, view.tricks.NS];
+function tallyNode(view) {
+  const [we, they] = sidesOf(view);
   const marks = Array(Number(we)).fill("ours").concat(Array(Number(they)).fill("theirs"), Array(13 - Number(we) - Number(they)).fill(""));
-  return [make("span",
-    { className: "tally", role: "img", aria_label: TEXTS.tally(we, they) }, ...marks.map((mark) => make("i", { className: mark }))),
-    make("span", { className: "score", aria_hidden: "true" }, we + "\u2013" + they)];
+  return make("span", { className: "tally", role: "img", aria_label: TEXTS.tally(we, they) }, ...marks.map((mark) => make("i", { className: mark })));
 }
 
-function contractNodes(place, view, short) {
-  const { bid, declarer } = place.contract;
-  const ours = declarer === view.seat || declarer === partner(view.seat);
-  const needs = 6 + Number(bid[0]);
-  const words = (short && declarer !== view.seat ? declarer : TEXTS.by(declarer, declarer === view.seat)) + (ours ? TEXTS.needs(needs) : TEXTS.weNeed(14 - needs));
-  return [make("span", { className: "contract", aria_label: callName(bid) }, ...callNodes(bid)), make("span", null, words)];
+// The contract, and how many tricks this side needs.
+const contractNode = ({ bid }) => make("span", { className: "contract", aria_label: callName(bid) }, ...callNodes(bid));
+const isOurs = (view, declarer) => declarer === view.seat || declarer === partner(view.seat);
+const needed = (view, { bid, declarer }) => (isOurs(view, declarer) ? 6 + Number(bid[0]) : 8 - Number(bid[0]));
+
+function stripNode({ contract }, view, auction) {
+  const { declarer } = contract;
+  const words = (declarer === view.seat ? TEXTS.by(declarer, true) : declarer)
+    + (isOurs(view, declarer) ? TEXTS.needs : TEXTS.weNeed)(needed(view, contract));
+  const calls = make("details", { id: "calls" }, make("summary", null, contractNode(contract), make("span", null, words)), make("div", null, auction));
+  return make("section", { id: "strip", aria_label: TEXTS.contract }, calls, tallyNode(view),
+    make("span", { className: "score", aria_hidden: "true" }, sidesOf(view).join("\u2013")));
 }
 
-function stripNode(place, view) {
-  const calls = make("details", { id: "calls" }, make("summary", null, ...contractNodes(place, view, true)), make("div", null, auctionTable(place, view)));
-  return make("section", { id: "strip", aria_label: TEXTS.contract }, calls, ...tallyNode(place, view));
-}
+// Who won the last trick.
+const lastWinner = (place, view) => winnerOf(view.last, strainOf(place.contract.bid)[0]);
 
-function lastTrickNodes(view) {
-  return view.last.map(({ seat, card }) => make("span", { className: "field" },
-    seat + " ",
+function lastTrickNodes(place, view) {
+  const winner = lastWinner(place, view);
+  return view.last.map(({ seat, card }) => make("span", { className: seat === winner ? "won" : "" }, seat + " ",
     make("span", { className: SUIT_CLASSES[card[0]].trim(), role: "img", aria_label: SEAT_NAMES[seat] + ": " + cardName(card) }, ...cardNodes(card).reverse())));
 }
 
+// What stands beside the table: the contract and the tricks, the last trick, the auction and the round.
 function sideNode(place, view) {
+  const { contract } = place;
+  const [we, they] = sidesOf(view);
+  const due = needed(view, contract);
+  const part = (name, title, ...nodes) => make("section", { className: "side-" + name }, make("h2", null, title), ...nodes);
   const node = make("aside", { id: "side", aria_label: TEXTS.theBoard },
-    make("p", null, ...contractNodes(place, view)), make("h2", null, TEXTS.tricksHead),
-    make("p", { className: "row" }, ...tallyNode(place, view)));
-  if (view.last.length) node.append(make("h2", null, TEXTS.lastTrick), make("p", { className: "row" }, ...lastTrickNodes(view)));
-  node.append(make("h2", null, TEXTS.auction), auctionTable(place, view), make("h2", null, TEXTS.roundSoFar), roundNode(place, view));
+    make("section", { className: "side-contract" }, contractNode(contract), make("span", null, make("b", null, TEXTS.bySeat(contract.declarer, contract.declarer === view.seat)), make("br"),
+      (isOurs(view, contract.declarer) ? TEXTS.toMake : TEXTS.toBeat)(due, due - Number(we)))),
+    part("tricks", TEXTS.tricksHead, make("p", null, make("span", null, TEXTS.weTook(we)), tallyNode(view), make("span", null, TEXTS.theyTook(they)))));
+  if (view.last.length) node.append(part("last", TEXTS.lastTrickTo(SEAT_NAMES[lastWinner(place, view)]), make("p", null, ...lastTrickNodes(place, view))));
+  const all = worthOfAll(told.boards);
+  node.append(part("auction", TEXTS.auction, auctionTable(place, view)),
+    part("round", TEXTS.roundSoFar, roundNode(place, view), ...(all ? [make("p", null, TEXTS.eveningSoFar, worthOfSome(all))] : [])));
   return node;
 }
 
@@ -2147,9 +2152,12 @@ function claimSheet(place, view) {
     make("div", { className: "row" }, button(TEXTS.back, "", "claim-back", true, () => { claiming = null; drawn(); }), claim));
 }
 
-function lastSheet(view) {
-  return sheet("last-trick", TEXTS.lastTrick, make("h2", null, TEXTS.lastTrick),
-    make("div", { className: "row" }, ...lastTrickNodes(view)), button(TEXTS.close, "", "last-close", true, () => { looking = false; drawn(); }));
+function lastSheet(place, view) {
+  const winner = lastWinner(place, view);
+  const close = button(TEXTS.backToPlay, "", "last-close", true, () => { looking = false; drawn(); });
+  close.className = "send";
+  return sheet("last-trick", TEXTS.lastTrick, make("h2", null, TEXTS.lastTrickTo(SEAT_NAMES[winner])),
+    make("div", { className: "trick" }, ...view.last.map((one) => cardOnTable(view, one, one.seat === winner))), close);
 }
 
 // Answers to a claim that this player is asked for.
@@ -2210,13 +2218,13 @@ function playNodes(place, view) {
   if (!view.playing || !place.contract) {
     const stage = stageNode(place, view, make("div", { id: "auction", className: "auction" }, auctionTable(place, view)));
     // The board lies there while there is room.
-    if (view.calls.length < 8) stage.append(boardPicture({ number: Number(view.board), side: "NS", calls: [] }, view.seat));
+    if (view.calls.length < 9) stage.append(boardPicture({ number: Number(view.board), side: "NS", calls: [] }, view.seat));
     return [stage, own, biddingBox(view)];
   }
-  const nodes = [stripNode(place, view), stageNode(place, view, trickNode(view)), own];
+  const nodes = [stripNode(place, view, auctionTable(place, view)), stageNode(place, view, trickNode(view)), own];
   if (claiming && (claiming.board !== view.board || view.claim || view.trick.length > 0)) claiming = null;
   if (claiming) nodes.push(claimSheet(place, view));
-  else if (looking && view.last.length) nodes.push(lastSheet(view));
+  else if (looking && view.last.length) nodes.push(lastSheet(place, view));
   nodes.push(view.claim && place.answer ? answerDock(place, view) : playDock(place, view), sideNode(place, view));
   return nodes;
 }
@@ -2302,7 +2310,7 @@ function namesNode(place) {
 // What the evening has come to so far, and the way to the score card.
 function soFarNodes() {
   const all = worthOfAll(told.boards);
-  const words = all ? [make("p", null, TEXTS.eveningSoFar, make("b", null, all.percent ? TEXTS.percent(all.percent) : TEXTS.imps(all.points)))] : [];
+  const words = all ? [make("p", null, TEXTS.eveningSoFar, make("b", null, worthOfSome(all)))] : [];
   return [...words, make("div", { className: "row" }, button(TEXTS.myBoards, "", "between-boards", true, () => turnLeaf({ card: true })))];
 }
 
@@ -2347,7 +2355,13 @@ function barFor(place, view) {
   chip.setAttribute("aria-label", TEXTS.boardWords(view.board, SEAT_NAMES[view.dealer], vulnerableText(view.vulnerable)));
   at("title").textContent = TEXTS.board(view.board);
   at("below").replaceChildren(TEXTS.dealsShort(view.dealer) + " \u00b7 " + TEXTS.vulnerableShort[view.vulnerable],
-    make("span", { className: "wide" }, place.table ? TEXTS.atTable(place.table.number, place.round, place.rounds) : ""));
+    make("span", { className: "wide" }, place.table ? TEXTS.atTable(place.table.number, place.round, place.rounds) + whichBoard(place.table, view.board) : ""));
+}
+
+// Which of the boards of this round it is, where it is one of them.
+function whichBoard({ first, last }, board) {
+  const [index, count] = [Number(board) - Number(first), Number(last) - Number(first) + 1];
+  return index >= 0 && index < count ? TEXTS.boardOf(index, count) : "";
 }
 
 // The classes by which the style lays the page out.
@@ -2544,7 +2558,7 @@ function closeMenu() {
 at("choices").onkeydown = holdTab;
 at("menu").onclick = () => { if (at("choices").hidden) showMenu(); else closeMenu(); };
 at("chosen").onclick = () => { closeMenu(); at("menu").focus(); };
-at("menu").textContent = TEXTS.menu;
+at("menu").setAttribute("aria-label", TEXTS.menu);
 at("chosen").textContent = TEXTS.done;
 window.addEventListener("resize", showNewest);
 document.addEventListener("keydown", (event) => {
@@ -2732,12 +2746,8 @@ function trickPicture(board, own, step) {
   const view = viewOf(board, own);
   const { trick } = board.cards[step - 1];
   const node = make("div", { className: "trick", role: "group", aria_label: TEXTS.trick(trick + 1) });
-  for (const { seat, card, winner } of board.cards.slice(0, step).filter((one) => one.trick === trick)) {
-    const won = winner === seat && board.cards.slice(0, step).filter((one) => one.trick === trick).length === 4;
-    node.append(make("span",
-      { className: "played " + placeOf(view, seat) + SUIT_CLASSES[card[0]] + (won ? " won" : ""), role: "img", aria_label: SEAT_NAMES[seat] + ": " + cardName(card) },
-      ...cardNodes(card)));
-  }
+  const cards = board.cards.slice(0, step).filter((one) => one.trick === trick);
+  node.append(...cards.map((one) => cardOnTable(view, one, cards.length === 4 && one.winner === one.seat)));
   return node;
 }
 
@@ -2897,7 +2907,7 @@ function roundNode(place, view) {
   return make("ol", { className: "round" }, ...numbers.map((number) => {
     const over = told.boards.find((board) => board.number === number && board.round === String(place.round));
     const now = String(number) === view.board;
-    const came = over ? worthText(over.worth) || scoreText(over) || "\u2013" : now ? TEXTS.now : "";
+    const came = over ? worthText(over.worth) || scoreText(over) || "\u2013" : now ? TEXTS.now : number === Number(view.board) + 1 ? TEXTS.next : "";
     return make("li", { className: now ? "now" : "" }, make("b", null, String(number)), came);
   }));
 }
@@ -2912,6 +2922,8 @@ function worthOfAll(boards) {
   if (sum(1) === 0) return null;
   return { points: sum(0).toFixed(1), of: sum(1), percent: (100 * sum(0) / sum(1)).toFixed(1) };
 }
+
+const worthOfSome = (all) => (all.percent ? TEXTS.percent(all.percent) : TEXTS.imps(all.points));
 
 function scoreCardNodes(place) {
   const all = worthOfAll(told.boards);
@@ -3073,7 +3085,7 @@ function showClock() {
 const whoCalls = ({ pair, name }) => TEXTS.ofPair(shownName(pair, name), pair);
 
 function callNodesOf(call) {
-  if (!isDirector()) return [make("p", null, make("b", null, TEXTS.directorCalled), " ", call.text ? call.text + ". " : "", TEXTS.waitForDirector)];
+  if (!isDirector()) return [make("p", { className: "called" }, make("span", null, make("b", null, TEXTS.directorCalled), " ", call.text ? call.text + ". " : "", TEXTS.waitForDirector))];
   const stateOf = (number) => lastTables && lastTables.tables.find((one) => one.number === number);
   const open = () => { const state = stateOf(call.table); if (state) openTable(state); };
   const grant = (number) => { const state = stateOf(number); if (state) grantBack(state); };
@@ -3124,7 +3136,7 @@ function closeCall() {
 }
 
 at("bell").onclick = () => { if (reason === null) showCall(); else closeCall(); };
-at("bell").textContent = TEXTS.bell;
+at("bell").replaceChildren(make("span", null, TEXTS.bell));
 at("bell").setAttribute("aria-label", TEXTS.callDirector);
 at("calling").onkeydown = holdTab;
 
