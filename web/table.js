@@ -918,15 +918,19 @@ function chosen() {
   drawn();
 }
 
-// The menu: of a player his boards, how he sends and how cards look; of all light and dark, and to leave.
+// The suits in the colours of a choice.
+const suitsIn = (colours, words) => make("span", null, make("span", { className: colours + " suits", aria_hidden: "true" }, ...SUITS.map(suitSign)), " " + words);
+
+// The menu: of a player his boards, how he sends and how cards look; of all light and dark, and to leave who has logged in.
 function showMenu() {
-  const options = [choiceOf(TEXTS.lightTitle, "light", lightNow(), Object.entries(TEXTS.lights))];
-  if (document.body.className !== "director") {
+  const options = [choiceOf(TEXTS.suitsTitle, "suits", sessionStorage.getItem("suits") || "two", [["two", suitsIn("two", TEXTS.suitsTwo)], ["four", suitsIn("four", TEXTS.suitsFour)]]),
+    choiceOf(TEXTS.lightTitle, "light", lightNow(), Object.entries(TEXTS.lights))];
+  if (key !== null && !isDirector()) {
     options.unshift(button(TEXTS.myBoards, "", "menu-boards", true, () => { closeMenu(); turnLeaf({ card: true }); }),
-      choiceOf(TEXTS.sentTitle, "sent", isSafe() ? "twice" : "once", [["twice", TEXTS.sentTwice], ["once", TEXTS.sentOnce]]),
-      choiceOf(TEXTS.suitsTitle, "suits", sessionStorage.getItem("suits") || "two", [["two", TEXTS.suitsTwo], ["four", TEXTS.suitsFour]]));
+      choiceOf(TEXTS.sentTitle, "sent", isSafe() ? "twice" : "once", [["twice", TEXTS.sentTwice], ["once", TEXTS.sentOnce]]));
   }
-  at("options").replaceChildren(make("h2", null, TEXTS.textAndPlay), ...options);
+  at("options").replaceChildren(make("h2", null, key === null ? TEXTS.textAndColours : TEXTS.textAndPlay), ...options);
+  at("leave").hidden = key === null;
   at("choices").hidden = false;
   [...at("options").querySelectorAll("button"), ...at("options").querySelectorAll("input")][0].focus();
 }
@@ -937,7 +941,7 @@ function closeMenu() {
 
 at("choices").onkeydown = holdTab;
 at("menu").onclick = () => { if (at("choices").hidden) showMenu(); else closeMenu(); };
-at("chosen").onclick = () => { closeMenu(); at("menu").focus(); };
+at("chosen").onclick = () => { closeMenu(); (at("colours") || at("menu")).focus(); };
 at("menu").setAttribute("aria-label", TEXTS.menu);
 at("chosen").textContent = TEXTS.done;
 window.addEventListener("resize", showNewest);

@@ -35,6 +35,7 @@ const TEXTS = {
   reallyLeave: "Really leave?",
   menu: "Menu",
   textAndPlay: "Text and play",
+  textAndColours: "Text and colours",
   sentTitle: "A call or card is sent",
   sentTwice: "by a second tap, or the button below",
   sentOnce: "at once",

@@ -73,9 +73,20 @@ run({
     page.at("key").value = " 31007 ";
     const form = page.document.root.all().find((element) => element.tag === "form");
     assert.deepStrictEqual(await page.asks(() => form.onsubmit({ preventDefault() {} })), ["/place 31007"]);
-    assert.match(page.text("notice"), /nobody/i);
+    assert.match(page.text("wrong"), /nobody/i);
     assert.strictEqual(page.at("key").getAttribute("aria-invalid"), "true");
     assert.deepStrictEqual([...page.kept], []);
+  },
+
+  "before a key is known colours are chosen, and nothing of a player's": async () => {
+    const page = new Page(() => "ERR 1 NoKey\n");
+    await page.settle();
+    assert.deepStrictEqual(await page.click("colours"), []);
+    assert.deepStrictEqual(["choices", "leave", "menu-boards", "sent-once"].map((id) => page.at(id) && page.at(id).isShown), [true, false, null, null]);
+    page.at("suits-four").onchange();
+    assert.strictEqual(page.document.documentElement.className, "four device");
+    await page.click("chosen");
+    assert.ok(page.at("choices").hidden && page.document.activeElement.id === "colours");
   },
 
   "Leave forgets the key": async () => {

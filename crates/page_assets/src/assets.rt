@@ -161,13 +161,29 @@ body:not(.at-table) #status { order: 1; align-self: center; margin: .75rem .75re
 .panel h2:first-child { margin-top: 0; }
 .large { font-size: 1.875rem; font-weight: bold; line-height: 1.2; margin: .2rem 0; }
 .second { color: var(--second); }
-body.login { background: var(--felt); }
-body.login #bar { background: transparent; }
-body.login .panel { max-width: 24rem; margin-top: 8vh; }
-body.login .panel input { width: 100%; font-size: 1.75rem; letter-spacing: .06em; text-align: center; }
-body.login .panel input[aria-invalid=true] { border: 2px solid var(--bad); }
-body.login .panel button { width: 100%; min-height: 3.25rem; margin-top: .75rem; }
-body.login .panel label { display: block; min-height: 0; margin-bottom: .3rem; font-weight: bold; }
+.login { background: var(--felt); }
+.login #bar { position: absolute; width: 1px; height: 1px; min-height: 0; overflow: hidden; clip-path: inset(50%); }
+.login::before {
+  content: "\2660\fe0e \2665\fe0e\A\2666\fe0e \2663\fe0e"; white-space: pre; position: fixed; inset: 0; display: grid; place-content: center; color: rgb(255 255 255 / 7%);
+  font: 11rem/1.2 "Segoe UI Symbol", "Apple Symbols", "Noto Sans Symbols2", "DejaVu Sans", sans-serif; overflow: hidden; pointer-events: none;
+}
+body.login main { max-width: 28rem; margin: auto; }
+.login .panel { margin: 0; padding: 1.25rem; border: 0; border-radius: 1rem; box-shadow: 0 6px 24px rgb(0 0 0 / 35%); position: relative; }
+.login .panel input { width: 100%; font-size: 1.75rem; letter-spacing: .06em; border-width: 2px; }
+.login .panel input[aria-invalid=true] { border-color: var(--bad); }
+.login .panel button { width: 100%; margin-top: .25rem; }
+.login .panel .send { min-height: 3.25rem; font-size: 1.125rem; }
+.login .panel label { display: block; min-height: 0; margin-bottom: .3rem; font-weight: bold; }
+.login .panel .large { margin: 0 0 .75rem; font-size: 1.625rem; }
+.login .second { font-size: .875rem; }
+.login-more { margin-top: 1rem; }
+#colours::before { content: "Aa"; margin-right: .6rem; font-weight: normal; }
+#wrong { margin: .4rem 0; padding-left: 1.5rem; color: var(--bad); font-weight: bold; }
+#wrong:not(:empty)::before { content: "\2715"; float: left; margin-left: -1.4rem; }
+#wrong:empty { display: none; }
+.suits { letter-spacing: .2em; }
+.four .two .diamond { color: var(--text-red); }
+.four .two .club { color: inherit; }
 .names { list-style: none; margin: .3rem 0; padding: 0; }
 .names li { display: flex; gap: .5rem; align-items: center; margin: .25rem 0; overflow-wrap: anywhere; }
 .mark { flex: none; min-width: 1.6rem; padding: 0 .3rem; border-radius: .3rem; text-align: center; font-weight: bold; background: var(--soft); }
@@ -194,9 +210,10 @@ details { margin: .6rem 0; border-top: 1px solid var(--edge); padding-top: .4rem
 }
 .banner .large { font-size: 1.375rem; }
 .banner p { margin: 0; }
-.sheet fieldset { border: 1px solid var(--edge); border-radius: .5rem; margin: .5rem 0; }
+.sheet fieldset { padding: 0 .5rem; margin: .4rem 0; border: 1px solid var(--line); border-radius: .5rem; }
 .sheet fieldset label { display: flex; }
-#chosen { width: 100%; color: var(--on-blue); background: var(--blue); }
+legend { font-weight: bold; padding: 0 .3rem; }
+#chosen { flex: 1; color: var(--on-blue); background: var(--blue); border-color: var(--blue); }
 /* The director's page: parts, of which one is in sight. */
 #tabs { flex-basis: 100%; display: flex; gap: .25rem; margin: 0 -.4rem -.25rem; overflow-x: auto; }
 #tabs[hidden], .director [hidden] { display: none !important; }
@@ -474,24 +491,26 @@ td.marked { outline: 2px dashed var(--blue); outline-offset: -2px; }
 #dock.claimed button:disabled { color: #5b645f; background: #ece8dc; }
 .sheet {
   position: fixed; inset: auto 0 0; z-index: 6; padding: .75rem .75rem max(.75rem, env(safe-area-inset-bottom)); color: var(--ink); background: var(--panel);
-  border: 1px solid var(--edge); border-radius: .75rem .75rem 0 0; max-height: calc(100dvh - 1rem); overflow-y: auto; box-shadow: 0 0 0 100vmax rgb(10 20 16 / 55%);
+  border: 0; border-radius: 1rem 1rem 0 0; max-height: calc(100dvh - 1rem); overflow-y: auto; box-shadow: 0 0 0 100vmax rgb(10 20 16 / 55%);
 }
-.sheet h2 { margin-top: 0; }
+.sheet h2 { margin: 0 0 .5rem; font-size: 1.25rem; }
 .numbers { display: grid; grid-template-columns: repeat(7, minmax(2.75rem, 1fr)); gap: .25rem; margin: .5rem 0; }
 .numbers button { padding: 0; }
 .numbers button:first-child, .numbers button:last-child { grid-column: span 2; }
 .numbers button[aria-pressed=true] { color: var(--gold-ink); background: var(--gold); }
 .sheet > p:not(.second) { padding: .5rem .75rem; background: var(--soft); border-radius: .5rem; font-weight: bold; }
 .sheet .row { justify-content: space-between; gap: .6rem; }
-.sheet .row > .send { flex: 1; min-height: 3.25rem; }
+.sheet .row > button { min-width: 6.5rem; min-height: 3.25rem; }
+.sheet .row > .send { flex: 1; }
 .sheet .trick { --tw: 3.125rem; --th: 4.25rem; justify-content: center; justify-self: stretch; margin-bottom: .75rem; padding: .5rem; border-radius: .75rem; background: var(--felt); }
 #last-close { width: 100%; min-height: 3.25rem; }
 @media (max-width: 39.99em), (orientation: landscape) and (max-height: 30em) {
   #bell span, .bidding #status:not(.lost) { position: absolute; width: 1px; height: 1px; margin: 0; padding: 0; overflow: hidden; clip-path: inset(50%); }
 }
 /* What stands above a small table takes its room from the cards; whoever waits for the director needs no turn. */
-@media (max-width: 39.99em) and (max-height: 49.99em) { .at-table:has(#desk:not(:empty)) { --ch: max(2.75rem, 7.2dvh); } }
+@media (max-width: 39.99em) and (max-height: 49.99em) { .at-table:has(#desk:not(:empty), #notice:not(:empty)) { --ch: max(2.75rem, 6.9dvh); } }
 @media (max-width: 39.99em), (max-height: 30em) {
+  .at-table #notice { padding: .2rem .75rem; font-size: .875rem; line-height: 1.25; }
   .at-table #desk > * { max-height: 2.75rem; overflow-y: auto; font-size: .875rem; line-height: 1.25; }
   .at-table:has(#desk > .called) #status:not(.lost) { position: absolute; width: 1px; height: 1px; margin: 0; padding: 0; overflow: hidden; clip-path: inset(50%); }
 }
@@ -562,19 +581,21 @@ td.marked { outline: 2px dashed var(--blue); outline-offset: -2px; }
   .auction { --head: 3.4rem; }
   .auction th { vertical-align: top; white-space: normal; }
   .auction th br + span { display: -webkit-box; -webkit-box-orient: vertical; -webkit-line-clamp: 2; overflow: hidden; }
+  .playing { background: linear-gradient(to left, var(--strip) 11rem, var(--felt) 0); }
   #dock { border-top: 0; }
   #dock.box { grid-template: repeat(14, minmax(0, 1fr)) / 5.75rem repeat(5, minmax(0, 1fr)); gap: 0 .25rem; align-content: stretch; padding: .15rem .4rem; border-left: 1px solid var(--line); }
   #dock.box button { grid-area: span 2 / auto; min-height: 2.25rem; margin: .125rem 0; }
   #dock.box #call-PASS { grid-area: 1 / 1 / span 4; }
   #dock.box #call-X { grid-area: 5 / 1 / span 3; }
   #dock.box #call-XX { grid-area: 8 / 1 / span 3; }
-  #dock.box #confirm { grid-area: 11 / 1 / span 4; flex-wrap: wrap; }
-  #dock.play { grid-template-columns: 1fr 1fr; align-content: end; background: var(--strip); }
+  #dock.box #confirm { grid-area: 11 / 1 / span 4; flex-direction: column; }
+  #dock.play { grid-template-columns: 1fr 1fr; align-content: end; background: none; }
   #dock.play button { min-height: 3.25rem; }
   #dock.play #confirm { grid-column: 1 / -1; }
   #last, #claim-open { flex-direction: column; gap: 0; font-size: .875rem; }
   #dock.claimed { align-self: end; align-content: end; gap: .4rem; }
-  #dock.claimed button { min-height: 3rem; font-size: .9375rem; }
+  #dock.claimed button { gap: .2rem; min-height: 3rem; font-size: .9375rem; }
+  #dock.claimed button::before { width: 1rem; height: 1rem; }
   .sheet { inset: auto .5rem .4rem; max-width: 46rem; max-height: calc(100dvh - .8rem); margin: 0 auto; padding: .5rem .75rem; border-radius: .75rem; }
 }
 /* Tablets and laptops. */
@@ -795,8 +816,6 @@ td.marked { outline: 2px dashed var(--blue); outline-offset: -2px; }
 #options { display: flex; flex-wrap: wrap; justify-content: space-between; align-items: center; }
 #options > h2 { margin: 0; }
 #options > fieldset { flex-basis: 100%; min-width: 0; }
-.sheet fieldset { padding: 0 .5rem; margin: .3rem 0; }
-legend { font-weight: bold; padding: 0 .3rem; }
 @media (min-width: 80em) { .director.on-rulings #opened .parts { grid-template: "h p" auto / 1fr 1fr; } }
 
 :root { --line: #d9d4c6; }
@@ -814,23 +833,19 @@ legend { font-weight: bold; padding: 0 .3rem; }
 #tricks td, #tricks th { padding: .1rem .25rem; font-size: .9375rem; }
 .figure { padding: .5rem .6rem; }
 .figure .second { font-size: .8125rem; line-height: 1.2; }
-body.login #bar { position: absolute; width: 1px; height: 1px; min-height: 0; overflow: hidden; clip-path: inset(50%); }
-body.login main { margin: auto !important; }
-body.login .panel { margin: 0 auto; padding: 1.25rem; border: 0; border-radius: 1rem; box-shadow: 0 6px 24px rgb(0 0 0 / 35%); position: relative; }
-body.login .panel input { text-align: left; border-width: 2px; }
-body.login .panel .send { font-size: 1.125rem; }
-body.login .second { font-size: .875rem; }
-body.login::before {
-  content: "\2660\fe0e\2665\fe0e\A\2666\fe0e\2663\fe0e"; white-space: pre; position: fixed; inset: 0; display: grid; place-content: center; color: rgb(255 255 255 / 7%);
-  font: 14rem/1.2 "Segoe UI Symbol", "Apple Symbols", "Noto Sans Symbols2", "DejaVu Sans", sans-serif; overflow: hidden; pointer-events: none;
-}
 @media (orientation: landscape) and (max-height: 30em) {
   #options { display: grid; grid-template-columns: repeat(3, 1fr); gap: 0 .75rem; align-items: start; }
   #options > h2 { grid-area: 1 / 1 / 2 / 3; align-self: center; margin: 0; }
   #options > button { grid-area: 1 / 3; }
   #options > fieldset { grid-row: 2; }
-  #choices .row { grid-column: 1 / -1; flex-wrap: nowrap; margin: 0; }
-  #choices { display: block; }
+  #choices .row { flex-wrap: nowrap; margin: 0; }
+  body.login main { max-width: 46rem; }
+  .login .panel { display: grid; grid-template: "head key" auto "more key" 1fr / 1fr 1fr; gap: 0 1.5rem; }
+  .login-key { grid-area: key; }
+  .login-more { align-self: end; margin: 0; }
+}
+@media (min-width: 40em) and (min-height: 30.01em) {
+  .login::before { content: "\2660\fe0e \2665\fe0e \2666\fe0e \2663\fe0e"; padding: 0 4rem; place-content: center stretch; white-space: normal; text-align-last: justify; font-size: 9rem; }
 }
 @media print {
   #bar button, button, summary, label, input, select, textarea, #status, #told, #tabs, #dock, #serving, #others, #on-tables, #lines, .director .panel:not(#publishing):not(#ranking) { display: none !important; }
@@ -879,6 +894,7 @@ const TEXTS = {
   reallyLeave: "Really leave?",
   menu: "Menu",
   textAndPlay: "Text and play",
+  textAndColours: "Text and colours",
   sentTitle: "A call or card is sent",
   sentTwice: "by a second tap, or the button below",
   sentOnce: "at once",
@@ -1472,11 +1488,15 @@ function showLogin() {
       event.preventDefault();
       key = field.value.replace(/\s/g, "");
       say("notice", "");
+      say("wrong", "");
       look();
     };
-    const form = make("form", { onsubmit: enter, className: "panel" }, make("label", { for: "key" }, TEXTS.yourKey), field,
-      make("p", { className: "second" }, TEXTS.keyHelp), make("button", { type: "submit", className: "send" }, TEXTS.sitDown),
-      make("p", { className: "second" }, TEXTS.slipLost));
+    field.setAttribute("aria-describedby", "wrong key-help");
+    const form = make("form", { onsubmit: enter, className: "panel" },
+      make("div", { className: "login-head" }, make("p", { className: "large", aria_hidden: "true" }, TEXTS.title)),
+      make("div", { className: "login-key" }, make("label", { for: "key" }, TEXTS.yourKey), field, make("p", { id: "wrong", role: "alert" }),
+        make("p", { id: "key-help", className: "second" }, TEXTS.keyHelp), make("button", { type: "submit", className: "send" }, TEXTS.sitDown)),
+      make("div", { className: "login-more" }, make("p", { className: "second" }, TEXTS.slipLost), button(TEXTS.textAndColours, "", "colours", true, showMenu)));
     field.oninput = () => {
       field.setAttribute("aria-invalid", "false");
       if (field.selectionStart === field.value.length) field.value = field.value.replace(/\s/g, "").replace(/(\d{3})(?=\d)/g, "$1 ");
@@ -1584,7 +1604,7 @@ async function lookOnce(asked) {
 
 function refuse(refused) {
   leave();
-  say("notice", TEXTS.refusals[refused] || TEXTS.noKey);
+  say("wrong", TEXTS.refusals[refused] || TEXTS.noKey);
   at("key").setAttribute("aria-invalid", "true");
 }
 
@@ -2538,15 +2558,19 @@ function chosen() {
   drawn();
 }
 
-// The menu: of a player his boards, how he sends and how cards look; of all light and dark, and to leave.
+// The suits in the colours of a choice.
+const suitsIn = (colours, words) => make("span", null, make("span", { className: colours + " suits", aria_hidden: "true" }, ...SUITS.map(suitSign)), " " + words);
+
+// The menu: of a player his boards, how he sends and how cards look; of all light and dark, and to leave who has logged in.
 function showMenu() {
-  const options = [choiceOf(TEXTS.lightTitle, "light", lightNow(), Object.entries(TEXTS.lights))];
-  if (document.body.className !== "director") {
+  const options = [choiceOf(TEXTS.suitsTitle, "suits", sessionStorage.getItem("suits") || "two", [["two", suitsIn("two", TEXTS.suitsTwo)], ["four", suitsIn("four", TEXTS.suitsFour)]]),
+    choiceOf(TEXTS.lightTitle, "light", lightNow(), Object.entries(TEXTS.lights))];
+  if (key !== null && !isDirector()) {
     options.unshift(button(TEXTS.myBoards, "", "menu-boards", true, () => { closeMenu(); turnLeaf({ card: true }); }),
-      choiceOf(TEXTS.sentTitle, "sent", isSafe() ? "twice" : "once", [["twice", TEXTS.sentTwice], ["once", TEXTS.sentOnce]]),
-      choiceOf(TEXTS.suitsTitle, "suits", sessionStorage.getItem("suits") || "two", [["two", TEXTS.suitsTwo], ["four", TEXTS.suitsFour]]));
+      choiceOf(TEXTS.sentTitle, "sent", isSafe() ? "twice" : "once", [["twice", TEXTS.sentTwice], ["once", TEXTS.sentOnce]]));
   }
-  at("options").replaceChildren(make("h2", null, TEXTS.textAndPlay), ...options);
+  at("options").replaceChildren(make("h2", null, key === null ? TEXTS.textAndColours : TEXTS.textAndPlay), ...options);
+  at("leave").hidden = key === null;
   at("choices").hidden = false;
   [...at("options").querySelectorAll("button"), ...at("options").querySelectorAll("input")][0].focus();
 }
@@ -2557,7 +2581,7 @@ function closeMenu() {
 
 at("choices").onkeydown = holdTab;
 at("menu").onclick = () => { if (at("choices").hidden) showMenu(); else closeMenu(); };
-at("chosen").onclick = () => { closeMenu(); at("menu").focus(); };
+at("chosen").onclick = () => { closeMenu(); (at("colours") || at("menu")).focus(); };
 at("menu").setAttribute("aria-label", TEXTS.menu);
 at("chosen").textContent = TEXTS.done;
 window.addEventListener("resize", showNewest);
