@@ -122,14 +122,19 @@ function worthText(worth) {
   return Number(of) === 0 ? "" : TEXTS.percent((100 * Number(points) / Number(of)).toFixed(1));
 }
 
+// The same beside a bar where it is in per cent.
+function worthNodes(worth) {
+  const text = worthText(worth);
+  const [points, of] = text ? worth.split("/").map(Number) : [];
+  return of === undefined ? [text] : [make("progress", { max: of, value: points, aria_hidden: "true" }), text];
+}
+
 function bandNode(board, seat) {
   const { result } = board;
   const lead = board.cards.length ? board.cards[0] : null;
   const words = result.bid ? [...resultNodes(result, seat), ", " + TEXTS.made(result.tricks - 6 - Number(result.bid[0]))] : resultNodes(result, seat);
   const below = result.bid ? [TEXTS.tricks(result.tricks) + (lead ? " \u00b7 " : "")] : [];
-  if (lead) below.push(TEXTS.lead + " ",
-    make("span", { role: "img", aria_label: cardName(lead.card), className: SUIT_CLASSES[lead.card[0]].trim() }, ...cardNodes(lead.card).reverse()),
-    " " + TEXTS.by(lead.seat, lead.seat === seat));
+  if (lead) below.push(TEXTS.lead + " ", cardInText(lead.card, cardName(lead.card)), " " + TEXTS.by(lead.seat, lead.seat === seat));
   return make("section", { id: "band", className: "banner", aria_label: TEXTS.result },
     make("p", { className: "large" }, ...words), make("p", { className: "large" }, scoreText(board)),
     make("p", null, ...below), make("p", null, worthText(board.worth) && TEXTS.soFar(worthText(board.worth))));
@@ -192,8 +197,8 @@ function steppedNode(board, own, step, stepped) {
   const slider = make("input",
     { id: "step", type: "range", min: 0, max: board.cards.length, step: 1, aria_label: TEXTS.stepThrough, oninput: () => go(Number(slider.value)) });
   const buttons = [
-    ["first", "\u21e4", () => 0], ["back", "\u2190", (now) => now - 1], ["on", "\u2192", (now) => now + 1],
-    ["end", "\u21e5", () => board.cards.length]]
+    ["first", "|\u2039", () => 0], ["back", "\u2039", (now) => now - 1], ["on", "\u203a", (now) => now + 1],
+    ["end", "\u203a|", () => board.cards.length]]
     .map(([name, sign, to]) => make("button",
       { type: "button", id: "step-" + name, aria_label: TEXTS.steps[name], onclick: () => go(to(Number(slider.value))) }, sign));
   const go = (now) => {
@@ -321,9 +326,11 @@ function cardTable(place, boards) {
     const others = SEATS.filter((seat) => (seat === "N" || seat === "S") !== (board.side === "NS"));
     const opens = button(String(board.number), TEXTS.openBoard(board.number),
       "open-" + board.round + "-" + board.number, true, () => showBoard(board));
+    const [lead] = board.cards;
     return make("tr", null, make("td", null, opens), make("td", { className: "who" },
       ...nameNodes(board.names[others[0]]), " \u2013 ", ...nameNodes(board.names[others[1]])), make("td", null, ...resultNodes(board.result)),
-      numberCell(tricksText(board.result)), numberCell(scoreText(board)), numberCell(worthText(board.worth)));
+      make("td", null, ...(lead ? [cardInText(lead.card, cardName(lead.card))] : [])),
+      numberCell(tricksText(board.result)), numberCell(scoreText(board)), make("td", { className: "number" }, ...worthNodes(board.worth)));
   });
   return make("table", { id: "card", className: "list", aria_label: TEXTS.scoreCard }, listHeads(TEXTS.cardHeads, 3), make("tbody", null, ...rows));
 }

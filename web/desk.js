@@ -97,7 +97,7 @@ function showClock() {
 const whoCalls = ({ pair, name }) => TEXTS.ofPair(shownName(pair, name), pair);
 
 function callNodesOf(call) {
-  if (!isDirector()) return [make("p", { className: "called" }, make("span", null, make("b", null, TEXTS.directorCalled), " ", call.text ? call.text + ". " : "", TEXTS.waitForDirector))];
+  if (!isDirector()) return [make("p", { className: "note called" }, make("span", null, make("b", null, TEXTS.directorCalled), " ", call.text ? call.text + ". " : "", TEXTS.waitForDirector))];
   const stateOf = (number) => lastTables && lastTables.tables.find((one) => one.number === number);
   const open = () => { const state = stateOf(call.table); if (state) openTable(state); };
   const grant = (number) => { const state = stateOf(number); if (state) grantBack(state); };
@@ -117,7 +117,7 @@ function showDesk() {
   if (made === deskShown) return;
   deskShown = made;
   const focus = document.activeElement ? document.activeElement.id : "";
-  const notice = desk.notice ? [make("p", null, make("b", null, TEXTS.noticeOf), " ", desk.notice)] : [];
+  const notice = desk.notice ? [make("p", { className: "note" }, make("span", null, make("b", null, TEXTS.noticeOf), " ", desk.notice))] : [];
   const end = minutes <= ENDS_SOON ? [make("p", null, TEXTS.pagesEnd(minutes, isDirector()))] : [];
   at("desk").replaceChildren(...end, ...notice, ...desk.calls.flatMap(callNodesOf));
   if (focus && at(focus)) at(focus).focus();

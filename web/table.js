@@ -85,6 +85,9 @@ function cardNodes(card) {
     make("span", { className: "suit", aria_hidden: "true" }, SIGNS[card[0]])];
 }
 
+// A card in a text, its suit before its rank.
+const cardInText = (card, label) => make("span", { className: SUIT_CLASSES[card[0]].trim(), role: "img", aria_label: label }, ...cardNodes(card).reverse());
+
 // A call as text nodes; doubles stand behind the bid in a contract.
 function callNodes(call) {
   if (call === "PASS") return [make("span", { className: "pass" }, TEXTS.pass)];
@@ -451,8 +454,8 @@ const lastWinner = (place, view) => winnerOf(view.last, strainOf(place.contract.
 
 function lastTrickNodes(place, view) {
   const winner = lastWinner(place, view);
-  return view.last.map(({ seat, card }) => make("span", { className: seat === winner ? "won" : "" }, seat + " ",
-    make("span", { className: SUIT_CLASSES[card[0]].trim(), role: "img", aria_label: SEAT_NAMES[seat] + ": " + cardName(card) }, ...cardNodes(card).reverse())));
+  return view.last.map(({ seat, card }) => make("span", { className: seat === winner ? "won" : "" },
+    make("span", { className: "second", aria_hidden: "true" }, seat + " "), cardInText(card, SEAT_NAMES[seat] + ": " + cardName(card))));
 }
 
 // What stands beside the table: the contract and the tricks, the last trick, the auction and the round.
@@ -694,9 +697,8 @@ function soFarNodes() {
   return [...words, make("div", { className: "row" }, button(TEXTS.myBoards, "", "between-boards", true, () => turnLeaf({ card: true })))];
 }
 
-function betweenNodes(place, done) {
+function betweenNodes(place, next) {
   const nodes = [];
-  const next = done && place.next;
   if (next) {
     nodes.push(make("section", { className: "panel" }, make("p", { className: "second" }, TEXTS.nextOf(place.round + 1, place.rounds)),
       make("p", { className: "large" }, TEXTS.tableSeat(next.number, SEAT_NAMES[next.seat])),
@@ -723,8 +725,9 @@ function barFor(place, view) {
   const chip = at("chip");
   chip.hidden = !view;
   if (!view) {
-    at("title").textContent = headText(place);
-    at("below").textContent = place.table ? TEXTS.tableRound(place.table.number, place.round, place.rounds) : TEXTS.roundOf(Math.min(place.round, place.rounds), place.rounds);
+    const { table, names } = place;
+    at("title").textContent = shownName(place.pair, place.name);
+    at("below").textContent = TEXTS.pairOf(place.pair) + (table ? TEXTS.with(TEXTS.sides[table.seat], names[partner(table.seat)]) : "");
     return;
   }
   const ours = view.seat === "N" || view.seat === "S" ? "NS" : "EW";
@@ -770,7 +773,8 @@ function showView(placeReply, reply) {
     drawn = () => {};
     if (showLeaf(place, TEXTS.toNext)) return;
     barFor(place, null);
-    show(made + told.text, status, "between", () => betweenNodes(place, done || refused === "SitsOut"));
+    const goesTo = (done || refused === "SitsOut") && place.next;
+    show(made + told.text, status, "between" + (goesTo ? " goes-on" : ""), () => betweenNodes(place, goesTo));
     return;
   }
   const view = readView(reply);

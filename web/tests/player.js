@@ -506,7 +506,7 @@ run({
     assert.deepStrictEqual(page.rows(page.named("Places of pairs 1 to 2")), [titles, ["1", "2", "Cy and Di", "6.0/8.0", "75.00"], ["2", "1", "Ann and Bob", "2.0/8.0", "25.00"]]);
     assert.deepStrictEqual(page.rows(page.named("Places of pairs 3 to 4")), [titles, ["1", "4", "", "5.0/8.0", "62.50"], ["2", "3", "Eve and Flo", "3.0/8.0", "37.50"]]);
     assert.strictEqual(page.text("own"), "You are first of 275.00\u00a0%Cy and Di6.0 of 8.0");
-    assert.deepStrictEqual(page.rows(page.at("card"))[1], ["4", "Eve \u2013 Fay", "3NT E", "8", "\u221250", ""]);
+    assert.deepStrictEqual(page.rows(page.at("card"))[1], ["4", "Eve \u2013 Fay", "3NT E", "\u2666\ufe0e2", "8", "\u221250", ""]);
     assert.strictEqual(page.named("Places of pairs 3 to 4").parent.nodes[0].textContent, "Ranking, pairs 3 to 4");
     assert.strictEqual(page.named("Places of pairs 1 to 2").querySelectorAll("tr")[1].className, "own");
     assert.strictEqual(page.text("results"), RESULTS);
@@ -534,7 +534,7 @@ run({
     const page = await seated(place(), view({ PLAY: "1 2 2 5" }), "OK\n", boards(board()));
     await page.click("menu");
     await page.click("menu-boards");
-    assert.deepStrictEqual(page.rows(page.at("card")), [["Board", "Against", "Contract", "Tr.", "Score", "So far"], ["4", "Eve \u2013 Fay", "3NT S", "9", "+600", ""]]);
+    assert.deepStrictEqual(page.rows(page.at("card")), [["Board", "Against", "Contract", "Lead", "Tr.", "Score", "So far"], ["4", "Eve \u2013 Fay", "3NT S", "\u2666\ufe0e2", "9", "+600", ""]]);
     await page.click("open-1-4");
     const signed = (suit, cards) => cards.map((card) => suit + "\ufe0e" + card);
     assert.deepStrictEqual(page.rows(page.at("tricks")).slice(1), [

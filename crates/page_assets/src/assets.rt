@@ -74,7 +74,7 @@ body {
   font-family: -apple-system, "Segoe UI", Roboto, "Helvetica Neue", "Liberation Sans", Arial, system-ui, sans-serif; font-variant-numeric: tabular-nums;
 }
 p { margin: .35rem 0; }
-h1 { font-size: 1.125rem; margin: 0; line-height: 1.2; overflow-wrap: break-word; }
+h1 { font-size: 1.125rem; margin: 0; line-height: 1.2; overflow: hidden; text-overflow: ellipsis; white-space: nowrap; }
 h2 { font-size: 1.0625rem; margin: .8rem 0 .3rem; }
 .suit { font-family: "Segoe UI Symbol", "Apple Symbols", "Noto Sans Symbols2", "DejaVu Sans", sans-serif; font-variant-emoji: text; }
 .red { color: var(--text-red); }
@@ -90,17 +90,23 @@ button:disabled { color: var(--off); background: var(--soft); border-style: dash
 button:focus-visible, input:focus-visible, textarea:focus-visible, select:focus-visible, summary:focus-visible { outline: 3px solid var(--blue); outline-offset: 2px; z-index: 2; }
 .send { color: var(--on-blue); background: var(--blue); border-color: var(--blue); }
 /* Signs before words, in the colour of the words. */
-#bell, #menu, #last, #claim-open, #claim-button, #confirm.send, #agree, #refuse, #call-director { display: inline-flex; justify-content: center; align-items: center; gap: .4rem; }
-:is(#bell, #menu, #last, #claim-open, #claim-button, #confirm.send, #agree, #refuse, #call-director)::before, #desk > .called::before {
+:is(#bell, #menu, #last, #claim-open, #claim-button, #confirm.send, #agree, #refuse, #call-director, #my-boards, #between-boards, #menu-boards, #print, #onward) {
+  display: inline-flex; justify-content: center; align-items: center; gap: .4rem;
+}
+:is(#bell, #menu, #last, #claim-open, #claim-button, #confirm.send, #agree, #refuse, #call-director, #my-boards, #between-boards, #menu-boards, #print)::before, #onward::after,
+#desk > .note::before {
   content: ""; flex: none; width: 1.25rem; height: 1.25rem; background: currentcolor; forced-color-adjust: none; mask: var(--sign) center / contain no-repeat;
 }
-#bell, #call-director, #desk > .called {
+#bell, #call-director, #desk > .note {
   --sign: url("data:image/svg+xml,%3Csvg xmlns='http://www.w3.org/2000/svg' viewBox='0 0 20 20' fill='none' stroke='%23000' stroke-width='1.6' stroke-linecap='round' stroke-linejoin='round'%3E%3Cpath d='M10 2v1.5M4 14.5h12l-1.6-2.4V8.4a4.4 4.4 0 0 0-8.8 0v3.7zM8.4 17.2a1.7 1.7 0 0 0 3.2 0'/%3E%3C/svg%3E");
 }
 #menu { --sign: url("data:image/svg+xml,%3Csvg xmlns='http://www.w3.org/2000/svg' viewBox='0 0 20 20' fill='none' stroke='%23000' stroke-width='1.8' stroke-linecap='round'%3E%3Cpath d='M3 5h14M3 10h14M3 15h14'/%3E%3C/svg%3E"); }
 #last { --sign: url("data:image/svg+xml,%3Csvg xmlns='http://www.w3.org/2000/svg' viewBox='0 0 20 20' fill='none' stroke='%23000' stroke-width='1.8' stroke-linejoin='round'%3E%3Cpath d='M7 3.5h9v13H7zM3.5 5v10'/%3E%3C/svg%3E"); }
 #claim-open, #claim-button { --sign: url("data:image/svg+xml,%3Csvg xmlns='http://www.w3.org/2000/svg' viewBox='0 0 20 20' fill='none' stroke='%23000' stroke-width='1.7' stroke-linejoin='round'%3E%3Cpath d='M4.5 18V2.5H16L13 6.7l3 4.3H4.5'/%3E%3C/svg%3E"); }
 #confirm.send, #agree { --sign: url("data:image/svg+xml,%3Csvg xmlns='http://www.w3.org/2000/svg' viewBox='0 0 20 20' fill='none' stroke='%23000' stroke-width='2' stroke-linecap='round' stroke-linejoin='round'%3E%3Cpath d='M3.5 10.5l4.5 4.5 8.5-10'/%3E%3C/svg%3E"); }
+#my-boards, #between-boards, #menu-boards { --sign: url("data:image/svg+xml,%3Csvg xmlns='http://www.w3.org/2000/svg' viewBox='0 0 20 20' fill='none' stroke='%23000' stroke-width='1.7' stroke-linecap='round'%3E%3Cpath d='M7.5 5H17M7.5 10H17M7.5 15H17M3.5 5h.1M3.5 10h.1M3.5 15h.1'/%3E%3C/svg%3E"); }
+#print { --sign: url("data:image/svg+xml,%3Csvg xmlns='http://www.w3.org/2000/svg' viewBox='0 0 20 20' fill='none' stroke='%23000' stroke-width='1.6' stroke-linejoin='round'%3E%3Cpath d='M6 7V2.5h8V7M6 14H3V7h14v7h-3M6 11.5h8v6H6z'/%3E%3C/svg%3E"); }
+#onward { --sign: url("data:image/svg+xml,%3Csvg xmlns='http://www.w3.org/2000/svg' viewBox='0 0 20 20' fill='none' stroke='%23000' stroke-width='2' stroke-linecap='round' stroke-linejoin='round'%3E%3Cpath d='M7.5 4l6 6-6 6'/%3E%3C/svg%3E"); }
 #refuse { --sign: url("data:image/svg+xml,%3Csvg xmlns='http://www.w3.org/2000/svg' viewBox='0 0 20 20' fill='none' stroke='%23000' stroke-width='2' stroke-linecap='round'%3E%3Cpath d='M4 4l12 12M16 4L4 16'/%3E%3C/svg%3E"); }
 input, textarea, select { padding: .4rem; background: var(--panel); border: 1px solid var(--edge); border-radius: .5rem; max-width: 100%; }
 input { min-height: 2.75rem; width: 12rem; }
@@ -124,7 +130,9 @@ label { display: inline-flex; align-items: center; gap: .4rem; min-height: 2.75r
 .at-table #desk > :not(:last-child) { display: none; }
 #desk > * { padding: .35rem .75rem; color: var(--note-ink); background: var(--note); border-top: 1px solid var(--edge); }
 .at-table #desk > * { padding: .15rem .75rem; font-size: .9375rem; }
-#desk > .called { display: flex; align-items: center; gap: .6rem; }
+#desk > .note { display: flex; align-items: center; gap: .6rem; }
+body:not(.at-table) #desk > .note { max-width: 82rem; margin: .75rem auto 0; padding: .6rem 1rem; border: 0; border-radius: .75rem; }
+body:not(.at-table) #desk { padding: 0 .75rem; }
 #desk .row { margin: 0; justify-content: space-between; color: var(--gold-ink); background: var(--gold); }
 #desk .row p { flex: 1 1 16rem; }
 #desk .row button:not(.send) { color: inherit; background: transparent; border-color: currentcolor; }
@@ -209,7 +217,7 @@ details { margin: .6rem 0; border-top: 1px solid var(--edge); padding-top: .4rem
   background: var(--felt); border-radius: .75rem;
 }
 .banner .large { font-size: 1.375rem; }
-.banner p { margin: 0; }
+.banner p { margin: 0; font-size: .875rem; }
 .sheet fieldset { padding: 0 .5rem; margin: .4rem 0; border: 1px solid var(--line); border-radius: .5rem; }
 .sheet fieldset label { display: flex; }
 legend { font-weight: bold; padding: 0 .3rem; }
@@ -682,6 +690,10 @@ td.marked { outline: 2px dashed var(--blue); outline-offset: -2px; }
 /* Between the boards. */
 .between #main { display: grid; grid-template-columns: repeat(auto-fit, minmax(min(100%, 26rem), 1fr)); gap: .75rem; align-items: start; width: 100%; }
 .between .panel { width: 100%; max-width: 40rem; margin: 0 auto; }
+.between:not(.goes-on) .panel { grid-column: 1 / -1; }
+.goes-on #status:not(.lost) { position: absolute; width: 1px; height: 1px; overflow: hidden; clip-path: inset(50%); }
+.between #card :is(.who, th:nth-child(2)) { display: none; }
+#between-boards { flex: 1; }
 .round { display: flex; gap: .4rem; margin: 0; padding: 0; list-style: none; }
 .round li { display: grid; flex: 1; justify-items: center; padding: .2rem; border: 1px solid var(--edge); border-radius: .5rem; font-size: .875rem; }
 .round .now { color: var(--gold-ink); background: var(--gold); border-color: var(--gold); }
@@ -701,6 +713,8 @@ td.marked { outline: 2px dashed var(--blue); outline-offset: -2px; }
 .list th, .list td { border: 0; border-bottom: 1px solid var(--edge); padding: .35rem .25rem; text-align: left; }
 .list thead th { color: var(--second); font-size: .8125rem; }
 .list .number { text-align: right; white-space: nowrap; }
+.list progress { width: 4rem; height: .45rem; margin-right: .4rem; accent-color: var(--blue); vertical-align: middle; }
+#card td button { padding: 0; border: 0; color: var(--blue); background: none; text-decoration: underline; }
 #dock.onward {
   position: sticky; bottom: 0; z-index: 1; display: flex; justify-content: center; gap: .5rem; margin: auto -.75rem 0;
   padding: .5rem .75rem max(.5rem, env(safe-area-inset-bottom)); background: var(--page); border-top: 1px solid var(--edge);
@@ -752,7 +766,7 @@ td.marked { outline: 2px dashed var(--blue); outline-offset: -2px; }
 .board-picture b { grid-area: middle; display: grid; place-items: center; color: #12181c; background: #fff; font-size: 1.625rem; }
 .stepper { display: grid; grid-template-columns: auto auto 1fr auto auto; gap: .3rem; align-items: center; margin-top: .5rem; text-align: center; }
 .stepper p { margin: 0; font-size: .875rem; line-height: 1.2; }
-.stepper button { padding: 0; font-size: 1.25rem; }
+.stepper button { padding: 0 0 .25rem; font-size: 1.5rem; letter-spacing: -.1em; line-height: 1; }
 #step { width: 100%; min-height: 1.75rem; padding: 0; border: 0; background: none; accent-color: var(--blue); }
 .part > table:not(.list) { width: 100%; table-layout: fixed; background: none; }
 .part > table:not(.list) th, .part > table:not(.list) td { border: 0; padding: .2rem .1rem; overflow: hidden; text-overflow: ellipsis; white-space: nowrap; font-weight: normal; }
@@ -782,7 +796,15 @@ td.marked { outline: 2px dashed var(--blue); outline-offset: -2px; }
   .over .parts { grid-template: "h s p" auto / 5fr 4fr 4fr; }
 }
 @media (max-width: 39.99em) {
-  #card .who, #card th:nth-child(2) { display: none; }
+  .list progress { display: none; }
+  .boards #card, .final #card, #card :is(thead, tbody) { display: block; }
+  .boards #card tr, .final #card tr {
+    display: grid; grid-template: "b c l t s w" auto "b a a a a a" auto / 3.25rem minmax(3.5rem, 1fr) 2.25rem 1.5rem 3.25rem 3.75rem; align-items: center; border-bottom: 1px solid var(--line);
+  }
+  :is(.boards, .final) #card :is(th, td) { padding: .1rem; border: 0; }
+  :is(.boards, .final) #card :is(th, td):first-child { grid-area: b; }
+  :is(.boards, .final) #card th:nth-child(2) { position: absolute; width: 1px; height: 1px; overflow: hidden; clip-path: inset(50%); }
+  :is(.boards, .final) #card .who { grid-area: a; padding-bottom: .4rem; font-size: .8125rem; color: var(--second); }
   .over #main { padding: .5rem .5rem 0; }
   .over .panel { padding: .5rem; }
   .over .banner { margin-bottom: .5rem; }
@@ -1058,7 +1080,9 @@ const TEXTS = {
   isYou: (name) => "You, " + name,
   nextOf: (round, rounds) => "Next, round " + round + " of " + rounds,
   roundOf: (round, rounds) => "Round " + round + " of " + rounds,
-  tableRound: (table, round, rounds) => "Table " + table + ", round " + round + " of " + rounds,
+  sides: { N: "North\u2013South", E: "East\u2013West", S: "North\u2013South", W: "East\u2013West" },
+  pairOf: (pair) => "Pair " + pair,
+  with: (side, name) => ", " + side + " \u00b7 with " + name,
   tableSeat: (table, seat) => "Table " + table + ", " + seat,
   stay: "Stay at your table.",
   goTo: (table) => "Go to table " + table + ".",
@@ -1120,7 +1144,7 @@ const TEXTS = {
   tablesSoFar: (count) => (count === 1 ? "This table alone so far" : count + " tables so far"),
   ours: (worth) => "Ours: " + worth.replace("/", " of ") + ".",
   scoreCard: "Score card",
-  cardHeads: ["Board", "Against", "Contract", "Tr.", "Score", "So far"],
+  cardHeads: ["Board", "Against", "Contract", "Lead", "Tr.", "Score", "So far"],
   openBoard: (number) => "Open board " + number,
   boardsPlayed: (count) => (count === 1 ? "board played" : "boards played"),
   ofPoints: (of) => "of " + of + " matchpoints",
@@ -1725,6 +1749,9 @@ function cardNodes(card) {
     make("span", { className: "suit", aria_hidden: "true" }, SIGNS[card[0]])];
 }
 
+// A card in a text, its suit before its rank.
+const cardInText = (card, label) => make("span", { className: SUIT_CLASSES[card[0]].trim(), role: "img", aria_label: label }, ...cardNodes(card).reverse());
+
 // A call as text nodes; doubles stand behind the bid in a contract.
 function callNodes(call) {
   if (call === "PASS") return [make("span", { className: "pass" }, TEXTS.pass)];
@@ -2091,8 +2118,8 @@ const lastWinner = (place, view) => winnerOf(view.last, strainOf(place.contract.
 
 function lastTrickNodes(place, view) {
   const winner = lastWinner(place, view);
-  return view.last.map(({ seat, card }) => make("span", { className: seat === winner ? "won" : "" }, seat + " ",
-    make("span", { className: SUIT_CLASSES[card[0]].trim(), role: "img", aria_label: SEAT_NAMES[seat] + ": " + cardName(card) }, ...cardNodes(card).reverse())));
+  return view.last.map(({ seat, card }) => make("span", { className: seat === winner ? "won" : "" },
+    make("span", { className: "second", aria_hidden: "true" }, seat + " "), cardInText(card, SEAT_NAMES[seat] + ": " + cardName(card))));
 }
 
 // What stands beside the table: the contract and the tricks, the last trick, the auction and the round.
@@ -2334,9 +2361,8 @@ function soFarNodes() {
   return [...words, make("div", { className: "row" }, button(TEXTS.myBoards, "", "between-boards", true, () => turnLeaf({ card: true })))];
 }
 
-function betweenNodes(place, done) {
+function betweenNodes(place, next) {
   const nodes = [];
-  const next = done && place.next;
   if (next) {
     nodes.push(make("section", { className: "panel" }, make("p", { className: "second" }, TEXTS.nextOf(place.round + 1, place.rounds)),
       make("p", { className: "large" }, TEXTS.tableSeat(next.number, SEAT_NAMES[next.seat])),
@@ -2363,8 +2389,9 @@ function barFor(place, view) {
   const chip = at("chip");
   chip.hidden = !view;
   if (!view) {
-    at("title").textContent = headText(place);
-    at("below").textContent = place.table ? TEXTS.tableRound(place.table.number, place.round, place.rounds) : TEXTS.roundOf(Math.min(place.round, place.rounds), place.rounds);
+    const { table, names } = place;
+    at("title").textContent = shownName(place.pair, place.name);
+    at("below").textContent = TEXTS.pairOf(place.pair) + (table ? TEXTS.with(TEXTS.sides[table.seat], names[partner(table.seat)]) : "");
     return;
   }
   const ours = view.seat === "N" || view.seat === "S" ? "NS" : "EW";
@@ -2410,7 +2437,8 @@ function showView(placeReply, reply) {
     drawn = () => {};
     if (showLeaf(place, TEXTS.toNext)) return;
     barFor(place, null);
-    show(made + told.text, status, "between", () => betweenNodes(place, done || refused === "SitsOut"));
+    const goesTo = (done || refused === "SitsOut") && place.next;
+    show(made + told.text, status, "between" + (goesTo ? " goes-on" : ""), () => betweenNodes(place, goesTo));
     return;
   }
   const view = readView(reply);
@@ -2719,14 +2747,19 @@ function worthText(worth) {
   return Number(of) === 0 ? "" : TEXTS.percent((100 * Number(points) / Number(of)).toFixed(1));
 }
 
+// The same beside a bar where it is in per cent.
+function worthNodes(worth) {
+  const text = worthText(worth);
+  const [points, of] = text ? worth.split("/").map(Number) : [];
+  return of === undefined ? [text] : [make("progress", { max: of, value: points, aria_hidden: "true" }), text];
+}
+
 function bandNode(board, seat) {
   const { result } = board;
   const lead = board.cards.length ? board.cards[0] : null;
   const words = result.bid ? [...resultNodes(result, seat), ", " + TEXTS.made(result.tricks - 6 - Number(result.bid[0]))] : resultNodes(result, seat);
   const below = result.bid ? [TEXTS.tricks(result.tricks) + (lead ? " \u00b7 " : "")] : [];
-  if (lead) below.push(TEXTS.lead + " ",
-    make("span", { role: "img", aria_label: cardName(lead.card), className: SUIT_CLASSES[lead.card[0]].trim() }, ...cardNodes(lead.card).reverse()),
-    " " + TEXTS.by(lead.seat, lead.seat === seat));
+  if (lead) below.push(TEXTS.lead + " ", cardInText(lead.card, cardName(lead.card)), " " + TEXTS.by(lead.seat, lead.seat === seat));
   return make("section", { id: "band", className: "banner", aria_label: TEXTS.result },
     make("p", { className: "large" }, ...words), make("p", { className: "large" }, scoreText(board)),
     make("p", null, ...below), make("p", null, worthText(board.worth) && TEXTS.soFar(worthText(board.worth))));
@@ -2789,8 +2822,8 @@ function steppedNode(board, own, step, stepped) {
   const slider = make("input",
     { id: "step", type: "range", min: 0, max: board.cards.length, step: 1, aria_label: TEXTS.stepThrough, oninput: () => go(Number(slider.value)) });
   const buttons = [
-    ["first", "\u21e4", () => 0], ["back", "\u2190", (now) => now - 1], ["on", "\u2192", (now) => now + 1],
-    ["end", "\u21e5", () => board.cards.length]]
+    ["first", "|\u2039", () => 0], ["back", "\u2039", (now) => now - 1], ["on", "\u203a", (now) => now + 1],
+    ["end", "\u203a|", () => board.cards.length]]
     .map(([name, sign, to]) => make("button",
       { type: "button", id: "step-" + name, aria_label: TEXTS.steps[name], onclick: () => go(to(Number(slider.value))) }, sign));
   const go = (now) => {
@@ -2918,9 +2951,11 @@ function cardTable(place, boards) {
     const others = SEATS.filter((seat) => (seat === "N" || seat === "S") !== (board.side === "NS"));
     const opens = button(String(board.number), TEXTS.openBoard(board.number),
       "open-" + board.round + "-" + board.number, true, () => showBoard(board));
+    const [lead] = board.cards;
     return make("tr", null, make("td", null, opens), make("td", { className: "who" },
       ...nameNodes(board.names[others[0]]), " \u2013 ", ...nameNodes(board.names[others[1]])), make("td", null, ...resultNodes(board.result)),
-      numberCell(tricksText(board.result)), numberCell(scoreText(board)), numberCell(worthText(board.worth)));
+      make("td", null, ...(lead ? [cardInText(lead.card, cardName(lead.card))] : [])),
+      numberCell(tricksText(board.result)), numberCell(scoreText(board)), make("td", { className: "number" }, ...worthNodes(board.worth)));
   });
   return make("table", { id: "card", className: "list", aria_label: TEXTS.scoreCard }, listHeads(TEXTS.cardHeads, 3), make("tbody", null, ...rows));
 }
@@ -3109,7 +3144,7 @@ function showClock() {
 const whoCalls = ({ pair, name }) => TEXTS.ofPair(shownName(pair, name), pair);
 
 function callNodesOf(call) {
-  if (!isDirector()) return [make("p", { className: "called" }, make("span", null, make("b", null, TEXTS.directorCalled), " ", call.text ? call.text + ". " : "", TEXTS.waitForDirector))];
+  if (!isDirector()) return [make("p", { className: "note called" }, make("span", null, make("b", null, TEXTS.directorCalled), " ", call.text ? call.text + ". " : "", TEXTS.waitForDirector))];
   const stateOf = (number) => lastTables && lastTables.tables.find((one) => one.number === number);
   const open = () => { const state = stateOf(call.table); if (state) openTable(state); };
   const grant = (number) => { const state = stateOf(number); if (state) grantBack(state); };
@@ -3129,7 +3164,7 @@ function showDesk() {
   if (made === deskShown) return;
   deskShown = made;
   const focus = document.activeElement ? document.activeElement.id : "";
-  const notice = desk.notice ? [make("p", null, make("b", null, TEXTS.noticeOf), " ", desk.notice)] : [];
+  const notice = desk.notice ? [make("p", { className: "note" }, make("span", null, make("b", null, TEXTS.noticeOf), " ", desk.notice))] : [];
   const end = minutes <= ENDS_SOON ? [make("p", null, TEXTS.pagesEnd(minutes, isDirector()))] : [];
   at("desk").replaceChildren(...end, ...notice, ...desk.calls.flatMap(callNodesOf));
   if (focus && at(focus)) at(focus).focus();
