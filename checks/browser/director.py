@@ -141,6 +141,13 @@ class Evening:
         return [line for _, lines in sent for line in lines if line.split()[0] in CHANGES + CORRECTIONS]
 
 
+def unfold(window):
+    """Opens each ruling that is folded together by a click of its heading."""
+    for number in range(1, window.value("document.querySelectorAll('#ruling details').length") + 1):
+        if not window.value(f"document.querySelector('#ruling details:nth-of-type({number})').open"):
+            window.click(f"#ruling details:nth-of-type({number}) summary")
+
+
 class Page:
     """The director's page, by clicks."""
 
@@ -155,6 +162,8 @@ class Page:
         if self.window.value(f"document.getElementById('on-{part}').hidden"):
             self.window.click(f"#tab-{part}")
             self.window.wait(f"!document.getElementById('on-{part}').hidden")
+        if part == "rulings":
+            unfold(self.window)
 
     def told(self, expected):
         self.window.wait(f"{text_of('told')} === {expected!r}")
@@ -402,6 +411,7 @@ def boards_unseen(evening):
     window.key("Enter", 13, "\r")
     window.wait("document.getElementById('ruling')")
     window.click("#tab-rulings")
+    unfold(window)
     for field, number in [("rule-round", 1), ("rule-table", 2), ("rule-board", 8)]:
         window.type(f"#{field}", str(number))
     window.click("#rule-void")

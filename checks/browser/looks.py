@@ -137,6 +137,7 @@ def main():
             measure_all(windows[DIRECTOR], "director", scrolls=True)
             windows[DIRECTOR].click("#open-1")
             windows[DIRECTOR].wait("document.getElementById('band')")
+            windows[DIRECTOR].value("for (const one of document.querySelectorAll('#ruling details')) one.open = true")
             measure_all(windows[DIRECTOR], "director-opened", scrolls=True)
             for part in ["boards", "standings", "evening", "tables"]:
                 windows[DIRECTOR].click(f"#tab-{part}")

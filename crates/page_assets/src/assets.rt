@@ -133,16 +133,18 @@ label { display: inline-flex; align-items: center; gap: .4rem; min-height: 2.75r
 #desk > .note { display: flex; align-items: center; gap: .6rem; }
 body:not(.at-table) #desk > .note { max-width: 82rem; margin: .75rem auto 0; padding: .6rem 1rem; border: 0; border-radius: .75rem; }
 body:not(.at-table) #desk { padding: 0 .75rem; }
-#desk .row { margin: 0; justify-content: space-between; color: var(--gold-ink); background: var(--gold); }
-#desk .row p { flex: 1 1 16rem; }
-#desk .row button:not(.send) { color: inherit; background: transparent; border-color: currentcolor; }
+.director #desk > .note { flex-wrap: wrap; }
+.director #desk .called { color: var(--gold-ink); background: var(--gold); }
+.director #desk .note p { flex: 1 1 14rem; }
+#desk button { color: inherit; background: transparent; border-color: currentcolor; }
+#desk .send { color: #fff; background: var(--gold-ink); border-color: var(--gold-ink); }
 #clock { display: grid; justify-items: center; margin: 0; line-height: 1.1; font-size: .75rem; color: var(--bar-second); }
 #clock b { font-size: 1.25rem; color: var(--on-bar); font-variant-numeric: tabular-nums; }
 #clock.over b { color: var(--felt-red); }
 #clock[hidden] { display: none; }
 .reasons { display: grid; grid-template-columns: 1fr 1fr; gap: .6rem; margin: .6rem 0; }
 .reasons [aria-pressed=true] { color: var(--page); background: var(--ink); }
-#claim-says, #tell-text { width: 100%; }
+#claim-says { width: 100%; }
 #status {
   grid-area: say; justify-self: center; margin: .25rem .5rem; padding: .2rem 1rem; max-width: calc(100% - 1rem); border-radius: 1rem; text-align: center;
   background: var(--soft);
@@ -225,13 +227,27 @@ legend { font-weight: bold; padding: 0 .3rem; }
 /* The director's page: parts, of which one is in sight. */
 #tabs { flex-basis: 100%; display: flex; gap: .25rem; margin: 0 -.4rem -.25rem; overflow-x: auto; }
 #tabs[hidden], .director [hidden] { display: none !important; }
-#bar #tabs button { flex: none; padding: .2rem .75rem; font-size: 1rem; border: 0; border-bottom: 3px solid transparent; border-radius: 0; }
+#bar #tabs button { flex: none; padding: .2rem .75rem; font-weight: normal; border: 0; border-bottom: 3px solid transparent; border-radius: 0; }
 #bar #tabs [aria-pressed=true] { font-weight: bold; border-bottom-color: var(--gold); }
-body.director main { max-width: 90rem; }
+.count { padding: 0 .45rem; border-radius: 1rem; font-size: .875rem; font-weight: bold; color: var(--gold-ink); background: var(--gold); }
+body.director main { max-width: 84rem; }
 .director #status:not(.lost) { position: absolute; width: 1px; height: 1px; overflow: hidden; clip-path: inset(50%); }
 .director .panel { width: 100%; max-width: none; }
 .director h2 { font-size: 1.0625rem; margin: 0 0 .4rem; }
-.subject + .subject { border-top: 1px solid var(--line); margin-top: .6rem; }
+#clock-runs b { margin-right: auto; font-size: 2.25rem; line-height: 1; }
+#clock-sets input { width: 4rem; }
+#round p, #telling .row { margin: .2rem 0; }
+#tell-text { flex: 1; width: auto; min-width: 0; }
+#dealing { padding: 0; border: 0; background: none; }
+#dealing .subject { margin-bottom: .75rem; padding: .75rem 1rem; background: var(--panel); border: 1px solid var(--line); border-radius: .75rem; }
+#dealing h3 { margin: 0 0 .4rem; font-size: 1.0625rem; }
+#deal-file { position: absolute; width: 1px; min-height: 1px; padding: 0; border: 0; overflow: hidden; clip-path: inset(50%); }
+#choose-file { padding: .2rem .9rem; font-weight: bold; border: 1px solid var(--edge); border-radius: .5rem; cursor: pointer; }
+#deal-file:focus-visible + .row #choose-file { outline: 3px solid var(--blue); outline-offset: 2px; }
+#file-has { font-size: .875rem; overflow-wrap: anywhere; }
+#ruling details { margin: 0; padding: 0; border-color: var(--line); }
+#ruling details[open] { padding-bottom: .5rem; }
+#ruling summary { min-height: 2.75rem; padding: .6rem 0; }
 .director .send { width: auto; }
 #end-round { width: 100%; min-height: 3.25rem; }
 #choosing .row { margin: 0; }
@@ -270,12 +286,14 @@ body.director main { max-width: 90rem; }
 .director #tables .slow td:nth-child(6) { color: var(--ink); font-weight: bold; }
 .director #tables .called { border-color: var(--vul); }
 .director #tables .called td:nth-child(7) { color: #fff; background: var(--vul); }
+.director #tables .called td:nth-child(7)::before { content: "!\a0"; }
+.director #tables .done td:nth-child(7)::before { content: "\2713\a0"; }
 #aside { margin-top: .75rem; }
 @media (max-width: 59.99em) { #aside #ranking { display: none; } }
 @media (max-width: 39.99em) {
   :is(.sides, #rankings) :is(th, td):nth-child(4):not(:last-child) { display: none; }
   #tabs { justify-content: space-between; }
-  #bar #tabs button { padding: .2rem .35rem; font-size: .9375rem; }
+  #bar #tabs button { padding: .2rem .3rem; font-size: .9375rem; }
   .director #tables .called { order: -2; }
   .director #tables .slow { order: -1; }
   .director #tables .done { order: 1; }
@@ -285,10 +303,14 @@ body.director main { max-width: 90rem; }
   #aside { margin: 0; }
   #aside .panel { padding: .6rem .75rem; margin-bottom: .6rem; }
   #aside #rankings :is(th, td):nth-child(4):not(:last-child) { display: none; }
-  #aside #rankings { max-height: 18rem; overflow: auto; }
-  #dealing { display: grid; grid-template-columns: 1fr 1fr; gap: 0 1.5rem; }
-  #dealing > h2, #dealing > p, #deal-question { grid-column: 1 / -1; }
-  #dealing .subject + .subject { border-top: 0; margin-top: 0; }
+  #aside #rankings { max-height: calc(100dvh - 30rem); overflow: auto; }
+  #aside :is(#rank, .small, thead) { display: none; }
+  #aside #ranking h2 { margin: 0; }
+  #dealing { display: grid; grid-template: "h h" auto "p p" auto "q q" auto "s f" auto "u f" 1fr / 1fr 1fr; gap: 0 .75rem; align-items: start; }
+  #dealing > h2 { grid-area: h; }
+  #dealing > p { grid-area: p; }
+  #deal-question { grid-area: q; }
+  #dealing .subject:has(#deal-file) { grid-area: f; }
   #on-rulings { display: grid; grid-template: "c c" auto "o r" auto "s r" 1fr / minmax(0, 1fr) 26rem; gap: 0 .75rem; align-items: start; }
   #choosing { grid-area: c; }
   #opened { grid-area: o; }
@@ -797,8 +819,8 @@ td.marked { outline: 2px dashed var(--blue); outline-offset: -2px; }
 }
 @media (max-width: 39.99em) {
   .list progress { display: none; }
-  .boards #card, .final #card, #card :is(thead, tbody) { display: block; }
-  .boards #card tr, .final #card tr {
+  :is(.boards, .final) #card, :is(.boards, .final) #card :is(thead, tbody) { display: block; }
+  :is(.boards, .final) #card tr {
     display: grid; grid-template: "b c l t s w" auto "b a a a a a" auto / 3.25rem minmax(3.5rem, 1fr) 2.25rem 1.5rem 3.25rem 3.75rem; align-items: center; border-bottom: 1px solid var(--line);
   }
   :is(.boards, .final) #card :is(th, td) { padding: .1rem; border: 0; }
@@ -1172,11 +1194,12 @@ const TEXTS = {
   minutesAgo: (minutes) => (minutes === 0 ? "just now" : minutes === 1 ? "1 minute ago" : minutes + " minutes ago"),
   answered: "On my way",
   grant: "Take it back \u2026",
-  telling: "Tell all tables, and the clock",
+  telling: "Tell all tables",
   tellText: "A notice for all tables, up to 200 characters",
-  tellAll: "Tell all tables",
+  tellExample: "Tea after round 4",
+  tellAll: "Send",
   takeDown: "Take it down",
-  clockMinutes: "Minutes for the round",
+  clockMinutes: "Minutes",
   clockStart: "Start the clock",
   clockMore: "+ 2 min",
   clockStop: "Stop",
@@ -1201,10 +1224,12 @@ const TEXTS = {
   openTable: (table) => "Open table " + table,
   openedAt: (table, round) => "Table " + table + ", round " + round,
   allDone: "All tables have done their boards.",
-  stillPlaying: (tables) => (tables.length === 1 ? "Still at play: table " : "Still at play: tables ") + tables.join(", ") + ".",
+  tablesDone: (done, all) => done + " of " + all + " tables done",
+  stillOpen: (playing, undealt) => [["Still at play", playing], ["No deal yet", undealt]].filter(([, tables]) => tables.length)
+    .map(([what, tables]) => what + (tables.length === 1 ? ": table " : ": tables ") + tables.join(", ")),
   roundIs: (round, rounds, still) => "Round " + round + " of " + rounds + ". " + still,
   allEnded: "All rounds are ended",
-  endWaits: (round, tables) => "End round " + round + ": still at play at " + (tables.length === 1 ? "table " : "tables ") + tables.join(", "),
+  endWaits: (round, open) => "End round " + round + ". " + open.join("; "),
   endRound: (round, last) => "End round " + round + (last ? ", and close the session" : ""),
   endOf: (round) => "End of round " + round,
   endTheRound: "End the round",
@@ -1223,7 +1248,9 @@ const TEXTS = {
   to: "to",
   shuffle: "Shuffle",
   dealFile: "Or from a dealing program",
-  chooseFile: "A file of deals (PBN)",
+  chooseFile: "Choose a PBN file",
+  noFile: "No file is chosen.",
+  fileHas: (name, count) => name + ": " + count + (count === 1 ? " deal" : " deals"),
   dealText: "or their text: PBN, or lines such as 1 N:AKQJ.T98.765.432 ...",
   dealtWrongly: "A board that was dealt wrongly",
   undealHelp: "As long as nobody has called on it.",
@@ -1236,7 +1263,7 @@ const TEXTS = {
   round: "Round",
   tableField: "Table",
   boardField: "Board",
-  rulings: "Rulings",
+  rule: "Rule",
   openPlay: "Show this play",
   per: [["60", "60: in no way at fault"], ["50", "50: partly at fault"], ["40", "40: directly at fault"]],
   setTricksTo: (tricks) => "Set declarer's tricks to " + tricks,
@@ -3131,8 +3158,10 @@ const clockText = (seconds) => Math.floor(seconds / 60) + ":" + String(seconds %
 function showClock() {
   clearTimeout(clockTimer);
   at("clock").hidden = desk.clock === null;
+  if (at("clock-runs")) [at("clock-runs").hidden, at("clock-sets").hidden] = [desk.clock === null, desk.clock !== null];
   if (desk.clock === null) return;
   const left = secondsLeft();
+  say("clock-left", clockText(left));
   if (CLOCK_SAID.includes(left)) say("heard", TEXTS.minutesLeft(left / 60));
   at("clock").className = left === 0 ? "over" : "";
   at("clock").replaceChildren(make("b", null, clockText(left)), make("span", null, TEXTS.clockLeft));
@@ -3148,11 +3177,18 @@ function callNodesOf(call) {
   const stateOf = (number) => lastTables && lastTables.tables.find((one) => one.number === number);
   const open = () => { const state = stateOf(call.table); if (state) openTable(state); };
   const grant = (number) => { const state = stateOf(number); if (state) grantBack(state); };
-  return [make("div", { className: "row" }, make("p", null, make("b", null, TEXTS.tableCalls(call.table)), " ", call.text ? call.text + ". " : "",
+  return [make("div", { className: "note called" }, make("p", null, make("b", null, TEXTS.tableCalls(call.table)), " ", call.text ? call.text + ". " : "",
     whoCalls(call) + ", " + TEXTS.minutesAgo(call.minutes) + "."),
   ...(call.text === TEXTS.slip ? [make("button", { type: "button", id: "grant-" + call.table, onclick: () => grant(call.table) }, TEXTS.grant)] : []),
   make("button", { type: "button", id: "answered-" + call.table, onclick: () => askDesk("ANSWERED " + call.table) }, TEXTS.answered),
   make("button", { type: "button", id: "go-" + call.table, className: "send", onclick: open }, TEXTS.openTable(call.table)))];
+}
+
+// The director's notice, which he takes down where he reads it.
+function noticeNodes() {
+  if (!desk.notice) return [];
+  return [make("div", { className: "note" }, make("p", null, make("b", null, TEXTS.noticeOf), " ", desk.notice),
+    ...(isDirector() ? [make("button", { type: "button", id: "take-down", onclick: () => askDesk("NOTICE") }, TEXTS.takeDown)] : []))];
 }
 
 // Shows what stands, where it has changed; the focus stays.
@@ -3164,9 +3200,8 @@ function showDesk() {
   if (made === deskShown) return;
   deskShown = made;
   const focus = document.activeElement ? document.activeElement.id : "";
-  const notice = desk.notice ? [make("p", { className: "note" }, make("span", null, make("b", null, TEXTS.noticeOf), " ", desk.notice))] : [];
   const end = minutes <= ENDS_SOON ? [make("p", null, TEXTS.pagesEnd(minutes, isDirector()))] : [];
-  at("desk").replaceChildren(...end, ...notice, ...desk.calls.flatMap(callNodesOf));
+  at("desk").replaceChildren(...end, ...noticeNodes(), ...desk.calls.flatMap(callNodesOf));
   if (focus && at(focus)) at(focus).focus();
   drawn();
 }
@@ -3202,14 +3237,19 @@ at("calling").onkeydown = holdTab;
 // ---- the director tells all tables, and sets the clock
 
 function tellingNodes() {
-  const field = make("input", { id: "tell-text", type: "text", maxLength: 200 });
+  const field = make("input", { id: "tell-text", type: "text", maxLength: 200, aria_label: TEXTS.tellText, placeholder: TEXTS.tellExample });
   const telling = () => { const words = plainText(field.value); if (words) askDesk("NOTICE " + words); };
-  const start = () => { if (isFilledIn("telling")) askDesk("CLOCK " + numberAt("clock-minutes")); };
+  return [make("div", { className: "row" }, field, button(TEXTS.tellAll, "", "tell-all", true, telling))];
+}
+
+// A row to start the clock, and in its place one while it runs.
+function clockNodes() {
+  const start = () => { if (isFilledIn("clock-sets")) askDesk("CLOCK " + numberAt("clock-minutes")); };
   const more = () => { if (desk.clock !== null) askDesk("CLOCK " + (Math.ceil(secondsLeft() / 60) + 2)); };
-  return [make("label", { for: "tell-text" }, TEXTS.tellText), make("div", { className: "row" }, field, button(TEXTS.tellAll, "", "tell-all", true, telling),
-    button(TEXTS.takeDown, "", "take-down", true, () => askDesk("NOTICE"))),
-  make("div", { className: "row" }, numberField("clock-minutes", TEXTS.clockMinutes, 1, 240, 20), button(TEXTS.clockStart, "", "clock-start", true, start),
-    button(TEXTS.clockMore, "", "clock-more", true, more), button(TEXTS.clockStop, "", "clock-stop", true, () => askDesk("CLOCK")))];
+  return [make("div", { id: "clock-sets", className: "row", hidden: desk.clock !== null }, numberField("clock-minutes", TEXTS.clockMinutes, 1, 240, 20),
+    button(TEXTS.clockStart, "", "clock-start", true, start)),
+  make("div", { id: "clock-runs", className: "row", hidden: desk.clock === null }, make("b", { id: "clock-left" }, desk.clock === null ? "" : clockText(secondsLeft())),
+    button(TEXTS.clockStop, "", "clock-stop", true, () => askDesk("CLOCK")), button(TEXTS.clockMore, "", "clock-more", true, more))];
 }
 "##;
 
@@ -3369,6 +3409,12 @@ function marksOf(table) {
   return make("span", { className: "marks", aria_hidden: "true" }, ...marks);
 }
 
+// Why a table calls, where it says so.
+function reasonNodes(table) {
+  const call = desk.calls.find((one) => one.table === table.number);
+  return call && call.text ? [make("b", null, call.text), make("br")] : [];
+}
+
 const pairText = (pair) => (pair === "0" ? "\u2013" : pairNames.has(Number(pair)) ? pair + " " + pairNames.get(Number(pair)) : pair);
 
 function tablesTable(state) {
@@ -3379,7 +3425,7 @@ function tablesTable(state) {
     const open = make("button", { type: "button", id: "open-" + table.number, aria_label: TEXTS.openTable(table.number), onclick: () => openTable(table) }, TEXTS.open);
     return make("tr", { className: stands },
       ...[[table.number], [pairText(table.ns)], [pairText(table.ew)],
-        [table.idle ? "" : table.board], [progressText(table)], [marksOf(table), table.idle ? "" : TEXTS.stillFor(Number(minutes))],
+        [table.idle ? "" : table.board], [...reasonNodes(table), progressText(table)], [marksOf(table), table.idle ? "" : TEXTS.stillFor(Number(minutes))],
         [TEXTS.stands[stands]]].map((words) => make("td", null, ...words)),
       make("td", null, ...(table.idle === "SitsOut" ? [] : [open])));
   });
@@ -3392,15 +3438,15 @@ function openTable(table) {
   return openPlay([lastTables.round, table.number, table.idle ? 1 : placeInSet(Number(table.board))]);
 }
 
-// The tables that are still at play, by their numbers.
-function stillPlaying(state) {
-  return state.tables.filter((table) => table.idle !== "NotCurrent" && table.idle !== "SitsOut").map((table) => table.number);
+// The tables that are still at play and those that wait for a deal, by their numbers, in words; nothing where all are done.
+function stillOpen(state) {
+  const among = (isOf) => state.tables.filter((table) => isOf(table.idle)).map((table) => table.number);
+  return TEXTS.stillOpen(among((idle) => !["NotCurrent", "SitsOut", "NotDealt"].includes(idle)), among((idle) => idle === "NotDealt"));
 }
 
 function roundText(state) {
   if (state.round > state.rounds) return TEXTS.closed;
-  const open = stillPlaying(state);
-  return TEXTS.roundIs(state.round, state.rounds, open.length === 0 ? TEXTS.allDone : TEXTS.stillPlaying(open));
+  return TEXTS.roundIs(state.round, state.rounds, stillOpen(state).map((words) => words + ".").join(" ") || TEXTS.allDone);
 }
 
 function showTables(state) {
@@ -3410,7 +3456,8 @@ function showTables(state) {
   noteSets(state);
   say("status", roundText(state));
   say("below", state.round > state.rounds ? "" : TEXTS.roundOf(state.round, state.rounds));
-  say("tab-tables", TEXTS.tabs.tables + (desk.calls.length ? " (" + desk.calls.length + ")" : ""));
+  const calls = desk.calls.length ? [" ", make("span", { className: "count" }, String(desk.calls.length))] : [];
+  if (at("tab-tables").textContent !== TEXTS.tabs.tables + (calls.length ? " " + desk.calls.length : "")) at("tab-tables").replaceChildren(TEXTS.tabs.tables, ...calls);
   const old = at("tables");
   const tables = tablesTable(state);
   // What stands in the focus stays there.
@@ -3420,8 +3467,9 @@ function showTables(state) {
   const end = at("end-round");
   if (!end) return;
   const closed = state.round > state.rounds;
-  const open = stillPlaying(state);
+  const open = stillOpen(state);
   end.disabled = closed || open.length > 0;
+  say("round-is", closed ? "" : TEXTS.tablesDone(state.tables.filter((table) => table.idle === "NotCurrent" || table.idle === "SitsOut").length, state.tables.length));
   const label = closed ? TEXTS.allEnded : open.length > 0 ? TEXTS.endWaits(state.round, open) : TEXTS.endRound(state.round, state.round === state.rounds);
   if (end.textContent !== label) end.textContent = label;
   end.onclick = () => confirmFirst(at("end-question"), TEXTS.asks(label), () => doOne("NEXT " + state.round, TEXTS.endOf(state.round)));
@@ -3659,16 +3707,16 @@ function rulingNodes() {
   return [
     make("section", { id: "choosing", className: "panel", aria_label: TEXTS.openPlay }, row(...playFields("rule"), button(TEXTS.openPlay, "", "rule-open", true, show))),
     make("section", { id: "opened", aria_label: TEXTS.theBoard }),
-    section("ruling", TEXTS.rulings, make("div", { id: "rule-question" }),
-      group(TEXTS.setTheTricks, row(numberField("rule-tricks", TEXTS.declarersTricks, 0, 13, 7), button(TEXTS.setTricks, "", "rule-set", true, setTricks))),
-      group(TEXTS.assignScore, row(choice("assign-bid", TEXTS.contract, ALL_BIDS.map((bid) => [bid, callName(bid)])),
+    section("ruling", TEXTS.rule, make("div", { id: "rule-question" }),
+      folded(TEXTS.setTheTricks, row(numberField("rule-tricks", TEXTS.declarersTricks, 0, 13, 7), button(TEXTS.setTricks, "", "rule-set", true, setTricks))),
+      folded(TEXTS.assignScore, row(choice("assign-bid", TEXTS.contract, ALL_BIDS.map((bid) => [bid, callName(bid)])),
         choice("assign-doubled", TEXTS.double, TEXTS.doublings), choice("assign-declarer", TEXTS.declarerField, SEATS.map((seat) => [seat, SEAT_NAMES[seat]])),
         numberField("assign-tricks", TEXTS.declarersTricks, 0, 13, 7), button(TEXTS.assignScore, "", "rule-assign", true, assign))),
-      group(TEXTS.averages, row(choice("rule-ns", TEXTS.northSouthPer, TEXTS.per), choice("rule-ew", TEXTS.eastWestPer, TEXTS.per),
+      folded(TEXTS.averages, row(choice("rule-ns", TEXTS.northSouthPer, TEXTS.per), choice("rule-ew", TEXTS.eastWestPer, TEXTS.per),
         button(TEXTS.awardAverages, "", "rule-average", true, average))),
-      group(TEXTS.outAndBack, row(button(TEXTS.takeOut, "", "rule-void", true, () => rule(TEXTS.takeOut, "VOID", "", () => TEXTS.takenOut)),
+      folded(TEXTS.outAndBack, row(button(TEXTS.takeOut, "", "rule-void", true, () => rule(TEXTS.takeOut, "VOID", "", () => TEXTS.takenOut)),
         button(TEXTS.takeBackButton, "", "rule-restore", true, () => rule(TEXTS.takeBack, "RESTORE", "", () => TEXTS.asPlayed)))),
-      group(TEXTS.solving, row(numberField("solve-tricks", TEXTS.afterTricks, 7, 13, 7), button(TEXTS.solve, "", "solve", true, solve)),
+      folded(TEXTS.solving, row(numberField("solve-tricks", TEXTS.afterTricks, 7, 13, 7), button(TEXTS.solve, "", "solve", true, solve)),
         make("p", { id: "solved", role: "status" }))),
     section("standing", TEXTS.rulingsStand, make("ul", { id: "ruled" }))];
 }
@@ -3746,6 +3794,11 @@ function group(title, ...nodes) {
   return make("div", { className: "subject" }, make("h3", null, title), ...nodes);
 }
 
+// The same folded together until its heading is pressed.
+function folded(title, ...nodes) {
+  return make("details", null, make("summary", null, title), ...nodes);
+}
+
 function linesNodes() {
   const box = make("textarea", { id: "box", spellcheck: false });
   const replies = make("pre", { id: "replies", role: "log", aria_label: TEXTS.replies });
@@ -3763,15 +3816,23 @@ function undeal() {
   confirmFirst(at("deal-question"), TEXTS.asks(TEXTS.undealOf(board)), () => doOne("UNDEAL " + board, TEXTS.undealOf(board), true));
 }
 
+// The deals of a file stand in the text, to be looked at and dealt.
+async function readFile(chosen) {
+  if (!chosen) return;
+  at("deal-text").value = await chosen.text();
+  say("file-has", TEXTS.fileHas(chosen.name, dealsIn(at("deal-text").value).length));
+}
+
 function dealNodes() {
-  const file = make("input", { id: "deal-file", type: "file", onchange: async () => { at("deal-text").value = await file.files[0].text(); } });
+  const file = make("input", { id: "deal-file", type: "file", onchange: () => readFile(file.files[0]) });
   const main = (node) => { node.className = "send"; return node; };
   return [
     make("p", { id: "deal-of", className: "second" }),
     group(TEXTS.shuffleHere, make("div", { className: "row" },
       numberField("shuffle-first", TEXTS.shuffleFrom, 1, MOST_BOARDS, 1), numberField("shuffle-last", TEXTS.to, 1, MOST_BOARDS, ""),
       main(button(TEXTS.shuffle, "", "shuffle", true, shuffleBoards))), make("p", { className: "second" }, TEXTS.seedSecret)),
-    group(TEXTS.dealFile, make("label", { for: "deal-file" }, TEXTS.chooseFile), file,
+    group(TEXTS.dealFile, file, make("div", { className: "row" }, make("label", { id: "choose-file", for: "deal-file" }, TEXTS.chooseFile),
+      make("span", { id: "file-has", role: "status" }, TEXTS.noFile)),
       make("label", { for: "deal-text" }, TEXTS.dealText), make("textarea", { id: "deal-text", spellcheck: false }),
       button(TEXTS.deal, "", "deal", true, () => dealText(at("deal-text").value))), make("div", { id: "deal-question" }),
     group(TEXTS.dealtWrongly, make("div", { className: "row" }, numberField("undeal-board", TEXTS.boardField, 1, MOST_BOARDS, 1),
@@ -3783,8 +3844,8 @@ function directorNodes() {
   return [
     make("p", { id: "told", role: "status" }),
     on("tables", make("table", { id: "tables" }), make("div", { id: "aside" },
-      make("section", { id: "round", className: "panel", aria_label: TEXTS.round }, button(TEXTS.endTheRound, "", "end-round", false, () => {}),
-        make("div", { id: "end-question" })),
+      make("section", { id: "round", className: "panel", aria_label: TEXTS.round }, ...clockNodes(), make("p", { id: "round-is", className: "second" }),
+        button(TEXTS.endTheRound, "", "end-round", false, () => {}), make("div", { id: "end-question" })),
       section("telling", TEXTS.telling, ...tellingNodes()))),
     on("boards", section("dealing", TEXTS.dealBoards, ...dealNodes())),
     on("rulings", ...rulingNodes()),
