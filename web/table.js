@@ -815,7 +815,10 @@ async function showClosed(placeReply, asked, mine) {
   turnTitle(false);
   drawn = () => {};
   if (showLeaf(place, TEXTS.toNext)) return;
-  barFor(place, null);
+  const [event, where] = results.text.split("\n").map((line) => line.replace(/-/g, " "));
+  at("chip").hidden = true;
+  at("title").textContent = TEXTS.finalOf(event);
+  at("below").textContent = where;
   const both = [first, second].filter((reply) => !refusal(reply));
   show(made + results.text + told.text, TEXTS.closed, "final", () => finalNodes(place, both));
 }

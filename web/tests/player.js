@@ -490,7 +490,7 @@ run({
   },
 
   "once the session is closed each field stands under its heading, and the results are asked for again after a minute": async () => {
-    const RESULTS = "Club-Night\nScore cards\n\nPair 1: Ann and Bob\n\nPair 2: Cy and Di\n  Total: 6.0 of 8.0\n\nPair 3: Eve and Flo\n";
+    const RESULTS = "Club-Night\nTown-Hall, 2026.03.14\nScore cards\n\nPair 1: Ann and Bob\n\nPair 2: Cy and Di\n  Total: 6.0 of 8.0\n\nPair 3: Eve and Flo\n";
     const closed = place({ ROUND: "4 3", TABLE: "-", NAMES: "-", NEXT: "-" });
     const ranks = { 1: "OK\n1 2 6.0/8.0 75.00\n2 1 2.0/8.0 25.00\n.\n", 2: "OK\n1 4 5.0/8.0 62.50\n2 3 3.0/8.0 37.50\n.\n" };
     const page = new Page((where, body) => {
@@ -502,7 +502,8 @@ run({
     await page.settle();
     const asked = [...LOOKS, `/lines RANK ${KEY} 1\n`, `/lines RANK ${KEY} 2\n`];
     assert.deepStrictEqual(page.asked, [...asked, `/results ${KEY}`, `/boards ${KEY}`]);
-    const titles = ["Place", "Pair", "Names", "Score", "Per cent"];
+    const titles = ["Place", "Pair", "Names", "Score", "%"];
+    assert.deepStrictEqual([page.text("title"), page.text("below")], ["Club Night, final", "Town Hall, 2026.03.14"]);
     assert.deepStrictEqual(page.rows(page.named("Places of pairs 1 to 2")), [titles, ["1", "2", "Cy and Di", "6.0/8.0", "75.00"], ["2", "1", "Ann and Bob", "2.0/8.0", "25.00"]]);
     assert.deepStrictEqual(page.rows(page.named("Places of pairs 3 to 4")), [titles, ["1", "4", "", "5.0/8.0", "62.50"], ["2", "3", "Eve and Flo", "3.0/8.0", "37.50"]]);
     assert.strictEqual(page.text("own"), "You are first of 275.00\u00a0%Cy and Di6.0 of 8.0");

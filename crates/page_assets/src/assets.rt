@@ -175,7 +175,7 @@ body:not(.at-table) #status { order: 1; align-self: center; margin: .75rem .75re
 .login #bar { position: absolute; width: 1px; height: 1px; min-height: 0; overflow: hidden; clip-path: inset(50%); }
 .login::before {
   content: "\2660\fe0e \2665\fe0e\A\2666\fe0e \2663\fe0e"; white-space: pre; position: fixed; inset: 0; display: grid; place-content: center; color: rgb(255 255 255 / 7%);
-  font: 11rem/1.2 "Segoe UI Symbol", "Apple Symbols", "Noto Sans Symbols2", "DejaVu Sans", sans-serif; overflow: hidden; pointer-events: none;
+  font: 14rem/1.2 "Segoe UI Symbol", "Apple Symbols", "Noto Sans Symbols2", "DejaVu Sans", sans-serif; overflow: hidden; pointer-events: none;
 }
 body.login main { max-width: 28rem; margin: auto; }
 .login .panel { margin: 0; padding: 1.25rem; border: 0; border-radius: 1rem; box-shadow: 0 6px 24px rgb(0 0 0 / 35%); position: relative; }
@@ -210,7 +210,7 @@ details { margin: .6rem 0; border-top: 1px solid var(--edge); padding-top: .4rem
 .sides { display: grid; grid-template-columns: repeat(auto-fit, minmax(min(100%, 24rem), 1fr)); gap: 0 1rem; }
 .sides .panel { width: 100%; max-width: none; }
 .sides table { width: 100%; }
-.sides th, .sides td { border: 0; border-bottom: 1px solid var(--edge); padding: .35rem .3rem; text-align: right; font-variant-numeric: tabular-nums; }
+.sides th, .sides td { border: 0; border-bottom: 1px solid var(--line); padding: .35rem .3rem; text-align: right; }
 .sides th { font-size: .8125rem; }
 .sides td:first-child { font-weight: bold; }
 .who, .sides .who { text-align: left; overflow-wrap: anywhere; }
@@ -245,6 +245,7 @@ body.director main { max-width: 84rem; }
 #choose-file { padding: .2rem .9rem; font-weight: bold; border: 1px solid var(--edge); border-radius: .5rem; cursor: pointer; }
 #deal-file:focus-visible + .row #choose-file { outline: 3px solid var(--blue); outline-offset: 2px; }
 #file-has { font-size: .875rem; overflow-wrap: anywhere; }
+#deal, #shuffle { width: 100%; min-height: 3.25rem; margin-top: .4rem; }
 #ruling details { margin: 0; padding: 0; border-color: var(--line); }
 #ruling details[open] { padding-bottom: .5rem; }
 #ruling summary { min-height: 2.75rem; padding: .6rem 0; }
@@ -303,9 +304,9 @@ body.director main { max-width: 84rem; }
   #aside { margin: 0; }
   #aside .panel { padding: .6rem .75rem; margin-bottom: .6rem; }
   #aside #rankings :is(th, td):nth-child(4):not(:last-child) { display: none; }
-  #aside #rankings { max-height: calc(100dvh - 30rem); overflow: auto; }
-  #aside :is(#rank, .small, thead) { display: none; }
-  #aside #ranking h2 { margin: 0; }
+  #aside #rankings { max-height: max(12rem, 100dvh - 36rem); overflow: auto; }
+  #aside :is(#rank, .small, thead, tr:nth-child(n+4)) { display: none; }
+  #aside #rankings h2 { margin: .3rem 0 0; font-size: .875rem; font-weight: normal; color: var(--second); }
   #dealing { display: grid; grid-template: "h h" auto "p p" auto "q q" auto "s f" auto "u f" 1fr / 1fr 1fr; gap: 0 .75rem; align-items: start; }
   #dealing > h2 { grid-area: h; }
   #dealing > p { grid-area: p; }
@@ -399,6 +400,7 @@ summary { cursor: pointer; min-height: 2.2rem; font-weight: bold; }
 .plate b.vul { background: var(--vul); }
 .plate em { flex: none; padding: 0 .25rem; border: 1px solid currentcolor; border-radius: .25rem; font-style: normal; font-size: .75rem; font-weight: bold; white-space: nowrap; }
 .at-top > .plate { margin: 0 auto .2rem; }
+.at-top > .plate span { font-size: .9375rem; line-height: 1.1; }
 :is(.at-left, .at-right) > .plate { flex-direction: column; width: 100%; max-width: 6.25rem; padding: .2rem; border-radius: .5rem; font-size: .8125rem; line-height: 1.2; }
 :is(.at-left, .at-right) > .plate span { display: -webkit-box; -webkit-box-orient: vertical; -webkit-line-clamp: 3; max-width: 100%; overflow: hidden; }
 .at-right > .plate { margin-left: auto; }
@@ -611,7 +613,7 @@ td.marked { outline: 2px dashed var(--blue); outline-offset: -2px; }
   .auction { --head: 3.4rem; }
   .auction th { vertical-align: top; white-space: normal; }
   .auction th br + span { display: -webkit-box; -webkit-box-orient: vertical; -webkit-line-clamp: 2; overflow: hidden; }
-  .playing { background: linear-gradient(to left, var(--strip) 11rem, var(--felt) 0); }
+  .playing { background: linear-gradient(to left, var(--strip) 11rem, transparent 0) var(--felt); }
   #dock { border-top: 0; }
   #dock.box { grid-template: repeat(14, minmax(0, 1fr)) / 5.75rem repeat(5, minmax(0, 1fr)); gap: 0 .25rem; align-content: stretch; padding: .15rem .4rem; border-left: 1px solid var(--line); }
   #dock.box button { grid-area: span 2 / auto; min-height: 2.25rem; margin: .125rem 0; }
@@ -713,7 +715,7 @@ td.marked { outline: 2px dashed var(--blue); outline-offset: -2px; }
 .between #main { display: grid; grid-template-columns: repeat(auto-fit, minmax(min(100%, 26rem), 1fr)); gap: .75rem; align-items: start; width: 100%; }
 .between .panel { width: 100%; max-width: 40rem; margin: 0 auto; }
 .between:not(.goes-on) .panel { grid-column: 1 / -1; }
-.goes-on #status:not(.lost) { position: absolute; width: 1px; height: 1px; overflow: hidden; clip-path: inset(50%); }
+.goes-on #status:not(.lost), .final #status:not(.lost) { position: absolute; width: 1px; height: 1px; overflow: hidden; clip-path: inset(50%); }
 .between #card :is(.who, th:nth-child(2)) { display: none; }
 #between-boards { flex: 1; }
 .round { display: flex; gap: .4rem; margin: 0; padding: 0; list-style: none; }
@@ -1112,6 +1114,7 @@ const TEXTS = {
   notDealtYet: "The next board is not dealt yet.",
   boardsDone: "Your boards of this round are done. ",
   closed: "The session is closed.",
+  finalOf: (event) => event + ", final",
   ordinals: ["first", "second", "third", "fourth", "fifth", "sixth", "seventh", "eighth", "ninth", "tenth", "eleventh", "twelfth"],
   atPlace: (place) => "at place " + place,
   youAreOf: (place, among) => "You are " + place + " of " + among,
@@ -1121,7 +1124,7 @@ const TEXTS = {
   rankingOfPairs: (first, last) => "Ranking, pairs " + first + " to " + last,
   places: "Places of all pairs",
   placesOfPairs: (first, last) => "Places of pairs " + first + " to " + last,
-  rankingHeads: ["Place", "Pair", "Score", "Per cent"],
+  rankingHeads: ["Place", "Pair", "Score", "%"],
   names: "Names",
   both: (first, second) => first + " and " + second,
   allBoards: "All boards",
@@ -2506,7 +2509,10 @@ async function showClosed(placeReply, asked, mine) {
   turnTitle(false);
   drawn = () => {};
   if (showLeaf(place, TEXTS.toNext)) return;
-  barFor(place, null);
+  const [event, where] = results.text.split("\n").map((line) => line.replace(/-/g, " "));
+  at("chip").hidden = true;
+  at("title").textContent = TEXTS.finalOf(event);
+  at("below").textContent = where;
   const both = [first, second].filter((reply) => !refusal(reply));
   show(made + results.text + told.text, TEXTS.closed, "final", () => finalNodes(place, both));
 }
