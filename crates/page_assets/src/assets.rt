@@ -150,10 +150,9 @@ body:not(.at-table) #desk { padding: 0 .75rem; }
   background: var(--soft);
 }
 #chip {
-  display: grid; grid-template: 1fr / 1fr; place-items: center; width: 2.5rem; height: 2.5rem; flex: none; border: 1px solid var(--on-bar);
-  border-radius: .25rem; overflow: hidden;
+  display: grid; place-items: center; width: 2.5rem; height: 2.5rem; flex: none; position: relative; border: .55rem solid var(--not-vul); border-radius: .25rem;
+  box-shadow: 0 0 0 1px rgb(255 255 255 / 60%); color: #12181c; background: #fff; font-size: 1.0625rem; font-weight: bold;
 }
-#chip { border-width: .6rem; border-color: var(--not-vul); color: #12181c; background: #fff; font-weight: bold; position: relative; overflow: visible; font-size: .8125rem; }
 #chip.vul-we { border-top-color: var(--vul); border-bottom-color: var(--vul); }
 #chip.vul-they { border-left-color: var(--vul); border-right-color: var(--vul); }
 #chip::after { content: ""; position: absolute; width: .4rem; height: .4rem; border-radius: 50%; background: #fff; }
@@ -600,6 +599,7 @@ td.marked { outline: 2px dashed var(--blue); outline-offset: -2px; }
   #stage { grid-template-columns: 11rem minmax(0, 1fr) 11rem; padding: .25rem .4rem; gap: .25rem; }
   :is(.at-left, .at-right) > .plate, .dummy-top .at-top > .plate { flex-direction: row; width: fit-content; max-width: 100%; padding: .1rem .5rem .1rem .1rem; border-radius: 1rem; font-size: .875rem; }
   :is(.at-left, .at-right) > .plate span, .dummy-top .at-top > .plate span { display: block; overflow: hidden; text-overflow: ellipsis; white-space: nowrap; }
+  .plate wbr { display: none; }
   .dummy-top .at-top { display: contents; }
   .dummy-top .at-top > .plate { grid-area: left; place-self: start; margin: 0; }
   .dummy-top #dummy { grid-area: top; }
@@ -612,7 +612,7 @@ td.marked { outline: 2px dashed var(--blue); outline-offset: -2px; }
   :is(.dummy-left .at-left, .dummy-right .at-right) > .plate em { margin-left: auto; }
   .auction { --head: 3.4rem; }
   .auction th { vertical-align: top; white-space: normal; }
-  .auction th br + span { display: -webkit-box; -webkit-box-orient: vertical; -webkit-line-clamp: 2; overflow: hidden; }
+  .auction th br + span { display: -webkit-box; -webkit-box-orient: vertical; -webkit-line-clamp: 2; overflow: hidden; overflow-wrap: anywhere; }
   .playing { background: linear-gradient(to left, var(--strip) 11rem, transparent 0) var(--felt); }
   #dock { border-top: 0; }
   #dock.box { grid-template: repeat(14, minmax(0, 1fr)) / 5.75rem repeat(5, minmax(0, 1fr)); gap: 0 .25rem; align-content: stretch; padding: .15rem .4rem; border-left: 1px solid var(--line); }
@@ -693,10 +693,15 @@ td.marked { outline: 2px dashed var(--blue); outline-offset: -2px; }
   .side-round { margin-top: auto; }
   .bidding #status { grid-area: dock; justify-self: stretch; align-self: start; z-index: 1; max-width: none; margin: .75rem 1rem; padding: .4rem; border-radius: .5rem; font-size: 1.125rem; }
   .bidding #status:not(.turn) { color: var(--ink); background: var(--soft); }
-  .bidding .board-picture { display: grid; grid-area: mid; place-self: start center; width: 9rem; height: 9rem; }
+  .bidding .board-picture { display: grid; grid-area: chip; place-self: center; width: 9rem; height: 9rem; }
+  .bidding .board-picture b { font-size: 2.25rem; }
+  .bidding #stage:has(.board-picture) {
+    grid-template: auto auto auto 1fr / 8rem minmax(0, 1fr) 8rem; grid-template-areas: "top top top" ". chip ." "left mid right" ". . ."; row-gap: .75rem;
+  }
   #dock.box { --bid: 2.75rem; align-content: stretch; padding-top: 4.25rem; border-top: 0; border-left: 1px solid var(--line); }
   #dock.box .bid { order: -1; }
-  #dock.box .box-call { font-size: 1.375rem; }
+  #dock.box .bid { font-size: 1.5rem; }
+  #dock.box .box-call { margin-top: .5rem; font-size: 1.375rem; }
   #dock.box #call-PASS { grid-column: span 8; }
   #dock.box #call-X, #dock.box #call-XX { grid-column: span 6; }
   #dock.box #confirm { grid-column: 1 / -1; font-size: 1.125rem; }
@@ -705,6 +710,9 @@ td.marked { outline: 2px dashed var(--blue); outline-offset: -2px; }
   .at-table { --cw: 4.2rem; --fw: 5.5rem; --ch: 7.75rem; --tw: 5.5rem; --th: 7.75rem; grid-template-columns: minmax(0, 1fr) 22rem; }
   .at-table.bidding { --cw: 4rem; grid-template-columns: minmax(0, 1fr) 27rem; }
   .bidding .board-picture { width: 11rem; height: 11rem; }
+  .auction { --row: 3.25rem; }
+  .auction td { font-size: 1.625rem; }
+  #dock.box .bid { font-size: 1.75rem; }
   .played, :is(#hand, .at-top) .card { font-size: 2.5rem; }
   .played .suit, :is(#hand, .at-top) .card .suit { font-size: 2.5rem; }
 }
@@ -790,7 +798,7 @@ td.marked { outline: 2px dashed var(--blue); outline-offset: -2px; }
 .board-picture b { grid-area: middle; display: grid; place-items: center; color: #12181c; background: #fff; font-size: 1.625rem; }
 .stepper { display: grid; grid-template-columns: auto auto 1fr auto auto; gap: .3rem; align-items: center; margin-top: .5rem; text-align: center; }
 .stepper p { margin: 0; font-size: .875rem; line-height: 1.2; }
-.stepper button { padding: 0 0 .25rem; font-size: 1.5rem; letter-spacing: -.1em; line-height: 1; }
+.stepper button { padding: 0 0 .25rem; font-size: 1.5rem; line-height: 1; }
 #step { width: 100%; min-height: 1.75rem; padding: 0; border: 0; background: none; accent-color: var(--blue); }
 .part > table:not(.list) { width: 100%; table-layout: fixed; background: none; }
 .part > table:not(.list) th, .part > table:not(.list) td { border: 0; padding: .2rem .1rem; overflow: hidden; text-overflow: ellipsis; white-space: nowrap; font-weight: normal; }
@@ -870,7 +878,6 @@ td.marked { outline: 2px dashed var(--blue); outline-offset: -2px; }
 .panel { border-color: var(--line); }
 .list th, .list td { border-bottom-color: var(--line); }
 .list thead th { border-bottom-color: var(--edge); }
-#chip { font-size: 1.0625rem; border-width: .55rem; }
 #band > p:first-child::first-letter { text-transform: uppercase; }
 .banner p:nth-child(even) { text-align: right; }
 .part > table:not(.list) th { font-size: .8125rem; color: var(--plate-ink); background: var(--plate); }
