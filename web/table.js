@@ -516,8 +516,7 @@ function claimSheet(place, view) {
     node.setAttribute("aria-pressed", String(claiming.tricks === tricks));
     return node;
   };
-  const numbers = Array.from({ length: left + 1 },
-    (_none, tricks) => choice(tricks, tricks === 0 ? TEXTS.claimNone : tricks === left ? TEXTS.claimAll(left) : String(tricks)));
+  const some = Array.from({ length: left - 1 }, (_none, i) => choice(i + 1, String(i + 1)));
   const line = "CLAIM " + key + " " + view.board + " " + view.made.claims + " " + claiming.tricks;
   const said = make("input", { id: "claim-says", type: "text", maxLength: 100, value: saying, oninput: () => { saying = said.value; } });
   // What is said goes with the claim once that stands.
@@ -528,10 +527,10 @@ function claimSheet(place, view) {
   };
   const claim = button(TEXTS.claimTricks(claiming.tricks), "", "claim-button", true, (event) => (isDeaf(event) ? undefined : makeIt()));
   claim.className = "send";
-  return sheet("claiming", TEXTS.claimTitle,
-    make("h2", null, TEXTS.claimOf(left)), make("div", { className: "numbers" }, ...numbers),
+  return sheet("claiming", TEXTS.claimTitle, make("h2", null, TEXTS.claimTitle), make("div", null, TEXTS.claimOf(left)),
+    make("div", { className: "numbers" }, ...some), make("div", { className: "ends" }, choice(0, TEXTS.claimNone), choice(left, TEXTS.claimAll(left))),
     make("p", null, claimWords(place, view, view.seat, claiming.tricks) + "."),
-    make("label", { for: "claim-says" }, TEXTS.claimSays), said, make("p", { className: "second" }, TEXTS.claimHelp),
+    make("div", { className: "says" }, make("label", { for: "claim-says" }, TEXTS.claimSays), said), make("p", { className: "second" }, TEXTS.claimHelp),
     make("div", { className: "row" }, button(TEXTS.back, "", "claim-back", true, () => { claiming = null; drawn(); }), claim));
 }
 

@@ -392,7 +392,7 @@ run({
     assert.ok(claiming.contains(page.document.activeElement));
     page.at("claim-button").focus();
     claiming.onkeydown({ key: "Tab", currentTarget: claiming, preventDefault() {} });
-    assert.strictEqual(page.document.activeElement.id, "claim-0");
+    assert.strictEqual(page.document.activeElement.id, "claim-1");
   },
 
   "whose turn it is": async () => {

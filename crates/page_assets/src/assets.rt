@@ -143,8 +143,6 @@ body:not(.at-table) #desk { padding: 0 .75rem; }
 #clock.over b { color: var(--felt-red); }
 #clock[hidden] { display: none; }
 .reasons { display: grid; grid-template-columns: 1fr 1fr; gap: .6rem; margin: .6rem 0; }
-.reasons [aria-pressed=true] { color: var(--page); background: var(--ink); }
-#claim-says { width: 100%; }
 #status {
   grid-area: say; justify-self: center; margin: .25rem .5rem; padding: .2rem 1rem; max-width: calc(100% - 1rem); border-radius: 1rem; text-align: center;
   background: var(--soft);
@@ -525,10 +523,12 @@ td.marked { outline: 2px dashed var(--blue); outline-offset: -2px; }
   border: 0; border-radius: 1rem 1rem 0 0; max-height: calc(100dvh - 1rem); overflow-y: auto; box-shadow: 0 0 0 100vmax rgb(10 20 16 / 55%);
 }
 .sheet h2 { margin: 0 0 .5rem; font-size: 1.25rem; }
-.numbers { display: grid; grid-template-columns: repeat(7, minmax(2.75rem, 1fr)); gap: .25rem; margin: .5rem 0; }
+.numbers { display: grid; grid-template-columns: repeat(auto-fit, minmax(2.75rem, 1fr)); gap: .3rem; margin: .5rem 0 .3rem; }
 .numbers button { padding: 0; }
-.numbers button:first-child, .numbers button:last-child { grid-column: span 2; }
-.numbers button[aria-pressed=true] { color: var(--gold-ink); background: var(--gold); }
+.ends { display: grid; grid-template-columns: 1fr 1fr; gap: .5rem; }
+:is(.numbers, .ends, .reasons) [aria-pressed=true] { color: var(--page); background: var(--ink); }
+.says { display: flex; flex-wrap: wrap; gap: 0 .6rem; }
+#claim-says { flex: 1 1 14rem; width: auto; }
 .sheet > p:not(.second) { padding: .5rem .75rem; background: var(--soft); border-radius: .5rem; font-weight: bold; }
 .sheet .row { justify-content: space-between; gap: .6rem; }
 .sheet .row > button { min-width: 6.5rem; min-height: 3.25rem; }
@@ -539,7 +539,10 @@ td.marked { outline: 2px dashed var(--blue); outline-offset: -2px; }
   #bell span, .bidding #status:not(.lost) { position: absolute; width: 1px; height: 1px; margin: 0; padding: 0; overflow: hidden; clip-path: inset(50%); }
 }
 /* What stands above a small table takes its room from the cards; whoever waits for the director needs no turn. */
-@media (max-width: 39.99em) and (max-height: 49.99em) { .at-table:has(#desk:not(:empty), #notice:not(:empty)) { --ch: max(2.75rem, 6.9dvh); } }
+@media (max-width: 39.99em) and (max-height: 49.99em) {
+  #stage { gap: .25rem .4rem; padding: .2rem .5rem; }
+  .at-table:has(#desk:not(:empty), #notice:not(:empty)) { --ch: max(2.75rem, 6.9dvh); }
+}
 @media (max-width: 39.99em), (max-height: 30em) {
   .at-table #notice { padding: .2rem .75rem; font-size: .875rem; line-height: 1.25; }
   .at-table #desk > * { max-height: 2.75rem; overflow-y: auto; font-size: .875rem; line-height: 1.25; }
@@ -2217,8 +2220,7 @@ function claimSheet(place, view) {
     node.setAttribute("aria-pressed", String(claiming.tricks === tricks));
     return node;
   };
-  const numbers = Array.from({ length: left + 1 },
-    (_none, tricks) => choice(tricks, tricks === 0 ? TEXTS.claimNone : tricks === left ? TEXTS.claimAll(left) : String(tricks)));
+  const some = Array.from({ length: left - 1 }, (_none, i) => choice(i + 1, String(i + 1)));
   const line = "CLAIM " + key + " " + view.board + " " + view.made.claims + " " + claiming.tricks;
   const said = make("input", { id: "claim-says", type: "text", maxLength: 100, value: saying, oninput: () => { saying = said.value; } });
   // What is said goes with the claim once that stands.
@@ -2229,10 +2231,10 @@ function claimSheet(place, view) {
   };
   const claim = button(TEXTS.claimTricks(claiming.tricks), "", "claim-button", true, (event) => (isDeaf(event) ? undefined : makeIt()));
   claim.className = "send";
-  return sheet("claiming", TEXTS.claimTitle,
-    make("h2", null, TEXTS.claimOf(left)), make("div", { className: "numbers" }, ...numbers),
+  return sheet("claiming", TEXTS.claimTitle, make("h2", null, TEXTS.claimTitle), make("div", null, TEXTS.claimOf(left)),
+    make("div", { className: "numbers" }, ...some), make("div", { className: "ends" }, choice(0, TEXTS.claimNone), choice(left, TEXTS.claimAll(left))),
     make("p", null, claimWords(place, view, view.seat, claiming.tricks) + "."),
-    make("label", { for: "claim-says" }, TEXTS.claimSays), said, make("p", { className: "second" }, TEXTS.claimHelp),
+    make("div", { className: "says" }, make("label", { for: "claim-says" }, TEXTS.claimSays), said), make("p", { className: "second" }, TEXTS.claimHelp),
     make("div", { className: "row" }, button(TEXTS.back, "", "claim-back", true, () => { claiming = null; drawn(); }), claim));
 }
 
