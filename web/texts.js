@@ -40,8 +40,8 @@ const TEXTS = {
   sentTwice: "by a second tap, or the button below",
   sentOnce: "at once",
   suitsTitle: "Suits",
-  suitsTwo: "in two colours",
-  suitsFour: "in four colours",
+  suitsTwo: "two colours",
+  suitsFour: "four colours",
   lightTitle: "Light",
   lights: { device: "as the device has it", light: "light", dark: "dark" },
 

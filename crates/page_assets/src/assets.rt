@@ -111,7 +111,7 @@ button:focus-visible, input:focus-visible, textarea:focus-visible, select:focus-
 input, textarea, select { padding: .4rem; background: var(--panel); border: 1px solid var(--edge); border-radius: .5rem; max-width: 100%; }
 input { min-height: 2.75rem; width: 12rem; }
 select { min-height: 2.75rem; }
-input[type=checkbox], input[type=radio] { width: 1.4rem; min-height: 1.4rem; accent-color: var(--blue); }
+input[type=checkbox], input[type=radio] { flex: none; width: 1.4rem; min-height: 1.4rem; accent-color: var(--blue); }
 textarea { width: 100%; min-height: 8rem; font-family: ui-monospace, monospace; }
 label { display: inline-flex; align-items: center; gap: .4rem; min-height: 2.75rem; }
 
@@ -955,8 +955,8 @@ const TEXTS = {
   sentTwice: "by a second tap, or the button below",
   sentOnce: "at once",
   suitsTitle: "Suits",
-  suitsTwo: "in two colours",
-  suitsFour: "in four colours",
+  suitsTwo: "two colours",
+  suitsFour: "four colours",
   lightTitle: "Light",
   lights: { device: "as the device has it", light: "light", dark: "dark" },
 
