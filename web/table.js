@@ -696,13 +696,20 @@ function soFarNodes() {
   return [...words, make("div", { className: "row" }, button(TEXTS.myBoards, "", "between-boards", true, () => turnLeaf({ card: true })))];
 }
 
+// The table at which he sits and the one to which he goes.
+function wayNodes(table, next) {
+  if (!table || table.number === next.number) return [];
+  const tile = (className, number, words) => make("li", { className }, make("b", null, number), words);
+  return [make("ol", { className: "round" }, tile("here", table.number, TEXTS.youAreHere), tile("now", next.number, TEXTS.youGoHere))];
+}
+
 function betweenNodes(place, next) {
   const nodes = [];
   if (next) {
     nodes.push(make("section", { className: "panel" }, make("p", { className: "second" }, TEXTS.nextOf(place.round + 1, place.rounds)),
       make("p", { className: "large" }, TEXTS.tableSeat(next.number, SEAT_NAMES[next.seat])),
       make("p", null, TEXTS.boardsOf(next.first, next.last) + ". ",
-        make("b", null, place.table && next.number === place.table.number ? TEXTS.stay : TEXTS.goTo(next.number))),
+        make("b", null, place.table && next.number === place.table.number ? TEXTS.stay : TEXTS.goTo(next.number))), ...wayNodes(place.table, next),
       make("p", { className: "second" }, TEXTS.roundBegins)));
   }
   const here = make("section", { className: "panel" }, make("p", { className: "second" }, TEXTS.roundOf(place.round, place.rounds)));

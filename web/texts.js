@@ -205,6 +205,8 @@ const TEXTS = {
   tableSeat: (table, seat) => "Table " + table + ", " + seat,
   stay: "Stay at your table.",
   goTo: (table) => "Go to table " + table + ".",
+  youAreHere: "you are here",
+  youGoHere: "you go here",
   roundBegins: "The next round begins when the director ends this one.",
   notDealtYet: "The next board is not dealt yet.",
   boardsDone: "Your boards of this round are done. ",

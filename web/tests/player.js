@@ -420,6 +420,16 @@ run({
     }
   },
 
+  "between two rounds the way to the next table is shown, and the partner is named": async () => {
+    const tiles = (page) => page.document.root.all().filter((one) => one.tag === "li" && one.parent.className === "round").map((one) => one.textContent);
+    const page = await seated(place(), "ERR 8 NotCurrent\n");
+    assert.deepStrictEqual(tiles(page), ["2you are here", "1you go here"]);
+    assert.deepStrictEqual([page.text("title"), page.text("below")], ["Dan", "Pair 2, North\u2013South \u00b7 with Cat"]);
+    assert.deepStrictEqual(tiles(await seated(place({ NEXT: "2 W 7 9" }), "ERR 8 NotCurrent\n")), []);
+    const out = await seated(place({ TABLE: "-", NAMES: "-" }), "ERR 8 SitsOut\n");
+    assert.deepStrictEqual([tiles(out), out.text("below")], [[], "Pair 2"]);
+  },
+
   "each refusal has its sentence": async () => {
     for (const [name, said] of Object.entries(SAID)) {
       const page = await seated(place(), view(), `ERR 5 ${name}\n`);

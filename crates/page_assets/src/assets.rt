@@ -732,6 +732,9 @@ td.marked { outline: 2px dashed var(--blue); outline-offset: -2px; }
 .round { display: flex; gap: .4rem; margin: 0; padding: 0; list-style: none; }
 .round li { display: grid; flex: 1; justify-items: center; padding: .2rem; border: 1px solid var(--edge); border-radius: .5rem; font-size: .875rem; }
 .round .now { color: var(--gold-ink); background: var(--gold); border-color: var(--gold); }
+.round .here { background: var(--soft); border-style: dashed; }
+.goes-on #clock { padding: .15rem .5rem; border-radius: .5rem; background: var(--gold); }
+.goes-on #clock :is(b, span) { color: var(--gold-ink); }
 
 /* Boards that are over, and the score card. */
 .boards #main { display: flex; flex-direction: column; flex: 1; max-width: 84rem; padding-bottom: 0; }
@@ -1120,6 +1123,8 @@ const TEXTS = {
   tableSeat: (table, seat) => "Table " + table + ", " + seat,
   stay: "Stay at your table.",
   goTo: (table) => "Go to table " + table + ".",
+  youAreHere: "you are here",
+  youGoHere: "you go here",
   roundBegins: "The next round begins when the director ends this one.",
   notDealtYet: "The next board is not dealt yet.",
   boardsDone: "Your boards of this round are done. ",
@@ -2400,13 +2405,20 @@ function soFarNodes() {
   return [...words, make("div", { className: "row" }, button(TEXTS.myBoards, "", "between-boards", true, () => turnLeaf({ card: true })))];
 }
 
+// The table at which he sits and the one to which he goes.
+function wayNodes(table, next) {
+  if (!table || table.number === next.number) return [];
+  const tile = (className, number, words) => make("li", { className }, make("b", null, number), words);
+  return [make("ol", { className: "round" }, tile("here", table.number, TEXTS.youAreHere), tile("now", next.number, TEXTS.youGoHere))];
+}
+
 function betweenNodes(place, next) {
   const nodes = [];
   if (next) {
     nodes.push(make("section", { className: "panel" }, make("p", { className: "second" }, TEXTS.nextOf(place.round + 1, place.rounds)),
       make("p", { className: "large" }, TEXTS.tableSeat(next.number, SEAT_NAMES[next.seat])),
       make("p", null, TEXTS.boardsOf(next.first, next.last) + ". ",
-        make("b", null, place.table && next.number === place.table.number ? TEXTS.stay : TEXTS.goTo(next.number))),
+        make("b", null, place.table && next.number === place.table.number ? TEXTS.stay : TEXTS.goTo(next.number))), ...wayNodes(place.table, next),
       make("p", { className: "second" }, TEXTS.roundBegins)));
   }
   const here = make("section", { className: "panel" }, make("p", { className: "second" }, TEXTS.roundOf(place.round, place.rounds)));
