@@ -48,7 +48,7 @@ pub const STYLE: &str = r##"/* For a telephone as for a large screen, light and 
   --gold-ink: #14201b; --vul: #b3151f; --not-vul: #1b7443; --blue: #0b57a4; --on-blue: #fff; --note: #ffe7b0; --note-ink: #3d2a00; --good: #0f6b3a;
   --bad: #a8001c; --own: #fff3c4; --diamond: #953a00; --club: #005c2b; --text-diamond: #953a00; --text-club: #005c2b; --wait: #a86400; --off: #5b645f;
   --face: #fffdf7; --black: #12181c; --red: #a8001c; --shut: #d9d5c8; --shut-red: #6f0012; --lifted: #fff4c6; --text-red: #a8001c; --felt-red: #ffb3b3;
-  --pass: #10603a; --double: #a8121c; --redouble: #12449c;
+  --pass: #10603a; --double: #a8121c; --redouble: #12449c; --line: #d9d4c6;
 }
 @media (prefers-color-scheme: dark) {
   :root:not(.light) {
@@ -56,7 +56,7 @@ pub const STYLE: &str = r##"/* For a telephone as for a large screen, light and 
     --bar-second: #a8c0b5; --felt: #12352b; --strip: #0c271f; --on-felt: #e9ede9; --plate: #21302a; --plate-ink: #e9ede9; --vul: #c4262f; --not-vul: #1f7a48;
     --blue: #8cc2ff; --on-blue: #071a2e; --note: #3d2f0a; --note-ink: #ffe7b0; --good: #7fd8a0; --bad: #ff8d8d; --own: #3a3312; --diamond: #7d2f00;
     --club: #00522a; --text-diamond: #ffb067; --text-club: #7fd8a0; --wait: #ffb84d; --off: #97a39c; --face: #e9e4d6; --red: #980019; --shut: #cdc8ba;
-    --text-red: #ff8d8d;
+    --text-red: #ff8d8d; --line: #33403a; --plate-edge: var(--edge);
   }
 }
 :root.light { color-scheme: light; }
@@ -65,7 +65,7 @@ pub const STYLE: &str = r##"/* For a telephone as for a large screen, light and 
   --on-bar: #e9ede9; --bar-second: #a8c0b5; --felt: #12352b; --strip: #0c271f; --on-felt: #e9ede9; --plate: #21302a; --plate-ink: #e9ede9; --vul: #c4262f;
   --not-vul: #1f7a48; --blue: #8cc2ff; --on-blue: #071a2e; --note: #3d2f0a; --note-ink: #ffe7b0; --good: #7fd8a0; --bad: #ff8d8d; --own: #3a3312;
   --diamond: #7d2f00; --club: #00522a; --text-diamond: #ffb067; --text-club: #7fd8a0; --wait: #ffb84d; --off: #97a39c; --face: #e9e4d6; --red: #980019;
-  --shut: #cdc8ba; --text-red: #ff8d8d;
+  --shut: #cdc8ba; --text-red: #ff8d8d; --line: #33403a; --plate-edge: var(--edge);
 }
 * { box-sizing: border-box; }
 [hidden] { display: none !important; }
@@ -78,7 +78,10 @@ h1 { font-size: 1.125rem; margin: 0; line-height: 1.2; overflow: hidden; text-ov
 h2 { font-size: 1.0625rem; margin: .8rem 0 .3rem; }
 .suit { font-family: "Segoe UI Symbol", "Apple Symbols", "Noto Sans Symbols2", "DejaVu Sans", sans-serif; font-variant-emoji: text; }
 .red { color: var(--text-red); }
-#heard { position: absolute; width: 1px; height: 1px; margin: 0; overflow: hidden; clip-path: inset(50%); }
+/* Read out, and not seen. */
+#heard, .login #bar, :is(.director, .goes-on, .final) #status:not(.lost), #deal-file, #tables thead, .hand > h2 {
+  position: absolute; width: 1px; height: 1px; min-height: 0; margin: 0; padding: 0; border: 0; overflow: hidden; clip-path: inset(50%);
+}
 
 /* What can be pressed. */
 button, input, textarea, select { font: inherit; color: inherit; }
@@ -164,12 +167,11 @@ body:not(.at-table) main { max-width: 64rem; margin: 0 auto; padding: .75rem; }
 body:not(.at-table) { display: flex; flex-direction: column; }
 body:not(.at-table) main { order: 2; width: 100%; }
 body:not(.at-table) #status { order: 1; align-self: center; margin: .75rem .75rem 0; font-weight: bold; }
-.panel { max-width: 40rem; margin: 0 auto .75rem; padding: .75rem 1rem; background: var(--panel); border: 1px solid var(--edge); border-radius: .75rem; }
+.panel { max-width: 40rem; margin: 0 auto .75rem; padding: .75rem 1rem; background: var(--panel); border: 1px solid var(--line); border-radius: .75rem; }
 .panel h2:first-child { margin-top: 0; }
 .large { font-size: 1.875rem; font-weight: bold; line-height: 1.2; margin: .2rem 0; }
 .second { color: var(--second); }
 .login { background: var(--felt); }
-.login #bar { position: absolute; width: 1px; height: 1px; min-height: 0; overflow: hidden; clip-path: inset(50%); }
 .login::before {
   content: "\2660\fe0e \2665\fe0e\A\2666\fe0e \2663\fe0e"; white-space: pre; position: fixed; inset: 0; display: grid; place-content: center; color: rgb(255 255 255 / 7%);
   font: 14rem/1.2 "Segoe UI Symbol", "Apple Symbols", "Noto Sans Symbols2", "DejaVu Sans", sans-serif; overflow: hidden; pointer-events: none;
@@ -217,8 +219,12 @@ details { margin: .6rem 0; border-top: 1px solid var(--edge); padding-top: .4rem
 }
 .banner .large { font-size: 1.375rem; }
 .banner p { margin: 0; font-size: .875rem; }
+.banner p:nth-child(even) { text-align: right; }
 .sheet fieldset { padding: 0 .5rem; margin: .4rem 0; border: 1px solid var(--line); border-radius: .5rem; }
 .sheet fieldset label { display: flex; }
+#options { display: flex; flex-wrap: wrap; justify-content: space-between; align-items: center; }
+#options > h2 { margin: 0; }
+#options > fieldset { flex-basis: 100%; min-width: 0; }
 legend { font-weight: bold; padding: 0 .3rem; }
 #chosen { flex: 1; color: var(--on-blue); background: var(--blue); border-color: var(--blue); }
 /* The director's page: parts, of which one is in sight. */
@@ -228,7 +234,6 @@ legend { font-weight: bold; padding: 0 .3rem; }
 #bar #tabs [aria-pressed=true] { font-weight: bold; border-bottom-color: var(--gold); }
 .count { padding: 0 .45rem; border-radius: 1rem; font-size: .875rem; font-weight: bold; color: var(--gold-ink); background: var(--gold); }
 body.director main { max-width: 84rem; }
-.director #status:not(.lost) { position: absolute; width: 1px; height: 1px; overflow: hidden; clip-path: inset(50%); }
 .director .panel { width: 100%; max-width: none; }
 .director h2 { font-size: 1.0625rem; margin: 0 0 .4rem; }
 #clock-runs b { margin-right: auto; font-size: 2.25rem; line-height: 1; }
@@ -238,7 +243,6 @@ body.director main { max-width: 84rem; }
 #dealing { padding: 0; border: 0; background: none; }
 #dealing .subject { margin-bottom: .75rem; padding: .75rem 1rem; background: var(--panel); border: 1px solid var(--line); border-radius: .75rem; }
 #dealing h3 { margin: 0 0 .4rem; font-size: 1.0625rem; }
-#deal-file { position: absolute; width: 1px; min-height: 1px; padding: 0; border: 0; overflow: hidden; clip-path: inset(50%); }
 #choose-file { padding: .2rem .9rem; font-weight: bold; border: 1px solid var(--edge); border-radius: .5rem; cursor: pointer; }
 #deal-file:focus-visible + .row #choose-file { outline: 3px solid var(--blue); outline-offset: 2px; }
 #file-has { font-size: .875rem; overflow-wrap: anywhere; }
@@ -250,7 +254,6 @@ body.director main { max-width: 84rem; }
 #end-round { width: 100%; min-height: 3.25rem; }
 #choosing .row { margin: 0; }
 #choosing input { width: 4.5rem; }
-#tables thead { position: absolute; width: 1px; height: 1px; overflow: hidden; clip-path: inset(50%); }
 .director #tables { display: block; background: none; }
 .director #tables tbody { display: grid; grid-template-columns: repeat(auto-fill, minmax(min(100%, 18rem), 1fr)); gap: .6rem; }
 .director #tables tr {
@@ -321,6 +324,7 @@ body.director main { max-width: 84rem; }
   #on-standings #rankings > :nth-child(2), #on-standings #rankings > :nth-child(4) { grid-row: 2; }
   #on-standings #rankings > :nth-child(3), #on-standings #rankings > :nth-child(5) { grid-row: 3; }
 }
+@media (min-width: 80em) { .director.on-rulings #opened .parts { grid-template: "h p" auto / 1fr 1fr; } }
 #opened:empty { display: none; }
 #opened { padding: .5rem .75rem; margin-bottom: .75rem; border: 2px solid var(--gold); border-radius: .75rem; background: var(--page); }
 #opened h2 { margin: 0 .5rem 0 0; }
@@ -415,7 +419,6 @@ summary { cursor: pointer; min-height: 2.2rem; font-weight: bold; }
 .played.won { outline: 3px solid var(--gold); }
 .due { color: var(--gold); border: 2px solid var(--gold); font-weight: bold; }
 .hand { min-width: 0; }
-.hand > h2 { position: absolute; width: 1px; height: 1px; overflow: hidden; clip-path: inset(50%); margin: 0; }
 #hand { grid-area: hand; padding: .2rem .4rem .4rem; }
 .cards { display: flex; flex-direction: column; justify-content: center; gap: .25rem; padding: .25rem; border: 2px solid transparent; border-radius: .7rem; }
 .hand.on .cards { border-color: var(--gold); background: rgb(255 216 77 / 16%); }
@@ -726,7 +729,6 @@ td.marked { outline: 2px dashed var(--blue); outline-offset: -2px; }
 .between #main { display: grid; grid-template-columns: repeat(auto-fit, minmax(min(100%, 26rem), 1fr)); gap: .75rem; align-items: start; width: 100%; }
 .between .panel { width: 100%; max-width: 40rem; margin: 0 auto; }
 .between:not(.goes-on) .panel { grid-column: 1 / -1; }
-.goes-on #status:not(.lost), .final #status:not(.lost) { position: absolute; width: 1px; height: 1px; overflow: hidden; clip-path: inset(50%); }
 .between #card :is(.who, th:nth-child(2)) { display: none; }
 #between-boards { flex: 1; }
 .round { display: flex; gap: .4rem; margin: 0; padding: 0; list-style: none; }
@@ -745,11 +747,14 @@ td.marked { outline: 2px dashed var(--blue); outline-offset: -2px; }
 .tiles li { padding: .2rem .5rem; border: 1px solid var(--edge); border-radius: .5rem; font-size: .875rem; font-variant-numeric: tabular-nums; }
 .tiles .own { color: var(--gold-ink); background: var(--gold); border-color: var(--gold); }
 .figures { display: grid; grid-template-columns: repeat(auto-fit, minmax(5.5rem, 1fr)); gap: 0 .6rem; }
+.figure { padding: .5rem .6rem; }
 .figure p { margin: 0; }
+.figure .second { font-size: .8125rem; line-height: 1.2; }
 .figure .large { font-size: clamp(1.25rem, 5vw, 1.875rem); }
 .list { width: 100%; background: none; }
-.list th, .list td { border: 0; border-bottom: 1px solid var(--edge); padding: .35rem .25rem; text-align: left; }
-.list thead th { color: var(--second); font-size: .8125rem; }
+.list th, .list td { border: 0; border-bottom: 1px solid var(--line); padding: .35rem .25rem; text-align: left; }
+.list thead th { border-bottom-color: var(--edge); color: var(--second); font-size: .8125rem; }
+#tricks td, #tricks th { padding: .1rem .25rem; font-size: .9375rem; }
 .list .number { text-align: right; white-space: nowrap; }
 .list progress { width: 4rem; height: .45rem; margin-right: .4rem; accent-color: var(--blue); vertical-align: middle; }
 #card td button { padding: 0; border: 0; color: var(--blue); background: none; text-decoration: underline; }
@@ -763,6 +768,7 @@ td.marked { outline: 2px dashed var(--blue); outline-offset: -2px; }
 #parts button { flex: 1 1 auto; }
 #parts [aria-pressed=true] { color: var(--page); background: var(--ink); }
 #band .contract, #band .large { font-size: 1.375rem; }
+#band > p:first-child::first-letter { text-transform: uppercase; }
 #band .red { color: var(--felt-red); }
 #band .ten { letter-spacing: -.12em; }
 .four #band .diamond { color: #ffc48a; }
@@ -807,7 +813,10 @@ td.marked { outline: 2px dashed var(--blue); outline-offset: -2px; }
 .stepper button { padding: 0 0 .25rem; font-size: 1.5rem; line-height: 1; }
 #step { width: 100%; min-height: 1.75rem; padding: 0; border: 0; background: none; accent-color: var(--blue); }
 .part > table:not(.list) { width: 100%; table-layout: fixed; background: none; }
-.part > table:not(.list) th, .part > table:not(.list) td { border: 0; padding: .2rem .1rem; overflow: hidden; text-overflow: ellipsis; white-space: nowrap; font-weight: normal; }
+.part > table:not(.list) :is(th, td) { border: 0; padding: .2rem .1rem; overflow: hidden; text-overflow: ellipsis; white-space: nowrap; font-weight: normal; }
+.part > table:not(.list) th { font-size: .8125rem; color: var(--plate-ink); background: var(--plate); }
+.part > table:not(.list) tbody tr:nth-child(even) { background: var(--soft); }
+.part > table:not(.list) td .bid { font-weight: bold; }
 @media (max-width: 55.99em) {
   .part { display: none; }
   .part-hands .hands, .part-play .play, .part-scores .scores { display: block; }
@@ -872,26 +881,6 @@ td.marked { outline: 2px dashed var(--blue); outline-offset: -2px; }
   #parts, #dock.onward { flex-wrap: wrap; }
   #parts button, #dock.onward button { min-width: 0; max-width: 100%; overflow-wrap: anywhere; }
 }
-/* Nearer to the pictures. */
-#options { display: flex; flex-wrap: wrap; justify-content: space-between; align-items: center; }
-#options > h2 { margin: 0; }
-#options > fieldset { flex-basis: 100%; min-width: 0; }
-@media (min-width: 80em) { .director.on-rulings #opened .parts { grid-template: "h p" auto / 1fr 1fr; } }
-
-:root { --line: #d9d4c6; }
-@media (prefers-color-scheme: dark) { :root:not(.light) { --line: #33403a; --plate-edge: var(--edge); } }
-:root.dark { --line: #33403a; --plate-edge: var(--edge); }
-.panel { border-color: var(--line); }
-.list th, .list td { border-bottom-color: var(--line); }
-.list thead th { border-bottom-color: var(--edge); }
-#band > p:first-child::first-letter { text-transform: uppercase; }
-.banner p:nth-child(even) { text-align: right; }
-.part > table:not(.list) th { font-size: .8125rem; color: var(--plate-ink); background: var(--plate); }
-.part > table:not(.list) tbody tr:nth-child(even) { background: var(--soft); }
-.part > table:not(.list) td .bid { font-weight: bold; }
-#tricks td, #tricks th { padding: .1rem .25rem; font-size: .9375rem; }
-.figure { padding: .5rem .6rem; }
-.figure .second { font-size: .8125rem; line-height: 1.2; }
 @media (orientation: landscape) and (max-height: 30em) {
   #options { display: grid; grid-template-columns: repeat(3, 1fr); gap: 0 .75rem; align-items: start; }
   #options > h2 { grid-area: 1 / 1 / 2 / 3; align-self: center; margin: 0; }
