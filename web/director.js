@@ -37,12 +37,25 @@ function tell(text) {
   say("told", text);
 }
 
-// Asks before it acts; the question stands where it was raised, and no other beside it.
-function confirmFirst(box, question, act, ...more) {
-  const close = () => box.replaceChildren();
-  tell("");
+// Takes down a question that stands.
+function closeQuestions() {
   for (const id of ["end-question", "rule-question", "deal-question", "back-question"]) if (at(id)) at(id).replaceChildren();
-  box.replaceChildren(make("p", null, question), ...more.map((words) => make("p", null, ...[].concat(words))),
+}
+
+// A place for questions, which is a sheet over the page while one stands.
+const questionBox = (id) => make("div", { id, className: "sheet question", role: "dialog", aria_modal: "true", onkeydown: holdTab });
+
+// Asks before it acts; no other question stands beside it, and the focus goes back to what raised it.
+function confirmFirst(box, question, act, ...more) {
+  const raised = document.activeElement;
+  const close = () => {
+    closeQuestions();
+    if (raised) raised.focus();
+  };
+  tell("");
+  closeQuestions();
+  box.setAttribute("aria-label", question);
+  box.replaceChildren(make("h2", null, question), ...more.map((words) => make("p", null, ...[].concat(words))),
     make("div", { className: "row" },
       button(TEXTS.no, "", "no", true, close), button(TEXTS.yes, TEXTS.yesTo(question), "yes", true, () => { close(); act(); })));
   at("yes").className = "send";
@@ -264,7 +277,7 @@ function openedNodes(board, words) {
   return [make("div", { className: "row" },
     make("h2", null, TEXTS.openedAt(words[1], words[0])), ...others,
     make("button", { type: "button", id: "opened-close", onclick: CLOSED }, TEXTS.close)),
-    make("div", { className: "row" }, back), make("div", { id: "back-question" }), bandNode(board), make("div", { className: "parts" }, steppedNode(board, "S", board.cards.length, () => {}), playedNode(board, "S", board.cards.length))];
+    make("div", { className: "row" }, back), questionBox("back-question"), bandNode(board), make("div", { className: "parts" }, steppedNode(board, "S", board.cards.length, () => {}), playedNode(board, "S", board.cards.length))];
 }
 
 // ---- corrections of what players did
@@ -451,7 +464,7 @@ function rulingNodes() {
   return [
     make("section", { id: "choosing", className: "panel", aria_label: TEXTS.openPlay }, row(...playFields("rule"), button(TEXTS.openPlay, "", "rule-open", true, show))),
     make("section", { id: "opened", aria_label: TEXTS.theBoard }),
-    section("ruling", TEXTS.rule, make("div", { id: "rule-question" }),
+    section("ruling", TEXTS.rule, questionBox("rule-question"),
       folded(TEXTS.setTheTricks, row(numberField("rule-tricks", TEXTS.declarersTricks, 0, 13, 7), button(TEXTS.setTricks, "", "rule-set", true, setTricks))),
       folded(TEXTS.assignScore, row(choice("assign-bid", TEXTS.contract, ALL_BIDS.map((bid) => [bid, callName(bid)])),
         choice("assign-doubled", TEXTS.double, TEXTS.doublings), choice("assign-declarer", TEXTS.declarerField, SEATS.map((seat) => [seat, SEAT_NAMES[seat]])),
@@ -578,7 +591,7 @@ function dealNodes() {
     group(TEXTS.dealFile, file, make("div", { className: "row" }, make("label", { id: "choose-file", for: "deal-file" }, TEXTS.chooseFile),
       make("span", { id: "file-has", role: "status" }, TEXTS.noFile)),
       make("label", { for: "deal-text" }, TEXTS.dealText), make("textarea", { id: "deal-text", spellcheck: false }),
-      button(TEXTS.deal, "", "deal", true, () => dealText(at("deal-text").value))), make("div", { id: "deal-question" }),
+      button(TEXTS.deal, "", "deal", true, () => dealText(at("deal-text").value))), questionBox("deal-question"),
     group(TEXTS.dealtWrongly, make("div", { className: "row" }, numberField("undeal-board", TEXTS.boardField, 1, MOST_BOARDS, 1),
       button(TEXTS.undeal, "", "undeal", true, undeal)), make("p", { className: "second" }, TEXTS.undealHelp))];
 }
@@ -589,7 +602,7 @@ function directorNodes() {
     make("p", { id: "told", role: "status" }),
     on("tables", make("table", { id: "tables" }), make("div", { id: "aside" },
       make("section", { id: "round", className: "panel", aria_label: TEXTS.round }, ...clockNodes(), make("p", { id: "round-is", className: "second" }),
-        button(TEXTS.endTheRound, "", "end-round", false, () => {}), make("div", { id: "end-question" })),
+        button(TEXTS.endTheRound, "", "end-round", false, () => {}), questionBox("end-question")),
       section("telling", TEXTS.telling, ...tellingNodes()))),
     on("boards", section("dealing", TEXTS.dealBoards, ...dealNodes())),
     on("rulings", ...rulingNodes()),

@@ -962,6 +962,7 @@ document.addEventListener("keydown", (event) => {
   if (event.key !== "Escape") return;
   if (!at("choices").hidden) at("chosen").onclick();
   closeCall();
+  if (at("no")) at("no").click();
   if (marked || claiming || looking) { unmark(); drawn(); }
 });
 chosen();

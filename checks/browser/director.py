@@ -185,7 +185,7 @@ class Page:
         name = "{}, round {}, table {}, board {}".format(what, *play)
         for answer in ["no", "yes"]:
             self.window.click(f"#{button}")
-            self.window.wait(f"document.querySelector('#rule-question p') && document.querySelector('#rule-question p').textContent === {name + '?'!r}")
+            self.window.wait(f"document.querySelector('#rule-question h2') && document.querySelector('#rule-question h2').textContent === {name + '?'!r}")
             self.told("")
             if answer == "yes":
                 pictures(self.window, PICTURES, button)
@@ -213,7 +213,7 @@ class Page:
         self.window.wait("!document.getElementById('end-round').disabled")
         self.window.click("#end-round")
         question = f"End round {round_}" + (", and close the session?" if round_ == 7 else "?")
-        self.window.wait(f"document.querySelector('#end-question p').textContent === {question!r}")
+        self.window.wait(f"document.querySelector('#end-question h2').textContent === {question!r}")
         self.window.click("#no")
         self.window.wait("document.getElementById('end-question').childNodes.length === 0")
         self.window.click("#end-round")
@@ -277,7 +277,7 @@ def deal(page, work):
 def is_asked(page, button, box, what, answer):
     """A button whose question is read and answered."""
     page.window.click(button)
-    page.window.wait(f"document.querySelector('#{box} p') && document.querySelector('#{box} p').textContent === {what + '?'!r}")
+    page.window.wait(f"document.querySelector('#{box} h2') && document.querySelector('#{box} h2').textContent === {what + '?'!r}")
     page.window.click(f"#{answer}")
     page.window.wait(f"document.getElementById('{box}').childNodes.length === 0")
 

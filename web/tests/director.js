@@ -184,6 +184,19 @@ run({
     assert.match(page.text("told"), /has to be there/);
   },
 
+  "a question holds the focus, is closed by Escape, and gives the focus back": async () => {
+    const page = await opened(tables(DONE));
+    page.at("end-round").focus();
+    await page.click("end-round");
+    const box = page.at("end-question");
+    assert.deepStrictEqual([box.getAttribute("role"), box.getAttribute("aria-label"), page.document.activeElement.id], ["dialog", "End round 2?", "no"]);
+    page.at("yes").focus();
+    box.onkeydown({ key: "Tab", currentTarget: box, preventDefault() {} });
+    assert.strictEqual(page.document.activeElement.id, "no");
+    page.document.listeners.get("keydown")({ key: "Escape" });
+    assert.deepStrictEqual([page.at("no"), page.document.activeElement.id], [null, "end-round"]);
+  },
+
   "each ruling is folded together under its heading": async () => {
     const page = await openedAt("rulings", tables(AT_PLAY));
     const folded = page.at("ruling").querySelectorAll("details");

@@ -239,6 +239,8 @@ body.director main { max-width: 84rem; }
 #clock-runs b { margin-right: auto; font-size: 2.25rem; line-height: 1; }
 #clock-sets input { width: 4rem; }
 #round p, #telling .row { margin: .2rem 0; }
+.question:empty { display: none; }
+.question > p:last-of-type:not(:only-of-type) { padding: 0; font-weight: normal; background: none; }
 #tell-text { flex: 1; width: auto; min-width: 0; }
 #dealing { padding: 0; border: 0; background: none; }
 #dealing .subject { margin-bottom: .75rem; padding: .75rem 1rem; background: var(--panel); border: 1px solid var(--line); border-radius: .75rem; }
@@ -291,6 +293,7 @@ body.director main { max-width: 84rem; }
 .director #tables .done td:nth-child(7)::before { content: "\2713\a0"; }
 #aside { margin-top: .75rem; }
 @media (max-width: 59.99em) { #aside #ranking { display: none; } }
+@media (min-width: 40em) and (max-width: 59.99em) { #aside { display: grid; grid-template-columns: 1fr 1fr; gap: 0 .75rem; align-items: start; } }
 @media (max-width: 39.99em) {
   :is(.sides, #rankings) :is(th, td):nth-child(4):not(:last-child) { display: none; }
   #tabs { justify-content: space-between; }
@@ -307,11 +310,10 @@ body.director main { max-width: 84rem; }
   #aside #rankings { max-height: max(12rem, 100dvh - 36rem); overflow: auto; }
   #aside :is(#rank, .small, thead, tr:nth-child(n+4)) { display: none; }
   #aside #rankings h2 { margin: .3rem 0 0; font-size: .875rem; font-weight: normal; color: var(--second); }
-  #dealing { display: grid; grid-template: "h h" auto "p p" auto "q q" auto "s f" auto "u f" 1fr / 1fr 1fr; gap: 0 .75rem; align-items: start; }
+  #dealing { display: grid; grid-template: "h h" auto "p p" auto "s f" auto "u f" 1fr / 1fr 1fr; gap: 0 .75rem; align-items: start; }
   #dealing > h2 { grid-area: h; }
   #dealing > p { grid-area: p; }
-  #deal-question { grid-area: q; }
-  #dealing .subject:has(#deal-file) { grid-area: f; }
+    #dealing .subject:has(#deal-file) { grid-area: f; }
   #on-rulings { display: grid; grid-template: "c c" auto "o r" auto "s r" 1fr / minmax(0, 1fr) 26rem; gap: 0 .75rem; align-items: start; }
   #choosing { grid-area: c; }
   #opened { grid-area: o; }
@@ -2660,6 +2662,7 @@ document.addEventListener("keydown", (event) => {
   if (event.key !== "Escape") return;
   if (!at("choices").hidden) at("chosen").onclick();
   closeCall();
+  if (at("no")) at("no").click();
   if (marked || claiming || looking) { unmark(); drawn(); }
 });
 chosen();
@@ -3309,12 +3312,25 @@ function tell(text) {
   say("told", text);
 }
 
-// Asks before it acts; the question stands where it was raised, and no other beside it.
-function confirmFirst(box, question, act, ...more) {
-  const close = () => box.replaceChildren();
-  tell("");
+// Takes down a question that stands.
+function closeQuestions() {
   for (const id of ["end-question", "rule-question", "deal-question", "back-question"]) if (at(id)) at(id).replaceChildren();
-  box.replaceChildren(make("p", null, question), ...more.map((words) => make("p", null, ...[].concat(words))),
+}
+
+// A place for questions, which is a sheet over the page while one stands.
+const questionBox = (id) => make("div", { id, className: "sheet question", role: "dialog", aria_modal: "true", onkeydown: holdTab });
+
+// Asks before it acts; no other question stands beside it, and the focus goes back to what raised it.
+function confirmFirst(box, question, act, ...more) {
+  const raised = document.activeElement;
+  const close = () => {
+    closeQuestions();
+    if (raised) raised.focus();
+  };
+  tell("");
+  closeQuestions();
+  box.setAttribute("aria-label", question);
+  box.replaceChildren(make("h2", null, question), ...more.map((words) => make("p", null, ...[].concat(words))),
     make("div", { className: "row" },
       button(TEXTS.no, "", "no", true, close), button(TEXTS.yes, TEXTS.yesTo(question), "yes", true, () => { close(); act(); })));
   at("yes").className = "send";
@@ -3536,7 +3552,7 @@ function openedNodes(board, words) {
   return [make("div", { className: "row" },
     make("h2", null, TEXTS.openedAt(words[1], words[0])), ...others,
     make("button", { type: "button", id: "opened-close", onclick: CLOSED }, TEXTS.close)),
-    make("div", { className: "row" }, back), make("div", { id: "back-question" }), bandNode(board), make("div", { className: "parts" }, steppedNode(board, "S", board.cards.length, () => {}), playedNode(board, "S", board.cards.length))];
+    make("div", { className: "row" }, back), questionBox("back-question"), bandNode(board), make("div", { className: "parts" }, steppedNode(board, "S", board.cards.length, () => {}), playedNode(board, "S", board.cards.length))];
 }
 
 // ---- corrections of what players did
@@ -3723,7 +3739,7 @@ function rulingNodes() {
   return [
     make("section", { id: "choosing", className: "panel", aria_label: TEXTS.openPlay }, row(...playFields("rule"), button(TEXTS.openPlay, "", "rule-open", true, show))),
     make("section", { id: "opened", aria_label: TEXTS.theBoard }),
-    section("ruling", TEXTS.rule, make("div", { id: "rule-question" }),
+    section("ruling", TEXTS.rule, questionBox("rule-question"),
       folded(TEXTS.setTheTricks, row(numberField("rule-tricks", TEXTS.declarersTricks, 0, 13, 7), button(TEXTS.setTricks, "", "rule-set", true, setTricks))),
       folded(TEXTS.assignScore, row(choice("assign-bid", TEXTS.contract, ALL_BIDS.map((bid) => [bid, callName(bid)])),
         choice("assign-doubled", TEXTS.double, TEXTS.doublings), choice("assign-declarer", TEXTS.declarerField, SEATS.map((seat) => [seat, SEAT_NAMES[seat]])),
@@ -3850,7 +3866,7 @@ function dealNodes() {
     group(TEXTS.dealFile, file, make("div", { className: "row" }, make("label", { id: "choose-file", for: "deal-file" }, TEXTS.chooseFile),
       make("span", { id: "file-has", role: "status" }, TEXTS.noFile)),
       make("label", { for: "deal-text" }, TEXTS.dealText), make("textarea", { id: "deal-text", spellcheck: false }),
-      button(TEXTS.deal, "", "deal", true, () => dealText(at("deal-text").value))), make("div", { id: "deal-question" }),
+      button(TEXTS.deal, "", "deal", true, () => dealText(at("deal-text").value))), questionBox("deal-question"),
     group(TEXTS.dealtWrongly, make("div", { className: "row" }, numberField("undeal-board", TEXTS.boardField, 1, MOST_BOARDS, 1),
       button(TEXTS.undeal, "", "undeal", true, undeal)), make("p", { className: "second" }, TEXTS.undealHelp))];
 }
@@ -3861,7 +3877,7 @@ function directorNodes() {
     make("p", { id: "told", role: "status" }),
     on("tables", make("table", { id: "tables" }), make("div", { id: "aside" },
       make("section", { id: "round", className: "panel", aria_label: TEXTS.round }, ...clockNodes(), make("p", { id: "round-is", className: "second" }),
-        button(TEXTS.endTheRound, "", "end-round", false, () => {}), make("div", { id: "end-question" })),
+        button(TEXTS.endTheRound, "", "end-round", false, () => {}), questionBox("end-question")),
       section("telling", TEXTS.telling, ...tellingNodes()))),
     on("boards", section("dealing", TEXTS.dealBoards, ...dealNodes())),
     on("rulings", ...rulingNodes()),
