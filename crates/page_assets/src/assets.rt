@@ -869,11 +869,27 @@ td.marked { outline: 2px dashed var(--blue); outline-offset: -2px; }
 }
 /* Large letters on a small screen: one below the other. */
 @media (max-width: 17em) {
-  .at-table { --tw: 2rem; --th: 2.75rem; }
+  .at-table { --tw: 2rem; --th: 2.75rem; --cw: 2.6rem; --fw: 2.6rem; --ch: 3.25rem; }
+  #heads { flex-basis: 60%; }
+  .bidding #stage { display: block; min-height: 0; padding: .3rem .5rem; }
+  .bidding .auction { position: static; max-height: none; }
+  .auction th { white-space: normal; overflow-wrap: anywhere; }
+  #hand .cards.cards { flex-direction: column; padding-right: .25rem; }
+  :is(#hand, .at-top) .line.line { display: flex; flex-wrap: wrap; gap: .25rem; }
+  :is(#hand, .at-top) .group { display: contents; }
+  #hand .card.card { margin: 0; }
+  #dock.box { grid-template-columns: repeat(6, minmax(0, 1fr)); }
+  #dock.box .bid { grid-column: span 2; }
+  #dock.box :is(.box-call, #confirm) { grid-column: span 3; }
+  #dock.play { grid-template-columns: 1fr 1fr; }
+  #dock.play button { flex-direction: column; }
+  #dock.play #claim-open + #confirm { grid-column: 1 / -1; }
+  #dock.claimed { grid-template-columns: minmax(0, 1fr); }
   #strip { flex-wrap: wrap; }
   #strip #calls { flex-basis: 100%; }
   .at-table:not(.bidding) #stage { grid-template: "top" auto "left" auto "mid" auto "right" auto / minmax(0, 1fr); }
-  .at-left > .plate, .at-right > .plate { flex-direction: row; }
+  :is(.at-left, .at-right) > .plate { flex-direction: row; width: fit-content; max-width: 100%; margin: 0; }
+  :is(.at-left, .at-right) > .plate span { display: block; }
   .over .diagram { grid-template: "top" auto "left" auto "middle" auto "right" auto "bottom" auto / minmax(0, 1fr); }
   .boards .panel, .between .panel { overflow-x: auto; }
   .stepper { grid-template-columns: repeat(4, 1fr); }
