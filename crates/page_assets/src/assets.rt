@@ -93,10 +93,10 @@ button:disabled { color: var(--off); background: var(--soft); border-style: dash
 button:focus-visible, input:focus-visible, textarea:focus-visible, select:focus-visible, summary:focus-visible { outline: 3px solid var(--blue); outline-offset: 2px; z-index: 2; }
 .send { color: var(--on-blue); background: var(--blue); border-color: var(--blue); }
 /* Signs before words, in the colour of the words. */
-:is(#bell, #menu, #last, #claim-open, #claim-button, #confirm.send, #agree, #refuse, #call-director, #my-boards, #between-boards, #menu-boards, #print, #onward) {
+:is(#bell, #menu, #last, #claim-open, #claim-button, #confirm.send, #agree, #refuse, #call-director, #my-boards, #between-boards, #menu-boards, [hidden] + #confirm, #print, #onward) {
   display: inline-flex; justify-content: center; align-items: center; gap: .4rem;
 }
-:is(#bell, #menu, #last, #claim-open, #claim-button, #confirm.send, #agree, #refuse, #call-director, #my-boards, #between-boards, #menu-boards, #print)::before, #onward::after,
+:is(#bell, #menu, #last, #claim-open, #claim-button, #confirm.send, #agree, #refuse, #call-director, #my-boards, #between-boards, #menu-boards, [hidden] + #confirm, #print)::before, #onward::after,
 #desk > .note::before {
   content: ""; flex: none; width: 1.25rem; height: 1.25rem; background: currentcolor; forced-color-adjust: none; mask: var(--sign) center / contain no-repeat;
 }
@@ -107,7 +107,7 @@ button:focus-visible, input:focus-visible, textarea:focus-visible, select:focus-
 #last { --sign: url("data:image/svg+xml,%3Csvg xmlns='http://www.w3.org/2000/svg' viewBox='0 0 20 20' fill='none' stroke='%23000' stroke-width='1.8' stroke-linejoin='round'%3E%3Cpath d='M7 3.5h9v13H7zM3.5 5v10'/%3E%3C/svg%3E"); }
 #claim-open, #claim-button { --sign: url("data:image/svg+xml,%3Csvg xmlns='http://www.w3.org/2000/svg' viewBox='0 0 20 20' fill='none' stroke='%23000' stroke-width='1.7' stroke-linejoin='round'%3E%3Cpath d='M4.5 18V2.5H16L13 6.7l3 4.3H4.5'/%3E%3C/svg%3E"); }
 #confirm.send, #agree { --sign: url("data:image/svg+xml,%3Csvg xmlns='http://www.w3.org/2000/svg' viewBox='0 0 20 20' fill='none' stroke='%23000' stroke-width='2' stroke-linecap='round' stroke-linejoin='round'%3E%3Cpath d='M3.5 10.5l4.5 4.5 8.5-10'/%3E%3C/svg%3E"); }
-#my-boards, #between-boards, #menu-boards { --sign: url("data:image/svg+xml,%3Csvg xmlns='http://www.w3.org/2000/svg' viewBox='0 0 20 20' fill='none' stroke='%23000' stroke-width='1.7' stroke-linecap='round'%3E%3Cpath d='M7.5 5H17M7.5 10H17M7.5 15H17M3.5 5h.1M3.5 10h.1M3.5 15h.1'/%3E%3C/svg%3E"); }
+#my-boards, #between-boards, #menu-boards, [hidden] + #confirm { --sign: url("data:image/svg+xml,%3Csvg xmlns='http://www.w3.org/2000/svg' viewBox='0 0 20 20' fill='none' stroke='%23000' stroke-width='1.7' stroke-linecap='round'%3E%3Cpath d='M7.5 5H17M7.5 10H17M7.5 15H17M3.5 5h.1M3.5 10h.1M3.5 15h.1'/%3E%3C/svg%3E"); }
 #print { --sign: url("data:image/svg+xml,%3Csvg xmlns='http://www.w3.org/2000/svg' viewBox='0 0 20 20' fill='none' stroke='%23000' stroke-width='1.6' stroke-linejoin='round'%3E%3Cpath d='M6 7V2.5h8V7M6 14H3V7h14v7h-3M6 11.5h8v6H6z'/%3E%3C/svg%3E"); }
 #onward { --sign: url("data:image/svg+xml,%3Csvg xmlns='http://www.w3.org/2000/svg' viewBox='0 0 20 20' fill='none' stroke='%23000' stroke-width='2' stroke-linecap='round' stroke-linejoin='round'%3E%3Cpath d='M7.5 4l6 6-6 6'/%3E%3C/svg%3E"); }
 #refuse { --sign: url("data:image/svg+xml,%3Csvg xmlns='http://www.w3.org/2000/svg' viewBox='0 0 20 20' fill='none' stroke='%23000' stroke-width='2' stroke-linecap='round'%3E%3Cpath d='M4 4l12 12M16 4L4 16'/%3E%3C/svg%3E"); }
@@ -516,7 +516,7 @@ td.marked { outline: 2px dashed var(--blue); outline-offset: -2px; }
 #dock :is(.box-call, .bid)[aria-pressed=true] { color: var(--gold-ink); background: var(--gold); outline: 3px solid var(--blue); }
 #dock #confirm :is(.bid, .suit) { min-height: 0; color: inherit; background: none; font-size: inherit; }
 #dock.play { grid-template-columns: 4fr 3fr 3.7fr; gap: .4rem; }
-#dock.play #claim-open[hidden] + #confirm { grid-column: span 2; }
+#dock.play:has([hidden]) { grid-template-columns: 1fr 1fr; }
 #dock.claimed { grid-template-columns: 1fr 1fr; color: var(--gold-ink); background: var(--gold); }
 #dock.claimed p { grid-column: 1 / -1; margin: 0; line-height: 1.25; }
 #dock.claimed button { min-height: 3.25rem; font-size: 1.0625rem; }
@@ -631,7 +631,7 @@ td.marked { outline: 2px dashed var(--blue); outline-offset: -2px; }
   #dock.box #confirm { grid-area: 11 / 1 / span 4; flex-direction: column; }
   #dock.play { grid-template-columns: 1fr 1fr; align-content: end; background: none; }
   #dock.play button { min-height: 3.25rem; }
-  #dock.play #confirm { grid-column: 1 / -1; }
+  #dock.play #confirm, #dock.play:has([hidden]) #last { grid-column: 1 / -1; }
   #last, #claim-open { flex-direction: column; gap: 0; font-size: .875rem; }
   #dock.claimed { align-self: end; align-content: end; gap: .4rem; }
   #dock.claimed button { gap: .2rem; min-height: 3rem; font-size: .9375rem; }
@@ -653,7 +653,7 @@ td.marked { outline: 2px dashed var(--blue); outline-offset: -2px; }
   .dummy-right #stage { grid-template-columns: 8rem minmax(0, 1fr) 13.5rem; }
   :is(.dummy-left .at-left, .dummy-right .at-right) > .plate { display: flex; max-width: 13rem; }
   #dock { gap: .4rem; padding: .5rem 1rem max(.5rem, env(safe-area-inset-bottom)); }
-  #dock.play { grid-template-columns: 9.5rem 7.5rem 1fr; }
+  #dock.play:not(:has([hidden])) { grid-template-columns: 9.5rem 7.5rem 1fr; }
   #dock.play button { min-height: 3.25rem; }
   #dock.claimed { grid-template-columns: minmax(0, 1fr) 10rem 10rem; align-items: center; }
   #dock.claimed p { grid-column: auto; max-height: 3.25rem; overflow-y: auto; font-size: .875rem; line-height: 1.2; }
