@@ -269,7 +269,7 @@ function linesSoFar(board) {
 // The scores of North and South in a row, where the list of results stands on a part of its own.
 function tilesNode(board) {
   const lines = linesSoFar(board).filter((one) => isScored(one.result));
-  const tiles = lines.map((one) => make("li", { className: one.own ? "own" : "" }, signed(one.result.score)));
+  const tiles = lines.map((one) => make("li", { className: one.own ? "own" : "" }, signed(one.result.score), ...(one.own ? [" ", make("b", null, TEXTS.we)] : [])));
   return make("div", { className: "tiles" }, make("p", { className: "second" }, TEXTS.scoresSoFar(lines.length)), make("ol", null, ...tiles));
 }
 

@@ -182,7 +182,7 @@ function tablesTable(state) {
     const open = make("button", { type: "button", id: "open-" + table.number, aria_label: TEXTS.openTable(table.number), onclick: () => openTable(table) }, TEXTS.open);
     return make("tr", { className: stands },
       ...[[table.number], [pairText(table.ns)], [pairText(table.ew)],
-        [table.idle ? "" : table.board], [...reasonNodes(table), progressText(table)], [marksOf(table), table.idle ? "" : TEXTS.stillFor(Number(minutes))],
+        [table.idle ? "" : TEXTS.board(table.board)], [...reasonNodes(table), progressText(table)], [marksOf(table), table.idle ? "" : TEXTS.stillFor(Number(minutes))],
         [TEXTS.stands[stands]]].map((words) => make("td", null, ...words)),
       make("td", null, ...(table.idle === "SitsOut" ? [] : [open])));
   });

@@ -78,8 +78,8 @@ run({
     const page = await opened(tables(AT_PLAY), "Pair 1: Ann and Bob\n");
     assert.deepStrictEqual(page.rows(page.at("tables")), [
       ["Table", "N-S", "E-W", "Board", "What goes on", "Min.", "Stands", "Open"],
-      ["1", "1 Ann and Bob", "8", "4", "Auction, East to call", "moved just now", "Playing", "Open"],
-      ["2", "2", "9", "6", "Trick 6, South to play", "moved just now", "Playing", "Open"],
+      ["1", "1 Ann and Bob", "8", "Board 4", "Auction, East to call", "moved just now", "Playing", "Open"],
+      ["2", "2", "9", "Board 6", "Trick 6, South to play", "moved just now", "Playing", "Open"],
       ["3", "3", "10", "", "Waits for its deal", "", "No deal", "Open"],
       ["4", "4", "\u2013", "", "Sits out", "", "Done", ""],
     ]);

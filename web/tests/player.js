@@ -592,7 +592,7 @@ run({
     await page.click("open-1-4");
     assert.deepStrictEqual(page.rows(page.named("Scores").querySelectorAll("table")[0]).slice(1), [["6", "3NT N", "10", "+630"], ["2 (we)", "3NT S", "9", "+600"], ["5", "3NT N", "7", "\u2212200"]]);
     const tiles = page.document.root.all().filter((one) => one.tag === "li" && one.parent.parent.className === "tiles");
-    assert.deepStrictEqual(tiles.map((one) => one.textContent + one.className), ["+630", "+600own", "\u2212200"]);
+    assert.deepStrictEqual(tiles.map((one) => one.textContent + one.className), ["+630", "+600 (we)own", "\u2212200"]);
     const shut = await seated(place(), view({ PLAY: "1 2 2 5" }), "OK\n", boards(board()));
     await shut.click("menu");
     await shut.click("menu-boards");

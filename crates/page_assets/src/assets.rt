@@ -269,7 +269,6 @@ body.director main { max-width: 84rem; }
 .director #tables td:nth-child(3) { grid-area: q; }
 .director #tables td:nth-child(2), .director #tables td:nth-child(3) { color: var(--second); font-size: .875rem; }
 .director #tables td:nth-child(4) { grid-area: b; font-weight: bold; }
-.director #tables td:nth-child(4):not(:empty)::before { content: "Board "; }
 .director #tables td:nth-child(5) { grid-area: w; }
 .director #tables td:nth-child(6) { grid-area: m; align-self: center; font-size: .875rem; color: var(--second); }
 .director #tables td:nth-child(7) {
@@ -2956,7 +2955,7 @@ function linesSoFar(board) {
 // The scores of North and South in a row, where the list of results stands on a part of its own.
 function tilesNode(board) {
   const lines = linesSoFar(board).filter((one) => isScored(one.result));
-  const tiles = lines.map((one) => make("li", { className: one.own ? "own" : "" }, signed(one.result.score)));
+  const tiles = lines.map((one) => make("li", { className: one.own ? "own" : "" }, signed(one.result.score), ...(one.own ? [" ", make("b", null, TEXTS.we)] : [])));
   return make("div", { className: "tiles" }, make("p", { className: "second" }, TEXTS.scoresSoFar(lines.length)), make("ol", null, ...tiles));
 }
 
@@ -3473,7 +3472,7 @@ function tablesTable(state) {
     const open = make("button", { type: "button", id: "open-" + table.number, aria_label: TEXTS.openTable(table.number), onclick: () => openTable(table) }, TEXTS.open);
     return make("tr", { className: stands },
       ...[[table.number], [pairText(table.ns)], [pairText(table.ew)],
-        [table.idle ? "" : table.board], [...reasonNodes(table), progressText(table)], [marksOf(table), table.idle ? "" : TEXTS.stillFor(Number(minutes))],
+        [table.idle ? "" : TEXTS.board(table.board)], [...reasonNodes(table), progressText(table)], [marksOf(table), table.idle ? "" : TEXTS.stillFor(Number(minutes))],
         [TEXTS.stands[stands]]].map((words) => make("td", null, ...words)),
       make("td", null, ...(table.idle === "SitsOut" ? [] : [open])));
   });
