@@ -136,6 +136,8 @@ function allowedCall(view, call) {
 // A call or card that was tapped once; which board's claim is being made, and of how many tricks; whether the last trick is looked at.
 let marked = null;
 let claiming = null;
+// The call or card that is on its way, in whose place it is shown already; else empty.
+let onWay = "";
 let looking = false;
 let drawn = () => {};
 let movedAt = 0;
@@ -176,12 +178,14 @@ function send(line) {
   return act(line);
 }
 
+// What a name stands for, as of a card or a call that can be tapped.
+const namedNodes = (what) => (what === "" ? [] : what.startsWith("card-") ? cardNodes(what.slice(5)).reverse() : callNodes(what.slice(5)));
+
 function confirmButton(prompt, sending) {
   const ready = marked !== null && !busy;
-  const label = busy ? TEXTS.sending : marked ? [sending,
-    ...(marked.what.startsWith("card-") ? cardNodes(marked.what.slice(5)).reverse() : callNodes(marked.what.slice(5)))] : prompt;
+  const label = busy ? [onWay ? TEXTS.sendingIt : TEXTS.sending, ...namedNodes(onWay)] : marked ? [sending, ...namedNodes(marked.what)] : prompt;
   const node = button(make("span", null, ...[].concat(label)), "", "confirm", ready, () => { if (marked) send(marked.line); });
-  if (ready) node.className = "send";
+  node.className = ready ? "send" : busy ? "sending" : "";
   return node;
 }
 
@@ -214,7 +218,7 @@ function biddingBox(view) {
     const line = "CALL " + key + " " + view.board + " " + view.made.calls + " " + word;
     const node = button(label, name, id, mine && allowedCall(view, word), (event) => choose(id, line, event));
     node.className = className;
-    node.setAttribute("aria-pressed", String(marked !== null && marked.what === id));
+    node.setAttribute("aria-pressed", String(onWay === id || (marked !== null && marked.what === id)));
     return node;
   };
   const cells = [call("PASS", TEXTS.pass, "", "box-call"), call("X", "X", TEXTS.double, "box-call"), call("XX", "XX", TEXTS.redouble, "box-call"),
@@ -333,7 +337,8 @@ function auctionTable(place, view) {
   for (let i = 0; i < Math.max(cells.length + (due ? 1 : 0), due ? 12 : 0); i += 4) {
     rows.push(make("tr", null, ...[0, 1, 2, 3].map((j) => {
       const dueHere = due !== null && i + j === cells.length;
-      if (dueHere && marked && marked.what.startsWith("call-")) return make("td", { className: "turn marked" }, ...callNodes(marked.what.slice(5)));
+      const chosen = dueHere ? onWay || (marked ? marked.what : "") : "";
+      if (chosen.startsWith("call-")) return make("td", { className: "turn marked" }, ...namedNodes(chosen));
       if (dueHere) return make("td", { className: "turn", aria_label: TEXTS.dueCall }, "?");
       return make("td", null, ...(cells[i + j] ? callNodes(cells[i + j]) : [""]));
     })));
@@ -375,7 +380,8 @@ function handNode(view, hand, label, id, mine, where) {
   };
   const voidNode = (suit) => make("div", { className: "group void-of in-" + suit }, make("span", { className: "void" }, suitSign(suit), " \u2013"));
   const group = ([suit, ranks]) => (ranks === "" ? voidNode(suit)
-    : make("div", { className: "group in-" + suit + (ranks[0] === hand[suit][0] ? "" : " more") }, ...[...ranks].map((rank) => card(suit, rank))));
+    : make("div", { className: "group in-" + suit + (ranks[0] === hand[suit][0] ? "" : " more") },
+      ...[...ranks].filter((rank) => onWay !== "card-" + suit + rank).map((rank) => card(suit, rank))));
   const isShown = ([suit, ranks]) => ranks !== "" || (id === "dummy" && hand[suit] === "");
   const suits = where === "left" || where === "right" ? SUITS.map((suit) => [[suit, hand[suit]]]) : rowsOf(hand, view.board, id);
   const rows = suits.map((row) => row.filter(isShown)).filter((row) => row.length > 0);
@@ -402,11 +408,14 @@ function cardOnTable(view, { seat, card }, won) {
 
 // The trick on the table: the one at play, or the last whole one until the next card is led.
 function trickNode(view) {
-  const whole = view.trick.length === 0;
+  const sent = onWay.startsWith("card-") ? cardOnTable(view, { seat: view.turn, card: onWay.slice(5) }, false) : null;
+  const whole = view.trick.length === 0 && sent === null;
   const trick = whole ? view.last : view.trick;
   const node = make("div", { className: "trick", role: "group", aria_label: whole && trick.length ? TEXTS.lastTrick : TEXTS.trickNow },
     ...trick.map((one) => cardOnTable(view, one, whole && one.seat === view.turn)));
-  if (!whole && onTurn(view)) node.append(make("span", { className: "due " + placeOf(view, view.turn), aria_hidden: "true" }, view.turn));
+  if (sent) sent.className += " sent";
+  if (sent) node.append(sent);
+  else if (!whole && onTurn(view)) node.append(make("span", { className: "due " + placeOf(view, view.turn), aria_hidden: "true" }, view.turn));
   return node;
 }
 
@@ -418,7 +427,7 @@ function stageNode(place, view, middle) {
     if (where === "bottom") continue;
     const box = make("div", { className: "at-" + where }, plate(place, view, seat));
     if (view.playing && seat === dummy && view.dummy) box.append(handNode(view,
-      view.dummy, TEXTS.dummyHand(SEAT_NAMES[seat]), "dummy", handPlayed(place, view) === "dummy", where));
+      view.dummy, TEXTS.dummyHand(SEAT_NAMES[seat]), "dummy", !busy && handPlayed(place, view) === "dummy", where));
     node.append(box);
   }
   node.append(middle);
@@ -596,7 +605,7 @@ function isMine(place, view) {
 function playNodes(place, view) {
   const dummy = dummyOf(place);
   const own = handNode(view, view.hand,
-    view.seat === dummy && view.playing ? TEXTS.ownDummy : TEXTS.ownHand(SEAT_NAMES[view.seat]), "hand", handPlayed(place, view) === "own");
+    view.seat === dummy && view.playing ? TEXTS.ownDummy : TEXTS.ownHand(SEAT_NAMES[view.seat]), "hand", !busy && handPlayed(place, view) === "own");
   if (!view.playing || !place.contract) {
     const stage = stageNode(place, view, make("div", { id: "auction", className: "auction" }, auctionTable(place, view)));
     // The board lies there while there is room.
@@ -894,12 +903,14 @@ async function act(line) {
   busy = true;
   turn += 1;
   say("notice", "");
-  for (const node of at("main").querySelectorAll("button")) node.disabled = true;
+  onWay = /^C(ALL|ARD) /.test(line) ? line.slice(0, 4).toLowerCase() + "-" + line.split(" ").pop() : "";
+  drawn();
   const slow = setTimeout(() => say("notice", TEXTS.slow), SLOW);
   // The answer, and what there is to see then.
   const reply = await ask("/lines", line + "\nSEE " + asked + "\n");
   clearTimeout(slow);
   busy = false;
+  onWay = "";
   if (at("notice").textContent === TEXTS.slow) say("notice", "");
   if (key !== asked) return key === null ? undefined : look();
   shown = "";

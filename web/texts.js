@@ -114,6 +114,7 @@ const TEXTS = {
   bidIt: "Bid ",
   playIt: "Play ",
   sending: "Sending \u2026",
+  sendingIt: "Sending ",
   tapCard: "Tap a card",
   yourCard: "Your card",
   pleaseWait: "Please wait",

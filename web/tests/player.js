@@ -490,6 +490,27 @@ run({
     assert.deepStrictEqual(await page.asks(page.document.listeners.get("visibilitychange")), LOOKS);
   },
 
+  "what is on its way is shown where it goes, and comes back where no answer comes": async () => {
+    const hearts = "\u2665\ufe0e";
+    const answer = (seen, contract) => (where) => (where === "/place" ? place({ CONTRACT: contract }) : where === "/boards" ? boards() : seen);
+    const card = await seated(place({ CONTRACT: "1H E" }), play({ AT: "7 4 0", LAST: "S HK H2 H3 H4", TRICKS: "1 0" }));
+    card.answer = () => new Promise(() => {});
+    await card.asks(() => { card.at("card-HQ").click(); });
+    assert.strictEqual(card.at("card-HQ"), null);
+    assert.strictEqual(card.named("South: queen of hearts").className, "played bottom red sent");
+    assert.deepStrictEqual([card.text("confirm"), card.at("confirm").className, card.named("Trick").nodes.length], ["Sending " + hearts + "Q", "sending", 1]);
+    assert.deepStrictEqual(enabled(card, "card-"), []);
+    card.answer = answer(play({ AT: "7 4 0", LAST: "S HK H2 H3 H4", TRICKS: "1 0" }), "1H E");
+    await card.pass(8000);
+    assert.ok(!card.at("card-HQ").disabled && card.named("South: queen of hearts") === undefined);
+    const call = await seated(place(), view());
+    call.answer = () => new Promise(() => {});
+    await call.asks(() => { call.at("call-1H").click(); });
+    assert.deepStrictEqual([call.text("confirm"), call.at("call-1H").getAttribute("aria-pressed"), call.rows(call.named("Auction"))[1]],
+      ["Sending 1" + hearts, "true", ["", "Pass", "Pass", "1" + hearts]]);
+    assert.deepStrictEqual(enabled(call, "call-"), []);
+  },
+
   "one click, one line": async () => {
     const page = await seated(place(), view());
     const asked = await page.asks(() => {

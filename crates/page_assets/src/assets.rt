@@ -418,6 +418,7 @@ summary { cursor: pointer; min-height: 2.2rem; font-weight: bold; }
 .played { color: var(--black); background: var(--face); border: 1px solid #8f8b7e; box-shadow: 0 1px 2px rgb(0 0 0 / 35%); font-size: 1.375rem; font-weight: bold; }
 .played.red { color: var(--red); }
 .played.won { outline: 3px solid var(--gold); }
+.played.sent { border: 2px dashed #12181c; opacity: .75; }
 .due { color: var(--gold); border: 2px solid var(--gold); font-weight: bold; }
 .hand { min-width: 0; }
 #hand { grid-area: hand; padding: .2rem .4rem .4rem; }
@@ -504,8 +505,8 @@ td.marked { outline: 2px dashed var(--blue); outline-offset: -2px; }
 .four #dock .bid .club { color: var(--club); }
 #dock .box-call { font-size: 1.125rem; }
 #dock .box-call:disabled { border: 1px solid var(--line); }
-#dock .bid:disabled, #dock .bid:disabled .suit { color: var(--off); background: var(--soft); border: 1px solid var(--line); }
-#dock .bid:disabled .suit { border: 0; }
+#dock .bid:disabled { background: var(--soft); border: 1px solid var(--line); }
+#dock .bid:disabled, #dock .bid:disabled .suit { color: var(--off); }
 #call-PASS { grid-column: span 5; }
 #call-X, #call-XX { grid-column: span 4; }
 .box #confirm { grid-column: span 7; }
@@ -514,6 +515,9 @@ td.marked { outline: 2px dashed var(--blue); outline-offset: -2px; }
 #dock #call-XX:enabled { color: #fff; background: var(--redouble); }
 #dock :is(.box-call, .bid)[aria-pressed=true] { color: var(--gold-ink); background: var(--gold); outline: 3px solid var(--blue); }
 #dock #confirm :is(.bid, .suit) { min-height: 0; color: inherit; background: none; font-size: inherit; }
+#dock #confirm.sending { display: inline-flex; justify-content: center; align-items: center; gap: .4rem; color: var(--ink); border-style: solid; }
+#confirm.sending::before { content: ""; width: 1rem; height: 1rem; border: 2px solid; border-left-color: transparent; border-radius: 50%; }
+@keyframes wheel { to { transform: rotate(1turn); } }
 #dock.play { grid-template-columns: 4fr 3fr 3.7fr; gap: .4rem; }
 #dock.play:has([hidden]) { grid-template-columns: 1fr 1fr; }
 #dock.claimed { grid-template-columns: 1fr 1fr; color: var(--gold-ink); background: var(--gold); }
@@ -725,6 +729,7 @@ td.marked { outline: 2px dashed var(--blue); outline-offset: -2px; }
 }
 @media (prefers-reduced-motion: no-preference) {
   .card { transition: transform 120ms ease-out; }
+  #confirm.sending::before { animation: wheel 1s linear infinite; }
 }
 /* Between the boards. */
 .between #main { display: grid; grid-template-columns: repeat(auto-fit, minmax(min(100%, 26rem), 1fr)); gap: .75rem; align-items: start; width: 100%; }
@@ -1038,6 +1043,7 @@ const TEXTS = {
   bidIt: "Bid ",
   playIt: "Play ",
   sending: "Sending \u2026",
+  sendingIt: "Sending ",
   tapCard: "Tap a card",
   yourCard: "Your card",
   pleaseWait: "Please wait",
@@ -1851,6 +1857,8 @@ function allowedCall(view, call) {
 // A call or card that was tapped once; which board's claim is being made, and of how many tricks; whether the last trick is looked at.
 let marked = null;
 let claiming = null;
+// The call or card that is on its way, in whose place it is shown already; else empty.
+let onWay = "";
 let looking = false;
 let drawn = () => {};
 let movedAt = 0;
@@ -1891,12 +1899,14 @@ function send(line) {
   return act(line);
 }
 
+// What a name stands for, as of a card or a call that can be tapped.
+const namedNodes = (what) => (what === "" ? [] : what.startsWith("card-") ? cardNodes(what.slice(5)).reverse() : callNodes(what.slice(5)));
+
 function confirmButton(prompt, sending) {
   const ready = marked !== null && !busy;
-  const label = busy ? TEXTS.sending : marked ? [sending,
-    ...(marked.what.startsWith("card-") ? cardNodes(marked.what.slice(5)).reverse() : callNodes(marked.what.slice(5)))] : prompt;
+  const label = busy ? [onWay ? TEXTS.sendingIt : TEXTS.sending, ...namedNodes(onWay)] : marked ? [sending, ...namedNodes(marked.what)] : prompt;
   const node = button(make("span", null, ...[].concat(label)), "", "confirm", ready, () => { if (marked) send(marked.line); });
-  if (ready) node.className = "send";
+  node.className = ready ? "send" : busy ? "sending" : "";
   return node;
 }
 
@@ -1929,7 +1939,7 @@ function biddingBox(view) {
     const line = "CALL " + key + " " + view.board + " " + view.made.calls + " " + word;
     const node = button(label, name, id, mine && allowedCall(view, word), (event) => choose(id, line, event));
     node.className = className;
-    node.setAttribute("aria-pressed", String(marked !== null && marked.what === id));
+    node.setAttribute("aria-pressed", String(onWay === id || (marked !== null && marked.what === id)));
     return node;
   };
   const cells = [call("PASS", TEXTS.pass, "", "box-call"), call("X", "X", TEXTS.double, "box-call"), call("XX", "XX", TEXTS.redouble, "box-call"),
@@ -2048,7 +2058,8 @@ function auctionTable(place, view) {
   for (let i = 0; i < Math.max(cells.length + (due ? 1 : 0), due ? 12 : 0); i += 4) {
     rows.push(make("tr", null, ...[0, 1, 2, 3].map((j) => {
       const dueHere = due !== null && i + j === cells.length;
-      if (dueHere && marked && marked.what.startsWith("call-")) return make("td", { className: "turn marked" }, ...callNodes(marked.what.slice(5)));
+      const chosen = dueHere ? onWay || (marked ? marked.what : "") : "";
+      if (chosen.startsWith("call-")) return make("td", { className: "turn marked" }, ...namedNodes(chosen));
       if (dueHere) return make("td", { className: "turn", aria_label: TEXTS.dueCall }, "?");
       return make("td", null, ...(cells[i + j] ? callNodes(cells[i + j]) : [""]));
     })));
@@ -2090,7 +2101,8 @@ function handNode(view, hand, label, id, mine, where) {
   };
   const voidNode = (suit) => make("div", { className: "group void-of in-" + suit }, make("span", { className: "void" }, suitSign(suit), " \u2013"));
   const group = ([suit, ranks]) => (ranks === "" ? voidNode(suit)
-    : make("div", { className: "group in-" + suit + (ranks[0] === hand[suit][0] ? "" : " more") }, ...[...ranks].map((rank) => card(suit, rank))));
+    : make("div", { className: "group in-" + suit + (ranks[0] === hand[suit][0] ? "" : " more") },
+      ...[...ranks].filter((rank) => onWay !== "card-" + suit + rank).map((rank) => card(suit, rank))));
   const isShown = ([suit, ranks]) => ranks !== "" || (id === "dummy" && hand[suit] === "");
   const suits = where === "left" || where === "right" ? SUITS.map((suit) => [[suit, hand[suit]]]) : rowsOf(hand, view.board, id);
   const rows = suits.map((row) => row.filter(isShown)).filter((row) => row.length > 0);
@@ -2117,11 +2129,14 @@ function cardOnTable(view, { seat, card }, won) {
 
 // The trick on the table: the one at play, or the last whole one until the next card is led.
 function trickNode(view) {
-  const whole = view.trick.length === 0;
+  const sent = onWay.startsWith("card-") ? cardOnTable(view, { seat: view.turn, card: onWay.slice(5) }, false) : null;
+  const whole = view.trick.length === 0 && sent === null;
   const trick = whole ? view.last : view.trick;
   const node = make("div", { className: "trick", role: "group", aria_label: whole && trick.length ? TEXTS.lastTrick : TEXTS.trickNow },
     ...trick.map((one) => cardOnTable(view, one, whole && one.seat === view.turn)));
-  if (!whole && onTurn(view)) node.append(make("span", { className: "due " + placeOf(view, view.turn), aria_hidden: "true" }, view.turn));
+  if (sent) sent.className += " sent";
+  if (sent) node.append(sent);
+  else if (!whole && onTurn(view)) node.append(make("span", { className: "due " + placeOf(view, view.turn), aria_hidden: "true" }, view.turn));
   return node;
 }
 
@@ -2133,7 +2148,7 @@ function stageNode(place, view, middle) {
     if (where === "bottom") continue;
     const box = make("div", { className: "at-" + where }, plate(place, view, seat));
     if (view.playing && seat === dummy && view.dummy) box.append(handNode(view,
-      view.dummy, TEXTS.dummyHand(SEAT_NAMES[seat]), "dummy", handPlayed(place, view) === "dummy", where));
+      view.dummy, TEXTS.dummyHand(SEAT_NAMES[seat]), "dummy", !busy && handPlayed(place, view) === "dummy", where));
     node.append(box);
   }
   node.append(middle);
@@ -2311,7 +2326,7 @@ function isMine(place, view) {
 function playNodes(place, view) {
   const dummy = dummyOf(place);
   const own = handNode(view, view.hand,
-    view.seat === dummy && view.playing ? TEXTS.ownDummy : TEXTS.ownHand(SEAT_NAMES[view.seat]), "hand", handPlayed(place, view) === "own");
+    view.seat === dummy && view.playing ? TEXTS.ownDummy : TEXTS.ownHand(SEAT_NAMES[view.seat]), "hand", !busy && handPlayed(place, view) === "own");
   if (!view.playing || !place.contract) {
     const stage = stageNode(place, view, make("div", { id: "auction", className: "auction" }, auctionTable(place, view)));
     // The board lies there while there is room.
@@ -2609,12 +2624,14 @@ async function act(line) {
   busy = true;
   turn += 1;
   say("notice", "");
-  for (const node of at("main").querySelectorAll("button")) node.disabled = true;
+  onWay = /^C(ALL|ARD) /.test(line) ? line.slice(0, 4).toLowerCase() + "-" + line.split(" ").pop() : "";
+  drawn();
   const slow = setTimeout(() => say("notice", TEXTS.slow), SLOW);
   // The answer, and what there is to see then.
   const reply = await ask("/lines", line + "\nSEE " + asked + "\n");
   clearTimeout(slow);
   busy = false;
+  onWay = "";
   if (at("notice").textContent === TEXTS.slow) say("notice", "");
   if (key !== asked) return key === null ? undefined : look();
   shown = "";
