@@ -308,6 +308,8 @@ body.director main { max-width: 84rem; }
   #aside #rankings :is(th, td):nth-child(4):not(:last-child) { display: none; }
   #aside #rankings { max-height: max(12rem, 100dvh - 36rem); overflow: auto; }
   #aside :is(#rank, .small, thead, tr:nth-child(n+4)) { display: none; }
+  #aside .who { width: 100%; max-width: 0; overflow: hidden; text-overflow: ellipsis; white-space: nowrap; }
+  #aside wbr { display: none; }
   #aside #rankings h2 { margin: .3rem 0 0; font-size: .875rem; font-weight: normal; color: var(--second); }
   #dealing { display: grid; grid-template: "h h" auto "p p" auto "s f" auto "u f" 1fr / 1fr 1fr; gap: 0 .75rem; align-items: start; }
   #dealing > h2 { grid-area: h; }
