@@ -98,7 +98,7 @@ button:focus-visible, input:focus-visible, textarea:focus-visible, select:focus-
 }
 :is(#bell, #menu, #last, #claim-open, #claim-button, #confirm.send, #agree, #refuse, #call-director, #my-boards, #between-boards, #menu-boards, [hidden] + #confirm, #print)::before, #onward::after,
 #desk > .note::before {
-  content: ""; flex: none; width: 1.25rem; height: 1.25rem; background: currentcolor; forced-color-adjust: none; mask: var(--sign) center / contain no-repeat;
+  content: ""; flex: none; width: 1.25rem; height: 1.25rem; background: currentcolor; forced-color-adjust: none; -webkit-mask: var(--sign) center / contain no-repeat; mask: var(--sign) center / contain no-repeat;
 }
 #bell, #call-director, #desk > .note {
   --sign: url("data:image/svg+xml,%3Csvg xmlns='http://www.w3.org/2000/svg' viewBox='0 0 20 20' fill='none' stroke='%23000' stroke-width='1.6' stroke-linecap='round' stroke-linejoin='round'%3E%3Cpath d='M10 2v1.5M4 14.5h12l-1.6-2.4V8.4a4.4 4.4 0 0 0-8.8 0v3.7zM8.4 17.2a1.7 1.7 0 0 0 3.2 0'/%3E%3C/svg%3E");
