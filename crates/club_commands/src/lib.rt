@@ -23,6 +23,7 @@ mod machine;
 mod makeable;
 mod on_disk;
 mod output;
+mod over_disk;
 mod planning;
 mod printable;
 mod release;
