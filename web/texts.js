@@ -361,7 +361,7 @@ const TEXTS = {
   dealBoards: "Deal boards",
   boardsInSets: (all, boards) => all + " boards in sets of " + boards + ". A board is dealt once, before it is played.",
   shuffleHere: "Shuffle here",
-  seedSecret: "A secret number is drawn anew on this device. Nobody sees a deal before the evening ends.",
+  seedSecret: "A secret number is drawn anew on this device, each time.",
   shuffleFrom: "Boards",
   to: "to",
   shuffle: "Shuffle",
