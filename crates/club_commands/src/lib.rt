@@ -9,6 +9,7 @@
 
 mod check;
 mod config_file;
+mod copied;
 mod counts;
 mod evening;
 mod evening_files;
@@ -23,6 +24,7 @@ mod machine;
 mod makeable;
 mod on_disk;
 mod output;
+mod pair_web;
 mod planning;
 mod printable;
 mod release;
@@ -39,8 +41,9 @@ mod work;
 
 pub use check::check_disk;
 pub use config_file::read_session;
-pub use fault::{RunFault, SystemFault};
+pub use fault::{LostDisk, RunFault, SystemFault};
 pub use machine::{Host, Machine};
+pub use pair_web::show_pair;
 pub use planning::plan_evening;
 pub use release::{KIT, VERSION};
 pub use run::{refuse, run_words_with, status_of};

@@ -148,6 +148,48 @@ fn do_command<S: Machine, R: Read, W: Write>(
     }
 }
 
+/// Shows pages of these texts over the session that the disk in a file holds, or that the disks in two do.
+fn run_web<S: Machine, R: Read, W: Write>(
+    rt: &S,
+    alloc: Global,
+    texts: PageTexts,
+    disk: &str,
+    host: WebHost<'_>,
+    minutes: u16,
+    names: Option<&str>,
+    copy: Option<&str>,
+    input: &mut R,
+    output: &mut W,
+) -> Result<(), RunFault>
+    ensures { RunsWeb texts disk.entry host.entry minutes names.entry copy.entry (stream R.remaining input.old input.new)
+        (stream W.contents output.old output.new) result }
+{
+    let misfit = Misfit::Refused;
+    match copy {
+        None => {
+            let pages = Listed::Pages {
+                texts,
+                host,
+                minutes,
+                disk,
+                misfit,
+            };
+            run_listed(rt, alloc, disk, &pages, names, input, output)
+        }
+        Some(copy) => {
+            let shown = Shown {
+                texts,
+                host,
+                minutes,
+                misfit,
+                names: None,
+            };
+            let disks = TwoDisks { disk, copy };
+            show_copied(rt, alloc, &shown, disks, names, output)
+        }
+    }
+}
+
 /// Opens the session that the disk in a file holds, and answers the lines of the input, which are of that set, over it.
 fn serve_set<S: Machine, R: Read, W: Write>(
     rt: &S,

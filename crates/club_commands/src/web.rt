@@ -153,7 +153,7 @@ pub struct Shown<'a> {
 }
 
 /// The lines that tell the names of the players of a store's session.
-fn people_of(
+pub fn people_of(
     alloc: Global,
     names: Option<&[PairNames]>,
     store: &ClubStore,

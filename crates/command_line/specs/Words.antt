@@ -91,9 +91,17 @@ open_boards_rule = flag_rule (codes "open-boards")
 abbrev pub names_option_rule : Rule
 names_option_rule = option_rule (codes "names")
 
--- with those options and that flag or without
+-- the option `--copy DISK2`
+abbrev pub copy_rule : Rule
+copy_rule = option_rule (codes "copy")
+
+-- with an address and a name or none
+abbrev pub hosted_web_app : App
+hosted_web_app = with_rule (with_rule plain_web_app address_rule) name_rule
+
+-- with the other options and that flag or without
 abbrev pub web_app : App
-web_app = with_rule (with_rule (with_rule (with_rule plain_web_app address_rule) name_rule) open_boards_rule) names_option_rule
+web_app = with_rule (with_rule (with_rule hosted_web_app open_boards_rule) names_option_rule) copy_rule
 
 -- the command `rank DISK`
 abbrev pub rank_app : App
@@ -286,8 +294,9 @@ HasWords rows (Script disk) = HasText rows (codes "DISK") disk.now
 HasWords rows (Correct disk) = HasText rows (codes "DISK") disk.now
 HasWords rows (Serve disk port count) = HasText rows (codes "DISK") disk.now
     × HasNumber 16 rows (codes "PORT") port × HasNumber 16 rows (codes "COUNT") count
-HasWords rows (Web disk host minutes names) = HasText rows (codes "DISK") disk.now
+HasWords rows (Web disk host minutes names copy) = HasText rows (codes "DISK") disk.now
     × HasHost rows host × HasNumber 16 rows (codes "MINUTES") minutes × HasOption rows (codes "names") names
+    × HasOption rows (codes "copy") copy
 HasWords rows (Rank disk) = HasText rows (codes "DISK") disk.now
 HasWords rows (Pbn disk) = HasText rows (codes "DISK") disk.now
 HasWords rows (Results disk html names) = HasText rows (codes "DISK") disk.now × HasFlag rows (codes "html") html
@@ -308,7 +317,7 @@ name_of (Format disk config) = codes "format"
 name_of (Script disk) = codes "script"
 name_of (Correct disk) = codes "correct"
 name_of (Serve disk port count) = codes "serve"
-name_of (Web disk host minutes names) = codes "web"
+name_of (Web disk host minutes names copy) = codes "web"
 name_of (Rank disk) = codes "rank"
 name_of (Pbn disk) = codes "pbn"
 name_of (Results disk html names) = codes "results"

@@ -105,7 +105,7 @@ fn serve_of<'a>(found: &ArgMatches<'a>) -> Option<Command<'a>>
     Some(Command::Serve { disk, port, count })
 }
 
-/// The command `web` with its disk, its numbers and its list of names.
+/// The command `web` with its disk, its numbers, its list of names and its second disk.
 fn web_of<'a>(found: &ArgMatches<'a>) -> Option<Command<'a>>
     ensures { IfSome result (IsNamed (codes "web") (rows_of (found_of found.now))) }
 {
@@ -113,11 +113,13 @@ fn web_of<'a>(found: &ArgMatches<'a>) -> Option<Command<'a>>
     let host = host_of(found)?;
     let minutes = number_of(found, "MINUTES")?;
     let names = option_of(found, "names");
+    let copy = option_of(found, "copy");
     Some(Command::Web {
         disk,
         host,
         minutes,
         names,
+        copy,
     })
 }
 
