@@ -24,6 +24,7 @@ mod machine;
 mod makeable;
 mod on_disk;
 mod output;
+mod over_disk;
 mod pair_web;
 mod planning;
 mod printable;

@@ -4,28 +4,21 @@ ghost use Rattle.line_text.specs.Streams.{stream, TakesPrefix, IsUntouched};
 ghost use Rattle.line_replies.specs.declared.fault.ServeFault.TheVariants.{Read as ReadFault};
 ghost use Rattle.club_commands.specs.Ended.{stream_line, store_line, fault_line, fault_status};
 ghost use Rattle.club_commands.specs.Run.{HoldsAuction, Runs, EndsWith, RefusesWords, IsUsage, HasRun, HasFailed};
-ghost use Rattle.table_server.specs.declared.line_set.LineSet.TheVariants.{Corrections};
-ghost use Rattle.club_commands.specs.Listed.{WithList};
-ghost use Rattle.club_commands.specs.Works.{HasListed, HasWorked};
-ghost use Rattle.club_commands.specs.declared.work.Listed.TheVariants.{Pages as ListedPages, Results as ListedResults};
-ghost use Rattle.club_commands.specs.declared.work.Misfit.TheVariants.{Refused};
-ghost use Rattle.club_commands.specs.declared.work.Service.TheVariants.{Connections, Input};
-ghost use Rattle.club_commands.specs.declared.work.Work.TheVariants.{Export, Serve, Tell};
 
 use crate::evening::run_evening;
 use crate::evenings::{make_draft, make_plan, make_slips};
 use crate::fault::RunFault;
 use crate::fault_line::{fault_line, fault_status};
 use crate::formatting::run_format;
-use crate::listed::run_listed;
 use crate::machine::Machine;
 use crate::makeable::write_makeable;
 use crate::on_disk::run_over;
+use crate::over_disk::{accept, correct, export, run_web, serve_set, tell, write_page};
 use crate::printable::Printable;
 use crate::version::run_version;
-use crate::work::{Listed, Misfit, Service, Told, Work};
+use crate::work::{Told, Work};
 use bridge_cards::BoardNumber;
-use command_line::{Command, WebHost, WordsFault, read_words};
+use command_line::{Command, WordsFault, read_words};
 use line_text::write_text;
 use session_store::StoreFault;
 use std::alloc::Global;
@@ -131,7 +124,10 @@ fn do_command<S: Machine, R: Read, W: Write>(
             host,
             minutes,
             names,
-        } => show_tables(rt, alloc, texts, disk, host, minutes, names, input, output),
+            copy,
+        } => run_web(
+            rt, alloc, texts, disk, host, minutes, names, copy, input, output,
+        ),
         Command::Rank { disk } => tell(rt, alloc, disk, Told::Ranking, input, output),
         Command::Pbn { disk } => tell(rt, alloc, disk, Told::Games, input, output),
         Command::Results { disk, html, names } => write_page(
@@ -146,181 +142,6 @@ fn do_command<S: Machine, R: Read, W: Write>(
         Command::Makeable { file, pbn } => write_makeable(rt, alloc, pbn, file, output),
         Command::Version => run_version(output),
     }
-}
-
-/// Shows pages of these texts over the session that the disk in a file holds, or that the disks in two do.
-fn run_web<S: Machine, R: Read, W: Write>(
-    rt: &S,
-    alloc: Global,
-    texts: PageTexts,
-    disk: &str,
-    host: WebHost<'_>,
-    minutes: u16,
-    names: Option<&str>,
-    copy: Option<&str>,
-    input: &mut R,
-    output: &mut W,
-) -> Result<(), RunFault>
-    ensures { RunsWeb texts disk.entry host.entry minutes names.entry copy.entry (stream R.remaining input.old input.new)
-        (stream W.contents output.old output.new) result }
-{
-    let misfit = Misfit::Refused;
-    match copy {
-        None => {
-            let pages = Listed::Pages {
-                texts,
-                host,
-                minutes,
-                disk,
-                misfit,
-            };
-            run_listed(rt, alloc, disk, &pages, names, input, output)
-        }
-        Some(copy) => {
-            let shown = Shown {
-                texts,
-                host,
-                minutes,
-                misfit,
-                names: None,
-            };
-            let disks = TwoDisks { disk, copy };
-            show_copied(rt, alloc, &shown, disks, names, output)
-        }
-    }
-}
-
-/// Opens the session that the disk in a file holds, and answers the lines of the input, which are of that set, over it.
-fn serve_set<S: Machine, R: Read, W: Write>(
-    rt: &S,
-    alloc: Global,
-    disk: &str,
-    set: LineSet,
-    input: &mut R,
-    output: &mut W,
-) -> Result<(), RunFault>
-    ensures { HasWorked (stream R.remaining input.old input.new) (stream W.contents output.old output.new) result
-        (Serve (Input set)) }
-{
-    serve(rt, alloc, disk, Service::Input(set), input, output)
-}
-
-/// The same with corrections.
-fn correct<S: Machine, R: Read, W: Write>(
-    rt: &S,
-    alloc: Global,
-    disk: &str,
-    input: &mut R,
-    output: &mut W,
-) -> Result<(), RunFault>
-    ensures { HasWorked (stream R.remaining input.old input.new) (stream W.contents output.old output.new) result
-        (Serve (Input Corrections)) }
-{
-    serve_set(rt, alloc, disk, LineSet::Corrections, input, output)
-}
-
-/// The same with the lines of so many connections.
-fn accept<S: Machine, R: Read, W: Write>(
-    rt: &S,
-    alloc: Global,
-    disk: &str,
-    port: u16,
-    count: u16,
-    input: &mut R,
-    output: &mut W,
-) -> Result<(), RunFault>
-    ensures { HasWorked (stream R.remaining input.old input.new) (stream W.contents output.old output.new) result
-        (Serve (Connections port count)) }
-{
-    let service = Service::Connections { port, count };
-    serve(rt, alloc, disk, service, input, output)
-}
-
-/// Opens the session that the disk in a file holds, and shows its tables to browsers, with the names of a list where one is given.
-fn show_tables<S: Machine, R: Read, W: Write>(
-    rt: &S,
-    alloc: Global,
-    texts: PageTexts,
-    disk: &str,
-    host: WebHost<'_>,
-    minutes: u16,
-    names: Option<&str>,
-    input: &mut R,
-    output: &mut W,
-) -> Result<(), RunFault>
-    ensures { WithList (HasListed (ListedPages texts host.entry minutes disk.entry Refused)) names.entry
-        (stream R.remaining input.old input.new) (stream W.contents output.old output.new) result }
-{
-    let pages = Listed::Pages {
-        texts,
-        host,
-        minutes,
-        disk,
-        misfit: Misfit::Refused,
-    };
-    run_listed(rt, alloc, disk, &pages, names, input, output)
-}
-
-/// Reads the session that the disk in a file holds, and writes its results as a page, with the names of a list likewise.
-fn write_page<S: Machine, R: Read, W: Write>(
-    rt: &S,
-    alloc: Global,
-    disk: &str,
-    html: bool,
-    names: Option<&str>,
-    input: &mut R,
-    output: &mut W,
-) -> Result<(), RunFault>
-    ensures { WithList (HasListed (ListedResults html)) names.entry (stream R.remaining input.old input.new)
-        (stream W.contents output.old output.new) result }
-{
-    let page = Listed::Results { html };
-    run_listed(rt, alloc, disk, &page, names, input, output)
-}
-
-/// Reads it, and writes its rankings or its plays as comma-separated values.
-fn export<S: Machine, R: Read, W: Write>(
-    rt: &S,
-    alloc: Global,
-    disk: &str,
-    rankings: bool,
-    input: &mut R,
-    output: &mut W,
-) -> Result<(), RunFault>
-    ensures { HasWorked (stream R.remaining input.old input.new) (stream W.contents output.old output.new) result
-        (Export rankings) }
-{
-    run_over(rt, alloc, disk, &Work::Export { rankings }, input, output)
-}
-
-/// Opens the session that the disk in a file holds, and answers lines over it.
-fn serve<S: Machine, R: Read, W: Write>(
-    rt: &S,
-    alloc: Global,
-    disk: &str,
-    service: Service<'_>,
-    input: &mut R,
-    output: &mut W,
-) -> Result<(), RunFault>
-    ensures { HasWorked (stream R.remaining input.old input.new) (stream W.contents output.old output.new) result
-        (Serve service.entry) }
-{
-    run_over(rt, alloc, disk, &Work::Serve(service), input, output)
-}
-
-/// Opens the session that the disk in a file holds, and writes these results of it.
-fn tell<S: Machine, R: Read, W: Write>(
-    rt: &S,
-    alloc: Global,
-    disk: &str,
-    told: Told,
-    input: &mut R,
-    output: &mut W,
-) -> Result<(), RunFault>
-    ensures { HasWorked (stream R.remaining input.old input.new) (stream W.contents output.old output.new) result
-        (Tell told) }
-{
-    run_over(rt, alloc, disk, &Work::Tell(told), input, output)
 }
 
 /// Reads a board's auction from the input.

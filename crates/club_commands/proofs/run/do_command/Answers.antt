@@ -17,7 +17,7 @@ pub returns-in-Serve : goal.returns-in-Serve
 returns-in-Serve g c = rw c.in-Serve.is c.accept.ensures
 
 pub returns-in-Web : goal.returns-in-Web
-returns-in-Web g c = rw c.in-Web.is c.show_tables.ensures
+returns-in-Web g c = rw c.in-Web.is c.run_web.ensures
 
 pub returns-in-Rank : goal.returns-in-Rank
 returns-in-Rank g c = rw c.in-Rank.is c.tell.ensures

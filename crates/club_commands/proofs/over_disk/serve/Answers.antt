@@ -1,0 +1,4 @@
+use Rattle.club_commands.proofs.over_disk.serve.Goals as goal
+
+pub returns : goal.returns
+returns g c = c.run_over.ensures
