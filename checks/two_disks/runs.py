@@ -54,9 +54,12 @@ class Web:
             connection.close()
 
     def kill(self):
-        subprocess.run(["pkill", "-KILL", "-P", str(self.process.pid)])
-        self.process.kill()
+        """Kills it, and waits until its locks are gone."""
+        traced = subprocess.run(["pgrep", "-P", str(self.process.pid)], capture_output=True, text=True).stdout.split()
+        subprocess.run(["kill", "-KILL", str(self.process.pid), *traced])
         self.process.wait()
+        while any(os.path.exists(f"/proc/{process}") for process in traced):
+            time.sleep(0.01)
 
 
 def answers():
@@ -112,11 +115,12 @@ def play(web, start=0):
 
 
 def faulty(number, side, call, at, onward, error):
-    """A run in which that call of a side fails, and maybe all such calls from it on."""
+    """A run in which that call of a side fails, and maybe all such calls from it on. What came of it, if there was such a call."""
     folder, port = os.path.join(FOLDER, f"fault{number % WORKERS}"), 21000 + number % 4000
     fresh(folder)
-    path = os.path.join(folder, side)
-    trace = ["strace", "-f", "-qq", "-o", "/dev/null", "-P", path, f"--trace={call}", f"--inject={call}:error={error}:when={at}{'+' if onward else ''}"]
+    log = os.path.join(folder, "log")
+    trace = ["strace", "-f", "-qq", "-o", log, "-P", os.path.join(folder, side), f"--trace={call}",
+             f"--inject={call}:error={error}:when={at}{'+' if onward else ''}"]
     web = Web(folder, port, trace=trace)
     if web.fault is not None:
         confirmed = sent = 0
@@ -126,31 +130,38 @@ def faulty(number, side, call, at, onward, error):
     what = f"{call} {at}{'+' if onward else ''} of {side}, {error}"
     how = judge(what, folder, port, confirmed, sent)
     assert web.fault is not None or confirmed == len(LINES), f"{what}: {confirmed} lines of {len(LINES)} were confirmed"
+    with open(log) as file:
+        if "(INJECTED)" not in file.read():
+            return "no such call"
     return "refused at the start" if web.fault is not None else how
 
 
 def in_turn(work, arguments):
-    """Does so many pieces of work, some side by side, each in a folder of its own; how often each outcome came."""
+    """Does these pieces of work in lanes side by side, each in a folder of its own; how often each outcome came."""
     counts = {}
     with concurrent.futures.ProcessPoolExecutor(WORKERS) as pool:
         lanes = [arguments[lane::WORKERS] for lane in range(WORKERS)]
-        for outcomes in pool.map(lane_of, [work] * WORKERS, lanes):
-            for outcome in outcomes:
+        for found in pool.map(lane_of, [work] * WORKERS, lanes):
+            for outcome in found:
                 counts[outcome] = counts.get(outcome, 0) + 1
     return counts
 
 
 def lane_of(work, arguments):
-    return [work(*one) for one in arguments]
+    found = []
+    for one in arguments:
+        outcome = work(*one)
+        found += outcome if isinstance(outcome, list) else [outcome]
+    return found
 
 
 def faults():
+    """Each call of either side in turn, alone or with those after it."""
     chosen = []
     for onward in (False, True):
-        for call, most, errors in (("pwrite64", 38, ["EIO", "ENOSPC"]), ("fdatasync", 30, ["EIO"]), ("pread64", 44, ["EIO"])):
+        for call, most, errors in (("pwrite64", 38, ["EIO", "ENOSPC"]), ("fdatasync", 30, ["EIO"]), ("pread64", 24, ["EIO"])):
             chosen += [(side, call, at, onward, error) for side in "ab" for at in range(1, most + 1) for error in errors]
-    whole = -(-FAULTS // len(chosen))
-    return [(number, *one) for number, one in enumerate(chosen * whole)]
+    return [(number, *one) for number, one in enumerate(chosen)]
 
 
 class Trace:
@@ -254,13 +265,15 @@ def cuts_of(seed, count):
 
 ANSWERS = answers()
 began = time.time()
-chosen = faults()
-print(f"{len(chosen)} faults: {in_turn(faulty, chosen)}, in {time.time() - began:.0f} seconds", flush=True)
-began = time.time()
-share = -(-CUTS // WORKERS)
 counts = {}
-with concurrent.futures.ProcessPoolExecutor(WORKERS) as pool:
-    for outcomes in pool.map(cuts_of, range(WORKERS), [share] * WORKERS):
-        for outcome in outcomes:
-            counts[outcome] = counts.get(outcome, 0) + 1
-print(f"{share * WORKERS} cuts: {counts}, in {time.time() - began:.0f} seconds")
+while sum(counts.values()) - counts.get("no such call", 0) < FAULTS:
+    for outcome, count in in_turn(faulty, faults()).items():
+        counts[outcome] = counts.get(outcome, 0) + count
+missing = counts.pop("no such call", 0)
+print(f"{sum(counts.values())} faults: {counts}; {missing} runs had no such call; in {time.time() - began:.0f} seconds", flush=True)
+began = time.time()
+counts = {}
+share = -(-CUTS // WORKERS)
+for outcome, count in in_turn(cuts_of, [(seed, share) for seed in range(WORKERS)]).items():
+    counts[outcome] = counts.get(outcome, 0) + count
+print(f"{sum(counts.values())} cuts: {counts}; in {time.time() - began:.0f} seconds")
