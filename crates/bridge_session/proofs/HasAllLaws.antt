@@ -1,5 +1,5 @@
 -- A session keeps all that it has at each action that takes nothing back.
-use Rattle.std.proofs.Common.{◌≡◌, ◌+◌, ◌-◌, ◌≤◌, ◌++◌, ℕ, zero, suc, Bool, true, false, not, List, [], ◌∷◌, Option, None, Some, Result, Ok, Err, refl, sym, ap, ◌∙◌, arith, inl, inr, cond, subst, ◌*◌, take, drop, length}
+use Rattle.std.proofs.Common.{◌≡◌, ◌+◌, ◌-◌, ◌≤◌, ◌++◌, ℕ, zero, suc, Bool, true, false, not, List, [], ◌∷◌, Option, None, Some, Result, Ok, Err, refl, sym, ap, ◌∙◌, arith, inl, inr, cond, subst, ◌*◌, take, drop, length, map}
 use Rattle.std.specs.Prelude.{slice_get, slice_set, unwrap_or, is_some, nat_le}
 use Rattle.std.specs.Bool.{Decides}
 use Rattle.std.specs.Cmp.Lexicographic.{pointwise}
@@ -29,6 +29,10 @@ use Rattle.session_rules.specs.State.{SessionValue, Deals, changed_at, current_i
 use Rattle.session_rules.specs.Step.{act_answer, step_answer, changed_by, changed}
 use Rattle.session_rules.proofs.Lists.{not_refused}
 use Rattle.session_rules.proofs.ValidRuling.{allowed_ok}
+use Rattle.bridge_config.specs.ConfigValue.{ConfigValue}
+use Rattle.bridge_table.specs.declared.record.Record.{Record}
+use Rattle.bridge_table.specs.Kept.{plain_of}
+use Rattle.bridge_session.specs.KeptSession.{state_of}
 use Rattle.bridge_session.specs.HasAll.{BeginsWith, HasPlay, HasDeal, HasAllOf, TakesNothingBack}
 
 -- a list that is made longer
@@ -159,6 +163,35 @@ deal_decided our their r decides = Decides-like r (λ same. inr (ap Some same)) 
 -- where a test failed
 pub failed : {P Q : Type 0} (r : Bool) → Decides r P → r ≡ false → (Q → P) → Decides false Q
 failed r decides not_so from = (λ e. absurd cc, λ q. sym not_so ∙ decides.1 (from q))
+
+-- ---- of the fields of sessions
+
+tables_seen : {X : Type 0} (items : X → List Record) (xs : List X) → map (λ x. map plain_of (items x)) xs ≡ map (map plain_of) (map items xs)
+tables_seen items [] = refl
+tables_seen items (x ∷ xs) = ap (λ rest. map plain_of (items x) ∷ rest) (tables_seen items xs)
+
+module _ {X : Type 0} (items : X → List Record) (ours theirs : ConfigValue) (round other_round : ℕ) (deals other_deals : Deals) (tables other_tables : List X) where
+  abbrev ours_of : SessionValue
+  ours_of = state_of ours round deals (map items tables)
+
+  abbrev theirs_of : SessionValue
+  theirs_of = state_of theirs other_round other_deals (map items other_tables)
+
+  abbrev Plays : Type 0
+  Plays = AllZip (AllZip HasPlay) (map (λ x. map plain_of (items x)) tables) (map (λ x. map plain_of (items x)) other_tables)
+
+  plays_seen : Plays → AllZip (AllZip HasPlay) ours_of.records theirs_of.records
+  plays_seen plays = subst (λ ys. AllZip (AllZip HasPlay) ours_of.records ys) (tables_seen items other_tables)
+      (subst (λ xs. AllZip (AllZip HasPlay) xs (map (λ x. map plain_of (items x)) other_tables)) (tables_seen items tables) plays)
+
+  plays_of : HasAllOf ours_of theirs_of → Plays
+  plays_of has = subst (λ ys. AllZip (AllZip HasPlay) (map (λ x. map plain_of (items x)) tables) ys) (sym (tables_seen items other_tables))
+      (subst (λ xs. AllZip (AllZip HasPlay) xs theirs_of.records) (sym (tables_seen items tables)) has.plays)
+
+  -- where the rounds and the deals are as they are to be, the tables decide
+  pub all_decided : (r : Bool) → other_round ≤ round → AllZip HasDeal deals other_deals → Decides r Plays → Decides r (HasAllOf ours_of theirs_of)
+  all_decided r later dealt decides =
+      Decides-like r (λ plays. record { round = later; deals = dealt; plays = plays_seen plays }) plays_of decides
 
 -- ---- what a loop over two lists has come to
 

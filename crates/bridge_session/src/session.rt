@@ -117,9 +117,13 @@ impl Session {
     pub fn has_all_of(&self, other: &Session) -> bool
         ensures { Decides result (HasAllOf self.now other.now) }
     {
-        other.round <= self.round
-            && have_deals(self.deals.as_slice(), other.deals.as_slice())
-            && have_tables(self.tables.as_slice(), other.tables.as_slice())
+        if self.round < other.round {
+            return false;
+        }
+        if !have_deals(self.deals.as_slice(), other.deals.as_slice()) {
+            return false;
+        }
+        have_tables(self.tables.as_slice(), other.tables.as_slice())
     }
 
     /// The record of a play, if there is such a play at a live row.
