@@ -5,7 +5,7 @@ use Rattle.bridge_cards.specs.declared.suit.Suit.{Suit}
 use Rattle.bridge_cards.specs.declared.seat.Seat.{Seat}
 use Rattle.bridge_cards.specs.declared.seat.Side.{Side}
 use Rattle.bridge_cards.specs.declared.seat.Side.TheVariants.{NorthSouth, EastWest}
-use Rattle.bridge_cards.specs.Seat.{clockwise_from, side_of, plays_for}
+use Rattle.bridge_cards.specs.Seat.{clockwise_from, side_of, other_side, plays_for}
 use Rattle.bridge_cards.specs.CardSet.{card_count}
 use Rattle.bridge_cards.specs.Trick.{next_leader}
 use Rattle.bridge_endings.specs.declared.card_cost.CardCost.{CardCost}
@@ -13,7 +13,7 @@ use Rattle.bridge_endings.specs.declared.moment.Moment as code
 use Rattle.bridge_endings.specs.Worth.{dealt, may_be_played, after_playing, trick_for, worth_with}
 use Rattle.bridge_endings.specs.Left.{left_to}
 use Rattle.bridge_endings.specs.Agree.{IsDealtOut}
-use Rattle.bridge_endings.specs.DealTricks.{tricks_of}
+use Rattle.bridge_endings.specs.DealTricks.{tricks_of, declarer_tricks}
 
 -- a moment of the play: what each seat holds, who led to the trick, the trick's cards so far, how many cards are still to be
 -- played, and how many tricks North and South have won
@@ -94,6 +94,18 @@ costs_of trump moment (card ∷ cards) = cost_of trump moment card ∷ costs_of 
 abbrev pub given_by : Side → List CardCost → ℕ
 given_by side [] = 0
 given_by side (cost ∷ costs) = (if plays_for side cost.seat then cost.tricks else 0) + given_by side costs
+
+-- what North and South have in all before the cards, with what East and West give away by them, is what they have after them with
+-- what they give away themselves
+abbrev pub IsExplained : Option Suit → Moment → Moment → List CardCost → Type 0
+IsExplained trump before after costs =
+    won_in_all trump before + given_by EastWest costs ≡ won_in_all trump after + given_by NorthSouth costs
+
+-- the same of the declarer's side and its opponents, in a deal that begins with the cards
+abbrev pub ExplainsTricks : Option Suit → List ℕ → Seat → List ℕ → List CardCost → Type 0
+ExplainsTricks trump hands declarer cards costs =
+    declarer_tricks trump hands declarer + given_by (other_side (side_of declarer)) costs
+    ≡ tricks_after trump hands declarer cards + given_by (side_of declarer) costs
 
 -- ---- what the code keeps of a moment
 

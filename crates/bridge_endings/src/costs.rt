@@ -2,10 +2,9 @@
 ghost use Rattle.std.specs.Prelude.{◌≡◌, ℕ, ◌+◌, ◌≤◌, ◌↔◌, nat_le, true, false, IfSome, IsNone};
 ghost use Rattle.bridge_cards.specs.Deal.{IsDeal};
 ghost use Rattle.bridge_cards.specs.Seat.{side_of};
-ghost use Rattle.bridge_cards.specs.declared.seat.Side.TheVariants.{NorthSouth, EastWest};
 ghost use Rattle.bridge_endings.specs.Between.{IsBounded};
 ghost use Rattle.bridge_endings.specs.SearchValue.{GoesOn, IsTable};
-ghost use Rattle.bridge_endings.specs.PlayedCards.{seen, IsMoment, IsNoBetter, first_moment, turn_at, may_play, after_card, after_cards, are_legal, won_in_all, cost_of, costs_of, given_by};
+ghost use Rattle.bridge_endings.specs.PlayedCards.{seen, IsMoment, IsNoBetter, first_moment, turn_at, may_play, after_card, after_cards, are_legal, won_in_all, cost_of, costs_of, IsExplained};
 
 use crate::bounds::{Bounds, narrowed};
 use crate::card_cost::{CardCost, given_away};
@@ -150,8 +149,8 @@ pub fn costs_in_all(
 ) -> Option<ArrayVec<CardCost, DECK>>
     requires deal { IsTable table.old × IsDeal hands.now }
     ensures costs { IfSome result (λ costs. costs.items ≡ costs_of search.old.trump (first_moment hands.now declarer) cards.now) }
-    ensures explained { IfSome result (λ costs. won_in_all search.old.trump (first_moment hands.now declarer) + given_by EastWest costs.items
-        ≡ won_in_all search.old.trump (after_cards search.old.trump (first_moment hands.now declarer) cards.now) + given_by NorthSouth costs.items) }
+    ensures explained { IfSome result (λ costs. IsExplained search.old.trump (first_moment hands.now declarer)
+        (after_cards search.old.trump (first_moment hands.now declarer) cards.now) costs.items) }
     ensures few { IfSome result (λ costs. won_in_all search.old.trump (after_cards search.old.trump (first_moment hands.now declarer) cards.now) ≤ 13) }
     ensures none { IsNone result ↔ (are_legal search.old.trump (first_moment hands.now declarer) cards.now ≡ false) }
     ensures table { IsTable table.new }

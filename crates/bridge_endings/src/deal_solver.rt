@@ -1,9 +1,9 @@
 //! Whole deals, solved double dummy: how many tricks a declarer takes where each of the four sees all the cards, after any cards
 //! that were played, and what each of these cost.
 ghost use Rattle.std.specs.Prelude.{◌≡◌, ◌+◌, ◌≤◌, ◌↔◌, false, IfOk, IfSome, IsNone};
-ghost use Rattle.bridge_cards.specs.Seat.{side_of, other_side};
+ghost use Rattle.bridge_cards.specs.Seat.{side_of};
 ghost use Rattle.bridge_endings.specs.DealTricks.{tricks_of, declarer_tricks};
-ghost use Rattle.bridge_endings.specs.PlayedCards.{first_moment, are_legal, tricks_after, costs_of, given_by};
+ghost use Rattle.bridge_endings.specs.PlayedCards.{first_moment, are_legal, tricks_after, costs_of, ExplainsTricks};
 
 use crate::card_cost::CardCost;
 use crate::costs::{costs_in_all, won_from};
@@ -124,9 +124,7 @@ impl DealSolver {
         cards: &[Card],
     ) -> Option<ArrayVec<CardCost, DECK>>
         ensures costs { IfSome result (λ costs. costs.items ≡ costs_of trump (first_moment self.old declarer) cards.now) }
-        ensures explained { IfSome result (λ costs.
-            declarer_tricks trump self.old declarer + given_by (other_side (side_of declarer)) costs.items
-            ≡ tricks_after trump self.old declarer cards.now + given_by (side_of declarer) costs.items) }
+        ensures explained { IfSome result (λ costs. ExplainsTricks trump self.old declarer cards.now costs.items) }
         ensures none { IsNone result ↔ (are_legal trump (first_moment self.old declarer) cards.now ≡ false) }
         ensures deal { self.new ≡ self.old }
     {
