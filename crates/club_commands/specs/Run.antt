@@ -7,7 +7,7 @@ use Rattle.auction_command.specs.Heard.{AnswersAll, StopsAt}
 use Rattle.command_line.specs.Words.{club_app, AsksCommand}
 use Rattle.command_line.specs.declared.command.WebHost.{WebHost}
 use Rattle.command_line.specs.declared.command.Command.{Command}
-use Rattle.command_line.specs.declared.command.Command.TheVariants.{Auction, Format, Script, Correct, Serve, Web, Rank, Pbn, Results, Export, Check, Plan, Draft, Slips, Evening, Makeable, Version}
+use Rattle.command_line.specs.declared.command.Command.TheVariants.{Auction, Format, Script, Correct, Serve, Web, Rank, Pbn, Results, Export, Check, Plan, Draft, Slips, Evening, Makeable, Copy, Version}
 use Rattle.command_line.specs.declared.command.WordsFault.{WordsFault}
 use Rattle.command_line.specs.declared.command.WordsFault.TheVariants.{Usage, Memory}
 use Rattle.table_pages.specs.declared.page_texts.PageTexts.{PageTexts}
@@ -23,7 +23,7 @@ use Rattle.club_commands.specs.Listed.{WithList}
 use Rattle.club_commands.specs.MakeableDeals.{HasMade}
 use Rattle.club_commands.specs.PairWeb.{ShowsTwoListed}
 use Rattle.club_commands.specs.Ended.{Ended, Writes, store_line, fault_line, fault_status}
-use Rattle.club_commands.specs.Works.{HasWorked, HasFormatted, HasListed}
+use Rattle.club_commands.specs.Works.{HasCopied, HasWorked, HasFormatted, HasListed}
 
 -- the output of a board's auction is written for what was read of the input, all or up to a fault of the streams
 abbrev pub HoldsAuction : ℕ → Stream → Stream → Ended → Type 0
@@ -57,6 +57,7 @@ Runs texts (Draft names wishes) input output ended = HasDrafted wishes output en
 Runs texts (Slips config slips) input output ended = HasSlips slips output ended × IsUntouched input
 Runs texts (Evening words) input output ended = HasEvening texts words input output ended
 Runs texts (Makeable file pbn) input output ended = HasMade pbn output ended × IsUntouched input
+Runs texts (Copy disk copy) input output ended = HasCopied input output ended
 Runs texts Version input output ended = Writes output version_line ended × IsUntouched input
 
 -- How a command ended, and with which exit status: it was done, and nothing stands on standard error; or it stopped at a fault,

@@ -10,6 +10,7 @@
 mod check;
 mod config_file;
 mod copied;
+mod copying;
 mod counts;
 mod evening;
 mod evening_files;

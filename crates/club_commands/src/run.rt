@@ -5,6 +5,7 @@ ghost use Rattle.line_replies.specs.declared.fault.ServeFault.TheVariants.{Read 
 ghost use Rattle.club_commands.specs.Ended.{stream_line, store_line, fault_line, fault_status};
 ghost use Rattle.club_commands.specs.Run.{HoldsAuction, Runs, EndsWith, RefusesWords, IsUsage, HasRun, HasFailed};
 
+use crate::copying::run_copy;
 use crate::evening::run_evening;
 use crate::evenings::{make_draft, make_plan, make_slips};
 use crate::fault::RunFault;
@@ -140,6 +141,7 @@ fn do_command<S: Machine, R: Read, W: Write>(
         Command::Slips { config, slips } => make_slips(rt, config, &slips, output),
         Command::Evening(words) => run_evening(rt, alloc, texts, &words, input, output),
         Command::Makeable { file, pbn } => write_makeable(rt, alloc, pbn, file, output),
+        Command::Copy { disk, copy } => run_copy(rt, alloc, disk, copy, input, output),
         Command::Version => run_version(output),
     }
 }

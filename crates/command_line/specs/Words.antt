@@ -7,7 +7,7 @@ use Rattle.clap.specs.Words.{App, Row, Rule, Text, new_app, new_rule, with_rule,
 use Rattle.clap.specs.declared.builder.action.ArgAction.TheVariants.{SetTrue}
 use Rattle.clap.specs.declared.builder.value_parser.ValueParser.TheVariants as parser
 use Rattle.command_line.specs.declared.command.Command.{Command}
-use Rattle.command_line.specs.declared.command.Command.TheVariants.{Auction, Format, Script, Correct, Serve, Web, Rank, Pbn, Results, Check, Plan, Draft, Slips, Evening, Makeable, Export, Version}
+use Rattle.command_line.specs.declared.command.Command.TheVariants.{Auction, Format, Script, Correct, Serve, Web, Rank, Pbn, Results, Check, Plan, Draft, Slips, Evening, Makeable, Export, Copy, Version}
 use Rattle.command_line.specs.declared.command.WebHost.{WebHost}
 use Rattle.command_line.specs.declared.command.DraftWords.{DraftWords}
 use Rattle.command_line.specs.declared.command.SlipWords.{SlipWords}
@@ -218,6 +218,14 @@ rankings_rule = flag_rule (codes "rankings")
 abbrev pub export_app : App
 export_app = with_rule (disk_app (codes "export")) rankings_rule
 
+-- the argument DISK2
+abbrev pub second_disk_rule : Rule
+second_disk_rule = record (new_rule (codes "DISK2")) { required = true }
+
+-- the command `copy DISK DISK2`
+abbrev pub copy_app : App
+copy_app = with_rule (disk_app (codes "copy")) second_disk_rule
+
 -- the command `version`
 abbrev pub version_app : App
 version_app = new_app (codes "version")
@@ -234,7 +242,7 @@ bare_app = record named_app { top = record named_app.top { no_binary_name = true
 abbrev pub command_apps : List App
 command_apps =
     auction_app ∷ format_app ∷ script_app ∷ serve_app ∷ web_app ∷ rank_app ∷ pbn_app ∷ results_app ∷ check_app ∷ plan_app
-    ∷ correct_app ∷ draft_app ∷ slips_app ∷ evening_app ∷ makeable_app ∷ export_app ∷ version_app ∷ []
+    ∷ correct_app ∷ draft_app ∷ slips_app ∷ evening_app ∷ makeable_app ∷ export_app ∷ copy_app ∷ version_app ∷ []
 
 -- a program with these commands, one after another
 abbrev pub with_commands : App → List App → App
@@ -308,6 +316,7 @@ HasWords rows (Slips config slips) = HasText rows (codes "CONFIG") config.now ×
 HasWords rows (Evening words) = HasEvening rows words
 HasWords rows (Makeable file pbn) = HasText rows (codes "FILE") file.now × HasFlag rows (codes "pbn") pbn
 HasWords rows (Export disk rankings) = HasText rows (codes "DISK") disk.now × HasFlag rows (codes "rankings") rankings
+HasWords rows (Copy disk copy) = HasText rows (codes "DISK") disk.now × HasText rows (codes "DISK2") copy.now
 HasWords rows Version = Unit {0}
 
 -- the name of a command
@@ -328,6 +337,7 @@ name_of (Slips config slips) = codes "slips"
 name_of (Evening words) = codes "evening"
 name_of (Makeable file pbn) = codes "makeable"
 name_of (Export disk rankings) = codes "export"
+name_of (Copy disk copy) = codes "copy"
 name_of Version = codes "version"
 
 -- the command of that name, with these arguments

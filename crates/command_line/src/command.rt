@@ -112,6 +112,13 @@ pub enum Command<'a> {
         /// Whether `--rankings` is among the words.
         rankings: bool,
     },
+    /// `copy DISK DISK2`: a new disk for the session that a disk holds.
+    Copy {
+        /// DISK, the name of the disk's file.
+        disk: &'a str,
+        /// DISK2, the name of the new disk's file.
+        copy: &'a str,
+    },
     /// `version`: the program's name, its version, and the kit that proved it.
     Version,
 }

@@ -1,5 +1,5 @@
 -- A session opened on two disks.
-use Rattle.std.specs.Prelude.{◌≡◌, ◌≢◌, ◌⊎◌, ◌↔◌, ℕ, Bool, true, false, []}
+use Rattle.std.specs.Prelude.{◌≡◌, ◌≢◌, ¬◌, ◌⊎◌, ◌↔◌, ◌<◌, ℕ, Bool, true, false, []}
 use Rattle.sector_disk.specs.Disk.{Disk}
 use Rattle.sector_disk.specs.Runs.{Quiet}
 use Rattle.session_store.specs.Looking.{IsSeen}
@@ -10,15 +10,26 @@ use Rattle.session_store.specs.declared.disk_format.DiskFormat.{DiskFormat}
 use Rattle.session_store.specs.declared.fault.StoreFault.TheVariants.{NoMemory}
 use Rattle.session_rules.specs.declared.action.Action.{Action}
 use Rattle.session_rules.specs.State.{SessionValue}
+use Rattle.bridge_session.specs.HasAll.{HasAllOf}
 use Rattle.bridge_session.specs.SessionKeeping.{session_keeping}
 use Rattle.session_pair.specs.Choosing.{ComesFirst}
 use Rattle.session_pair.specs.declared.joining.Judged.{Judged}
 use Rattle.session_pair.specs.declared.joining.JoinFault.{JoinFault}
 use Rattle.session_pair.specs.declared.joining.JoinFault.TheVariants.{Disk as NoDisk, Copy as NoCopy, OtherSession, OtherPlays}
 
--- both disks hold the same, or they are of one configuration and one epoch
+-- a session of a greater epoch has all that another has
+abbrev pub IsAbove : SessionValue → ℕ → SessionValue → ℕ → Type 0
+IsAbove s epoch t other_epoch = (other_epoch < epoch) × HasAllOf s t
+
+-- both are of one epoch, in which each has all that was told, or that of the greater one has all that the other has
+abbrev pub MayFollow : SessionValue → ℕ → SessionValue → ℕ → Type 0
+MayFollow s epoch t other_epoch =
+    (epoch ≡ other_epoch) ⊎ (IsAbove s epoch t other_epoch ⊎ IsAbove t other_epoch s epoch)
+
+-- both disks hold the same, or they are of one configuration and the one may follow the other
 abbrev pub MayJoin : SessionValue → ℕ → SessionValue → ℕ → Type 0
-MayJoin s epoch t other_epoch = (s ≡ t) ⊎ ((s.configuration ≡ t.configuration) × (epoch ≡ other_epoch))
+MayJoin s epoch t other_epoch =
+    (s ≡ t) ⊎ ((s.configuration ≡ t.configuration) × MayFollow s epoch t other_epoch)
 
 -- how disks stand to each other that hold these sessions, of these epochs and with so many records
 pub record IsJudged (s : SessionValue) (epoch records : ℕ) (t : SessionValue) (other_epoch other_records : ℕ) (judged : Judged) : Type 0 where
@@ -29,7 +40,8 @@ pub record IsJudged (s : SessionValue) (epoch records : ℕ) (t : SessionValue) 
 -- why they are not joined
 abbrev pub IsUnjudged : SessionValue → ℕ → SessionValue → ℕ → JoinFault → Type 0
 IsUnjudged s epoch t other_epoch OtherSession = s.configuration ≢ t.configuration
-IsUnjudged s epoch t other_epoch OtherPlays = (s.configuration ≡ t.configuration) × (epoch ≢ other_epoch) × (s ≢ t)
+IsUnjudged s epoch t other_epoch OtherPlays =
+    (s.configuration ≡ t.configuration) × ¬ (MayFollow s epoch t other_epoch) × (s ≢ t)
 IsUnjudged s epoch t other_epoch (NoDisk fault) = fault ≡ NoMemory
 IsUnjudged s epoch t other_epoch (NoCopy fault) = ⊥
 

@@ -1,6 +1,7 @@
 //! A session opened on two disks.
 ghost use Rattle.std.specs.Prelude.{◌≡◌, ◌↔◌, true, IfOk, IfErr};
-ghost use Rattle.session_pair.specs.Joining.{IsJudged, IsUnjudged, HasJoined, SeesBoth, IsOne};
+ghost use Rattle.std.specs.Bool.{Decides};
+ghost use Rattle.session_pair.specs.Joining.{IsJudged, IsUnjudged, HasJoined, MayFollow, SeesBoth, IsOne};
 ghost use Rattle.session_pair.specs.Choosing.{ComesFirst};
 ghost use Rattle.session_store.specs.PairOpening.{IsPairOpened};
 ghost use Rattle.bridge_session.specs.SessionKeeping.{session_keeping};
@@ -13,6 +14,7 @@ use session_store::{
     read_state,
 };
 use std::alloc::{AllocError, Global};
+use std::cmp::Ordering;
 
 /// Why a session was not opened on two disks. Nothing was written where the disks differ or one gave no session.
 #[derive(Clone, Copy, Debug, PartialEq, Eq)]
@@ -23,7 +25,7 @@ pub enum JoinFault {
     Copy(StoreFault),
     /// The copy holds a session of another configuration.
     OtherSession,
-    /// The disks are of different epochs, and their sessions differ.
+    /// The disks are of different epochs, and the session of the greater one lacks something of the other.
     OtherPlays,
 }
 
@@ -67,8 +69,20 @@ fn stand_so(disk: &Reading<Session>, copy: &Reading<Session>) -> Judged
     }
 }
 
+/// Whether two disks are of one epoch, in which each has all that was told, or that of the greater one has all that the other
+/// has.
+fn may_follow(disk: &Reading<Session>, copy: &Reading<Session>) -> bool
+    ensures { Decides result (MayFollow disk.now.state disk.now.epoch copy.now.state copy.now.epoch) }
+{
+    match disk.epoch.cmp(&copy.epoch) {
+        Ordering::Equal => true,
+        Ordering::Greater => disk.state.has_all_of(&copy.state),
+        Ordering::Less => copy.state.has_all_of(&disk.state),
+    }
+}
+
 /// How two disks stand to each other, by what was read of them, if they may be joined: they hold the same, or are of one
-/// configuration and one epoch, in which each has all that was told.
+/// configuration and the one may follow the other.
 fn judge(alloc: Global, disk: Reading<Session>, copy: Reading<Session>) -> Result<Judged, JoinFault>
     ensures judged { IfOk result (IsJudged disk.state disk.epoch disk.records copy.state copy.epoch copy.records) }
     ensures fault { IfErr result (IsUnjudged disk.state disk.epoch copy.state copy.epoch) }
@@ -77,14 +91,14 @@ fn judge(alloc: Global, disk: Reading<Session>, copy: Reading<Session>) -> Resul
     if judged.was_level {
         return Ok(judged);
     }
-    let is_one_epoch = disk.epoch == copy.epoch;
+    let may_follow = may_follow(&disk, &copy);
     match is_one_configuration(alloc, disk.state, copy.state) {
         Err(_) => Err(JoinFault::Disk(StoreFault::NoMemory)),
         Ok(is_one) => {
             if !is_one {
                 return Err(JoinFault::OtherSession);
             }
-            if is_one_epoch {
+            if may_follow {
                 Ok(judged)
             } else {
                 Err(JoinFault::OtherPlays)

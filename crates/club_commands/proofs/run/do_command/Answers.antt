@@ -49,5 +49,8 @@ returns-in-Evening g c = rw c.in-Evening.is c.run_evening.ensures
 pub returns-in-Makeable : goal.returns-in-Makeable
 returns-in-Makeable g c = rw c.in-Makeable.is (c.write_makeable.ensures, Keeps-refl _)
 
+pub returns-in-Copy : goal.returns-in-Copy
+returns-in-Copy g c = rw c.in-Copy.is c.run_copy.ensures
+
 pub returns-in-Version : goal.returns-in-Version
 returns-in-Version g c = rw c.in-Version.is (c.run_version.ensures, Keeps-refl _)
