@@ -1,5 +1,5 @@
 -- A session opened on two disks.
-use Rattle.std.specs.Prelude.{◌≡◌, ◌≢◌, ¬◌, ◌⊎◌, ◌↔◌, ◌<◌, ℕ, Bool, true, false, []}
+use Rattle.std.specs.Prelude.{◌≡◌, ◌≢◌, ◌⊎◌, ◌↔◌, ◌<◌, ℕ, Bool, true, false, []}
 use Rattle.sector_disk.specs.Disk.{Disk}
 use Rattle.sector_disk.specs.Runs.{Quiet}
 use Rattle.session_store.specs.Looking.{IsSeen}
