@@ -25,7 +25,7 @@ use Rattle.session_rules.specs.declared.action.Action.{Action}
 use Rattle.session_rules.specs.State.{SessionValue}
 use Rattle.session_pair.specs.Joining.{HasJoined}
 use Rattle.session_pair.specs.declared.joining.Judged.{Judged}
-use Rattle.pair_pages.specs.Pair.{PairValue, pair_of, session_of, AnswersPair}
+use Rattle.pair_pages.specs.Pair.{PairValue, pair_of, session_of, desk_of, AnswersPair}
 use Rattle.pair_pages.specs.declared.pair_server.PairServer.{PairServer}
 use Rattle.session_store.specs.Pair.{standing_of}
 use Rattle.session_store.specs.Value.{StoreValue}
@@ -86,7 +86,8 @@ boards_shown pair is_open key = boards_text (session_of (value_of pair)) is_open
 
 -- what is told of the desk where these bytes are posted at a second
 abbrev pub desks_shown : {D E : Type 0} → ServerOver D E → Desk → ℕ → List ℕ → List ℕ
-desks_shown pair desk at body = desk_text (session_of (value_of pair)) desk at body
+desks_shown pair desk at body =
+    desk_text (session_of (value_of pair)) (desk_of pair.names pair.first pair.second desk) at body
 
 -- and of the results to the holder of the key that these bytes are
 abbrev pub results_shown : {D E : Type 0} → ServerOver D E → List ℕ → List ℕ → Type 0

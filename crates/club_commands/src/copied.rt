@@ -15,10 +15,11 @@ use bridge_endings::Cache;
 use club_disk::{Access, ClubDisk, ClubStore, lock_for, locked_disk};
 use desk_replies::Desk;
 use evening_commands::{EveningFault, Names, list_of_file};
+use pair_pages::DiskNames;
 use sector_disk::DiskFault;
 use session_pair::{JoinFault, Joined, join_disks};
 use session_store::StoreFault;
-use std::alloc::Global;
+use std::alloc::{AllocError, Global};
 use std::io::Write;
 
 /// How many endings are kept for the answers to `SOLVE`.
@@ -33,13 +34,35 @@ pub struct TwoDisks<'a> {
     pub copy: &'a str,
 }
 
+/// What the director is told of the disks, of which the one was taken first or the other.
+fn disk_names(
+    alloc: Global,
+    disks: TwoDisks<'_>,
+    disk_first: bool,
+) -> Result<DiskNames, AllocError> {
+    let TwoDisks { disk, copy } = disks;
+    let disk_lost = format!(in alloc; "{copy} alone, {disk} is lost")?;
+    let copy_lost = format!(in alloc; "{disk} alone, {copy} is lost")?;
+    let level = format!(in alloc; "{disk} and {copy}")?;
+    let (first_lost, second_lost) = if disk_first {
+        (disk_lost, copy_lost)
+    } else {
+        (copy_lost, disk_lost)
+    };
+    Ok(DiskNames {
+        level,
+        first_lost,
+        second_lost,
+    })
+}
+
 /// Shows pages over a session, where it was opened on two disks and there was memory for a cache of endings. What was opened and
 /// given is handed in, since only so a clause can say what comes of it.
 fn show_opened<N: Host, W: Write>(
     rt: &N,
     alloc: Global,
     shown: &Shown<'_>,
-    name: &str,
+    disks: TwoDisks<'_>,
     joined: Joined<ClubStore>,
     output: &mut W,
 ) -> Result<(), RunFault>
@@ -51,8 +74,11 @@ fn show_opened<N: Host, W: Write>(
     let Ok(cache) = Cache::new(alloc, CACHED_ENDINGS) else {
         return Err(RunFault::Store(StoreFault::NoMemory));
     };
-    let desk = Desk::new(60 * u32::from(shown.minutes), name);
-    show_joined(rt, alloc, shown, joined, cache, desk, output)
+    let Ok(names) = disk_names(alloc, disks, joined.judged.disk_first) else {
+        return Err(RunFault::Store(StoreFault::NoMemory));
+    };
+    let desk = Desk::new(60 * u32::from(shown.minutes), disks.disk);
+    show_joined(rt, alloc, shown, joined, names, cache, desk, output)
 }
 
 /// Opens the session on two disks, and shows pages over it.
@@ -60,7 +86,7 @@ fn show_on<N: Host, W: Write>(
     rt: &N,
     alloc: Global,
     shown: &Shown<'_>,
-    name: &str,
+    disks: TwoDisks<'_>,
     disk: ClubDisk,
     copy: ClubDisk,
     output: &mut W,
@@ -69,7 +95,7 @@ fn show_on<N: Host, W: Write>(
 {
     match join_disks(alloc, disk, copy) {
         Err(fault) => Err(RunFault::Joining(fault)),
-        Ok(joined) => show_opened(rt, alloc, shown, name, joined, output),
+        Ok(joined) => show_opened(rt, alloc, shown, disks, joined, output),
     }
 }
 
@@ -78,7 +104,7 @@ fn show_found<N: Host, W: Write>(
     rt: &N,
     alloc: Global,
     shown: &Shown<'_>,
-    name: &str,
+    disks: TwoDisks<'_>,
     disk: Result<ClubDisk, DiskFault>,
     copy: Result<ClubDisk, DiskFault>,
     output: &mut W,
@@ -91,7 +117,7 @@ fn show_found<N: Host, W: Write>(
     let Ok(copy) = copy else {
         return Err(RunFault::Joining(JoinFault::Copy(StoreFault::Disk)));
     };
-    show_on(rt, alloc, shown, name, disk, copy, output)
+    show_on(rt, alloc, shown, disks, disk, copy, output)
 }
 
 /// Locks the files of both disks, opens the session on them, and shows pages over it.
@@ -108,7 +134,7 @@ fn show_two<S: Machine, W: Write>(
     let copy_lock = lock_for(rt, alloc, disks.copy, Access::Write);
     let disk = locked_disk(rt, disks.disk, Access::Write, &lock);
     let copy = locked_disk(rt, disks.copy, Access::Write, &copy_lock);
-    show_found(rt, alloc, shown, disks.disk, disk, copy, output)
+    show_found(rt, alloc, shown, disks, disk, copy, output)
 }
 
 /// The same with the names of a list, where one was read.

@@ -19,7 +19,7 @@ use club_disk::ClubStore;
 use command_line::WebHost;
 use desk_replies::Desk;
 use evening_commands::{EveningFault, has_pairs};
-use pair_pages::PairServer;
+use pair_pages::{DiskNames, PairServer};
 use sector_disk::SectorDisk;
 use session_pair::{Joined, Judged};
 use session_store::{PairStanding, Store, StoreFault};
@@ -207,6 +207,7 @@ fn show_joined_with<N: Host, W: Write>(
     alloc: Global,
     shown: &Shown<'_>,
     joined: Joined<ClubStore>,
+    disks: DiskNames,
     cache: Cache,
     desk: Desk,
     output: &mut W,
@@ -230,7 +231,7 @@ fn show_joined_with<N: Host, W: Write>(
     let Ok(people) = people_of(alloc, shown.names, &first) else {
         return Err(RunFault::Store(StoreFault::NoMemory));
     };
-    let server = PairServer::new(first, second);
+    let server = PairServer::new(first, second, disks);
     let clock = ServerClock::new(rt);
     let open = shown.host.open_boards;
     let mut pages = pages_over_two(
@@ -263,6 +264,7 @@ pub fn show_joined<N: Host, W: Write>(
     alloc: Global,
     shown: &Shown<'_>,
     joined: Joined<ClubStore>,
+    disks: DiskNames,
     cache: Cache,
     desk: Desk,
     output: &mut W,
@@ -272,7 +274,7 @@ pub fn show_joined<N: Host, W: Write>(
         joined.judged.disk_first joined.judged.was_level joined.first joined.second }
 {
     if has_pairs(shown.names, joined.first.state().config()) {
-        return show_joined_with(rt, alloc, shown, joined, cache, desk, output);
+        return show_joined_with(rt, alloc, shown, joined, disks, cache, desk, output);
     }
     refuse_list(EveningFault::OtherPairs, output)
 }

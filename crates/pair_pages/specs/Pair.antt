@@ -1,5 +1,5 @@
 -- Lines that came in one request, answered over two stores of one session.
-use Rattle.std.specs.Prelude.{◌≡◌, ◌⊎◌, ◌&&◌, ℕ, Bool, true, false, List, [], Option, None}
+use Rattle.std.specs.Prelude.{◌≡◌, ◌⊎◌, ◌&&◌, ℕ, Bool, true, false, List, [], Option, None, Some, string_bytes}
 use Rattle.sector_disk.specs.Disk.{Disk}
 use Rattle.session_store.specs.Pair.{IsToldPair, OneWorks}
 use Rattle.session_store.specs.Store.{Continues}
@@ -8,6 +8,12 @@ use Rattle.session_rules.specs.declared.action.Action.{Action}
 use Rattle.session_rules.specs.State.{SessionValue}
 use Rattle.bridge_session.specs.SessionKeeping.{session_keeping}
 use Rattle.session_pair.specs.Telling.{of_side, shown_of}
+use Rattle.session_store.specs.Pair.{standing_of}
+use Rattle.session_store.specs.declared.standing.PairStanding.{PairStanding}
+use Rattle.session_store.specs.declared.standing.PairStanding.TheVariants.{FirstLost, SecondLost}
+use Rattle.desk_replies.specs.Desk.{with_disk}
+use Rattle.desk_replies.specs.declared.desk.Desk.{Desk}
+use Rattle.pair_pages.specs.declared.disk_names.DiskNames.{DiskNames}
 use Rattle.table_server.specs.declared.line_set.LineSet.{LineSet}
 use Rattle.table_pages.specs.Answered.{AnswersLines, CountsKeys, is_settled}
 
@@ -24,6 +30,16 @@ pair_of first second stopped = record { first = first; second = second; stopped 
 -- the session that is shown: that of a side that works
 abbrev pub session_of : {D E : Type 0} → PairValue D E → SessionValue
 session_of pair = shown_of pair.first pair.second
+
+-- what the director is told of the disks that stand so
+abbrev pub disk_name : DiskNames → Option PairStanding → List ℕ
+disk_name names (Some FirstLost) = string_bytes names.first_lost
+disk_name names (Some SecondLost) = string_bytes names.second_lost
+disk_name names _ = string_bytes names.level
+
+-- what stands beside the session, where the disks have that name
+abbrev pub desk_of : {D E : Type 0} → DiskNames → StoreValue D SessionValue Action → StoreValue E SessionValue Action → Desk → Desk
+desk_of names first second desk = with_disk desk (disk_name names (standing_of first.failed second.failed))
 
 -- nothing is pending in either store that works
 abbrev pub are_settled : {D E : Type 0} → PairValue D E → Bool

@@ -12,9 +12,10 @@ ghost use Rattle.board_replies.specs.Told.{boards_text, opened_by};
 ghost use Rattle.desk_replies.specs.Asked.{has_wrong_key as asks_desk_wrongly};
 ghost use Rattle.desk_replies.specs.Told.{desk_text, desk_after};
 ghost use Rattle.table_pages.specs.Waits.{wait_reply, IsToldStill};
-ghost use Rattle.pair_pages.specs.Pair.{pair_of, are_settled, AnswersPair, CountsInPair};
+ghost use Rattle.pair_pages.specs.Pair.{pair_of, are_settled, desk_of, AnswersPair, CountsInPair};
 
 use crate::answering::serve_twice;
+use crate::disk_names::DiskNames;
 use board_replies::{opened_by, told_boards};
 use bridge_endings::Cache;
 use bridge_session::Session;
@@ -33,23 +34,27 @@ use table_server::{LineSet, ReplyText};
 pub struct PairServer<S: Drop, T: Drop> {
     first: S,
     second: T,
+    names: DiskNames,
     /// Whether nothing more may be told.
     stopped: bool,
 }
 
 impl<A: SectorDisk + Drop, B: SectorDisk + Drop> PairServer<Store<A, Session>, Store<B, Session>> {
-    /// The two stores of a pair that was opened, of which some state may be told.
+    /// The two stores of a pair that was opened, of which some state may be told, and what the director is told of their disks.
     pub fn new(
         first: Store<A, Session>,
         second: Store<B, Session>,
+        names: DiskNames,
     ) -> PairServer<Store<A, Session>, Store<B, Session>>
         ensures first { result.first ≡ first }
         ensures second { result.second ≡ second }
+        ensures names { result.names ≡ names }
         ensures begun { result.stopped ≡ false }
     {
         PairServer {
             first,
             second,
+            names,
             stopped: false,
         }
     }
@@ -149,9 +154,9 @@ impl<A: SectorDisk + Drop, B: SectorDisk + Drop> LineServer
 
     ghost opens = { λ pair is_open key. opened_by (shown_of pair.first pair.second) is_open key };
 
-    ghost desks = { λ pair desk at body. desk_text (shown_of pair.first pair.second) desk at body };
+    ghost desks = { λ pair desk at body. desk_text (shown_of pair.first pair.second) (desk_of pair.names pair.first pair.second desk) at body };
 
-    ghost stands = { λ pair desk at body. desk_after (shown_of pair.first pair.second) desk at body };
+    ghost stands = { λ pair desk at body. desk_after (shown_of pair.first pair.second) (desk_of pair.names pair.first pair.second desk) at body };
 
     ghost waits = { λ pair body. wait_reply (shown_of pair.first pair.second).configuration body };
 
@@ -198,6 +203,7 @@ impl<A: SectorDisk + Drop, B: SectorDisk + Drop> LineServer
     }
 
     fn desk(&self, desk: &mut Desk, alloc: Global, at: u32, body: &[u8]) -> Option<Vec<u8>> {
+        desk.name_disk(self.names.told(self.standing()));
         answer_desk(self.session(), desk, alloc, at, body)
     }
 
