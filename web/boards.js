@@ -122,14 +122,19 @@ function worthText(worth) {
   return Number(of) === 0 ? "" : TEXTS.percent((100 * Number(points) / Number(of)).toFixed(1));
 }
 
+// The same beside a bar where it is in per cent.
+function worthNodes(worth) {
+  const text = worthText(worth);
+  const [points, of] = text ? worth.split("/").map(Number) : [];
+  return of === undefined ? [text] : [make("progress", { max: of, value: points, aria_hidden: "true" }), text];
+}
+
 function bandNode(board, seat) {
   const { result } = board;
   const lead = board.cards.length ? board.cards[0] : null;
   const words = result.bid ? [...resultNodes(result, seat), ", " + TEXTS.made(result.tricks - 6 - Number(result.bid[0]))] : resultNodes(result, seat);
   const below = result.bid ? [TEXTS.tricks(result.tricks) + (lead ? " \u00b7 " : "")] : [];
-  if (lead) below.push(TEXTS.lead + " ",
-    make("span", { role: "img", aria_label: cardName(lead.card), className: SUIT_CLASSES[lead.card[0]].trim() }, ...cardNodes(lead.card).reverse()),
-    " " + TEXTS.by(lead.seat, lead.seat === seat));
+  if (lead) below.push(TEXTS.lead + " ", cardInText(lead.card, cardName(lead.card)), " " + TEXTS.by(lead.seat, lead.seat === seat));
   return make("section", { id: "band", className: "banner", aria_label: TEXTS.result },
     make("p", { className: "large" }, ...words), make("p", { className: "large" }, scoreText(board)),
     make("p", null, ...below), make("p", null, worthText(board.worth) && TEXTS.soFar(worthText(board.worth))));
@@ -173,12 +178,8 @@ function trickPicture(board, own, step) {
   const view = viewOf(board, own);
   const { trick } = board.cards[step - 1];
   const node = make("div", { className: "trick", role: "group", aria_label: TEXTS.trick(trick + 1) });
-  for (const { seat, card, winner } of board.cards.slice(0, step).filter((one) => one.trick === trick)) {
-    const won = winner === seat && board.cards.slice(0, step).filter((one) => one.trick === trick).length === 4;
-    node.append(make("span",
-      { className: "played " + placeOf(view, seat) + SUIT_CLASSES[card[0]] + (won ? " won" : ""), role: "img", aria_label: SEAT_NAMES[seat] + ": " + cardName(card) },
-      ...cardNodes(card)));
-  }
+  const cards = board.cards.slice(0, step).filter((one) => one.trick === trick);
+  node.append(...cards.map((one) => cardOnTable(view, one, cards.length === 4 && one.winner === one.seat)));
   return node;
 }
 
@@ -196,8 +197,8 @@ function steppedNode(board, own, step, stepped) {
   const slider = make("input",
     { id: "step", type: "range", min: 0, max: board.cards.length, step: 1, aria_label: TEXTS.stepThrough, oninput: () => go(Number(slider.value)) });
   const buttons = [
-    ["first", "\u21e4", () => 0], ["back", "\u2190", (now) => now - 1], ["on", "\u2192", (now) => now + 1],
-    ["end", "\u21e5", () => board.cards.length]]
+    ["first", "|\u2039", () => 0], ["back", "\u2039", (now) => now - 1], ["on", "\u203a", (now) => now + 1],
+    ["end", "\u203a|", () => board.cards.length]]
     .map(([name, sign, to]) => make("button",
       { type: "button", id: "step-" + name, aria_label: TEXTS.steps[name], onclick: () => go(to(Number(slider.value))) }, sign));
   const go = (now) => {
@@ -268,7 +269,7 @@ function linesSoFar(board) {
 // The scores of North and South in a row, where the list of results stands on a part of its own.
 function tilesNode(board) {
   const lines = linesSoFar(board).filter((one) => isScored(one.result));
-  const tiles = lines.map((one) => make("li", { className: one.own ? "own" : "" }, signed(one.result.score)));
+  const tiles = lines.map((one) => make("li", { className: one.own ? "own" : "" }, signed(one.result.score), ...(one.own ? [" ", make("b", null, TEXTS.we)] : [])));
   return make("div", { className: "tiles" }, make("p", { className: "second" }, TEXTS.scoresSoFar(lines.length)), make("ol", null, ...tiles));
 }
 
@@ -325,9 +326,11 @@ function cardTable(place, boards) {
     const others = SEATS.filter((seat) => (seat === "N" || seat === "S") !== (board.side === "NS"));
     const opens = button(String(board.number), TEXTS.openBoard(board.number),
       "open-" + board.round + "-" + board.number, true, () => showBoard(board));
+    const [lead] = board.cards;
     return make("tr", null, make("td", null, opens), make("td", { className: "who" },
       ...nameNodes(board.names[others[0]]), " \u2013 ", ...nameNodes(board.names[others[1]])), make("td", null, ...resultNodes(board.result)),
-      numberCell(tricksText(board.result)), numberCell(scoreText(board)), numberCell(worthText(board.worth)));
+      make("td", null, ...(lead ? [cardInText(lead.card, cardName(lead.card))] : [])),
+      numberCell(tricksText(board.result)), numberCell(scoreText(board)), make("td", { className: "number" }, ...worthNodes(board.worth)));
   });
   return make("table", { id: "card", className: "list", aria_label: TEXTS.scoreCard }, listHeads(TEXTS.cardHeads, 3), make("tbody", null, ...rows));
 }
@@ -338,7 +341,7 @@ function roundNode(place, view) {
   return make("ol", { className: "round" }, ...numbers.map((number) => {
     const over = told.boards.find((board) => board.number === number && board.round === String(place.round));
     const now = String(number) === view.board;
-    const came = over ? worthText(over.worth) || scoreText(over) || "\u2013" : now ? TEXTS.now : "";
+    const came = over ? worthText(over.worth) || scoreText(over) || "\u2013" : now ? TEXTS.now : number === Number(view.board) + 1 ? TEXTS.next : "";
     return make("li", { className: now ? "now" : "" }, make("b", null, String(number)), came);
   }));
 }
@@ -353,6 +356,8 @@ function worthOfAll(boards) {
   if (sum(1) === 0) return null;
   return { points: sum(0).toFixed(1), of: sum(1), percent: (100 * sum(0) / sum(1)).toFixed(1) };
 }
+
+const worthOfSome = (all) => (all.percent ? TEXTS.percent(all.percent) : TEXTS.imps(all.points));
 
 function scoreCardNodes(place) {
   const all = worthOfAll(told.boards);

@@ -84,8 +84,10 @@ const clockText = (seconds) => Math.floor(seconds / 60) + ":" + String(seconds %
 function showClock() {
   clearTimeout(clockTimer);
   at("clock").hidden = desk.clock === null;
+  if (at("clock-runs")) [at("clock-runs").hidden, at("clock-sets").hidden] = [desk.clock === null, desk.clock !== null];
   if (desk.clock === null) return;
   const left = secondsLeft();
+  say("clock-left", clockText(left));
   if (CLOCK_SAID.includes(left)) say("heard", TEXTS.minutesLeft(left / 60));
   at("clock").className = left === 0 ? "over" : "";
   at("clock").replaceChildren(make("b", null, clockText(left)), make("span", null, TEXTS.clockLeft));
@@ -97,15 +99,22 @@ function showClock() {
 const whoCalls = ({ pair, name }) => TEXTS.ofPair(shownName(pair, name), pair);
 
 function callNodesOf(call) {
-  if (!isDirector()) return [make("p", null, make("b", null, TEXTS.directorCalled), " ", call.text ? call.text + ". " : "", TEXTS.waitForDirector)];
+  if (!isDirector()) return [make("p", { className: "note called" }, make("span", null, make("b", null, TEXTS.directorCalled), " ", call.text ? call.text + ". " : "", TEXTS.waitForDirector))];
   const stateOf = (number) => lastTables && lastTables.tables.find((one) => one.number === number);
   const open = () => { const state = stateOf(call.table); if (state) openTable(state); };
   const grant = (number) => { const state = stateOf(number); if (state) grantBack(state); };
-  return [make("div", { className: "row" }, make("p", null, make("b", null, TEXTS.tableCalls(call.table)), " ", call.text ? call.text + ". " : "",
+  return [make("div", { className: "note called" }, make("p", null, make("b", null, TEXTS.tableCalls(call.table)), " ", call.text ? call.text + ". " : "",
     whoCalls(call) + ", " + TEXTS.minutesAgo(call.minutes) + "."),
   ...(call.text === TEXTS.slip ? [make("button", { type: "button", id: "grant-" + call.table, onclick: () => grant(call.table) }, TEXTS.grant)] : []),
   make("button", { type: "button", id: "answered-" + call.table, onclick: () => askDesk("ANSWERED " + call.table) }, TEXTS.answered),
   make("button", { type: "button", id: "go-" + call.table, className: "send", onclick: open }, TEXTS.openTable(call.table)))];
+}
+
+// The director's notice, which he takes down where he reads it.
+function noticeNodes() {
+  if (!desk.notice) return [];
+  return [make("div", { className: "note" }, make("p", null, make("b", null, TEXTS.noticeOf), " ", desk.notice),
+    ...(isDirector() ? [make("button", { type: "button", id: "take-down", onclick: () => askDesk("NOTICE") }, TEXTS.takeDown)] : []))];
 }
 
 // Shows what stands, where it has changed; the focus stays.
@@ -117,9 +126,8 @@ function showDesk() {
   if (made === deskShown) return;
   deskShown = made;
   const focus = document.activeElement ? document.activeElement.id : "";
-  const notice = desk.notice ? [make("p", null, make("b", null, TEXTS.noticeOf), " ", desk.notice)] : [];
   const end = minutes <= ENDS_SOON ? [make("p", null, TEXTS.pagesEnd(minutes, isDirector()))] : [];
-  at("desk").replaceChildren(...end, ...notice, ...desk.calls.flatMap(callNodesOf));
+  at("desk").replaceChildren(...end, ...noticeNodes(), ...desk.calls.flatMap(callNodesOf));
   if (focus && at(focus)) at(focus).focus();
   drawn();
 }
@@ -148,19 +156,24 @@ function closeCall() {
 }
 
 at("bell").onclick = () => { if (reason === null) showCall(); else closeCall(); };
-at("bell").textContent = TEXTS.bell;
+at("bell").replaceChildren(make("span", null, TEXTS.bell));
 at("bell").setAttribute("aria-label", TEXTS.callDirector);
 at("calling").onkeydown = holdTab;
 
 // ---- the director tells all tables, and sets the clock
 
 function tellingNodes() {
-  const field = make("input", { id: "tell-text", type: "text", maxLength: 200 });
+  const field = make("input", { id: "tell-text", type: "text", maxLength: 200, aria_label: TEXTS.tellText, placeholder: TEXTS.tellExample });
   const telling = () => { const words = plainText(field.value); if (words) askDesk("NOTICE " + words); };
-  const start = () => { if (isFilledIn("telling")) askDesk("CLOCK " + numberAt("clock-minutes")); };
+  return [make("div", { className: "row" }, field, button(TEXTS.tellAll, "", "tell-all", true, telling))];
+}
+
+// A row to start the clock, and in its place one while it runs.
+function clockNodes() {
+  const start = () => { if (isFilledIn("clock-sets")) askDesk("CLOCK " + numberAt("clock-minutes")); };
   const more = () => { if (desk.clock !== null) askDesk("CLOCK " + (Math.ceil(secondsLeft() / 60) + 2)); };
-  return [make("label", { for: "tell-text" }, TEXTS.tellText), make("div", { className: "row" }, field, button(TEXTS.tellAll, "", "tell-all", true, telling),
-    button(TEXTS.takeDown, "", "take-down", true, () => askDesk("NOTICE"))),
-  make("div", { className: "row" }, numberField("clock-minutes", TEXTS.clockMinutes, 1, 240, 20), button(TEXTS.clockStart, "", "clock-start", true, start),
-    button(TEXTS.clockMore, "", "clock-more", true, more), button(TEXTS.clockStop, "", "clock-stop", true, () => askDesk("CLOCK")))];
+  return [make("div", { id: "clock-sets", className: "row", hidden: desk.clock !== null }, numberField("clock-minutes", TEXTS.clockMinutes, 1, 240, 20),
+    button(TEXTS.clockStart, "", "clock-start", true, start)),
+  make("div", { id: "clock-runs", className: "row", hidden: desk.clock === null }, make("b", { id: "clock-left" }, desk.clock === null ? "" : clockText(secondsLeft())),
+    button(TEXTS.clockStop, "", "clock-stop", true, () => askDesk("CLOCK")), button(TEXTS.clockMore, "", "clock-more", true, more))];
 }

@@ -37,12 +37,25 @@ function tell(text) {
   say("told", text);
 }
 
-// Asks before it acts; the question stands where it was raised, and no other beside it.
-function confirmFirst(box, question, act, ...more) {
-  const close = () => box.replaceChildren();
-  tell("");
+// Takes down a question that stands.
+function closeQuestions() {
   for (const id of ["end-question", "rule-question", "deal-question", "back-question"]) if (at(id)) at(id).replaceChildren();
-  box.replaceChildren(make("p", null, question), ...more.map((words) => make("p", null, ...[].concat(words))),
+}
+
+// A place for questions, which is a sheet over the page while one stands.
+const questionBox = (id) => make("div", { id, className: "sheet question", role: "dialog", aria_modal: "true", onkeydown: holdTab });
+
+// Asks before it acts; no other question stands beside it, and the focus goes back to what raised it.
+function confirmFirst(box, question, act, ...more) {
+  const raised = document.activeElement;
+  const close = () => {
+    closeQuestions();
+    if (raised) raised.focus();
+  };
+  tell("");
+  closeQuestions();
+  box.setAttribute("aria-label", question);
+  box.replaceChildren(make("h2", null, question), ...more.map((words) => make("p", null, ...[].concat(words))),
     make("div", { className: "row" },
       button(TEXTS.no, "", "no", true, close), button(TEXTS.yes, TEXTS.yesTo(question), "yes", true, () => { close(); act(); })));
   at("yes").className = "send";
@@ -153,6 +166,12 @@ function marksOf(table) {
   return make("span", { className: "marks", aria_hidden: "true" }, ...marks);
 }
 
+// Why a table calls, where it says so.
+function reasonNodes(table) {
+  const call = desk.calls.find((one) => one.table === table.number);
+  return call && call.text ? [make("b", null, call.text), make("br")] : [];
+}
+
 const pairText = (pair) => (pair === "0" ? "\u2013" : pairNames.has(Number(pair)) ? pair + " " + pairNames.get(Number(pair)) : pair);
 
 function tablesTable(state) {
@@ -163,7 +182,7 @@ function tablesTable(state) {
     const open = make("button", { type: "button", id: "open-" + table.number, aria_label: TEXTS.openTable(table.number), onclick: () => openTable(table) }, TEXTS.open);
     return make("tr", { className: stands },
       ...[[table.number], [pairText(table.ns)], [pairText(table.ew)],
-        [table.idle ? "" : table.board], [progressText(table)], [marksOf(table), table.idle ? "" : TEXTS.stillFor(Number(minutes))],
+        [table.idle ? "" : TEXTS.board(table.board)], [...reasonNodes(table), progressText(table)], [marksOf(table), table.idle ? "" : TEXTS.stillFor(Number(minutes))],
         [TEXTS.stands[stands]]].map((words) => make("td", null, ...words)),
       make("td", null, ...(table.idle === "SitsOut" ? [] : [open])));
   });
@@ -176,15 +195,15 @@ function openTable(table) {
   return openPlay([lastTables.round, table.number, table.idle ? 1 : placeInSet(Number(table.board))]);
 }
 
-// The tables that are still at play, by their numbers.
-function stillPlaying(state) {
-  return state.tables.filter((table) => table.idle !== "NotCurrent" && table.idle !== "SitsOut").map((table) => table.number);
+// The tables that are still at play and those that wait for a deal, by their numbers, in words; nothing where all are done.
+function stillOpen(state) {
+  const among = (isOf) => state.tables.filter((table) => isOf(table.idle)).map((table) => table.number);
+  return TEXTS.stillOpen(among((idle) => !["NotCurrent", "SitsOut", "NotDealt"].includes(idle)), among((idle) => idle === "NotDealt"));
 }
 
 function roundText(state) {
   if (state.round > state.rounds) return TEXTS.closed;
-  const open = stillPlaying(state);
-  return TEXTS.roundIs(state.round, state.rounds, open.length === 0 ? TEXTS.allDone : TEXTS.stillPlaying(open));
+  return TEXTS.roundIs(state.round, state.rounds, stillOpen(state).map((words) => words + ".").join(" ") || TEXTS.allDone);
 }
 
 function showTables(state) {
@@ -194,7 +213,8 @@ function showTables(state) {
   noteSets(state);
   say("status", roundText(state));
   say("below", state.round > state.rounds ? "" : TEXTS.roundOf(state.round, state.rounds));
-  say("tab-tables", TEXTS.tabs.tables + (desk.calls.length ? " (" + desk.calls.length + ")" : ""));
+  const calls = desk.calls.length ? [" ", make("span", { className: "count" }, String(desk.calls.length))] : [];
+  if (at("tab-tables").textContent !== TEXTS.tabs.tables + (calls.length ? " " + desk.calls.length : "")) at("tab-tables").replaceChildren(TEXTS.tabs.tables, ...calls);
   const old = at("tables");
   const tables = tablesTable(state);
   // What stands in the focus stays there.
@@ -204,8 +224,9 @@ function showTables(state) {
   const end = at("end-round");
   if (!end) return;
   const closed = state.round > state.rounds;
-  const open = stillPlaying(state);
+  const open = stillOpen(state);
   end.disabled = closed || open.length > 0;
+  say("round-is", closed ? "" : TEXTS.tablesDone(state.tables.filter((table) => table.idle === "NotCurrent" || table.idle === "SitsOut").length, state.tables.length));
   const label = closed ? TEXTS.allEnded : open.length > 0 ? TEXTS.endWaits(state.round, open) : TEXTS.endRound(state.round, state.round === state.rounds);
   if (end.textContent !== label) end.textContent = label;
   end.onclick = () => confirmFirst(at("end-question"), TEXTS.asks(label), () => doOne("NEXT " + state.round, TEXTS.endOf(state.round)));
@@ -256,7 +277,7 @@ function openedNodes(board, words) {
   return [make("div", { className: "row" },
     make("h2", null, TEXTS.openedAt(words[1], words[0])), ...others,
     make("button", { type: "button", id: "opened-close", onclick: CLOSED }, TEXTS.close)),
-    make("div", { className: "row" }, back), make("div", { id: "back-question" }), bandNode(board), make("div", { className: "parts" }, steppedNode(board, "S", board.cards.length, () => {}), playedNode(board, "S", board.cards.length))];
+    make("div", { className: "row" }, back), questionBox("back-question"), bandNode(board), make("div", { className: "parts" }, steppedNode(board, "S", board.cards.length, () => {}), playedNode(board, "S", board.cards.length))];
 }
 
 // ---- corrections of what players did
@@ -443,16 +464,16 @@ function rulingNodes() {
   return [
     make("section", { id: "choosing", className: "panel", aria_label: TEXTS.openPlay }, row(...playFields("rule"), button(TEXTS.openPlay, "", "rule-open", true, show))),
     make("section", { id: "opened", aria_label: TEXTS.theBoard }),
-    section("ruling", TEXTS.rulings, make("div", { id: "rule-question" }),
-      group(TEXTS.setTheTricks, row(numberField("rule-tricks", TEXTS.declarersTricks, 0, 13, 7), button(TEXTS.setTricks, "", "rule-set", true, setTricks))),
-      group(TEXTS.assignScore, row(choice("assign-bid", TEXTS.contract, ALL_BIDS.map((bid) => [bid, callName(bid)])),
+    section("ruling", TEXTS.rule, questionBox("rule-question"),
+      folded(TEXTS.setTheTricks, row(numberField("rule-tricks", TEXTS.declarersTricks, 0, 13, 7), button(TEXTS.setTricks, "", "rule-set", true, setTricks))),
+      folded(TEXTS.assignScore, row(choice("assign-bid", TEXTS.contract, ALL_BIDS.map((bid) => [bid, callName(bid)])),
         choice("assign-doubled", TEXTS.double, TEXTS.doublings), choice("assign-declarer", TEXTS.declarerField, SEATS.map((seat) => [seat, SEAT_NAMES[seat]])),
         numberField("assign-tricks", TEXTS.declarersTricks, 0, 13, 7), button(TEXTS.assignScore, "", "rule-assign", true, assign))),
-      group(TEXTS.averages, row(choice("rule-ns", TEXTS.northSouthPer, TEXTS.per), choice("rule-ew", TEXTS.eastWestPer, TEXTS.per),
+      folded(TEXTS.averages, row(choice("rule-ns", TEXTS.northSouthPer, TEXTS.per), choice("rule-ew", TEXTS.eastWestPer, TEXTS.per),
         button(TEXTS.awardAverages, "", "rule-average", true, average))),
-      group(TEXTS.outAndBack, row(button(TEXTS.takeOut, "", "rule-void", true, () => rule(TEXTS.takeOut, "VOID", "", () => TEXTS.takenOut)),
+      folded(TEXTS.outAndBack, row(button(TEXTS.takeOut, "", "rule-void", true, () => rule(TEXTS.takeOut, "VOID", "", () => TEXTS.takenOut)),
         button(TEXTS.takeBackButton, "", "rule-restore", true, () => rule(TEXTS.takeBack, "RESTORE", "", () => TEXTS.asPlayed)))),
-      group(TEXTS.solving, row(numberField("solve-tricks", TEXTS.afterTricks, 7, 13, 7), button(TEXTS.solve, "", "solve", true, solve)),
+      folded(TEXTS.solving, row(numberField("solve-tricks", TEXTS.afterTricks, 7, 13, 7), button(TEXTS.solve, "", "solve", true, solve)),
         make("p", { id: "solved", role: "status" }))),
     section("standing", TEXTS.rulingsStand, make("ul", { id: "ruled" }))];
 }
@@ -530,6 +551,11 @@ function group(title, ...nodes) {
   return make("div", { className: "subject" }, make("h3", null, title), ...nodes);
 }
 
+// The same folded together until its heading is pressed.
+function folded(title, ...nodes) {
+  return make("details", null, make("summary", null, title), ...nodes);
+}
+
 function linesNodes() {
   const box = make("textarea", { id: "box", spellcheck: false });
   const replies = make("pre", { id: "replies", role: "log", aria_label: TEXTS.replies });
@@ -547,17 +573,25 @@ function undeal() {
   confirmFirst(at("deal-question"), TEXTS.asks(TEXTS.undealOf(board)), () => doOne("UNDEAL " + board, TEXTS.undealOf(board), true));
 }
 
+// The deals of a file stand in the text, to be looked at and dealt.
+async function readFile(chosen) {
+  if (!chosen) return;
+  at("deal-text").value = await chosen.text();
+  say("file-has", TEXTS.fileHas(chosen.name, dealsIn(at("deal-text").value).length));
+}
+
 function dealNodes() {
-  const file = make("input", { id: "deal-file", type: "file", onchange: async () => { at("deal-text").value = await file.files[0].text(); } });
+  const file = make("input", { id: "deal-file", type: "file", onchange: () => readFile(file.files[0]) });
   const main = (node) => { node.className = "send"; return node; };
   return [
     make("p", { id: "deal-of", className: "second" }),
     group(TEXTS.shuffleHere, make("div", { className: "row" },
       numberField("shuffle-first", TEXTS.shuffleFrom, 1, MOST_BOARDS, 1), numberField("shuffle-last", TEXTS.to, 1, MOST_BOARDS, ""),
       main(button(TEXTS.shuffle, "", "shuffle", true, shuffleBoards))), make("p", { className: "second" }, TEXTS.seedSecret)),
-    group(TEXTS.dealFile, make("label", { for: "deal-file" }, TEXTS.chooseFile), file,
+    group(TEXTS.dealFile, file, make("div", { className: "row" }, make("label", { id: "choose-file", for: "deal-file" }, TEXTS.chooseFile),
+      make("span", { id: "file-has", role: "status" }, TEXTS.noFile)),
       make("label", { for: "deal-text" }, TEXTS.dealText), make("textarea", { id: "deal-text", spellcheck: false }),
-      button(TEXTS.deal, "", "deal", true, () => dealText(at("deal-text").value))), make("div", { id: "deal-question" }),
+      button(TEXTS.deal, "", "deal", true, () => dealText(at("deal-text").value))), questionBox("deal-question"),
     group(TEXTS.dealtWrongly, make("div", { className: "row" }, numberField("undeal-board", TEXTS.boardField, 1, MOST_BOARDS, 1),
       button(TEXTS.undeal, "", "undeal", true, undeal)), make("p", { className: "second" }, TEXTS.undealHelp))];
 }
@@ -567,8 +601,8 @@ function directorNodes() {
   return [
     make("p", { id: "told", role: "status" }),
     on("tables", make("table", { id: "tables" }), make("div", { id: "aside" },
-      make("section", { id: "round", className: "panel", aria_label: TEXTS.round }, button(TEXTS.endTheRound, "", "end-round", false, () => {}),
-        make("div", { id: "end-question" })),
+      make("section", { id: "round", className: "panel", aria_label: TEXTS.round }, ...clockNodes(), make("p", { id: "round-is", className: "second" }),
+        button(TEXTS.endTheRound, "", "end-round", false, () => {}), questionBox("end-question")),
       section("telling", TEXTS.telling, ...tellingNodes()))),
     on("boards", section("dealing", TEXTS.dealBoards, ...dealNodes())),
     on("rulings", ...rulingNodes()),

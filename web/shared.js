@@ -214,11 +214,15 @@ function showLogin() {
       event.preventDefault();
       key = field.value.replace(/\s/g, "");
       say("notice", "");
+      say("wrong", "");
       look();
     };
-    const form = make("form", { onsubmit: enter, className: "panel" }, make("label", { for: "key" }, TEXTS.yourKey), field,
-      make("p", { className: "second" }, TEXTS.keyHelp), make("button", { type: "submit", className: "send" }, TEXTS.sitDown),
-      make("p", { className: "second" }, TEXTS.slipLost));
+    field.setAttribute("aria-describedby", "wrong key-help");
+    const form = make("form", { onsubmit: enter, className: "panel" },
+      make("div", { className: "login-head" }, make("p", { className: "large", aria_hidden: "true" }, TEXTS.title)),
+      make("div", { className: "login-key" }, make("label", { for: "key" }, TEXTS.yourKey), field, make("p", { id: "wrong", role: "alert" }),
+        make("p", { id: "key-help", className: "second" }, TEXTS.keyHelp), make("button", { type: "submit", className: "send" }, TEXTS.sitDown)),
+      make("div", { className: "login-more" }, make("p", { className: "second" }, TEXTS.slipLost), button(TEXTS.textAndColours, "", "colours", true, showMenu)));
     field.oninput = () => {
       field.setAttribute("aria-invalid", "false");
       if (field.selectionStart === field.value.length) field.value = field.value.replace(/\s/g, "").replace(/(\d{3})(?=\d)/g, "$1 ");
@@ -326,7 +330,7 @@ async function lookOnce(asked) {
 
 function refuse(refused) {
   leave();
-  say("notice", TEXTS.refusals[refused] || TEXTS.noKey);
+  say("wrong", TEXTS.refusals[refused] || TEXTS.noKey);
   at("key").setAttribute("aria-invalid", "true");
 }
 

@@ -85,6 +85,9 @@ function cardNodes(card) {
     make("span", { className: "suit", aria_hidden: "true" }, SIGNS[card[0]])];
 }
 
+// A card in a text, its suit before its rank.
+const cardInText = (card, label) => make("span", { className: SUIT_CLASSES[card[0]].trim(), role: "img", aria_label: label }, ...cardNodes(card).reverse());
+
 // A call as text nodes; doubles stand behind the bid in a contract.
 function callNodes(call) {
   if (call === "PASS") return [make("span", { className: "pass" }, TEXTS.pass)];
@@ -133,6 +136,8 @@ function allowedCall(view, call) {
 // A call or card that was tapped once; which board's claim is being made, and of how many tricks; whether the last trick is looked at.
 let marked = null;
 let claiming = null;
+// The call or card that is on its way, in whose place it is shown already; else empty.
+let onWay = "";
 let looking = false;
 let drawn = () => {};
 let movedAt = 0;
@@ -173,12 +178,14 @@ function send(line) {
   return act(line);
 }
 
+// What a name stands for, as of a card or a call that can be tapped.
+const namedNodes = (what) => (what === "" ? [] : what.startsWith("card-") ? cardNodes(what.slice(5)).reverse() : callNodes(what.slice(5)));
+
 function confirmButton(prompt, sending) {
   const ready = marked !== null && !busy;
-  const label = busy ? TEXTS.sending : marked ? [sending,
-    ...(marked.what.startsWith("card-") ? cardNodes(marked.what.slice(5)).reverse() : callNodes(marked.what.slice(5)))] : prompt;
+  const label = busy ? [onWay ? TEXTS.sendingIt : TEXTS.sending, ...namedNodes(onWay)] : marked ? [sending, ...namedNodes(marked.what)] : prompt;
   const node = button(make("span", null, ...[].concat(label)), "", "confirm", ready, () => { if (marked) send(marked.line); });
-  if (ready) node.className = "send";
+  node.className = ready ? "send" : busy ? "sending" : "";
   return node;
 }
 
@@ -211,11 +218,11 @@ function biddingBox(view) {
     const line = "CALL " + key + " " + view.board + " " + view.made.calls + " " + word;
     const node = button(label, name, id, mine && allowedCall(view, word), (event) => choose(id, line, event));
     node.className = className;
-    node.setAttribute("aria-pressed", String(marked !== null && marked.what === id));
+    node.setAttribute("aria-pressed", String(onWay === id || (marked !== null && marked.what === id)));
     return node;
   };
   const cells = [call("PASS", TEXTS.pass, "", "box-call"), call("X", "X", TEXTS.double, "box-call"), call("XX", "XX", TEXTS.redouble, "box-call"),
-    confirmButton(mine ? (isSafe() ? TEXTS.tapCall : TEXTS.yourCall) : TEXTS.toCall(SEAT_NAMES[view.turn]), TEXTS.callIt)];
+    confirmButton(mine ? (isSafe() ? TEXTS.tapCall : TEXTS.yourCall) : TEXTS.toCall(SEAT_NAMES[view.turn]), marked && isBid(marked.what.slice(5)) ? TEXTS.bidIt : TEXTS.callIt)];
   for (let level = 1; level <= 7; level += 1) {
     for (const strain of STRAINS) {
       const word = level + strain;
@@ -326,10 +333,12 @@ function auctionTable(place, view) {
     make("span", { aria_label: SEAT_NAMES[seat] }, seat === view.seat && view.isOwn !== false ? TEXTS.you : place.names ? place.names[seat] : ""))));
   const cells = Array(columns.indexOf(view.dealer)).fill("").concat(view.calls);
   const rows = [];
-  for (let i = 0; i < cells.length + (due ? 1 : 0); i += 4) {
+  // An auction at play has room for twelve calls, so that it stays where it is.
+  for (let i = 0; i < Math.max(cells.length + (due ? 1 : 0), due ? 12 : 0); i += 4) {
     rows.push(make("tr", null, ...[0, 1, 2, 3].map((j) => {
       const dueHere = due !== null && i + j === cells.length;
-      if (dueHere && marked && marked.what.startsWith("call-")) return make("td", { className: "turn marked" }, ...callNodes(marked.what.slice(5)));
+      const chosen = dueHere ? onWay || (marked ? marked.what : "") : "";
+      if (chosen.startsWith("call-")) return make("td", { className: "turn marked" }, ...namedNodes(chosen));
       if (dueHere) return make("td", { className: "turn", aria_label: TEXTS.dueCall }, "?");
       return make("td", null, ...(cells[i + j] ? callNodes(cells[i + j]) : [""]));
     })));
@@ -371,7 +380,8 @@ function handNode(view, hand, label, id, mine, where) {
   };
   const voidNode = (suit) => make("div", { className: "group void-of in-" + suit }, make("span", { className: "void" }, suitSign(suit), " \u2013"));
   const group = ([suit, ranks]) => (ranks === "" ? voidNode(suit)
-    : make("div", { className: "group in-" + suit + (ranks[0] === hand[suit][0] ? "" : " more") }, ...[...ranks].map((rank) => card(suit, rank))));
+    : make("div", { className: "group in-" + suit + (ranks[0] === hand[suit][0] ? "" : " more") },
+      ...[...ranks].filter((rank) => onWay !== "card-" + suit + rank).map((rank) => card(suit, rank))));
   const isShown = ([suit, ranks]) => ranks !== "" || (id === "dummy" && hand[suit] === "");
   const suits = where === "left" || where === "right" ? SUITS.map((suit) => [[suit, hand[suit]]]) : rowsOf(hand, view.board, id);
   const rows = suits.map((row) => row.filter(isShown)).filter((row) => row.length > 0);
@@ -390,17 +400,22 @@ function plate(place, view, seat) {
   return node;
 }
 
+// A card of a trick, on the side of who played it.
+function cardOnTable(view, { seat, card }, won) {
+  return make("span", { className: "played " + placeOf(view, seat) + SUIT_CLASSES[card[0]] + (won ? " won" : ""), role: "img",
+    aria_label: SEAT_NAMES[seat] + ": " + cardName(card) }, ...cardNodes(card));
+}
+
 // The trick on the table: the one at play, or the last whole one until the next card is led.
 function trickNode(view) {
-  const whole = view.trick.length === 0;
+  const sent = onWay.startsWith("card-") ? cardOnTable(view, { seat: view.turn, card: onWay.slice(5) }, false) : null;
+  const whole = view.trick.length === 0 && sent === null;
   const trick = whole ? view.last : view.trick;
-  const node = make("div", { className: "trick", role: "group", aria_label: whole && trick.length ? TEXTS.lastTrick : TEXTS.trickNow });
-  for (const { seat, card } of trick) {
-    const won = whole && seat === view.turn;
-    node.append(make("span", { className: "played " + placeOf(view, seat) + SUIT_CLASSES[card[0]] + (won ? " won" : ""), role: "img",
-      aria_label: SEAT_NAMES[seat] + ": " + cardName(card) }, ...cardNodes(card)));
-  }
-  if (!whole && onTurn(view)) node.append(make("span", { className: "due " + placeOf(view, view.turn), aria_hidden: "true" }, view.turn));
+  const node = make("div", { className: "trick", role: "group", aria_label: whole && trick.length ? TEXTS.lastTrick : TEXTS.trickNow },
+    ...trick.map((one) => cardOnTable(view, one, whole && one.seat === view.turn)));
+  if (sent) sent.className += " sent";
+  if (sent) node.append(sent);
+  else if (!whole && onTurn(view)) node.append(make("span", { className: "due " + placeOf(view, view.turn), aria_hidden: "true" }, view.turn));
   return node;
 }
 
@@ -412,47 +427,60 @@ function stageNode(place, view, middle) {
     if (where === "bottom") continue;
     const box = make("div", { className: "at-" + where }, plate(place, view, seat));
     if (view.playing && seat === dummy && view.dummy) box.append(handNode(view,
-      view.dummy, TEXTS.dummyHand(SEAT_NAMES[seat]), "dummy", handPlayed(place, view) === "dummy", where));
+      view.dummy, TEXTS.dummyHand(SEAT_NAMES[seat]), "dummy", !busy && handPlayed(place, view) === "dummy", where));
     node.append(box);
   }
   node.append(middle);
   return node;
 }
 
+// The tricks of this player's side and of the other.
+const sidesOf = (view) => (view.seat === "N" || view.seat === "S" ? [view.tricks.NS, view.tricks.EW] : [view.tricks.EW, view.tricks.NS]);
+
 // The tricks as cards are turned at a table: ours upright, theirs lying.
-function tallyNode(place, view) {
-  const [we, they] = view.seat === "N" || view.seat === "S" ? [view.tricks.NS, view.tricks.EW] : [view.tricks.EW, view.tricks.NS];
+function tallyNode(view) {
+  const [we, they] = sidesOf(view);
   const marks = Array(Number(we)).fill("ours").concat(Array(Number(they)).fill("theirs"), Array(13 - Number(we) - Number(they)).fill(""));
-  return [make("span",
-    { className: "tally", role: "img", aria_label: TEXTS.tally(we, they) }, ...marks.map((mark) => make("i", { className: mark }))),
-    make("span", { className: "score", aria_hidden: "true" }, we + "\u2013" + they)];
+  return make("span", { className: "tally", role: "img", aria_label: TEXTS.tally(we, they) }, ...marks.map((mark) => make("i", { className: mark })));
 }
 
-function contractNodes(place, view, short) {
-  const { bid, declarer } = place.contract;
-  const ours = declarer === view.seat || declarer === partner(view.seat);
-  const needs = 6 + Number(bid[0]);
-  const words = (short && declarer !== view.seat ? declarer : TEXTS.by(declarer, declarer === view.seat)) + (ours ? TEXTS.needs(needs) : TEXTS.weNeed(14 - needs));
-  return [make("span", { className: "contract", aria_label: callName(bid) }, ...callNodes(bid)), make("span", null, words)];
+// The contract, and how many tricks this side needs.
+const contractNode = ({ bid }) => make("span", { className: "contract", aria_label: callName(bid) }, ...callNodes(bid));
+const isOurs = (view, declarer) => declarer === view.seat || declarer === partner(view.seat);
+const needed = (view, { bid, declarer }) => (isOurs(view, declarer) ? 6 + Number(bid[0]) : 8 - Number(bid[0]));
+
+function stripNode({ contract }, view, auction) {
+  const { declarer } = contract;
+  const words = (declarer === view.seat ? TEXTS.by(declarer, true) : declarer)
+    + (isOurs(view, declarer) ? TEXTS.needs : TEXTS.weNeed)(needed(view, contract));
+  const calls = make("details", { id: "calls" }, make("summary", null, contractNode(contract), make("span", null, words)), make("div", null, auction));
+  return make("section", { id: "strip", aria_label: TEXTS.contract }, calls, tallyNode(view),
+    make("span", { className: "score", aria_hidden: "true" }, sidesOf(view).join("\u2013")));
 }
 
-function stripNode(place, view) {
-  const calls = make("details", { id: "calls" }, make("summary", null, ...contractNodes(place, view, true)), make("div", null, auctionTable(place, view)));
-  return make("section", { id: "strip", aria_label: TEXTS.contract }, calls, ...tallyNode(place, view));
+// Who won the last trick.
+const lastWinner = (place, view) => winnerOf(view.last, strainOf(place.contract.bid)[0]);
+
+function lastTrickNodes(place, view) {
+  const winner = lastWinner(place, view);
+  return view.last.map(({ seat, card }) => make("span", { className: seat === winner ? "won" : "" },
+    make("span", { className: "second", aria_hidden: "true" }, seat + " "), cardInText(card, SEAT_NAMES[seat] + ": " + cardName(card))));
 }
 
-function lastTrickNodes(view) {
-  return view.last.map(({ seat, card }) => make("span", { className: "field" },
-    seat + " ",
-    make("span", { className: SUIT_CLASSES[card[0]].trim(), role: "img", aria_label: SEAT_NAMES[seat] + ": " + cardName(card) }, ...cardNodes(card).reverse())));
-}
-
+// What stands beside the table: the contract and the tricks, the last trick, the auction and the round.
 function sideNode(place, view) {
+  const { contract } = place;
+  const [we, they] = sidesOf(view);
+  const due = needed(view, contract);
+  const part = (name, title, ...nodes) => make("section", { className: "side-" + name }, make("h2", null, title), ...nodes);
   const node = make("aside", { id: "side", aria_label: TEXTS.theBoard },
-    make("p", null, ...contractNodes(place, view)), make("h2", null, TEXTS.tricksHead),
-    make("p", { className: "row" }, ...tallyNode(place, view)));
-  if (view.last.length) node.append(make("h2", null, TEXTS.lastTrick), make("p", { className: "row" }, ...lastTrickNodes(view)));
-  node.append(make("h2", null, TEXTS.auction), auctionTable(place, view), make("h2", null, TEXTS.roundSoFar), roundNode(place, view));
+    make("section", { className: "side-contract" }, contractNode(contract), make("span", null, make("b", null, TEXTS.bySeat(contract.declarer, contract.declarer === view.seat)), make("br"),
+      (isOurs(view, contract.declarer) ? TEXTS.toMake : TEXTS.toBeat)(due, due - Number(we)))),
+    part("tricks", TEXTS.tricksHead, make("p", null, make("span", null, TEXTS.weTook(we)), tallyNode(view), make("span", null, TEXTS.theyTook(they)))));
+  if (view.last.length) node.append(part("last", TEXTS.lastTrickTo(SEAT_NAMES[lastWinner(place, view)]), make("p", null, ...lastTrickNodes(place, view))));
+  const all = worthOfAll(told.boards);
+  node.append(part("auction", TEXTS.auction, auctionTable(place, view)),
+    part("round", TEXTS.roundSoFar, roundNode(place, view), ...(all ? [make("p", null, TEXTS.eveningSoFar, worthOfSome(all))] : [])));
   return node;
 }
 
@@ -497,8 +525,7 @@ function claimSheet(place, view) {
     node.setAttribute("aria-pressed", String(claiming.tricks === tricks));
     return node;
   };
-  const numbers = Array.from({ length: left + 1 },
-    (_none, tricks) => choice(tricks, tricks === 0 ? TEXTS.claimNone : tricks === left ? TEXTS.claimAll(left) : String(tricks)));
+  const some = Array.from({ length: left - 1 }, (_none, i) => choice(i + 1, String(i + 1)));
   const line = "CLAIM " + key + " " + view.board + " " + view.made.claims + " " + claiming.tricks;
   const said = make("input", { id: "claim-says", type: "text", maxLength: 100, value: saying, oninput: () => { saying = said.value; } });
   // What is said goes with the claim once that stands.
@@ -509,16 +536,19 @@ function claimSheet(place, view) {
   };
   const claim = button(TEXTS.claimTricks(claiming.tricks), "", "claim-button", true, (event) => (isDeaf(event) ? undefined : makeIt()));
   claim.className = "send";
-  return sheet("claiming", TEXTS.claimTitle,
-    make("h2", null, TEXTS.claimOf(left)), make("div", { className: "numbers" }, ...numbers),
+  return sheet("claiming", TEXTS.claimTitle, make("h2", null, TEXTS.claimTitle), make("div", null, TEXTS.claimOf(left)),
+    make("div", { className: "numbers" }, ...some), make("div", { className: "ends" }, choice(0, TEXTS.claimNone), choice(left, TEXTS.claimAll(left))),
     make("p", null, claimWords(place, view, view.seat, claiming.tricks) + "."),
-    make("label", { for: "claim-says" }, TEXTS.claimSays), said, make("p", { className: "second" }, TEXTS.claimHelp),
+    make("div", { className: "says" }, make("label", { for: "claim-says" }, TEXTS.claimSays), said), make("p", { className: "second" }, TEXTS.claimHelp),
     make("div", { className: "row" }, button(TEXTS.back, "", "claim-back", true, () => { claiming = null; drawn(); }), claim));
 }
 
-function lastSheet(view) {
-  return sheet("last-trick", TEXTS.lastTrick, make("h2", null, TEXTS.lastTrick),
-    make("div", { className: "row" }, ...lastTrickNodes(view)), button(TEXTS.close, "", "last-close", true, () => { looking = false; drawn(); }));
+function lastSheet(place, view) {
+  const winner = lastWinner(place, view);
+  const close = button(TEXTS.backToPlay, "", "last-close", true, () => { looking = false; drawn(); });
+  close.className = "send";
+  return sheet("last-trick", TEXTS.lastTrick, make("h2", null, TEXTS.lastTrickTo(SEAT_NAMES[winner])),
+    make("div", { className: "trick" }, ...view.last.map((one) => cardOnTable(view, one, one.seat === winner))), close);
 }
 
 // Answers to a claim that this player is asked for.
@@ -575,17 +605,17 @@ function isMine(place, view) {
 function playNodes(place, view) {
   const dummy = dummyOf(place);
   const own = handNode(view, view.hand,
-    view.seat === dummy && view.playing ? TEXTS.ownDummy : TEXTS.ownHand(SEAT_NAMES[view.seat]), "hand", handPlayed(place, view) === "own");
+    view.seat === dummy && view.playing ? TEXTS.ownDummy : TEXTS.ownHand(SEAT_NAMES[view.seat]), "hand", !busy && handPlayed(place, view) === "own");
   if (!view.playing || !place.contract) {
     const stage = stageNode(place, view, make("div", { id: "auction", className: "auction" }, auctionTable(place, view)));
     // The board lies there while there is room.
-    if (view.calls.length < 8) stage.append(boardPicture({ number: Number(view.board), side: "NS", calls: [] }, view.seat));
+    if (view.calls.length < 9) stage.append(boardPicture({ number: Number(view.board), side: "NS", calls: [] }, view.seat));
     return [stage, own, biddingBox(view)];
   }
-  const nodes = [stripNode(place, view), stageNode(place, view, trickNode(view)), own];
+  const nodes = [stripNode(place, view, auctionTable(place, view)), stageNode(place, view, trickNode(view)), own];
   if (claiming && (claiming.board !== view.board || view.claim || view.trick.length > 0)) claiming = null;
   if (claiming) nodes.push(claimSheet(place, view));
-  else if (looking && view.last.length) nodes.push(lastSheet(view));
+  else if (looking && view.last.length) nodes.push(lastSheet(place, view));
   nodes.push(view.claim && place.answer ? answerDock(place, view) : playDock(place, view), sideNode(place, view));
   return nodes;
 }
@@ -671,18 +701,24 @@ function namesNode(place) {
 // What the evening has come to so far, and the way to the score card.
 function soFarNodes() {
   const all = worthOfAll(told.boards);
-  const words = all ? [make("p", null, TEXTS.eveningSoFar, make("b", null, all.percent ? TEXTS.percent(all.percent) : TEXTS.imps(all.points)))] : [];
+  const words = all ? [make("p", null, TEXTS.eveningSoFar, make("b", null, worthOfSome(all)))] : [];
   return [...words, make("div", { className: "row" }, button(TEXTS.myBoards, "", "between-boards", true, () => turnLeaf({ card: true })))];
 }
 
-function betweenNodes(place, done) {
+// The table at which he sits and the one to which he goes.
+function wayNodes(table, next) {
+  if (!table || table.number === next.number) return [];
+  const tile = (className, number, words) => make("li", { className }, make("b", null, number), words);
+  return [make("ol", { className: "round" }, tile("here", table.number, TEXTS.youAreHere), tile("now", next.number, TEXTS.youGoHere))];
+}
+
+function betweenNodes(place, next) {
   const nodes = [];
-  const next = done && place.next;
   if (next) {
     nodes.push(make("section", { className: "panel" }, make("p", { className: "second" }, TEXTS.nextOf(place.round + 1, place.rounds)),
       make("p", { className: "large" }, TEXTS.tableSeat(next.number, SEAT_NAMES[next.seat])),
       make("p", null, TEXTS.boardsOf(next.first, next.last) + ". ",
-        make("b", null, place.table && next.number === place.table.number ? TEXTS.stay : TEXTS.goTo(next.number))),
+        make("b", null, place.table && next.number === place.table.number ? TEXTS.stay : TEXTS.goTo(next.number))), ...wayNodes(place.table, next),
       make("p", { className: "second" }, TEXTS.roundBegins)));
   }
   const here = make("section", { className: "panel" }, make("p", { className: "second" }, TEXTS.roundOf(place.round, place.rounds)));
@@ -704,8 +740,9 @@ function barFor(place, view) {
   const chip = at("chip");
   chip.hidden = !view;
   if (!view) {
-    at("title").textContent = headText(place);
-    at("below").textContent = place.table ? TEXTS.tableRound(place.table.number, place.round, place.rounds) : TEXTS.roundOf(Math.min(place.round, place.rounds), place.rounds);
+    const { table, names } = place;
+    at("title").textContent = shownName(place.pair, place.name);
+    at("below").textContent = TEXTS.pairOf(place.pair) + (table ? TEXTS.with(TEXTS.sides[table.seat], names[partner(table.seat)]) : "");
     return;
   }
   const ours = view.seat === "N" || view.seat === "S" ? "NS" : "EW";
@@ -716,7 +753,13 @@ function barFor(place, view) {
   chip.setAttribute("aria-label", TEXTS.boardWords(view.board, SEAT_NAMES[view.dealer], vulnerableText(view.vulnerable)));
   at("title").textContent = TEXTS.board(view.board);
   at("below").replaceChildren(TEXTS.dealsShort(view.dealer) + " \u00b7 " + TEXTS.vulnerableShort[view.vulnerable],
-    make("span", { className: "wide" }, place.table ? TEXTS.atTable(place.table.number, place.round, place.rounds) : ""));
+    make("span", { className: "wide" }, place.table ? TEXTS.atTable(place.table.number, place.round, place.rounds) + whichBoard(place.table, view.board) : ""));
+}
+
+// Which of the boards of this round it is, where it is one of them.
+function whichBoard({ first, last }, board) {
+  const [index, count] = [Number(board) - Number(first), Number(last) - Number(first) + 1];
+  return index >= 0 && index < count ? TEXTS.boardOf(index, count) : "";
 }
 
 // The classes by which the style lays the page out.
@@ -745,7 +788,8 @@ function showView(placeReply, reply) {
     drawn = () => {};
     if (showLeaf(place, TEXTS.toNext)) return;
     barFor(place, null);
-    show(made + told.text, status, "between", () => betweenNodes(place, done || refused === "SitsOut"));
+    const goesTo = (done || refused === "SitsOut") && place.next;
+    show(made + told.text, status, "between" + (goesTo ? " goes-on" : ""), () => betweenNodes(place, goesTo));
     return;
   }
   const view = readView(reply);
@@ -786,7 +830,10 @@ async function showClosed(placeReply, asked, mine) {
   turnTitle(false);
   drawn = () => {};
   if (showLeaf(place, TEXTS.toNext)) return;
-  barFor(place, null);
+  const [event, where] = results.text.split("\n").map((line) => line.replace(/-/g, " "));
+  at("chip").hidden = true;
+  at("title").textContent = TEXTS.finalOf(event);
+  at("below").textContent = where;
   const both = [first, second].filter((reply) => !refusal(reply));
   show(made + results.text + told.text, TEXTS.closed, "final", () => finalNodes(place, both));
 }
@@ -856,12 +903,14 @@ async function act(line) {
   busy = true;
   turn += 1;
   say("notice", "");
-  for (const node of at("main").querySelectorAll("button")) node.disabled = true;
+  onWay = /^C(ALL|ARD) /.test(line) ? line.slice(0, 4).toLowerCase() + "-" + line.split(" ").pop() : "";
+  drawn();
   const slow = setTimeout(() => say("notice", TEXTS.slow), SLOW);
   // The answer, and what there is to see then.
   const reply = await ask("/lines", line + "\nSEE " + asked + "\n");
   clearTimeout(slow);
   busy = false;
+  onWay = "";
   if (at("notice").textContent === TEXTS.slow) say("notice", "");
   if (key !== asked) return key === null ? undefined : look();
   shown = "";
@@ -893,15 +942,19 @@ function chosen() {
   drawn();
 }
 
-// The menu: of a player his boards, how he sends and how cards look; of all light and dark, and to leave.
+// The suits in the colours of a choice.
+const suitsIn = (colours, words) => make("span", null, make("span", { className: colours + " suits", aria_hidden: "true" }, ...SUITS.map(suitSign)), " " + words);
+
+// The menu: of a player his boards, how he sends and how cards look; of all light and dark, and to leave who has logged in.
 function showMenu() {
-  const options = [choiceOf(TEXTS.lightTitle, "light", lightNow(), Object.entries(TEXTS.lights))];
-  if (document.body.className !== "director") {
+  const options = [choiceOf(TEXTS.suitsTitle, "suits", sessionStorage.getItem("suits") || "two", [["two", suitsIn("two", TEXTS.suitsTwo)], ["four", suitsIn("four", TEXTS.suitsFour)]]),
+    choiceOf(TEXTS.lightTitle, "light", lightNow(), Object.entries(TEXTS.lights))];
+  if (key !== null && !isDirector()) {
     options.unshift(button(TEXTS.myBoards, "", "menu-boards", true, () => { closeMenu(); turnLeaf({ card: true }); }),
-      choiceOf(TEXTS.sentTitle, "sent", isSafe() ? "twice" : "once", [["twice", TEXTS.sentTwice], ["once", TEXTS.sentOnce]]),
-      choiceOf(TEXTS.suitsTitle, "suits", sessionStorage.getItem("suits") || "two", [["two", TEXTS.suitsTwo], ["four", TEXTS.suitsFour]]));
+      choiceOf(TEXTS.sentTitle, "sent", isSafe() ? "twice" : "once", [["twice", TEXTS.sentTwice], ["once", TEXTS.sentOnce]]));
   }
-  at("options").replaceChildren(make("h2", null, TEXTS.textAndPlay), ...options);
+  at("options").replaceChildren(make("h2", null, key === null ? TEXTS.textAndColours : TEXTS.textAndPlay), ...options);
+  at("leave").hidden = key === null;
   at("choices").hidden = false;
   [...at("options").querySelectorAll("button"), ...at("options").querySelectorAll("input")][0].focus();
 }
@@ -912,14 +965,15 @@ function closeMenu() {
 
 at("choices").onkeydown = holdTab;
 at("menu").onclick = () => { if (at("choices").hidden) showMenu(); else closeMenu(); };
-at("chosen").onclick = () => { closeMenu(); at("menu").focus(); };
-at("menu").textContent = TEXTS.menu;
+at("chosen").onclick = () => { closeMenu(); (at("colours") || at("menu")).focus(); };
+at("menu").setAttribute("aria-label", TEXTS.menu);
 at("chosen").textContent = TEXTS.done;
 window.addEventListener("resize", showNewest);
 document.addEventListener("keydown", (event) => {
   if (event.key !== "Escape") return;
   if (!at("choices").hidden) at("chosen").onclick();
   closeCall();
+  if (at("no")) at("no").click();
   if (marked || claiming || looking) { unmark(); drawn(); }
 });
 chosen();

@@ -141,6 +141,13 @@ class Evening:
         return [line for _, lines in sent for line in lines if line.split()[0] in CHANGES + CORRECTIONS]
 
 
+def unfold(window):
+    """Opens each ruling that is folded together by a click of its heading."""
+    for number in range(1, window.value("document.querySelectorAll('#ruling details').length") + 1):
+        if not window.value(f"document.querySelector('#ruling details:nth-of-type({number})').open"):
+            window.click(f"#ruling details:nth-of-type({number}) summary")
+
+
 class Page:
     """The director's page, by clicks."""
 
@@ -155,6 +162,8 @@ class Page:
         if self.window.value(f"document.getElementById('on-{part}').hidden"):
             self.window.click(f"#tab-{part}")
             self.window.wait(f"!document.getElementById('on-{part}').hidden")
+        if part == "rulings":
+            unfold(self.window)
 
     def told(self, expected):
         self.window.wait(f"{text_of('told')} === {expected!r}")
@@ -176,7 +185,7 @@ class Page:
         name = "{}, round {}, table {}, board {}".format(what, *play)
         for answer in ["no", "yes"]:
             self.window.click(f"#{button}")
-            self.window.wait(f"document.querySelector('#rule-question p') && document.querySelector('#rule-question p').textContent === {name + '?'!r}")
+            self.window.wait(f"document.querySelector('#rule-question h2') && document.querySelector('#rule-question h2').textContent === {name + '?'!r}")
             self.told("")
             if answer == "yes":
                 pictures(self.window, PICTURES, button)
@@ -204,7 +213,7 @@ class Page:
         self.window.wait("!document.getElementById('end-round').disabled")
         self.window.click("#end-round")
         question = f"End round {round_}" + (", and close the session?" if round_ == 7 else "?")
-        self.window.wait(f"document.querySelector('#end-question p').textContent === {question!r}")
+        self.window.wait(f"document.querySelector('#end-question h2').textContent === {question!r}")
         self.window.click("#no")
         self.window.wait("document.getElementById('end-question').childNodes.length === 0")
         self.window.click("#end-round")
@@ -268,7 +277,7 @@ def deal(page, work):
 def is_asked(page, button, box, what, answer):
     """A button whose question is read and answered."""
     page.window.click(button)
-    page.window.wait(f"document.querySelector('#{box} p') && document.querySelector('#{box} p').textContent === {what + '?'!r}")
+    page.window.wait(f"document.querySelector('#{box} h2') && document.querySelector('#{box} h2').textContent === {what + '?'!r}")
     page.window.click(f"#{answer}")
     page.window.wait(f"document.getElementById('{box}').childNodes.length === 0")
 
@@ -402,6 +411,7 @@ def boards_unseen(evening):
     window.key("Enter", 13, "\r")
     window.wait("document.getElementById('ruling')")
     window.click("#tab-rulings")
+    unfold(window)
     for field, number in [("rule-round", 1), ("rule-table", 2), ("rule-board", 8)]:
         window.type(f"#{field}", str(number))
     window.click("#rule-void")

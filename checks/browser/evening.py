@@ -118,7 +118,7 @@ def play(window, line):
     window.wait(f"document.querySelector('{pressed}') && !document.querySelector('{pressed}').disabled")
     before = window.value("document.body.innerText")
     window.click(pressed)
-    window.wait(f"document.body.innerText !== {json.dumps(before)}")
+    window.wait(f"!busy && document.body.innerText !== {json.dumps(before)}")
     notice = window.value("document.getElementById('notice').textContent")
     due = "The claim stands no more: it was refused, or the director took it back. Play goes on." if words[0] == "REFUSE" else ""
     assert notice == due, f"{line}: {notice}"

@@ -1,6 +1,7 @@
 """Measures the players' pages in a headless Chromium, at the sizes of telephones, tablets and laptops, light and dark: that what is
-due needs no scrolling, with names of 24 characters and after twelve calls too, that nothing is lost with letters twice as large or
-at 320 pixels, that what can be pressed is large enough, and that texts stand out from what is below them.
+due needs no scrolling, with names of 24 characters and after twelve calls too, that no row of the auction is half hidden, that a claim
+moves no hand, that nothing is lost with letters twice as large or at 320 pixels, that what can be pressed is large enough, and that
+texts stand out from what is below them.
 
 looks.py PROGRAM EXAMPLES [FOLDER]     (pictures go to FOLDER)
 """
@@ -44,6 +45,15 @@ FAINT = """(() => {
 })()"""
 SMALL = """[...document.querySelectorAll('button')].filter((one) => one.getClientRects().length && !one.matches('.card, .bid'))
   .map((one) => [one.id, one.getBoundingClientRect()]).filter(([, box]) => box.width < 43.5 || box.height < 35.5).map(([id]) => id)"""
+# Bids that are too low for a thumb, and rows of the auction of which a part is hidden.
+LOW = """[...document.querySelectorAll('#dock .bid')].filter((one) => one.getBoundingClientRect().height < (innerWidth < 380 ? 35.5 : 43.5)).length"""
+HALF = """(() => {
+  const box = document.getElementById('auction');
+  if (!box) return 0;
+  const frame = box.getBoundingClientRect(), top = frame.top + box.querySelector('thead').offsetHeight;
+  const cut = (row, edge) => row.top < edge - 2 && row.bottom > edge + 2;
+  return [...box.querySelectorAll('tbody tr')].map((row) => row.getBoundingClientRect()).filter((row) => cut(row, top) || cut(row, frame.bottom)).length;
+})()"""
 found = []
 
 
@@ -63,6 +73,9 @@ def measure(window, name, width, height, dark=False, scrolls=False):
         found.append(f"{where}: {text!r} has a contrast of {ratio}")
     for one in window.value(SMALL):
         found.append(f"{where}: #{one} is small")
+    for many, what in [(window.value(LOW), "bids are low"), (window.value(HALF), "rows of the auction are half hidden")]:
+        if many:
+            found.append(f"{where}: {many} {what}")
     if FOLDER:
         os.makedirs(FOLDER, exist_ok=True)
         window.picture(os.path.join(FOLDER, f"{name}-{width}x{height}{'-dark' if dark else ''}.png"))
@@ -72,6 +85,16 @@ def measure_all(window, name, scrolls=False):
     for width, height in SIZES:
         measure(window, name, width, height, scrolls=scrolls)
     measure(window, name, 390, 844, dark=True, scrolls=scrolls)
+
+
+def tops(window):
+    """Where the hand begins, on tablets and laptops."""
+    found_at = {}
+    for width, height in [size for size in SIZES if min(size) >= 768]:
+        window.size(width, height)
+        time.sleep(0.3)
+        found_at[width, height] = window.value("document.getElementById('hand').getBoundingClientRect().top")
+    return found_at
 
 
 def large_letters(window, name):
@@ -133,10 +156,15 @@ def main():
             large_letters(windows[SOUTH], "dummy")
             send(f"CARD {NORTH} 1 1 DK", f"CARD {WEST} 1 2 DA", f"CARD {NORTH} 1 3 D2", f"CARD {WEST} 1 4 D5", f"CARD {NORTH} 1 5 C2", f"CARD {EAST} 1 6 D9", f"CARD {NORTH} 1 7 D3")
             measure_all(windows[NORTH], "whole-trick")
+            before = tops(windows[WEST])
             send(f"CLAIM {NORTH} 1 0 9")
+            moved = [size for size, top in tops(windows[WEST]).items() if top != before[size]]
+            if moved:
+                found.append(f"asked: a claim moves the hand at {moved}")
             measure_all(windows[DIRECTOR], "director", scrolls=True)
             windows[DIRECTOR].click("#open-1")
             windows[DIRECTOR].wait("document.getElementById('band')")
+            windows[DIRECTOR].value("for (const one of document.querySelectorAll('#ruling details')) one.open = true")
             measure_all(windows[DIRECTOR], "director-opened", scrolls=True)
             for part in ["boards", "standings", "evening", "tables"]:
                 windows[DIRECTOR].click(f"#tab-{part}")

@@ -78,12 +78,12 @@ run({
     const page = await opened(tables(AT_PLAY), "Pair 1: Ann and Bob\n");
     assert.deepStrictEqual(page.rows(page.at("tables")), [
       ["Table", "N-S", "E-W", "Board", "What goes on", "Min.", "Stands", "Open"],
-      ["1", "1 Ann and Bob", "8", "4", "Auction, East to call", "moved just now", "Playing", "Open"],
-      ["2", "2", "9", "6", "Trick 6, South to play", "moved just now", "Playing", "Open"],
+      ["1", "1 Ann and Bob", "8", "Board 4", "Auction, East to call", "moved just now", "Playing", "Open"],
+      ["2", "2", "9", "Board 6", "Trick 6, South to play", "moved just now", "Playing", "Open"],
       ["3", "3", "10", "", "Waits for its deal", "", "No deal", "Open"],
       ["4", "4", "\u2013", "", "Sits out", "", "Done", ""],
     ]);
-    assert.strictEqual(page.text("status"), "Round 2 of 7. Still at play: tables 1, 2, 3.");
+    assert.strictEqual(page.text("status"), "Round 2 of 7. Still at play: tables 1, 2. No deal yet: table 3.");
     assert.strictEqual(page.text("title"), "Director");
     page.now += 119000;
     assert.deepStrictEqual(await page.look(), LOOKS);
@@ -105,7 +105,11 @@ run({
 
   "a round is ended once all tables are done": async () => {
     assert.ok((await opened(tables(AT_PLAY))).at("end-round").disabled);
-    assert.match((await opened(tables(AT_PLAY))).text("end-round"), /^End round 2: still at play at table/);
+    assert.strictEqual((await opened(tables(AT_PLAY))).text("end-round"), "End round 2. Still at play: tables 1, 2; No deal yet: table 3");
+    const undealt = await opened(tables(["TABLE 1 1 8 - NotDealt", "TABLE 2 2 9 - NotCurrent"]));
+    assert.ok(undealt.at("end-round").disabled);
+    assert.deepStrictEqual([undealt.text("end-round"), undealt.text("status"), undealt.text("round-is")],
+      ["End round 2. No deal yet: table 1", "Round 2 of 7. No deal yet: table 1.", "1 of 2 tables done"]);
     const page = await opened(tables(DONE));
     assert.strictEqual(page.text("status"), "Round 2 of 7. All tables have done their boards.");
     await page.click("end-round");
@@ -148,9 +152,14 @@ run({
 
   "a file of deals is read into the text": async () => {
     const page = await openedAt("boards", tables(AT_PLAY));
-    page.at("deal-file").files = [{ text: async () => "1 N:... " }];
+    assert.strictEqual(page.text("file-has"), "No file is chosen.");
+    for (const [text, has] of [["1 N:... ", "tonight.pbn: 1 deal"], ["none", "tonight.pbn: 0 deals"]]) {
+      page.at("deal-file").files = [{ name: "tonight.pbn", text: async () => text }];
+      assert.deepStrictEqual(await page.asks(() => page.at("deal-file").onchange()), []);
+      assert.deepStrictEqual([page.at("deal-text").value, page.text("file-has")], [text, has]);
+    }
+    page.at("deal-file").files = [];
     assert.deepStrictEqual(await page.asks(() => page.at("deal-file").onchange()), []);
-    assert.strictEqual(page.at("deal-text").value, "1 N:... ");
   },
 
   "a ruling sends its play and what is ruled": async () => {
@@ -173,6 +182,42 @@ run({
     fill(page, { "rule-board": "" });
     assert.deepStrictEqual(await page.click("rule-void"), []);
     assert.match(page.text("told"), /has to be there/);
+  },
+
+  "a question holds the focus, is closed by Escape, and gives the focus back": async () => {
+    const page = await opened(tables(DONE));
+    page.at("end-round").focus();
+    await page.click("end-round");
+    const box = page.at("end-question");
+    assert.deepStrictEqual([box.getAttribute("role"), box.getAttribute("aria-label"), page.document.activeElement.id], ["dialog", "End round 2?", "no"]);
+    page.at("yes").focus();
+    box.onkeydown({ key: "Tab", currentTarget: box, preventDefault() {} });
+    assert.strictEqual(page.document.activeElement.id, "no");
+    page.document.listeners.get("keydown")({ key: "Escape" });
+    assert.deepStrictEqual([page.at("no"), page.document.activeElement.id], [null, "end-round"]);
+  },
+
+  "each ruling is folded together under its heading": async () => {
+    const page = await openedAt("rulings", tables(AT_PLAY));
+    const folded = page.at("ruling").querySelectorAll("details");
+    assert.deepStrictEqual(folded.map((one) => [one.nodes[0].tag, one.nodes[0].textContent, one.open]), [
+      "Tricks", "Assign a score", "Average: 60, 50 or 40 per cent", "Out, and back", "What can still be won"].map((title) => ["summary", title, false]));
+    const within = ["rule-set", "rule-assign", "rule-average", "rule-void", "solve"];
+    assert.ok(folded.every((one, i) => one.contains(page.at(within[i]))));
+  },
+
+  "why a table calls stands on it, and how many call beside the tables": async () => {
+    const page = await opened(tables(AT_PLAY), "OK\n", played(), "OK\nNOW 200 14400\nCALL 2 70 2 Dan Slow play\n.\n");
+    assert.deepStrictEqual(page.rows(page.at("tables")).slice(1).map((row) => [row[4], row[6]]), [
+      ["Auction, East to call", "Playing"], ["Slow playTrick 6, South to play", "Called"], ["Waits for its deal", "No deal"], ["Sits out", "Done"]]);
+    assert.strictEqual(page.text("tab-tables"), "Tables 1");
+  },
+
+  "the director's menu has nothing of a player's": async () => {
+    const page = await opened(tables(AT_PLAY));
+    await page.click("menu");
+    assert.deepStrictEqual(["menu-boards", "sent-once"].map((id) => page.at(id)), [null, null]);
+    assert.ok(page.at("leave").isShown && page.at("suits-two").checked);
   },
 
   "a play that changed since it was looked at is not ruled on": async () => {
@@ -305,15 +350,25 @@ run({
   },
 
   "all tables are told, and the clock is set": async () => {
-    const page = await opened(tables(AT_PLAY), "OK\nNOW 10 14400\nCLOCK 1200\n.\n");
-    fill(page, { "tell-text": "Tea after round 4", "clock-minutes": "20" });
-    assert.deepStrictEqual(await page.click("tell-all"), [`/desk ${KEY} NOTICE Tea after round 4`]);
-    assert.deepStrictEqual(await page.click("take-down"), [`/desk ${KEY} NOTICE`]);
-    assert.deepStrictEqual(await page.click("clock-start"), [`/desk ${KEY} CLOCK 20`]);
-    assert.deepStrictEqual(await page.click("clock-more"), [`/desk ${KEY} CLOCK 22`]);
-    assert.deepStrictEqual(await page.click("clock-stop"), [`/desk ${KEY} CLOCK`]);
-    fill(page, { "clock-minutes": "0" });
+    const desks = [];
+    const page = await opened(tables(AT_PLAY), () => desks.shift());
+    const desk = async (id, answer) => {
+      desks.push(`OK\nNOW 10 14400\n${answer}.\n`);
+      return page.click(id);
+    };
+    const shown = () => ["clock-sets", "clock-runs", "take-down"].map((id) => page.at(id) !== null && page.at(id).isShown);
+    assert.deepStrictEqual(shown(), [true, false, false]);
+    fill(page, { "tell-text": "Tea after round 4", "clock-minutes": "0" });
     assert.deepStrictEqual(await page.click("clock-start"), []);
+    fill(page, { "clock-minutes": "20" });
+    assert.deepStrictEqual(await desk("tell-all", "NOTICE Tea after round 4\n"), [`/desk ${KEY} NOTICE Tea after round 4`]);
+    assert.deepStrictEqual(await desk("clock-start", "NOTICE Tea after round 4\nCLOCK 1210\n"), [`/desk ${KEY} CLOCK 20`]);
+    assert.deepStrictEqual(shown(), [false, true, true]);
+    assert.strictEqual(page.text("clock-left"), "20:00");
+    assert.deepStrictEqual(await desk("take-down", "CLOCK 1210\n"), [`/desk ${KEY} NOTICE`]);
+    assert.deepStrictEqual(await desk("clock-more", "CLOCK 1330\n"), [`/desk ${KEY} CLOCK 22`]);
+    assert.deepStrictEqual(await desk("clock-stop", ""), [`/desk ${KEY} CLOCK`]);
+    assert.deepStrictEqual(shown(), [true, false, false]);
   },
 
   "the disk is named, and is nothing that is waited with": async () => {

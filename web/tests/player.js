@@ -73,9 +73,20 @@ run({
     page.at("key").value = " 31007 ";
     const form = page.document.root.all().find((element) => element.tag === "form");
     assert.deepStrictEqual(await page.asks(() => form.onsubmit({ preventDefault() {} })), ["/place 31007"]);
-    assert.match(page.text("notice"), /nobody/i);
+    assert.match(page.text("wrong"), /nobody/i);
     assert.strictEqual(page.at("key").getAttribute("aria-invalid"), "true");
     assert.deepStrictEqual([...page.kept], []);
+  },
+
+  "before a key is known colours are chosen, and nothing of a player's": async () => {
+    const page = new Page(() => "ERR 1 NoKey\n");
+    await page.settle();
+    assert.deepStrictEqual(await page.click("colours"), []);
+    assert.deepStrictEqual(["choices", "leave", "menu-boards", "sent-once"].map((id) => page.at(id) && page.at(id).isShown), [true, false, null, null]);
+    page.at("suits-four").onchange();
+    assert.strictEqual(page.document.documentElement.className, "four device");
+    await page.click("chosen");
+    assert.ok(page.at("choices").hidden && page.document.activeElement.id === "colours");
   },
 
   "Leave forgets the key": async () => {
@@ -131,7 +142,7 @@ run({
 
   "the auction stands under who called": async () => {
     const page = await seated(place(), view({ DEALER: "E VUL None", CALLS: "1C X PASS 2NT XX" }));
-    assert.deepStrictEqual(page.rows(page.named("Auction")), [["WFay", "NCat", "E dealsEve", "SYou"], ["", "", "1\u2663\ufe0e", "X"], ["Pass", "2NT", "XX", "?"]]);
+    assert.deepStrictEqual(page.rows(page.named("Auction")), [["WFay", "NCat", "E dealsEve", "SYou"], ["", "", "1\u2663\ufe0e", "X"], ["Pass", "2NT", "XX", "?"], ["", "", "", ""]]);
     assert.strictEqual(page.named("to call").textContent, "?");
   },
 
@@ -199,7 +210,7 @@ run({
   "the table shows what is seen": async () => {
     const page = await seated(place({ CONTRACT: "4SX W" }), play({ TURN: "N", AT: "9 6 0", TRICK: "W ST H2", LAST: "W CA C2 C3 C4", TRICKS: "1 0", DUMMY: "-" }));
     assert.strictEqual(page.text("title"), "Board 4");
-    assert.strictEqual(page.text("below"), "N deals \u00b7 E\u2013W vul \u00b7 table 2 \u00b7 round 1 of 3");
+    assert.strictEqual(page.text("below"), "N deals \u00b7 E\u2013W vul \u00b7 Table 2 \u00b7 Round 1 of 3 \u00b7 1st of 3 boards");
     assert.strictEqual(page.at("chip").getAttribute("aria-label"), "Board 4, dealer North, East and West vulnerable");
     assert.strictEqual(page.at("chip").className, "vul-they deals-top");
     assert.ok(page.text("strip").includes("4\u2660\ufe0eXW \u00b7 we need 4"), page.text("strip"));
@@ -222,6 +233,27 @@ run({
     assert.ok(page.at("last-trick"));
     await page.click("last-close");
     assert.strictEqual(page.at("last-trick"), null);
+  },
+
+  "the last trick is looked at with its winner marked, a trump too": async () => {
+    for (const [bid, winner, name] of [["4S W", "North", "2 of spades"], ["3NT W", "West", "ace of clubs"]]) {
+      const page = await seated(place({ CONTRACT: bid }), play({ TURN: "E", AT: "9 5 0", TRICK: "N D5", LAST: "W CA S2 C3 C4", TRICKS: "1 0" }));
+      await page.click("last");
+      const sheet = page.at("last-trick");
+      assert.strictEqual(sheet.querySelectorAll("h2")[0].textContent, `Last trick, won by ${winner}`);
+      assert.deepStrictEqual(sheet.all().filter((one) => one.className.endsWith(" won")).map((one) => one.getAttribute("aria-label")), [`${winner}: ${name}`]);
+      assert.ok(page.text("side").includes(`Last trick, won by ${winner}`));
+    }
+  },
+
+  "beside the table stands what the contract still needs, and which board comes next": async () => {
+    for (const [contract, tricks, due] of [
+      ["4S S", "7 2", "by South, you10 tricks needed: 3 to go"], ["4S N", "10 0", "by North10 tricks needed: made"], ["4S E", "3 4", "by EastWe need 4 to beat it: 1 to go"],
+      ["4S E", "4 2", "by EastWe need 4 to beat it: it is down"]]) {
+      const page = await seated(place({ CONTRACT: contract }), play({ AT: "9 40 0", TRICKS: tricks }));
+      assert.ok(page.text("side").includes(due), page.text("side"));
+      assert.ok(page.text("side").endsWith("This round4now5next6"), page.text("side"));
+    }
   },
 
   "where two taps send, the first marks": async () => {
@@ -360,7 +392,7 @@ run({
     assert.ok(claiming.contains(page.document.activeElement));
     page.at("claim-button").focus();
     claiming.onkeydown({ key: "Tab", currentTarget: claiming, preventDefault() {} });
-    assert.strictEqual(page.document.activeElement.id, "claim-0");
+    assert.strictEqual(page.document.activeElement.id, "claim-1");
   },
 
   "whose turn it is": async () => {
@@ -386,6 +418,16 @@ run({
     ]) {
       assert.strictEqual((await seated(placed, `ERR 8 ${why}\n`)).text("status"), due, why);
     }
+  },
+
+  "between two rounds the way to the next table is shown, and the partner is named": async () => {
+    const tiles = (page) => page.document.root.all().filter((one) => one.tag === "li" && one.parent.className === "round").map((one) => one.textContent);
+    const page = await seated(place(), "ERR 8 NotCurrent\n");
+    assert.deepStrictEqual(tiles(page), ["2you are here", "1you go here"]);
+    assert.deepStrictEqual([page.text("title"), page.text("below")], ["Dan", "Pair 2, North\u2013South \u00b7 with Cat"]);
+    assert.deepStrictEqual(tiles(await seated(place({ NEXT: "2 W 7 9" }), "ERR 8 NotCurrent\n")), []);
+    const out = await seated(place({ TABLE: "-", NAMES: "-" }), "ERR 8 SitsOut\n");
+    assert.deepStrictEqual([tiles(out), out.text("below")], [[], "Pair 2"]);
   },
 
   "each refusal has its sentence": async () => {
@@ -448,6 +490,27 @@ run({
     assert.deepStrictEqual(await page.asks(page.document.listeners.get("visibilitychange")), LOOKS);
   },
 
+  "what is on its way is shown where it goes, and comes back where no answer comes": async () => {
+    const hearts = "\u2665\ufe0e";
+    const answer = (seen, contract) => (where) => (where === "/place" ? place({ CONTRACT: contract }) : where === "/boards" ? boards() : seen);
+    const card = await seated(place({ CONTRACT: "1H E" }), play({ AT: "7 4 0", LAST: "S HK H2 H3 H4", TRICKS: "1 0" }));
+    card.answer = () => new Promise(() => {});
+    await card.asks(() => { card.at("card-HQ").click(); });
+    assert.strictEqual(card.at("card-HQ"), null);
+    assert.strictEqual(card.named("South: queen of hearts").className, "played bottom red sent");
+    assert.deepStrictEqual([card.text("confirm"), card.at("confirm").className, card.named("Trick").nodes.length], ["Sending " + hearts + "Q", "sending", 1]);
+    assert.deepStrictEqual(enabled(card, "card-"), []);
+    card.answer = answer(play({ AT: "7 4 0", LAST: "S HK H2 H3 H4", TRICKS: "1 0" }), "1H E");
+    await card.pass(8000);
+    assert.ok(!card.at("card-HQ").disabled && card.named("South: queen of hearts") === undefined);
+    const call = await seated(place(), view());
+    call.answer = () => new Promise(() => {});
+    await call.asks(() => { call.at("call-1H").click(); });
+    assert.deepStrictEqual([call.text("confirm"), call.at("call-1H").getAttribute("aria-pressed"), call.rows(call.named("Auction"))[1]],
+      ["Sending 1" + hearts, "true", ["", "Pass", "Pass", "1" + hearts]]);
+    assert.deepStrictEqual(enabled(call, "call-"), []);
+  },
+
   "one click, one line": async () => {
     const page = await seated(place(), view());
     const asked = await page.asks(() => {
@@ -458,7 +521,7 @@ run({
   },
 
   "once the session is closed each field stands under its heading, and the results are asked for again after a minute": async () => {
-    const RESULTS = "Club-Night\nScore cards\n\nPair 1: Ann and Bob\n\nPair 2: Cy and Di\n  Total: 6.0 of 8.0\n\nPair 3: Eve and Flo\n";
+    const RESULTS = "Club-Night\nTown-Hall, 2026.03.14\nScore cards\n\nPair 1: Ann and Bob\n\nPair 2: Cy and Di\n  Total: 6.0 of 8.0\n\nPair 3: Eve and Flo\n";
     const closed = place({ ROUND: "4 3", TABLE: "-", NAMES: "-", NEXT: "-" });
     const ranks = { 1: "OK\n1 2 6.0/8.0 75.00\n2 1 2.0/8.0 25.00\n.\n", 2: "OK\n1 4 5.0/8.0 62.50\n2 3 3.0/8.0 37.50\n.\n" };
     const page = new Page((where, body) => {
@@ -470,11 +533,12 @@ run({
     await page.settle();
     const asked = [...LOOKS, `/lines RANK ${KEY} 1\n`, `/lines RANK ${KEY} 2\n`];
     assert.deepStrictEqual(page.asked, [...asked, `/results ${KEY}`, `/boards ${KEY}`]);
-    const titles = ["Place", "Pair", "Names", "Score", "Per cent"];
+    const titles = ["Place", "Pair", "Names", "Score", "%"];
+    assert.deepStrictEqual([page.text("title"), page.text("below")], ["Club Night, final", "Town Hall, 2026.03.14"]);
     assert.deepStrictEqual(page.rows(page.named("Places of pairs 1 to 2")), [titles, ["1", "2", "Cy and Di", "6.0/8.0", "75.00"], ["2", "1", "Ann and Bob", "2.0/8.0", "25.00"]]);
     assert.deepStrictEqual(page.rows(page.named("Places of pairs 3 to 4")), [titles, ["1", "4", "", "5.0/8.0", "62.50"], ["2", "3", "Eve and Flo", "3.0/8.0", "37.50"]]);
     assert.strictEqual(page.text("own"), "You are first of 275.00\u00a0%Cy and Di6.0 of 8.0");
-    assert.deepStrictEqual(page.rows(page.at("card"))[1], ["4", "Eve \u2013 Fay", "3NT E", "8", "\u221250", ""]);
+    assert.deepStrictEqual(page.rows(page.at("card"))[1], ["4", "Eve \u2013 Fay", "3NT E", "\u2666\ufe0e2", "8", "\u221250", ""]);
     assert.strictEqual(page.named("Places of pairs 3 to 4").parent.nodes[0].textContent, "Ranking, pairs 3 to 4");
     assert.strictEqual(page.named("Places of pairs 1 to 2").querySelectorAll("tr")[1].className, "own");
     assert.strictEqual(page.text("results"), RESULTS);
@@ -502,7 +566,7 @@ run({
     const page = await seated(place(), view({ PLAY: "1 2 2 5" }), "OK\n", boards(board()));
     await page.click("menu");
     await page.click("menu-boards");
-    assert.deepStrictEqual(page.rows(page.at("card")), [["Board", "Against", "Contract", "Tr.", "Score", "So far"], ["4", "Eve \u2013 Fay", "3NT S", "9", "+600", ""]]);
+    assert.deepStrictEqual(page.rows(page.at("card")), [["Board", "Against", "Contract", "Lead", "Tr.", "Score", "So far"], ["4", "Eve \u2013 Fay", "3NT S", "\u2666\ufe0e2", "9", "+600", ""]]);
     await page.click("open-1-4");
     const signed = (suit, cards) => cards.map((card) => suit + "\ufe0e" + card);
     assert.deepStrictEqual(page.rows(page.at("tricks")).slice(1), [
@@ -549,7 +613,7 @@ run({
     await page.click("open-1-4");
     assert.deepStrictEqual(page.rows(page.named("Scores").querySelectorAll("table")[0]).slice(1), [["6", "3NT N", "10", "+630"], ["2 (we)", "3NT S", "9", "+600"], ["5", "3NT N", "7", "\u2212200"]]);
     const tiles = page.document.root.all().filter((one) => one.tag === "li" && one.parent.parent.className === "tiles");
-    assert.deepStrictEqual(tiles.map((one) => one.textContent + one.className), ["+630", "+600own", "\u2212200"]);
+    assert.deepStrictEqual(tiles.map((one) => one.textContent + one.className), ["+630", "+600 (we)own", "\u2212200"]);
     const shut = await seated(place(), view({ PLAY: "1 2 2 5" }), "OK\n", boards(board()));
     await shut.click("menu");
     await shut.click("menu-boards");

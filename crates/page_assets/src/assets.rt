@@ -22,8 +22,8 @@ pub const PAGE: &str = r##"<!doctype html>
 <div id="chip" role="img" hidden></div>
 <div id="heads"><h1 id="title">Bridge table</h1><p id="below"></p></div>
 <p id="clock" hidden></p>
-<button id="bell" type="button" aria-controls="calling" hidden>Director</button>
-<button id="menu" type="button" aria-controls="choices" hidden>Menu</button>
+<button id="bell" type="button" aria-controls="calling" hidden><span>Director</span></button>
+<button id="menu" type="button" aria-controls="choices" aria-label="Menu" hidden></button>
 <nav id="tabs" hidden></nav>
 </header>
 <div id="notes"><p id="notice" role="alert"></p><div id="desk" role="alert"></div></div>
@@ -48,7 +48,7 @@ pub const STYLE: &str = r##"/* For a telephone as for a large screen, light and 
   --gold-ink: #14201b; --vul: #b3151f; --not-vul: #1b7443; --blue: #0b57a4; --on-blue: #fff; --note: #ffe7b0; --note-ink: #3d2a00; --good: #0f6b3a;
   --bad: #a8001c; --own: #fff3c4; --diamond: #953a00; --club: #005c2b; --text-diamond: #953a00; --text-club: #005c2b; --wait: #a86400; --off: #5b645f;
   --face: #fffdf7; --black: #12181c; --red: #a8001c; --shut: #d9d5c8; --shut-red: #6f0012; --lifted: #fff4c6; --text-red: #a8001c; --felt-red: #ffb3b3;
-  --pass: #10603a; --double: #a8121c; --redouble: #12449c;
+  --pass: #10603a; --double: #a8121c; --redouble: #12449c; --line: #d9d4c6;
 }
 @media (prefers-color-scheme: dark) {
   :root:not(.light) {
@@ -56,7 +56,7 @@ pub const STYLE: &str = r##"/* For a telephone as for a large screen, light and 
     --bar-second: #a8c0b5; --felt: #12352b; --strip: #0c271f; --on-felt: #e9ede9; --plate: #21302a; --plate-ink: #e9ede9; --vul: #c4262f; --not-vul: #1f7a48;
     --blue: #8cc2ff; --on-blue: #071a2e; --note: #3d2f0a; --note-ink: #ffe7b0; --good: #7fd8a0; --bad: #ff8d8d; --own: #3a3312; --diamond: #7d2f00;
     --club: #00522a; --text-diamond: #ffb067; --text-club: #7fd8a0; --wait: #ffb84d; --off: #97a39c; --face: #e9e4d6; --red: #980019; --shut: #cdc8ba;
-    --text-red: #ff8d8d;
+    --text-red: #ff8d8d; --line: #33403a; --plate-edge: var(--edge);
   }
 }
 :root.light { color-scheme: light; }
@@ -65,7 +65,7 @@ pub const STYLE: &str = r##"/* For a telephone as for a large screen, light and 
   --on-bar: #e9ede9; --bar-second: #a8c0b5; --felt: #12352b; --strip: #0c271f; --on-felt: #e9ede9; --plate: #21302a; --plate-ink: #e9ede9; --vul: #c4262f;
   --not-vul: #1f7a48; --blue: #8cc2ff; --on-blue: #071a2e; --note: #3d2f0a; --note-ink: #ffe7b0; --good: #7fd8a0; --bad: #ff8d8d; --own: #3a3312;
   --diamond: #7d2f00; --club: #00522a; --text-diamond: #ffb067; --text-club: #7fd8a0; --wait: #ffb84d; --off: #97a39c; --face: #e9e4d6; --red: #980019;
-  --shut: #cdc8ba; --text-red: #ff8d8d;
+  --shut: #cdc8ba; --text-red: #ff8d8d; --line: #33403a; --plate-edge: var(--edge);
 }
 * { box-sizing: border-box; }
 [hidden] { display: none !important; }
@@ -74,11 +74,14 @@ body {
   font-family: -apple-system, "Segoe UI", Roboto, "Helvetica Neue", "Liberation Sans", Arial, system-ui, sans-serif; font-variant-numeric: tabular-nums;
 }
 p { margin: .35rem 0; }
-h1 { font-size: 1.125rem; margin: 0; line-height: 1.2; overflow-wrap: break-word; }
+h1 { font-size: 1.125rem; margin: 0; line-height: 1.2; overflow: hidden; text-overflow: ellipsis; white-space: nowrap; }
 h2 { font-size: 1.0625rem; margin: .8rem 0 .3rem; }
 .suit { font-family: "Segoe UI Symbol", "Apple Symbols", "Noto Sans Symbols2", "DejaVu Sans", sans-serif; font-variant-emoji: text; }
 .red { color: var(--text-red); }
-#heard { position: absolute; width: 1px; height: 1px; margin: 0; overflow: hidden; clip-path: inset(50%); }
+/* Read out, and not seen. */
+#heard, .login #bar, :is(.director, .goes-on, .final) #status:not(.lost), #deal-file, #tables thead, .hand > h2 {
+  position: absolute; width: 1px; height: 1px; min-height: 0; margin: 0; padding: 0; border: 0; overflow: hidden; clip-path: inset(50%);
+}
 
 /* What can be pressed. */
 button, input, textarea, select { font: inherit; color: inherit; }
@@ -89,21 +92,38 @@ button {
 button:disabled { color: var(--off); background: var(--soft); border-style: dashed; font-weight: normal; cursor: default; }
 button:focus-visible, input:focus-visible, textarea:focus-visible, select:focus-visible, summary:focus-visible { outline: 3px solid var(--blue); outline-offset: 2px; z-index: 2; }
 .send { color: var(--on-blue); background: var(--blue); border-color: var(--blue); }
+/* Signs before words, in the colour of the words. */
+:is(#bell, #menu, #last, #claim-open, #claim-button, #confirm.send, #agree, #refuse, #call-director, #my-boards, #between-boards, #menu-boards, [hidden] + #confirm, #print, #onward) {
+  display: inline-flex; justify-content: center; align-items: center; gap: .4rem;
+}
+:is(#bell, #menu, #last, #claim-open, #claim-button, #confirm.send, #agree, #refuse, #call-director, #my-boards, #between-boards, #menu-boards, [hidden] + #confirm, #print)::before, #onward::after,
+#desk > .note::before {
+  content: ""; flex: none; width: 1.25rem; height: 1.25rem; background: currentcolor; forced-color-adjust: none; -webkit-mask: var(--sign) center / contain no-repeat; mask: var(--sign) center / contain no-repeat;
+}
+#bell, #call-director, #desk > .note {
+  --sign: url("data:image/svg+xml,%3Csvg xmlns='http://www.w3.org/2000/svg' viewBox='0 0 20 20' fill='none' stroke='%23000' stroke-width='1.6' stroke-linecap='round' stroke-linejoin='round'%3E%3Cpath d='M10 2v1.5M4 14.5h12l-1.6-2.4V8.4a4.4 4.4 0 0 0-8.8 0v3.7zM8.4 17.2a1.7 1.7 0 0 0 3.2 0'/%3E%3C/svg%3E");
+}
+#menu { --sign: url("data:image/svg+xml,%3Csvg xmlns='http://www.w3.org/2000/svg' viewBox='0 0 20 20' fill='none' stroke='%23000' stroke-width='1.8' stroke-linecap='round'%3E%3Cpath d='M3 5h14M3 10h14M3 15h14'/%3E%3C/svg%3E"); }
+#last { --sign: url("data:image/svg+xml,%3Csvg xmlns='http://www.w3.org/2000/svg' viewBox='0 0 20 20' fill='none' stroke='%23000' stroke-width='1.8' stroke-linejoin='round'%3E%3Cpath d='M7 3.5h9v13H7zM3.5 5v10'/%3E%3C/svg%3E"); }
+#claim-open, #claim-button { --sign: url("data:image/svg+xml,%3Csvg xmlns='http://www.w3.org/2000/svg' viewBox='0 0 20 20' fill='none' stroke='%23000' stroke-width='1.7' stroke-linejoin='round'%3E%3Cpath d='M4.5 18V2.5H16L13 6.7l3 4.3H4.5'/%3E%3C/svg%3E"); }
+#confirm.send, #agree { --sign: url("data:image/svg+xml,%3Csvg xmlns='http://www.w3.org/2000/svg' viewBox='0 0 20 20' fill='none' stroke='%23000' stroke-width='2' stroke-linecap='round' stroke-linejoin='round'%3E%3Cpath d='M3.5 10.5l4.5 4.5 8.5-10'/%3E%3C/svg%3E"); }
+#my-boards, #between-boards, #menu-boards, [hidden] + #confirm { --sign: url("data:image/svg+xml,%3Csvg xmlns='http://www.w3.org/2000/svg' viewBox='0 0 20 20' fill='none' stroke='%23000' stroke-width='1.7' stroke-linecap='round'%3E%3Cpath d='M7.5 5H17M7.5 10H17M7.5 15H17M3.5 5h.1M3.5 10h.1M3.5 15h.1'/%3E%3C/svg%3E"); }
+#print { --sign: url("data:image/svg+xml,%3Csvg xmlns='http://www.w3.org/2000/svg' viewBox='0 0 20 20' fill='none' stroke='%23000' stroke-width='1.6' stroke-linejoin='round'%3E%3Cpath d='M6 7V2.5h8V7M6 14H3V7h14v7h-3M6 11.5h8v6H6z'/%3E%3C/svg%3E"); }
+#onward { --sign: url("data:image/svg+xml,%3Csvg xmlns='http://www.w3.org/2000/svg' viewBox='0 0 20 20' fill='none' stroke='%23000' stroke-width='2' stroke-linecap='round' stroke-linejoin='round'%3E%3Cpath d='M7.5 4l6 6-6 6'/%3E%3C/svg%3E"); }
+#refuse { --sign: url("data:image/svg+xml,%3Csvg xmlns='http://www.w3.org/2000/svg' viewBox='0 0 20 20' fill='none' stroke='%23000' stroke-width='2' stroke-linecap='round'%3E%3Cpath d='M4 4l12 12M16 4L4 16'/%3E%3C/svg%3E"); }
 input, textarea, select { padding: .4rem; background: var(--panel); border: 1px solid var(--edge); border-radius: .5rem; max-width: 100%; }
 input { min-height: 2.75rem; width: 12rem; }
 select { min-height: 2.75rem; }
-input[type=checkbox], input[type=radio] { width: 1.4rem; min-height: 1.4rem; accent-color: var(--blue); }
+input[type=checkbox], input[type=radio] { flex: none; width: 1.4rem; min-height: 1.4rem; accent-color: var(--blue); }
 textarea { width: 100%; min-height: 8rem; font-family: ui-monospace, monospace; }
 label { display: inline-flex; align-items: center; gap: .4rem; min-height: 2.75rem; }
 
 /* The bar, and what is said. */
 #bar {
-  grid-area: bar; display: flex; align-items: center; gap: .6rem; min-height: 3.25rem; padding: .25rem .75rem; color: var(--on-bar); background: var(--bar);
-  padding-top: max(.25rem, env(safe-area-inset-top));
+  grid-area: bar; display: flex; flex-wrap: wrap; align-items: center; gap: .6rem; min-height: 3.25rem; color: var(--on-bar); background: var(--bar);
+  padding: max(.25rem, env(safe-area-inset-top)) .75rem .25rem;
 }
-#bar button { color: inherit; background: transparent; border-color: var(--bar-second); font-weight: normal; }
-#bar button { padding: .2rem .5rem; font-size: .875rem; }
-#bar { flex-wrap: wrap; }
+#bar button { padding: .2rem .6rem; color: inherit; background: transparent; border-color: var(--bar-second); }
 #heads { flex: 1 1 4rem; min-width: 4rem; }
 #below { margin: 0; font-size: .875rem; color: var(--bar-second); white-space: nowrap; overflow: hidden; text-overflow: ellipsis; }
 #below:empty, #notice:empty, #status:empty { display: none; }
@@ -113,25 +133,27 @@ label { display: inline-flex; align-items: center; gap: .4rem; min-height: 2.75r
 .at-table #desk > :not(:last-child) { display: none; }
 #desk > * { padding: .35rem .75rem; color: var(--note-ink); background: var(--note); border-top: 1px solid var(--edge); }
 .at-table #desk > * { padding: .15rem .75rem; font-size: .9375rem; }
-#desk .row { margin: 0; justify-content: space-between; color: var(--gold-ink); background: var(--gold); }
-#desk .row p { flex: 1 1 16rem; }
-#desk .row button:not(.send) { color: inherit; background: transparent; border-color: currentcolor; }
+#desk > .note { display: flex; align-items: center; gap: .6rem; }
+body:not(.at-table) #desk > .note { max-width: 82rem; margin: .75rem auto 0; padding: .6rem 1rem; border: 0; border-radius: .75rem; }
+body:not(.at-table) #desk { padding: 0 .75rem; }
+.director #desk > .note { flex-wrap: wrap; }
+.director #desk .called { color: var(--gold-ink); background: var(--gold); }
+.director #desk .note p { flex: 1 1 14rem; }
+#desk button { color: inherit; background: transparent; border-color: currentcolor; }
+#desk .send { color: #fff; background: var(--gold-ink); border-color: var(--gold-ink); }
 #clock { display: grid; justify-items: center; margin: 0; line-height: 1.1; font-size: .75rem; color: var(--bar-second); }
 #clock b { font-size: 1.25rem; color: var(--on-bar); font-variant-numeric: tabular-nums; }
 #clock.over b { color: var(--felt-red); }
 #clock[hidden] { display: none; }
 .reasons { display: grid; grid-template-columns: 1fr 1fr; gap: .6rem; margin: .6rem 0; }
-.reasons [aria-pressed=true] { color: var(--page); background: var(--ink); }
-#claim-says, #tell-text { width: 100%; }
 #status {
   grid-area: say; justify-self: center; margin: .25rem .5rem; padding: .2rem 1rem; max-width: calc(100% - 1rem); border-radius: 1rem; text-align: center;
   background: var(--soft);
 }
 #chip {
-  display: grid; grid-template: 1fr / 1fr; place-items: center; width: 2.5rem; height: 2.5rem; flex: none; border: 1px solid var(--on-bar);
-  border-radius: .25rem; overflow: hidden;
+  display: grid; place-items: center; width: 2.5rem; height: 2.5rem; flex: none; position: relative; border: .55rem solid var(--not-vul); border-radius: .25rem;
+  box-shadow: 0 0 0 1px rgb(255 255 255 / 60%); color: #12181c; background: #fff; font-size: 1.0625rem; font-weight: bold;
 }
-#chip { border-width: .6rem; border-color: var(--not-vul); color: #12181c; background: #fff; font-weight: bold; position: relative; overflow: visible; font-size: .8125rem; }
 #chip.vul-we { border-top-color: var(--vul); border-bottom-color: var(--vul); }
 #chip.vul-they { border-left-color: var(--vul); border-right-color: var(--vul); }
 #chip::after { content: ""; position: absolute; width: .4rem; height: .4rem; border-radius: 50%; background: #fff; }
@@ -145,17 +167,32 @@ body:not(.at-table) main { max-width: 64rem; margin: 0 auto; padding: .75rem; }
 body:not(.at-table) { display: flex; flex-direction: column; }
 body:not(.at-table) main { order: 2; width: 100%; }
 body:not(.at-table) #status { order: 1; align-self: center; margin: .75rem .75rem 0; font-weight: bold; }
-.panel { max-width: 40rem; margin: 0 auto .75rem; padding: .75rem 1rem; background: var(--panel); border: 1px solid var(--edge); border-radius: .75rem; }
+.panel { max-width: 40rem; margin: 0 auto .75rem; padding: .75rem 1rem; background: var(--panel); border: 1px solid var(--line); border-radius: .75rem; }
 .panel h2:first-child { margin-top: 0; }
 .large { font-size: 1.875rem; font-weight: bold; line-height: 1.2; margin: .2rem 0; }
 .second { color: var(--second); }
-body.login { background: var(--felt); }
-body.login #bar { background: transparent; }
-body.login .panel { max-width: 24rem; margin-top: 8vh; }
-body.login .panel input { width: 100%; font-size: 1.75rem; letter-spacing: .06em; text-align: center; }
-body.login .panel input[aria-invalid=true] { border: 2px solid var(--bad); }
-body.login .panel button { width: 100%; min-height: 3.25rem; margin-top: .75rem; }
-body.login .panel label { display: block; min-height: 0; margin-bottom: .3rem; font-weight: bold; }
+.login { background: var(--felt); }
+.login::before {
+  content: "\2660\fe0e \2665\fe0e\A\2666\fe0e \2663\fe0e"; white-space: pre; position: fixed; inset: 0; display: grid; place-content: center; color: rgb(255 255 255 / 7%);
+  font: 14rem/1.2 "Segoe UI Symbol", "Apple Symbols", "Noto Sans Symbols2", "DejaVu Sans", sans-serif; overflow: hidden; pointer-events: none;
+}
+body.login main { max-width: 28rem; margin: auto; }
+.login .panel { margin: 0; padding: 1.25rem; border: 0; border-radius: 1rem; box-shadow: 0 6px 24px rgb(0 0 0 / 35%); position: relative; }
+.login .panel input { width: 100%; font-size: 1.75rem; letter-spacing: .06em; border-width: 2px; }
+.login .panel input[aria-invalid=true] { border-color: var(--bad); }
+.login .panel button { width: 100%; margin-top: .25rem; }
+.login .panel .send { min-height: 3.25rem; font-size: 1.125rem; }
+.login .panel label { display: block; min-height: 0; margin-bottom: .3rem; font-weight: bold; }
+.login .panel .large { margin: 0 0 .75rem; font-size: 1.625rem; }
+.login .second { font-size: .875rem; }
+.login-more { margin-top: 1rem; }
+#colours::before { content: "Aa"; margin-right: .6rem; font-weight: normal; }
+#wrong { margin: .4rem 0; padding-left: 1.5rem; color: var(--bad); font-weight: bold; }
+#wrong:not(:empty)::before { content: "\2715"; float: left; margin-left: -1.4rem; }
+#wrong:empty { display: none; }
+.suits { letter-spacing: .2em; }
+.four .two .diamond { color: var(--text-red); }
+.four .two .club { color: inherit; }
 .names { list-style: none; margin: .3rem 0; padding: 0; }
 .names li { display: flex; gap: .5rem; align-items: center; margin: .25rem 0; overflow-wrap: anywhere; }
 .mark { flex: none; min-width: 1.6rem; padding: 0 .3rem; border-radius: .3rem; text-align: center; font-weight: bold; background: var(--soft); }
@@ -172,7 +209,7 @@ details { margin: .6rem 0; border-top: 1px solid var(--edge); padding-top: .4rem
 .sides { display: grid; grid-template-columns: repeat(auto-fit, minmax(min(100%, 24rem), 1fr)); gap: 0 1rem; }
 .sides .panel { width: 100%; max-width: none; }
 .sides table { width: 100%; }
-.sides th, .sides td { border: 0; border-bottom: 1px solid var(--edge); padding: .35rem .3rem; text-align: right; font-variant-numeric: tabular-nums; }
+.sides th, .sides td { border: 0; border-bottom: 1px solid var(--line); padding: .35rem .3rem; text-align: right; }
 .sides th { font-size: .8125rem; }
 .sides td:first-child { font-weight: bold; }
 .who, .sides .who { text-align: left; overflow-wrap: anywhere; }
@@ -181,25 +218,44 @@ details { margin: .6rem 0; border-top: 1px solid var(--edge); padding-top: .4rem
   background: var(--felt); border-radius: .75rem;
 }
 .banner .large { font-size: 1.375rem; }
-.banner p { margin: 0; }
-.sheet fieldset { border: 1px solid var(--edge); border-radius: .5rem; margin: .5rem 0; }
+.banner p { margin: 0; font-size: .875rem; }
+.banner p:nth-child(even) { text-align: right; }
+.sheet fieldset { padding: 0 .5rem; margin: .4rem 0; border: 1px solid var(--line); border-radius: .5rem; }
 .sheet fieldset label { display: flex; }
-#chosen { width: 100%; color: var(--on-blue); background: var(--blue); }
+#options { display: flex; flex-wrap: wrap; justify-content: space-between; align-items: center; }
+#options > h2 { margin: 0; }
+#options > fieldset { flex-basis: 100%; min-width: 0; }
+legend { font-weight: bold; padding: 0 .3rem; }
+#chosen { flex: 1; color: var(--on-blue); background: var(--blue); border-color: var(--blue); }
 /* The director's page: parts, of which one is in sight. */
 #tabs { flex-basis: 100%; display: flex; gap: .25rem; margin: 0 -.4rem -.25rem; overflow-x: auto; }
 #tabs[hidden], .director [hidden] { display: none !important; }
-#bar #tabs button { flex: none; padding: .2rem .75rem; font-size: 1rem; border: 0; border-bottom: 3px solid transparent; border-radius: 0; }
+#bar #tabs button { flex: none; padding: .2rem .75rem; font-weight: normal; border: 0; border-bottom: 3px solid transparent; border-radius: 0; }
 #bar #tabs [aria-pressed=true] { font-weight: bold; border-bottom-color: var(--gold); }
-body.director main { max-width: 90rem; }
-.director #status:not(.lost) { position: absolute; width: 1px; height: 1px; overflow: hidden; clip-path: inset(50%); }
+.count { padding: 0 .45rem; border-radius: 1rem; font-size: .875rem; font-weight: bold; color: var(--gold-ink); background: var(--gold); }
+body.director main { max-width: 84rem; }
 .director .panel { width: 100%; max-width: none; }
 .director h2 { font-size: 1.0625rem; margin: 0 0 .4rem; }
-.subject + .subject { border-top: 1px solid var(--line); margin-top: .6rem; }
+#clock-runs b { margin-right: auto; font-size: 2.25rem; line-height: 1; }
+#clock-sets input { width: 4rem; }
+#round p, #telling .row { margin: .2rem 0; }
+.question:empty { display: none; }
+.question > p:last-of-type:not(:only-of-type) { padding: 0; font-weight: normal; background: none; }
+#tell-text { flex: 1; width: auto; min-width: 0; }
+#dealing { padding: 0; border: 0; background: none; }
+#dealing .subject { margin-bottom: .75rem; padding: .75rem 1rem; background: var(--panel); border: 1px solid var(--line); border-radius: .75rem; }
+#dealing h3 { margin: 0 0 .4rem; font-size: 1.0625rem; }
+#choose-file { padding: .2rem .9rem; font-weight: bold; border: 1px solid var(--edge); border-radius: .5rem; cursor: pointer; }
+#deal-file:focus-visible + .row #choose-file { outline: 3px solid var(--blue); outline-offset: 2px; }
+#file-has { font-size: .875rem; overflow-wrap: anywhere; }
+#deal, #shuffle { width: 100%; min-height: 3.25rem; margin-top: .4rem; }
+#ruling details { margin: 0; padding: 0; border-color: var(--line); }
+#ruling details[open] { padding-bottom: .5rem; }
+#ruling summary { min-height: 2.75rem; padding: .6rem 0; }
 .director .send { width: auto; }
 #end-round { width: 100%; min-height: 3.25rem; }
 #choosing .row { margin: 0; }
 #choosing input { width: 4.5rem; }
-#tables thead { position: absolute; width: 1px; height: 1px; overflow: hidden; clip-path: inset(50%); }
 .director #tables { display: block; background: none; }
 .director #tables tbody { display: grid; grid-template-columns: repeat(auto-fill, minmax(min(100%, 18rem), 1fr)); gap: .6rem; }
 .director #tables tr {
@@ -213,7 +269,6 @@ body.director main { max-width: 90rem; }
 .director #tables td:nth-child(3) { grid-area: q; }
 .director #tables td:nth-child(2), .director #tables td:nth-child(3) { color: var(--second); font-size: .875rem; }
 .director #tables td:nth-child(4) { grid-area: b; font-weight: bold; }
-.director #tables td:nth-child(4):not(:empty)::before { content: "Board "; }
 .director #tables td:nth-child(5) { grid-area: w; }
 .director #tables td:nth-child(6) { grid-area: m; align-self: center; font-size: .875rem; color: var(--second); }
 .director #tables td:nth-child(7) {
@@ -233,12 +288,15 @@ body.director main { max-width: 90rem; }
 .director #tables .slow td:nth-child(6) { color: var(--ink); font-weight: bold; }
 .director #tables .called { border-color: var(--vul); }
 .director #tables .called td:nth-child(7) { color: #fff; background: var(--vul); }
+.director #tables .called td:nth-child(7)::before { content: "!\a0"; }
+.director #tables .done td:nth-child(7)::before { content: "\2713\a0"; }
 #aside { margin-top: .75rem; }
 @media (max-width: 59.99em) { #aside #ranking { display: none; } }
+@media (min-width: 40em) and (max-width: 59.99em) { #aside { display: grid; grid-template-columns: 1fr 1fr; gap: 0 .75rem; align-items: start; } }
 @media (max-width: 39.99em) {
   :is(.sides, #rankings) :is(th, td):nth-child(4):not(:last-child) { display: none; }
   #tabs { justify-content: space-between; }
-  #bar #tabs button { padding: .2rem .35rem; font-size: .9375rem; }
+  #bar #tabs button { padding: .2rem .3rem; font-size: .9375rem; }
   .director #tables .called { order: -2; }
   .director #tables .slow { order: -1; }
   .director #tables .done { order: 1; }
@@ -248,10 +306,15 @@ body.director main { max-width: 90rem; }
   #aside { margin: 0; }
   #aside .panel { padding: .6rem .75rem; margin-bottom: .6rem; }
   #aside #rankings :is(th, td):nth-child(4):not(:last-child) { display: none; }
-  #aside #rankings { max-height: 18rem; overflow: auto; }
-  #dealing { display: grid; grid-template-columns: 1fr 1fr; gap: 0 1.5rem; }
-  #dealing > h2, #dealing > p, #deal-question { grid-column: 1 / -1; }
-  #dealing .subject + .subject { border-top: 0; margin-top: 0; }
+  #aside #rankings { max-height: max(12rem, 100dvh - 36rem); overflow: auto; }
+  #aside :is(#rank, .small, thead, tr:nth-child(n+4)) { display: none; }
+  #aside .who { width: 100%; max-width: 0; overflow: hidden; text-overflow: ellipsis; white-space: nowrap; }
+  #aside wbr { display: none; }
+  #aside #rankings h2 { margin: .3rem 0 0; font-size: .875rem; font-weight: normal; color: var(--second); }
+  #dealing { display: grid; grid-template: "h h" auto "p p" auto "s f" auto "u f" 1fr / 1fr 1fr; gap: 0 .75rem; align-items: start; }
+  #dealing > h2 { grid-area: h; }
+  #dealing > p { grid-area: p; }
+    #dealing .subject:has(#deal-file) { grid-area: f; }
   #on-rulings { display: grid; grid-template: "c c" auto "o r" auto "s r" 1fr / minmax(0, 1fr) 26rem; gap: 0 .75rem; align-items: start; }
   #choosing { grid-area: c; }
   #opened { grid-area: o; }
@@ -264,6 +327,7 @@ body.director main { max-width: 90rem; }
   #on-standings #rankings > :nth-child(2), #on-standings #rankings > :nth-child(4) { grid-row: 2; }
   #on-standings #rankings > :nth-child(3), #on-standings #rankings > :nth-child(5) { grid-row: 3; }
 }
+@media (min-width: 80em) { .director.on-rulings #opened .parts { grid-template: "h p" auto / 1fr 1fr; } }
 #opened:empty { display: none; }
 #opened { padding: .5rem .75rem; margin-bottom: .75rem; border: 2px solid var(--gold); border-radius: .75rem; background: var(--page); }
 #opened h2 { margin: 0 .5rem 0 0; }
@@ -285,19 +349,23 @@ summary { cursor: pointer; min-height: 2.2rem; font-weight: bold; }
 #told { position: sticky; top: 0; z-index: 1; color: var(--note-ink); background: var(--note); padding: .4rem .6rem; border-radius: .5rem; }
 #told:empty, #results:empty, #replies:empty { display: none; }
 
-/* The table: one grid, the player at the bottom. */
-.at-table { display: grid; grid-template: "bar" auto "note" auto "strip" auto "stage" 1fr "say" auto "hand" auto "dock" auto / minmax(0, 1fr); background: var(--felt); }
+/* The table: one grid, the player at the bottom. First what an upright telephone has, and all. */
+.at-table {
+  --tw: 3.125rem; --th: 4.25rem; --cw: calc((100vw - 3.125rem) / 7); --fw: var(--cw); --ch: clamp(3.25rem, 8.65dvh, 4.6rem); display: grid;
+  grid-template: "bar" auto "note" auto "strip" auto "side" auto "stage" 1fr "say" auto "hand" auto "dock" auto / minmax(0, 1fr); background: var(--felt);
+}
 .at-table main { display: contents; }
 .at-table #status { color: var(--plate-ink); background: var(--plate); }
 .at-table #status.turn { color: var(--gold-ink); background: var(--gold); font-weight: bold; }
 #strip {
-  grid-area: strip; display: flex; align-items: center; gap: .5rem; min-height: 2.125rem; padding: .1rem .6rem; color: var(--on-felt);
+  grid-area: strip; display: flex; align-items: center; gap: .5rem; min-height: 2.125rem; padding: .1rem .75rem; color: var(--on-felt);
   background: var(--strip); position: relative;
 }
 #strip .red { color: var(--felt-red); }
 .four #strip .diamond { color: #ffc48a; }
 .four #strip .club { color: #a8e6bd; }
-#strip .suit, .face .suit { font-weight: normal; }
+#strip .suit { font-weight: normal; }
+#strip summary > span:last-child { font-size: .875rem; white-space: nowrap; }
 .contract { font-size: 1.125rem; font-weight: bold; }
 #calls { border: 0; margin: 0; padding: 0; flex: 1; }
 #calls summary { min-height: 2rem; list-style: none; font-weight: normal; display: flex; gap: .4rem; align-items: center; }
@@ -306,66 +374,70 @@ summary { cursor: pointer; min-height: 2.2rem; font-weight: bold; }
   position: absolute; inset: 100% .4rem auto; z-index: 5; padding: .5rem; color: var(--ink); background: var(--panel); border: 1px solid var(--edge);
   border-radius: .75rem;
 }
-#calls .red { color: var(--text-red); }
+#calls div .red { color: var(--text-red); }
 .four #calls td .diamond { color: var(--text-diamond); }
 .four #calls td .club { color: var(--text-club); }
-#calls summary .red { color: var(--felt-red); }
 .tally { display: flex; gap: 2px; align-items: center; }
 .tally i { width: .35rem; height: .35rem; border-radius: 50%; background: var(--bar-second); opacity: .7; }
 .tally .ours { width: .4rem; height: .85rem; border-radius: 1px; background: #fff; opacity: 1; }
 .tally .theirs { width: .85rem; height: .4rem; border-radius: 1px; background: var(--felt-red); opacity: 1; }
+.score { font-weight: bold; }
+#side { display: none; grid-area: side; min-width: 0; color: var(--ink); background: var(--panel); }
+#side h2 { margin: 0 0 .2rem; font-size: .875rem; font-weight: normal; color: var(--second); }
+.side-last p { display: grid; grid-template-columns: repeat(4, auto); justify-content: space-between; margin: 0; }
+.side-last .won { font-weight: bold; }
+.side-round p { margin: .3rem 0 0; font-size: .875rem; }
 #stage {
-  grid-area: stage; display: grid; grid-template: auto minmax(0, 1fr) / 5rem minmax(0, 1fr) 5rem; grid-template-areas: "top top top" "left mid right";
+  grid-area: stage; display: grid; grid-template: auto minmax(0, 1fr) / minmax(0, 1fr) auto minmax(0, 1fr); grid-template-areas: "top top top" "left mid right";
   gap: .4rem; align-items: center; padding: .4rem .5rem; min-height: 0; min-width: 0;
 }
-.at-top { grid-area: top; justify-self: center; max-width: 100%; min-width: 0; }
+.at-top { grid-area: top; min-width: 0; }
 .at-left { grid-area: left; min-width: 0; }
 .at-right { grid-area: right; min-width: 0; }
 .plate {
-  display: flex; flex-wrap: wrap; justify-content: center; align-items: center; gap: .15rem .4rem; padding: .2rem .5rem; color: var(--plate-ink);
-  background: var(--plate); border-radius: 1rem; text-align: center; overflow-wrap: anywhere;
+  display: flex; justify-content: center; align-items: center; gap: .15rem .4rem; width: fit-content; max-width: 100%; padding: .2rem .5rem .2rem .2rem;
+  color: var(--plate-ink); background: var(--plate); border-radius: 1rem; box-shadow: inset 0 0 0 1px var(--plate-edge, transparent); text-align: center;
 }
-.at-left > .plate, .at-right > .plate { border-radius: .5rem; padding: .2rem; font-size: .8125rem; line-height: 1.2; flex-direction: column; }
-.at-top > .plate { width: fit-content; max-width: 100%; margin: 0 auto .2rem; }
+.plate span { min-width: 0; overflow-wrap: break-word; }
 .plate.turn { color: var(--gold-ink); background: var(--gold); }
 .plate b { display: inline-grid; place-items: center; width: 1.6rem; height: 1.6rem; border-radius: 50%; color: #fff; background: var(--not-vul); flex: none; }
 .plate b.vul { background: var(--vul); }
-.plate em { padding: 0 .25rem; border: 1px solid currentcolor; border-radius: .25rem; font-style: normal; font-size: .75rem; font-weight: bold; }
+.plate em { flex: none; padding: 0 .25rem; border: 1px solid currentcolor; border-radius: .25rem; font-style: normal; font-size: .75rem; font-weight: bold; white-space: nowrap; }
+.at-top > .plate { margin: 0 auto .2rem; }
+.at-top > .plate span { font-size: .9375rem; line-height: 1.1; }
+:is(.at-left, .at-right) > .plate { flex-direction: column; width: 100%; max-width: 6.25rem; padding: .2rem; border-radius: .5rem; font-size: .8125rem; line-height: 1.2; }
+:is(.at-left, .at-right) > .plate span { display: -webkit-box; -webkit-box-orient: vertical; -webkit-line-clamp: 3; max-width: 100%; overflow: hidden; }
+.at-right > .plate { margin-left: auto; }
 .trick {
-  grid-area: mid; justify-self: center; display: grid; grid-template: repeat(3, auto) / repeat(3, auto); grid-template-areas: ". t ." "l . r" ". b .";
-  place-items: center; gap: .15rem;
+  grid-area: mid; justify-self: center; display: grid; grid-template: repeat(4, calc((var(--th) - .15rem) / 2)) / repeat(3, var(--tw));
+  grid-template-areas: ". t ." "l t r" "l b r" ". b ."; place-items: center; gap: .15rem;
 }
 .trick .top { grid-area: t; }
 .trick .left { grid-area: l; }
 .trick .right { grid-area: r; }
 .trick .bottom { grid-area: b; }
-.trick { grid-template-areas: ". t ." "l t r" "l b r" ". b ."; grid-template-rows: repeat(4, auto); }
 .played, .due { display: grid; place-content: center; justify-items: center; width: var(--tw); height: var(--th); border-radius: .375rem; line-height: 1; }
 .played { color: var(--black); background: var(--face); border: 1px solid #8f8b7e; box-shadow: 0 1px 2px rgb(0 0 0 / 35%); font-size: 1.375rem; font-weight: bold; }
 .played.red { color: var(--red); }
 .played.won { outline: 3px solid var(--gold); }
+.played.sent { border: 2px dashed #12181c; opacity: .75; }
 .due { color: var(--gold); border: 2px solid var(--gold); font-weight: bold; }
-.at-table { --tw: 3.125rem; --th: 4.25rem; --cw: calc((100vw - 3.125rem) / 7); --fw: var(--cw); --ch: clamp(3.25rem, 8.65dvh, 4.6rem); }
 .hand { min-width: 0; }
-#hand { grid-area: hand; padding: .25rem .4rem .4rem; min-width: 0; }
-.hand > h2 { position: absolute; width: 1px; height: 1px; overflow: hidden; clip-path: inset(50%); margin: 0; }
-.cards {
-  display: flex; flex-direction: column; gap: .25rem; width: fit-content; max-width: 100%; margin: 0 auto; padding: .25rem; border: 2px solid transparent;
-  border-radius: .7rem;
-}
+#hand { grid-area: hand; padding: .2rem .4rem .4rem; }
+.cards { display: flex; flex-direction: column; justify-content: center; gap: .25rem; padding: .25rem; border: 2px solid transparent; border-radius: .7rem; }
 .hand.on .cards { border-color: var(--gold); background: rgb(255 216 77 / 16%); }
 .line, .group { display: flex; justify-content: center; min-width: 0; }
 .line { gap: .375rem; }
 .group { gap: .2rem; }
+.more { margin-left: -.2rem; }
 .card {
   display: grid; align-content: start; justify-items: start; width: var(--cw); min-width: 0; height: var(--ch); min-height: 0; padding: .15rem 0 0 .3rem;
   flex: none; color: var(--black); background: var(--face); border: 1px solid #8f8b7e; border-radius: .375rem; box-shadow: 0 1px 2px rgb(0 0 0 / 35%);
   line-height: 1; font-size: 1.375rem; font-weight: bold; text-align: left;
 }
-.card .suit, .played .suit { font-size: 1.25rem; line-height: 1; margin-top: .1rem; }
-.card.red { color: var(--red); }
+.card .suit, .played .suit { font-size: 1.25rem; font-weight: normal; line-height: 1; margin-top: .1rem; }
 .card:disabled { color: var(--black); background: var(--face); border: 1px solid #8f8b7e; font-weight: bold; }
-.card.red:disabled { color: var(--red); }
+.card.red { color: var(--red); }
 .hand.on .card:disabled { background: var(--shut); box-shadow: none; }
 .hand.on .card.red:disabled { color: var(--shut-red); }
 .four .diamond { color: var(--text-diamond); }
@@ -377,266 +449,302 @@ summary { cursor: pointer; min-height: 2.2rem; font-weight: bold; }
 .four .card[aria-pressed=true].diamond { color: #853200; }
 .card[aria-pressed=true] { background: var(--lifted); transform: translateY(-.75rem); outline: 3px solid var(--gold); }
 .ten { letter-spacing: -.12em; }
-.at-left .cards, .at-right .cards { flex-direction: column; padding: .1rem; gap: .15rem; }
-.at-left, .at-right { --cw: 1.375rem; --fw: 2.1rem; --ch: clamp(2rem, 5.3dvh, 3.5rem); }
-.at-left .card, .at-right .card { width: var(--fw); margin-right: calc(var(--cw) - var(--fw)); font-size: 1.125rem; padding-left: .15rem; }
-.at-left .card:last-child, .at-right .card:last-child { margin-right: 0; }
-.at-left .card .suit, .at-right .card .suit { font-size: 1rem; }
-.at-left .line, .at-right .line { flex-direction: column; gap: .15rem; }
-.at-left .group, .at-right .group { justify-content: flex-start; gap: 0; }
+.void-of { display: none; }
 .void { padding: 0 .5rem; border-radius: .5rem; color: var(--plate-ink); background: var(--plate); font-size: .875rem; }
-.dummy-left .at-left > .plate, .dummy-right .at-right > .plate { flex-flow: row wrap; }
+.void .red { color: var(--text-red); }
+/* Dummy at a side: a line or two for each suit. */
 .dummy-left #stage { grid-template-columns: 9rem minmax(0, 1fr) 4rem; }
 .dummy-right #stage { grid-template-columns: 4rem minmax(0, 1fr) 9rem; }
-.dummy-left, .dummy-right { --tw: 2.75rem; --th: 3.75rem; }
+.dummy-left, .dummy-right { --tw: clamp(2rem, calc((100vw - 15.5rem) / 3), 2.875rem); --th: 3.75rem; }
+.at-left, .at-right { --cw: 1.375rem; --fw: 2.1rem; --ch: clamp(2.45rem, 6dvh, 3.5rem); }
+:is(.at-left, .at-right) .cards { gap: .15rem; padding: 0 calc(var(--fw) - var(--cw)) 0 0; border: 0; }
+:is(.at-left, .at-right) .line { flex-direction: column; }
+:is(.at-left, .at-right) .group { flex-wrap: wrap; justify-content: flex-start; gap: .1rem 0; max-width: calc(6 * var(--cw) + 1px); }
+:is(.at-left, .at-right) .void-of { display: flex; }
+:is(.at-left, .at-right) .card { width: var(--fw); margin-right: calc(var(--cw) - var(--fw)); padding: .1rem 0 0 .15rem; font-size: 1.125rem; }
+:is(.at-left, .at-right) .card .suit { font-size: 1rem; }
+:is(.dummy-left .at-left, .dummy-right .at-right) > .plate {
+  display: grid; grid-template: "b n" "b e" / auto minmax(0, 1fr); gap: 0 .35rem; max-width: none; margin: 0 0 .2rem; justify-items: start; text-align: left;
+}
+:is(.dummy-left .at-left, .dummy-right .at-right) > .plate b { grid-area: b; }
+:is(.dummy-left .at-left, .dummy-right .at-right) > .plate span { -webkit-line-clamp: 2; }
 
 /* The auction, and what is pressed. */
-.auction { grid-area: mid; align-self: start; width: 100%; max-height: 100%; overflow-y: auto; border-radius: .6rem; background: var(--panel); color: var(--ink); }
-@media (max-width: 39.99em), (max-height: 30em) {
-  .bidding #stage { position: relative; min-height: 6.5rem; }
-  .bidding .auction { position: absolute; inset: .4rem .5rem auto; width: auto; max-height: calc(100% - .8rem); }
+.bidding #stage { position: relative; grid-template: minmax(0, 1fr) / minmax(0, 1fr); grid-template-areas: "mid"; min-height: 6.5rem; padding: 0; }
+.bidding :is(.at-left, .at-right, .at-top, .board-picture) { display: none; }
+.auction {
+  --head: 2.4rem; --row: 1.65rem; position: absolute; inset: .3rem .5rem auto; max-height: calc(100% - .6rem); overflow-y: auto; border-radius: .6rem; color: var(--ink);
+  background: var(--panel);
 }
-#dock.play #claim-open[hidden] + #confirm { grid-column: span 7; }
-.at-top.none, .bidding .at-left, .bidding .at-right, .bidding .at-top { display: none; }
-.bidding #stage { grid-template: minmax(0, 1fr) / minmax(0, 1fr); grid-template-areas: "mid"; }
-.auction table, #calls table, #side table { width: 100%; table-layout: fixed; background: none; }
-.auction th, .auction td, #calls th, #calls td, #side th, #side td {
-  border: 0; padding: .2rem .1rem; overflow: hidden; text-overflow: ellipsis; white-space: nowrap; font-weight: normal;
-}
-.auction th, #calls th, #side th { font-size: .8125rem; line-height: 1.25; color: var(--plate-ink); background: var(--plate); }
-.auction th { position: sticky; top: 0; }
-.auction tbody tr:nth-child(even), #calls tbody tr:nth-child(even), #side tbody tr:nth-child(even) { background: var(--soft); }
-.auction td .bid, #calls td .bid, #side td .bid { font-weight: bold; }
+/* No row stands half under the heads. */
+@supports (height: round(down, 1px, 1px)) { .auction { max-height: calc(var(--head) + round(down, 100% - .6rem - var(--head), var(--row))); } }
+:where(.auction, #calls, #side) table { width: 100%; table-layout: fixed; background: none; }
+:where(.auction, #calls, #side) :is(th, td) { border: 0; padding: 0 .1rem; overflow: hidden; text-overflow: ellipsis; white-space: nowrap; font-weight: normal; }
+:where(.auction, #calls, #side) th { padding: .15rem .1rem; font-size: .8125rem; line-height: 1.25; color: var(--plate-ink); background: var(--plate); }
+:where(.auction, #calls, #side) td { height: 1.65rem; }
+.auction th { position: sticky; top: 0; height: var(--head); }
+.auction td { height: var(--row); }
+:where(.auction, #calls, #side) tbody tr:nth-child(even) { background: var(--soft); }
+:where(.auction, #calls, #side) td .bid { font-weight: bold; }
 td .pass { color: var(--second); }
 .double, .redouble { padding: 0 .4rem; border-radius: .25rem; color: #fff; background: var(--double); font-weight: bold; }
 .redouble { background: var(--redouble); }
 .seat { display: inline-block; min-width: 1.4rem; border-radius: .25rem; color: #fff; background: var(--not-vul); font-weight: bold; }
 .seat.vul { background: var(--vul); }
-th.turn, td.turn, .auction th.turn { color: var(--gold-ink); background: var(--gold); }
+td.turn, :where(.auction, #calls, #side) th.turn { color: var(--gold-ink); background: var(--gold); }
 td.turn { font-weight: bold !important; }
+td.turn .red { color: var(--red); }
+td.marked { outline: 2px dashed var(--blue); outline-offset: -2px; }
 #dock {
-  grid-area: dock; display: grid; grid-template-columns: repeat(10, minmax(0, 1fr)); gap: .25rem; align-content: start;
-  padding: .4rem .5rem max(.4rem, env(safe-area-inset-bottom)); color: var(--ink); background: var(--page); border-top: 1px solid var(--edge); min-width: 0;
+  grid-area: dock; display: grid; gap: .25rem; align-content: start; padding: .4rem .5rem max(.4rem, env(safe-area-inset-bottom)); color: var(--ink);
+  background: var(--page); border-top: 1px solid var(--edge); min-width: 0;
 }
 #dock button { padding: .1rem; min-width: 0; }
-.box { --bid: clamp(2.25rem, calc((100dvh - 24.2rem) / 7), 3rem); }
-#dock .bid { grid-column: span 2; min-height: var(--bid); color: var(--black); background: #fffdf7; font-size: 1.125rem; line-height: 1; }
-#dock .bid .red { color: #a8001c; }
-.four #dock .bid .diamond { color: #953a00; }
-.four #dock .bid .club { color: #005c2b; }
-#dock .bid:disabled, #dock .bid:disabled .red { color: var(--off); background: var(--soft); border: 1px solid var(--soft); }
-#call-PASS { grid-column: span 3; }
-#call-X, #call-XX { grid-column: span 2; }
-.box #confirm { grid-column: span 3; }
+#dock.box { --bid: clamp(2.25rem, calc((100dvh - 24.2rem) / 7), 2.75rem); grid-template-columns: repeat(20, minmax(0, 1fr)); }
+#dock .bid { grid-column: span 4; min-height: var(--bid); color: var(--black); background: var(--face); font-size: 1.125rem; line-height: 1; }
+#dock .bid .red { color: var(--red); }
+.four #dock .bid .diamond { color: var(--diamond); }
+.four #dock .bid .club { color: var(--club); }
+#dock .box-call { font-size: 1.125rem; }
+#dock .box-call:disabled { border: 1px solid var(--line); }
+#dock .bid:disabled { background: var(--soft); border: 1px solid var(--line); }
+#dock .bid:disabled, #dock .bid:disabled .suit { color: var(--off); }
+#call-PASS { grid-column: span 5; }
+#call-X, #call-XX { grid-column: span 4; }
+.box #confirm { grid-column: span 7; }
 #dock #call-PASS:enabled { color: #fff; background: var(--pass); }
 #dock #call-X:enabled { color: #fff; background: var(--double); }
 #dock #call-XX:enabled { color: #fff; background: var(--redouble); }
-#dock .box-call[aria-pressed=true], #dock .bid[aria-pressed=true] { color: var(--gold-ink); background: var(--gold); outline: 3px solid var(--blue); }
-#last { grid-column: span 3; }
-#claim-open { grid-column: span 3; }
-#dock.play #confirm { grid-column: span 4; }
-#dock.play button { min-height: 2.75rem; }
+#dock :is(.box-call, .bid)[aria-pressed=true] { color: var(--gold-ink); background: var(--gold); outline: 3px solid var(--blue); }
+#dock #confirm :is(.bid, .suit) { min-height: 0; color: inherit; background: none; font-size: inherit; }
+#dock #confirm.sending { display: inline-flex; justify-content: center; align-items: center; gap: .4rem; color: var(--ink); border-style: solid; }
+#confirm.sending::before { content: ""; width: 1rem; height: 1rem; border: 2px solid; border-left-color: transparent; border-radius: 50%; }
+@keyframes wheel { to { transform: rotate(1turn); } }
+#dock.play { grid-template-columns: 4fr 3fr 3.7fr; gap: .4rem; }
+#dock.play:has([hidden]) { grid-template-columns: 1fr 1fr; }
 #dock.claimed { grid-template-columns: 1fr 1fr; color: var(--gold-ink); background: var(--gold); }
-#dock.claimed p { grid-column: 1 / -1; margin: 0; }
+#dock.claimed p { grid-column: 1 / -1; margin: 0; line-height: 1.25; }
+#dock.claimed button { min-height: 3.25rem; font-size: 1.0625rem; }
 #refuse { color: #a8001c; background: #fff; border-color: #a8001c; }
 #agree { color: #fff; background: #0b57a4; border-color: #0b57a4; }
 #dock.claimed button:disabled { color: #5b645f; background: #ece8dc; }
 .sheet {
-  position: fixed; inset: auto .5rem 4.5rem; z-index: 6; max-width: 30rem; margin: 0 auto; padding: .75rem; color: var(--ink); background: var(--panel);
-  border: 1px solid var(--edge); border-radius: .75rem; max-height: calc(100dvh - 5rem); overflow-y: auto; box-shadow: 0 0 0 100vmax rgb(10 20 16 / 45%);
+  position: fixed; inset: auto 0 0; z-index: 6; padding: .75rem .75rem max(.75rem, env(safe-area-inset-bottom)); color: var(--ink); background: var(--panel);
+  border: 0; border-radius: 1rem 1rem 0 0; max-height: calc(100dvh - 1rem); overflow-y: auto; box-shadow: 0 0 0 100vmax rgb(10 20 16 / 55%);
 }
-.sheet h2 { margin-top: 0; }
-.numbers { display: grid; grid-template-columns: repeat(auto-fill, minmax(2.75rem, 1fr)); gap: .25rem; margin: .5rem 0; }
+.sheet h2 { margin: 0 0 .5rem; font-size: 1.25rem; }
+.numbers { display: grid; grid-template-columns: repeat(auto-fit, minmax(2.75rem, 1fr)); gap: .3rem; margin: .5rem 0 .3rem; }
 .numbers button { padding: 0; }
-.numbers button[aria-pressed=true] { color: var(--gold-ink); background: var(--gold); }
-.sheet .row { justify-content: space-between; }
-#side { display: none; }
-
-/* Shapes of screens. */
+.ends { display: grid; grid-template-columns: 1fr 1fr; gap: .5rem; }
+:is(.numbers, .ends, .reasons) [aria-pressed=true] { color: var(--page); background: var(--ink); }
+.says { display: flex; flex-wrap: wrap; gap: 0 .6rem; }
+#claim-says { flex: 1 1 14rem; width: auto; }
+.sheet > p:not(.second) { padding: .5rem .75rem; background: var(--soft); border-radius: .5rem; font-weight: bold; }
+.sheet .row { justify-content: space-between; gap: .6rem; }
+.sheet .row > button { min-width: 6.5rem; min-height: 3.25rem; }
+.sheet .row > .send { flex: 1; }
+.sheet .trick { --tw: 3.125rem; --th: 4.25rem; justify-content: center; justify-self: stretch; margin-bottom: .75rem; padding: .5rem; border-radius: .75rem; background: var(--felt); }
+#last-close { width: 100%; min-height: 3.25rem; }
+@media (max-width: 39.99em), (orientation: landscape) and (max-height: 30em) {
+  #bell span, .bidding #status:not(.lost) { position: absolute; width: 1px; height: 1px; margin: 0; padding: 0; overflow: hidden; clip-path: inset(50%); }
+}
+/* What stands above a small table takes its room from the cards; whoever waits for the director needs no turn. */
+@media (max-width: 39.99em) and (max-height: 49.99em) {
+  #stage { gap: .25rem .4rem; padding: .2rem .5rem; }
+  .at-table:has(#desk:not(:empty), #notice:not(:empty)) { --ch: max(2.75rem, 6.9dvh); }
+}
+@media (max-width: 39.99em), (max-height: 30em) {
+  .at-table #notice { padding: .2rem .75rem; font-size: .875rem; line-height: 1.25; }
+  .at-table #desk > * { max-height: 2.75rem; overflow-y: auto; font-size: .875rem; line-height: 1.25; }
+  .at-table:has(#desk > .called) #status:not(.lost) { position: absolute; width: 1px; height: 1px; margin: 0; padding: 0; overflow: hidden; clip-path: inset(50%); }
+}
+@media (max-width: 39.99em) and (orientation: portrait) { .wide { display: none; } }
+@media (max-width: 39.99em) and (orientation: portrait) and (min-height: 50em) {
+  .at-table { --tw: min(3.6875rem, calc((100vw - 12.5rem) / 3)); --th: 5.0625rem; }
+  .dummy-left, .dummy-right { --tw: clamp(2rem, calc((100vw - 15.5rem) / 3), 2.875rem); --th: 4.125rem; }
+}
+/* A hand in one fan: where there is room, and on short telephones in the auction. */
+@media (max-width: 39.99em) and (orientation: portrait) and (max-height: 49.99em) {
+  .bidding { --cw: calc((100vw - 5.2rem) / 12); --fw: 3rem; }
+  .bidding #hand .line { display: contents; }
+  .bidding #hand .cards { flex-direction: row; gap: 0 .2rem; padding-right: calc(.25rem + var(--fw) - var(--cw)); }
+  .bidding #hand .group { gap: 0; }
+  .bidding #hand .card { width: var(--fw); margin-right: calc(var(--cw) - var(--fw)); padding-left: .15rem; }
+  .bidding .in-H { order: 1; }
+  .bidding .in-C { order: 2; }
+  .bidding .in-D { order: 3; }
+}
+@media (min-width: 40em), (orientation: landscape) and (max-height: 30em) {
+  :is(#hand, .at-top) .line { display: contents; }
+  :is(#hand, .at-top) .cards { flex-direction: row; gap: 0 .375rem; padding-right: calc(.25rem + var(--fw) - var(--cw)); }
+  :is(#hand, .at-top) .group { gap: 0; }
+  :is(#hand, .at-top) .card { width: var(--fw); margin-right: calc(var(--cw) - var(--fw)); font-size: 1.9375rem; }
+  :is(#hand, .at-top) .card .suit, .played .suit { font-size: 2rem; }
+  .played { font-size: 1.9375rem; }
+  .more { margin-left: -.375rem; }
+  .in-H { order: 1; }
+  .in-C { order: 2; }
+  .in-D { order: 3; }
+}
+/* Telephones that lie across. */
 @media (orientation: landscape) and (max-height: 30em) {
   .at-table {
-    --ch: 4rem; --cw: min(3rem, calc((100vw - 13rem) / 13.4)); --tw: 2.1rem; --th: 2.75rem;
+    --ch: 4rem; --cw: min(3rem, calc((100vw - 13rem) / 13.4)); --fw: 3.1rem; --tw: 2.75rem; --th: 3.5rem;
     grid-template: "bar bar" auto "note note" auto "stage strip" auto "stage dock" 1fr "say dock" auto "hand dock" auto / minmax(0, 1fr) 11rem;
   }
   .at-table.bidding {
     --cw: min(3rem, calc((100vw - 27rem) / 13.4));
     grid-template: "bar bar" auto "note note" auto "stage dock" 1fr "say dock" auto "hand dock" auto / minmax(0, 1fr) 25rem;
   }
+  .at-table.dummy-left, .at-table.dummy-right { --tw: 2.5rem; --th: 3.5rem; }
   #bar { min-height: 2.75rem; padding-top: 0; padding-bottom: 0; }
+  #bar > button { border-color: transparent; }
   #chip { width: 2.25rem; height: 2.25rem; }
-  .cards { flex-direction: row; }
-  .card { padding-left: .15rem; }
-  .box { --bid: calc((100dvh - 5.4rem) / 8); }
-  #dock.box button { min-height: var(--bid); }
-  #dock { align-content: end; }
-  #dock.play { grid-template-columns: 1fr; align-content: end; }
-  #dock.play button, #dock.play #confirm { grid-column: auto; }
+  .at-table #status { margin: .1rem .5rem; }
+  #hand { padding: .1rem .4rem .25rem; }
+  :is(#hand, .at-top) .cards { padding-top: .15rem; padding-bottom: .15rem; }
+  :is(#hand, .at-top) .card, .played { padding-left: .2rem; font-size: 1.375rem; }
+  .played { padding: 0; }
+  :is(#hand, .at-top) .card .suit, .played .suit { font-size: 1.25rem; }
   #strip { flex-wrap: wrap; align-content: center; }
+  #strip .score { margin-left: auto; }
   #calls { flex-basis: 100%; }
-  .at-left .line, .at-right .line { gap: .1rem; }
-  .at-left, .at-right { --ch: 1.75rem; --cw: 1.9rem; --fw: 2.3rem; }
-  .at-left .card, .at-right .card { align-content: center; justify-content: start; grid-auto-flow: column; padding: 0 0 0 .2rem; }
-  .dummy-left .at-left > .plate, .dummy-right .at-right > .plate { flex-flow: row nowrap; }
-  .dummy-left .at-left > .plate span, .dummy-right .at-right > .plate span { overflow: hidden; text-overflow: ellipsis; white-space: nowrap; }
-  .dummy-left #stage { grid-template-columns: 12rem minmax(0, 1fr) 4rem; }
-  .dummy-right #stage { grid-template-columns: 4rem minmax(0, 1fr) 12rem; }
+  #stage { grid-template-columns: 11rem minmax(0, 1fr) 11rem; padding: .25rem .4rem; gap: .25rem; }
+  :is(.at-left, .at-right) > .plate, .dummy-top .at-top > .plate { flex-direction: row; width: fit-content; max-width: 100%; padding: .1rem .5rem .1rem .1rem; border-radius: 1rem; font-size: .875rem; }
+  :is(.at-left, .at-right) > .plate span, .dummy-top .at-top > .plate span { display: block; overflow: hidden; text-overflow: ellipsis; white-space: nowrap; }
+  .plate wbr { display: none; }
+  .dummy-top .at-top { display: contents; }
+  .dummy-top .at-top > .plate { grid-area: left; place-self: start; margin: 0; }
+  .dummy-top #dummy { grid-area: top; }
+  .dummy-left #stage { grid-template-columns: clamp(9rem, 23vw, 12rem) minmax(0, 1fr) 11rem; grid-template-areas: "left top top" "left mid right"; }
+  .dummy-right #stage { grid-template-columns: 11rem minmax(0, 1fr) clamp(9rem, 23vw, 12rem); grid-template-areas: "top top right" "left mid right"; }
+  .at-left, .at-right { --fw: 2.1rem; --ch: 2.2rem; }
+  :is(.at-left, .at-right) .card { padding-top: 0; font-size: 1.0625rem; }
+  :is(.at-left, .at-right) .card .suit { margin: 0; font-size: .9375rem; }
+  :is(.dummy-left .at-left, .dummy-right .at-right) > .plate { display: flex; width: 100%; margin: 0 0 .15rem; }
+  :is(.dummy-left .at-left, .dummy-right .at-right) > .plate em { margin-left: auto; }
+  .auction { --head: 3.4rem; }
+  .auction th { vertical-align: top; white-space: normal; }
+  .auction th br + span { display: -webkit-box; -webkit-box-orient: vertical; -webkit-line-clamp: 2; overflow: hidden; overflow-wrap: anywhere; }
+  .playing { background: linear-gradient(to left, var(--strip) 11rem, transparent 0) var(--felt); }
+  #dock { border-top: 0; }
+  #dock.box { grid-template: repeat(14, minmax(0, 1fr)) / 5.75rem repeat(5, minmax(0, 1fr)); gap: 0 .25rem; align-content: stretch; padding: .15rem .4rem; border-left: 1px solid var(--line); }
+  #dock.box button { grid-area: span 2 / auto; min-height: 2.25rem; margin: .125rem 0; }
+  #dock.box #call-PASS { grid-area: 1 / 1 / span 4; }
+  #dock.box #call-X { grid-area: 5 / 1 / span 3; }
+  #dock.box #call-XX { grid-area: 8 / 1 / span 3; }
+  #dock.box #confirm { grid-area: 11 / 1 / span 4; flex-direction: column; }
+  #dock.play { grid-template-columns: 1fr 1fr; align-content: end; background: none; }
+  #dock.play button { min-height: 3.25rem; }
+  #dock.play #confirm, #dock.play:has([hidden]) #last { grid-column: 1 / -1; }
+  #last, #claim-open { flex-direction: column; gap: 0; font-size: .875rem; }
+  #dock.claimed { align-self: end; align-content: end; gap: .4rem; }
+  #dock.claimed button { gap: .2rem; min-height: 3rem; font-size: .9375rem; }
+  #dock.claimed button::before { width: 1rem; height: 1rem; }
+  .sheet { inset: auto .5rem .4rem; max-width: 46rem; max-height: calc(100dvh - .8rem); margin: 0 auto; padding: .5rem .75rem; border-radius: .75rem; }
+}
+/* Tablets and laptops. */
+@media (min-width: 40em) and (min-height: 30.01em) {
+  #bar { min-height: 3.5rem; padding: .25rem 1rem; }
+  #chip { width: 2.75rem; height: 2.75rem; }
+  #status { font-size: 1.0625rem; }
+  :is(#hand, .at-top) .card { padding-left: .45rem; }
+  #stage { padding: .75rem 1rem; }
+  :is(.at-left, .at-right) > .plate { max-width: 8rem; font-size: .9375rem; }
+  .at-left, .at-right { --cw: 1.875rem; --fw: 3.25rem; --ch: 4.25rem; }
+  :is(.at-left, .at-right) .card { font-size: 1.5rem; }
+  :is(.at-left, .at-right) .card .suit { font-size: 1.5rem; }
+  .dummy-left #stage { grid-template-columns: 13.5rem minmax(0, 1fr) 8rem; }
+  .dummy-right #stage { grid-template-columns: 8rem minmax(0, 1fr) 13.5rem; }
+  :is(.dummy-left .at-left, .dummy-right .at-right) > .plate { display: flex; max-width: 13rem; }
+  #dock { gap: .4rem; padding: .5rem 1rem max(.5rem, env(safe-area-inset-bottom)); }
+  #dock.play:not(:has([hidden])) { grid-template-columns: 9.5rem 7.5rem 1fr; }
+  #dock.play button { min-height: 3.25rem; }
+  #dock.claimed { grid-template-columns: minmax(0, 1fr) 10rem 10rem; align-items: center; }
+  #dock.claimed p { grid-column: auto; max-height: 3.25rem; overflow-y: auto; font-size: .875rem; line-height: 1.2; }
+  #dock.claimed b { font-size: 1rem; }
+  .sheet { inset: 0; width: min(34rem, 100% - 2rem); height: fit-content; margin: auto; padding: 1.25rem; border-radius: .75rem; }
+  .bidding #stage { grid-template: auto minmax(0, 1fr) / 8rem minmax(0, 1fr) 8rem; grid-template-areas: "top top top" "left mid right"; padding: .75rem 1rem; }
+  .bidding :is(.at-left, .at-right, .at-top) { display: block; }
+  .auction { --head: 2rem; --row: 2.6rem; grid-area: mid; position: static; align-self: center; max-height: 100%; }
+  .auction th br, #side th br { display: none; }
+  .auction th br + span, #side th br + span { position: absolute; width: 1px; height: 1px; overflow: hidden; clip-path: inset(50%); }
+  .auction td { font-size: 1.375rem; }
+  #dock .bid { font-size: 1.375rem; }
+  #dock.box #confirm { font-size: 1.0625rem; }
 }
 @media (min-width: 40em) and (orientation: portrait) and (min-height: 30.01em) {
   .at-table { --cw: 3.4rem; --fw: 5rem; --ch: 7.5rem; --tw: 5.25rem; --th: 7.25rem; }
-  .cards { flex-direction: row; }
+  .dummy-left, .dummy-right { --tw: 4.25rem; --th: 6rem; }
+  #calls summary::after { content: none; }
+  #side { display: grid; grid-template-columns: 1.3fr 1fr 1fr; gap: 0 1.25rem; height: 8.0625rem; padding: .5rem 1rem; overflow-y: auto; }
+  #side > * { grid-row: 1; min-width: 0; }
+  .side-contract, .side-tricks { display: none; }
+  .side-auction { grid-column: 1; }
+  .side-last { grid-column: 2; }
+  .side-round { grid-column: 3; }
+  .side-last p { grid-template-columns: 1fr 1fr; }
+  .side-auction td { height: 1.4rem; font-size: .9375rem; }
+  .bidding #side { display: none; }
+  .box-call, .box #confirm { min-height: 3.25rem; }
 }
 @media (min-width: 56em) and (orientation: landscape) and (min-height: 30.01em) {
   .at-table {
     --cw: 3.2rem; --fw: 4.375rem; --ch: 6.25rem; --tw: 4.5rem; --th: 6.25rem;
-    grid-template: "bar bar" auto "note side" auto "stage side" 1fr "say side" auto "hand side" auto "dock side" auto / minmax(0, 1fr) 18rem;
+    grid-template: "bar bar" auto "note note" auto "stage side" 1fr "say side" auto "hand side" auto "dock side" auto / minmax(0, 1fr) 18rem;
   }
-  .at-table.bidding { --cw: 2.8rem; grid-template: "bar bar" auto "note dock" auto "stage dock" 1fr "say dock" auto "hand dock" auto / minmax(0, 1fr) 23rem; }
-  .cards { flex-direction: row; }
-  #strip { display: none; }
-  .bidding #side { display: none; }
-  #bar { min-height: 3.5rem; padding: .25rem 1rem; }
-  #chip { width: 2.75rem; height: 2.75rem; }
-  #side { grid-area: side; display: block; padding: .75rem 1rem; color: var(--ink); background: var(--panel); overflow-y: auto; min-width: 0; }
-  #side h2 { font-size: .875rem; font-weight: normal; color: var(--second); margin: .9rem 0 .2rem; }
-  #side .contract { font-size: 2.25rem; line-height: 1; }
-  #side .tally i { background: var(--second); }
-  #side .tally .ours { background: var(--good); }
-  #side .tally .theirs { background: var(--bad); }
-  #side table { border: 1px solid var(--edge); border-radius: .5rem; }
-  .box { --bid: 2.75rem; }
-  #dock.box { grid-template-rows: none; align-content: stretch; border-top: 0; border-left: 1px solid var(--edge); }
+  .at-table.bidding { --cw: 2.8rem; grid-template: "bar bar" auto "note note" auto "stage dock" 1fr "hand dock" auto / minmax(0, 1fr) 23rem; }
+  #strip, .bidding #side { display: none; }
+  #side { display: flex; flex-direction: column; gap: .9rem; padding: .75rem 1rem; overflow-y: auto; }
+  .side-contract { display: flex; align-items: center; gap: .75rem; line-height: 1.25; }
+  .side-contract .contract { font-size: 2.25rem; line-height: 1; }
+  .side-tricks p { display: flex; justify-content: space-between; align-items: center; margin: 0; font-weight: bold; }
+  .side-tricks .tally i { background: var(--second); }
+  .side-tricks .tally .ours { background: var(--good); }
+  .side-tricks .tally .theirs { background: var(--bad); }
+  .side-auction > table { border: 1px solid var(--line); border-radius: .5rem; }
+  .side-round { margin-top: auto; }
+  .bidding #status { grid-area: dock; justify-self: stretch; align-self: start; z-index: 1; max-width: none; margin: .75rem 1rem; padding: .4rem; border-radius: .5rem; font-size: 1.125rem; }
+  .bidding #status:not(.turn) { color: var(--ink); background: var(--soft); }
+  .bidding .board-picture { display: grid; grid-area: chip; place-self: center; width: 9rem; height: 9rem; }
+  .bidding .board-picture b { font-size: 2.25rem; }
+  .bidding #stage:has(.board-picture) {
+    grid-template: auto auto auto 1fr / 8rem minmax(0, 1fr) 8rem; grid-template-areas: "top top top" ". chip ." "left mid right" ". . ."; row-gap: .75rem;
+  }
+  #dock.box { --bid: 2.75rem; align-content: stretch; padding-top: 4.25rem; border-top: 0; border-left: 1px solid var(--line); }
   #dock.box .bid { order: -1; }
-  #dock.box button { min-height: 2.75rem; font-size: 1.375rem; }
-  .box #confirm { grid-column: 1 / -1; font-size: 1.125rem !important; }
-  .box #call-PASS { grid-column: span 4; }
-  .box #call-X, .box #call-XX { grid-column: span 3; }
-  #dock.play button { min-height: 3.25rem; }
-  .bidding #stage { grid-template: auto minmax(0, 1fr) / 8rem minmax(0, 1fr) 8rem; grid-template-areas: "top top top" "left mid right"; }
-  .bidding .at-left, .bidding .at-right, .bidding .at-top { display: block; }
-  .bidding .auction { align-self: center; }
-  .auction td { font-size: 1.0625rem; }
-  #stage { grid-template-columns: 8rem minmax(0, 1fr) 8rem; }
-  .at-left > .plate, .at-right > .plate { font-size: .9375rem; }
-  .dummy-left #stage { grid-template-columns: 13.5rem minmax(0, 1fr) 8rem; }
-  .dummy-right #stage { grid-template-columns: 8rem minmax(0, 1fr) 13.5rem; }
-  .at-left, .at-right { --cw: 1.875rem; --fw: 3.25rem; --ch: 4.25rem; }
-  .at-left .card, .at-right .card { font-size: 1.5rem; }
+  #dock.box .bid { font-size: 1.5rem; }
+  #dock.box .box-call { margin-top: .5rem; font-size: 1.375rem; }
+  #dock.box #call-PASS { grid-column: span 8; }
+  #dock.box #call-X, #dock.box #call-XX { grid-column: span 6; }
+  #dock.box #confirm { grid-column: 1 / -1; font-size: 1.125rem; }
 }
 @media (min-width: 75em) and (orientation: landscape) and (min-height: 48em) {
   .at-table { --cw: 4.2rem; --fw: 5.5rem; --ch: 7.75rem; --tw: 5.5rem; --th: 7.75rem; grid-template-columns: minmax(0, 1fr) 22rem; }
   .at-table.bidding { --cw: 4rem; grid-template-columns: minmax(0, 1fr) 27rem; }
-}
-@media (min-width: 40em) {
-  #hand .card, .at-top .card { width: var(--fw); margin-right: calc(var(--cw) - var(--fw)); }
-  #hand .line:last-child .group:last-child .card:last-child, .at-top .line:last-child .group:last-child .card:last-child { margin-right: 0; }
-  #hand .line, .at-top .line, #hand .group, .at-top .group { gap: 0; }
-  #hand .group + .group, #hand .line + .line, .at-top .group + .group, .at-top .line + .line { padding-left: .375rem; }
-  #hand .card, .at-top .card, .played { font-size: 1.9375rem; }
-  #hand .card .suit, .at-top .card .suit, .played .suit { font-size: 2rem; }
-}
-@media (orientation: landscape) and (max-height: 30em) {
-  .at-table { --fw: 3.1rem; }
-  #hand .card, .at-top .card, .played { font-size: 1.375rem; }
-  #hand .card .suit, .at-top .card .suit, .played .suit { font-size: 1.2rem; }
-  .at-left .card .suit, .at-right .card .suit { font-size: 1rem; }
-}
-@media (max-width: 39.99em) and (orientation: portrait) and (max-height: 49.99em) {
-  .bidding #hand .cards { flex-direction: row; }
-  .bidding { --cw: calc((100vw - 4.3rem) / 13); --ch: clamp(3.25rem, 8.65dvh, 4.6rem); }
-  .bidding #hand .card { width: 3rem; margin-right: calc(var(--cw) - 3rem); }
-  .bidding #hand .line, .bidding #hand .group { gap: 0; }
-  .bidding #hand .line:last-child .group:last-child .card:last-child { margin-right: 0; }
+  .bidding .board-picture { width: 11rem; height: 11rem; }
+  .auction { --row: 3.25rem; }
+  .auction td { font-size: 1.625rem; }
+  #dock.box .bid { font-size: 1.75rem; }
+  .played, :is(#hand, .at-top) .card { font-size: 2.5rem; }
+  .played .suit, :is(#hand, .at-top) .card .suit { font-size: 2.5rem; }
 }
 @media (prefers-reduced-motion: no-preference) {
   .card { transition: transform 120ms ease-out; }
+  #confirm.sending::before { animation: wheel 1s linear infinite; }
 }
-/* The trick. */
-.trick { grid-template-columns: repeat(3, var(--tw)); grid-template-rows: repeat(4, calc((var(--th) - .15rem) / 2)); }
-/* Dummy at a side. */
-.at-left .cards, .at-right .cards { border: 0; padding: 0 calc(var(--fw) - var(--cw)) 0 0; }
-.at-left .group, .at-right .group { flex-wrap: wrap; max-width: calc(6 * var(--cw) + 1px); row-gap: .1rem; }
-.at-left .card:last-child, .at-right .card:last-child { margin-right: calc(var(--cw) - var(--fw)); }
-.plate em { flex: none; white-space: nowrap; }
-@media (max-width: 39.99em) and (orientation: portrait) {
-  .dummy-left, .dummy-right { --tw: clamp(2rem, calc((100vw - 15.5rem) / 3), 2.75rem); }
-  .at-left, .at-right { --ch: clamp(2.45rem, 6dvh, 3.5rem); }
-  .at-left .card, .at-right .card { padding-top: .1rem; }
-  .dummy-left .at-left > .plate, .dummy-right .at-right > .plate {
-    display: grid; grid-template: "b n" "b e" / auto minmax(0, 1fr); gap: 0 .35rem; justify-items: start; text-align: left; margin-bottom: .2rem;
-  }
-  .dummy-left .at-left > .plate b, .dummy-right .at-right > .plate b { grid-area: b; }
-  #stage { grid-template-columns: clamp(5rem, calc(50vw - 6rem), 6.25rem) minmax(0, 1fr) clamp(5rem, calc(50vw - 6rem), 6.25rem); }
-  .wide { display: none; }
-}
-@media (max-width: 39.99em) and (orientation: portrait) and (max-height: 44em) {
-  .bidding #status:not(.lost) { position: absolute; width: 1px; height: 1px; margin: 0; padding: 0; overflow: hidden; clip-path: inset(50%); }
-}
-/* Tablets that stand upright. */
-@media (min-width: 40em) and (orientation: portrait) and (min-height: 30.01em) {
-  #stage { grid-template-columns: 8rem minmax(0, 1fr) 8rem; }
-  .at-left > .plate, .at-right > .plate { font-size: .9375rem; }
-  .dummy-left #stage { grid-template-columns: 13.5rem minmax(0, 1fr) 8rem; }
-  .dummy-right #stage { grid-template-columns: 8rem minmax(0, 1fr) 13.5rem; }
-  .dummy-left, .dummy-right { --tw: 4.25rem; --th: 6rem; }
-  .at-left, .at-right { --cw: 1.875rem; --fw: 3.25rem; --ch: 4.25rem; }
-  .at-left .card, .at-right .card { font-size: 1.5rem; }
-  #dock button { min-height: 3.25rem; }
-  #dock .bid { font-size: 1.375rem; }
-}
-@media (min-width: 40em) and (min-height: 30.01em) {
-  .at-left .card .suit, .at-right .card .suit { font-size: 1.5rem; }
-}
-/* A hand in one fan. */
-@media (min-width: 40em) {
-  #hand .line, .at-top .line { display: contents; }
-  #hand .cards, .at-top .cards { column-gap: .375rem; padding-right: calc(.25rem + var(--fw) - var(--cw)); }
-  #hand .group + .group, .at-top .group + .group { padding-left: 0; }
-  .in-H { order: 1; }
-  .in-C { order: 2; }
-  .in-D { order: 3; }
-  #hand .line:last-child .group:last-child .card:last-child, .at-top .line:last-child .group:last-child .card:last-child { margin-right: calc(var(--cw) - var(--fw)); }
-}
-@media (max-width: 39.99em) and (orientation: portrait) and (max-height: 49.99em) {
-  .bidding #hand .line { display: contents; }
-  .bidding #hand .cards { gap: 0 .2rem; padding-right: calc(3.25rem - var(--cw)); }
-  .bidding .in-H { order: 1; }
-  .bidding .in-C { order: 2; }
-  .bidding .in-D { order: 3; }
-  .bidding #hand .line:last-child .group:last-child .card:last-child { margin-right: calc(var(--cw) - 3rem); }
-}
-/* Telephones that lie across. */
-@media (orientation: landscape) and (max-height: 30em) {
-  .dummy-left, .dummy-right { --tw: 2.75rem; --th: 3.5rem; }
-  .at-table:not(.dummy-left):not(.dummy-right) .played { font-size: 1.125rem; }
-  .at-table:not(.dummy-left):not(.dummy-right) .played .suit { font-size: 1rem; margin-top: 0; }
-  #dock.play #claim-open[hidden] + #confirm { grid-column: auto; }
-  .sheet { inset: auto .5rem .4rem; max-height: calc(100dvh - .8rem); max-width: 46rem; padding: .5rem .75rem; }
-  #choices { display: grid; grid-template-columns: 1fr 1fr; gap: 0 .75rem; }
-  #choices h2, #choices button { grid-column: 1 / -1; margin: 0; }
-  .dummy-left .at-left wbr, .dummy-right .at-right wbr { display: none; }
-  .at-left .group, .at-right .group { row-gap: .05rem; }
-  .at-left, .at-right { --ch: 1.6rem; }
-  .dummy-left .at-left .cards, .dummy-right .at-right .cards { gap: .05rem; }
-  .at-left .line, .at-right .line { gap: .05rem; }
-}
-/* The panel beside the table. */
-#side > p:first-child { display: flex; align-items: baseline; gap: .6rem; }
-/* Bids are cards, and the answers to a claim stand apart. */
-#dock .bid { background: var(--face); }
-#dock .bid .red { color: var(--red); }
-.four #dock .bid .diamond { color: var(--diamond); }
-.four #dock .bid .club { color: var(--club); }
-#dock .bid:disabled { background: var(--soft); }
-#dock .bid:disabled .suit { color: var(--off); }
-#dock .bid[aria-pressed=true] { background: var(--gold); }
-#dock.claimed { column-gap: clamp(.5rem, 8vw, 6rem); }
-#dock.claimed button { min-height: 3.25rem; }
 /* Between the boards. */
 .between #main { display: grid; grid-template-columns: repeat(auto-fit, minmax(min(100%, 26rem), 1fr)); gap: .75rem; align-items: start; width: 100%; }
 .between .panel { width: 100%; max-width: 40rem; margin: 0 auto; }
+.between:not(.goes-on) .panel { grid-column: 1 / -1; }
+.between #card :is(.who, th:nth-child(2)) { display: none; }
+#between-boards { flex: 1; }
 .round { display: flex; gap: .4rem; margin: 0; padding: 0; list-style: none; }
 .round li { display: grid; flex: 1; justify-items: center; padding: .2rem; border: 1px solid var(--edge); border-radius: .5rem; font-size: .875rem; }
 .round .now { color: var(--gold-ink); background: var(--gold); border-color: var(--gold); }
+.round .here { background: var(--soft); border-style: dashed; }
+.goes-on #clock { padding: .15rem .5rem; border-radius: .5rem; background: var(--gold); }
+.goes-on #clock :is(b, span) { color: var(--gold-ink); }
 
 /* Boards that are over, and the score card. */
 .boards #main { display: flex; flex-direction: column; flex: 1; max-width: 84rem; padding-bottom: 0; }
@@ -647,12 +755,17 @@ td.turn { font-weight: bold !important; }
 .tiles li { padding: .2rem .5rem; border: 1px solid var(--edge); border-radius: .5rem; font-size: .875rem; font-variant-numeric: tabular-nums; }
 .tiles .own { color: var(--gold-ink); background: var(--gold); border-color: var(--gold); }
 .figures { display: grid; grid-template-columns: repeat(auto-fit, minmax(5.5rem, 1fr)); gap: 0 .6rem; }
+.figure { padding: .5rem .6rem; }
 .figure p { margin: 0; }
+.figure .second { font-size: .8125rem; line-height: 1.2; }
 .figure .large { font-size: clamp(1.25rem, 5vw, 1.875rem); }
 .list { width: 100%; background: none; }
-.list th, .list td { border: 0; border-bottom: 1px solid var(--edge); padding: .35rem .25rem; text-align: left; }
-.list thead th { color: var(--second); font-size: .8125rem; }
+.list th, .list td { border: 0; border-bottom: 1px solid var(--line); padding: .35rem .25rem; text-align: left; }
+.list thead th { border-bottom-color: var(--edge); color: var(--second); font-size: .8125rem; }
+#tricks td, #tricks th { padding: .1rem .25rem; font-size: .9375rem; }
 .list .number { text-align: right; white-space: nowrap; }
+.list progress { width: 4rem; height: .45rem; margin-right: .4rem; accent-color: var(--blue); vertical-align: middle; }
+#card td button { padding: 0; border: 0; color: var(--blue); background: none; text-decoration: underline; }
 #dock.onward {
   position: sticky; bottom: 0; z-index: 1; display: flex; justify-content: center; gap: .5rem; margin: auto -.75rem 0;
   padding: .5rem .75rem max(.5rem, env(safe-area-inset-bottom)); background: var(--page); border-top: 1px solid var(--edge);
@@ -663,6 +776,7 @@ td.turn { font-weight: bold !important; }
 #parts button { flex: 1 1 auto; }
 #parts [aria-pressed=true] { color: var(--page); background: var(--ink); }
 #band .contract, #band .large { font-size: 1.375rem; }
+#band > p:first-child::first-letter { text-transform: uppercase; }
 #band .red { color: var(--felt-red); }
 #band .ten { letter-spacing: -.12em; }
 .four #band .diamond { color: #ffc48a; }
@@ -704,10 +818,13 @@ td.turn { font-weight: bold !important; }
 .board-picture b { grid-area: middle; display: grid; place-items: center; color: #12181c; background: #fff; font-size: 1.625rem; }
 .stepper { display: grid; grid-template-columns: auto auto 1fr auto auto; gap: .3rem; align-items: center; margin-top: .5rem; text-align: center; }
 .stepper p { margin: 0; font-size: .875rem; line-height: 1.2; }
-.stepper button { padding: 0; font-size: 1.25rem; }
+.stepper button { padding: 0 0 .25rem; font-size: 1.5rem; line-height: 1; }
 #step { width: 100%; min-height: 1.75rem; padding: 0; border: 0; background: none; accent-color: var(--blue); }
 .part > table:not(.list) { width: 100%; table-layout: fixed; background: none; }
-.part > table:not(.list) th, .part > table:not(.list) td { border: 0; padding: .2rem .1rem; overflow: hidden; text-overflow: ellipsis; white-space: nowrap; font-weight: normal; }
+.part > table:not(.list) :is(th, td) { border: 0; padding: .2rem .1rem; overflow: hidden; text-overflow: ellipsis; white-space: nowrap; font-weight: normal; }
+.part > table:not(.list) th { font-size: .8125rem; color: var(--plate-ink); background: var(--plate); }
+.part > table:not(.list) tbody tr:nth-child(even) { background: var(--soft); }
+.part > table:not(.list) td .bid { font-weight: bold; }
 @media (max-width: 55.99em) {
   .part { display: none; }
   .part-hands .hands, .part-play .play, .part-scores .scores { display: block; }
@@ -734,7 +851,15 @@ td.turn { font-weight: bold !important; }
   .over .parts { grid-template: "h s p" auto / 5fr 4fr 4fr; }
 }
 @media (max-width: 39.99em) {
-  #card .who, #card th:nth-child(2) { display: none; }
+  .list progress { display: none; }
+  :is(.boards, .final) #card, :is(.boards, .final) #card :is(thead, tbody) { display: block; }
+  :is(.boards, .final) #card tr {
+    display: grid; grid-template: "b c l t s w" auto "b a a a a a" auto / 3.25rem minmax(3.5rem, 1fr) 2.25rem 1.5rem 3.25rem 3.75rem; align-items: center; border-bottom: 1px solid var(--line);
+  }
+  :is(.boards, .final) #card :is(th, td) { padding: .1rem; border: 0; }
+  :is(.boards, .final) #card :is(th, td):first-child { grid-area: b; }
+  :is(.boards, .final) #card th:nth-child(2) { position: absolute; width: 1px; height: 1px; overflow: hidden; clip-path: inset(50%); }
+  :is(.boards, .final) #card .who { grid-area: a; padding-bottom: .4rem; font-size: .8125rem; color: var(--second); }
   .over #main { padding: .5rem .5rem 0; }
   .over .panel { padding: .5rem; }
   .over .banner { margin-bottom: .5rem; }
@@ -748,17 +873,29 @@ td.turn { font-weight: bold !important; }
   .suit-line > :not(.suit) { margin-right: .14rem; }
   .over #dock.onward { margin: auto -.5rem 0; }
 }
-@media (max-width: 39.99em) and (orientation: portrait) and (max-height: 44em) {
-  #dock.claimed { padding-top: .2rem; }
-  #dock.claimed button { min-height: 2.75rem; }
-}
 /* Large letters on a small screen: one below the other. */
 @media (max-width: 17em) {
-  .at-table { --tw: 2rem; --th: 2.75rem; }
+  .at-table { --tw: 2rem; --th: 2.75rem; --cw: 2.6rem; --fw: 2.6rem; --ch: 3.25rem; }
+  #heads { flex-basis: 60%; }
+  .bidding #stage { display: block; min-height: 0; padding: .3rem .5rem; }
+  .bidding .auction { position: static; max-height: none; }
+  .auction th { white-space: normal; overflow-wrap: anywhere; }
+  #hand .cards.cards { flex-direction: column; padding-right: .25rem; }
+  :is(#hand, .at-top) .line.line { display: flex; flex-wrap: wrap; gap: .25rem; }
+  :is(#hand, .at-top) .group { display: contents; }
+  #hand .card.card { margin: 0; }
+  #dock.box { grid-template-columns: repeat(6, minmax(0, 1fr)); }
+  #dock.box .bid { grid-column: span 2; }
+  #dock.box :is(.box-call, #confirm) { grid-column: span 3; }
+  #dock.play { grid-template-columns: 1fr 1fr; }
+  #dock.play button { flex-direction: column; }
+  #dock.play #claim-open + #confirm { grid-column: 1 / -1; }
+  #dock.claimed { grid-template-columns: minmax(0, 1fr); }
   #strip { flex-wrap: wrap; }
   #strip #calls { flex-basis: 100%; }
   .at-table:not(.bidding) #stage { grid-template: "top" auto "left" auto "mid" auto "right" auto / minmax(0, 1fr); }
-  .at-left > .plate, .at-right > .plate { flex-direction: row; }
+  :is(.at-left, .at-right) > .plate { flex-direction: row; width: fit-content; max-width: 100%; margin: 0; }
+  :is(.at-left, .at-right) > .plate span { display: block; }
   .over .diagram { grid-template: "top" auto "left" auto "middle" auto "right" auto "bottom" auto / minmax(0, 1fr); }
   .boards .panel, .between .panel { overflow-x: auto; }
   .stepper { grid-template-columns: repeat(4, 1fr); }
@@ -768,90 +905,19 @@ td.turn { font-weight: bold !important; }
   #parts, #dock.onward { flex-wrap: wrap; }
   #parts button, #dock.onward button { min-width: 0; max-width: 100%; overflow-wrap: anywhere; }
 }
-/* Nearer to the pictures. */
-.numbers { grid-template-columns: repeat(7, minmax(2.75rem, 1fr)); }
-.numbers button:first-child, .numbers button:last-child { grid-column: span 2; }
-.sheet > p:not(.second) { padding: .5rem .75rem; background: var(--soft); border-radius: .5rem; font-weight: bold; }
-.sheet .row > .send { flex: 1; min-height: 3.25rem; }
-.sheet .row { gap: .6rem; }
-#options { display: flex; flex-wrap: wrap; justify-content: space-between; align-items: center; }
-#options > h2 { margin: 0; }
-#options > fieldset { flex-basis: 100%; min-width: 0; }
-.sheet fieldset { padding: 0 .5rem; margin: .3rem 0; }
-legend { font-weight: bold; padding: 0 .3rem; }
-@media (min-width: 80em) { .director.on-rulings #opened .parts { grid-template: "h p" auto / 1fr 1fr; } }
-
-:root { --line: #d9d4c6; }
-@media (prefers-color-scheme: dark) { :root:not(.light) { --line: #33403a; --plate-edge: var(--edge); } }
-:root.dark { --line: #33403a; --plate-edge: var(--edge); }
-.plate { box-shadow: inset 0 0 0 1px var(--plate-edge, transparent); }
-.panel { border-color: var(--line); }
-.list th, .list td { border-bottom-color: var(--line); }
-.list thead th { border-bottom-color: var(--edge); }
-#chip { font-size: 1.0625rem; border-width: .55rem; }
-#dock #confirm .bid, #dock #confirm .suit { color: inherit; background: none; font-size: inherit; min-height: 0; }
-td.marked { outline: 2px dashed var(--blue); outline-offset: -2px; }
-#band > p:first-child::first-letter { text-transform: uppercase; }
-.banner p:nth-child(even) { text-align: right; }
-td.turn .red { color: var(--red); }
-@media (min-width: 40em) { .more { margin-left: -.375rem; } }
-.bidding .more { margin-left: -.2rem; }
-.part > table:not(.list) th { font-size: .8125rem; color: var(--plate-ink); background: var(--plate); }
-.part > table:not(.list) tbody tr:nth-child(even) { background: var(--soft); }
-.part > table:not(.list) td .bid { font-weight: bold; }
-#tricks td, #tricks th { padding: .1rem .25rem; font-size: .9375rem; }
-.figure { padding: .5rem .6rem; }
-.figure .second { font-size: .8125rem; line-height: 1.2; }
-.void-of { display: none; }
-.at-left .void-of, .at-right .void-of { display: flex; }
-.void .red { color: var(--text-red); }
-#strip summary > span:last-child { font-size: .875rem; white-space: nowrap; }
-.bidding .board-picture { display: none; }
-body.login { background: var(--felt); }
-body.login #bar { position: absolute; width: 1px; height: 1px; min-height: 0; overflow: hidden; clip-path: inset(50%); }
-body.login main { margin: auto !important; }
-body.login .panel { margin: 0 auto; padding: 1.25rem; border: 0; border-radius: 1rem; box-shadow: 0 6px 24px rgb(0 0 0 / 35%); position: relative; }
-body.login .panel input { text-align: left; border-width: 2px; }
-body.login .panel .send { font-size: 1.125rem; }
-body.login .second { font-size: .875rem; }
-body.login::before {
-  content: "\2660\fe0e\2665\fe0e\A\2666\fe0e\2663\fe0e"; white-space: pre; position: fixed; inset: 0; display: grid; place-content: center; color: rgb(255 255 255 / 7%);
-  font: 14rem/1.2 "Segoe UI Symbol", "Apple Symbols", "Noto Sans Symbols2", "DejaVu Sans", sans-serif; overflow: hidden; pointer-events: none;
-}
 @media (orientation: landscape) and (max-height: 30em) {
   #options { display: grid; grid-template-columns: repeat(3, 1fr); gap: 0 .75rem; align-items: start; }
   #options > h2 { grid-area: 1 / 1 / 2 / 3; align-self: center; margin: 0; }
   #options > button { grid-area: 1 / 3; }
   #options > fieldset { grid-row: 2; }
-  #choices .row { grid-column: 1 / -1; flex-wrap: nowrap; margin: 0; }
-  #choices { display: block; }
-  #dock.play, #dock.claimed { border-top: 0; }
-  #dock.play { color: var(--on-felt); background: var(--strip); }
-  #dock.play button { color: var(--ink); }
-  #dock.play .send { color: var(--on-blue); }
-  #dock.play button:disabled { color: var(--off); }
-  #dock.claimed { column-gap: .4rem; align-content: end; }
-  #dock.claimed button { min-height: 2.75rem; font-size: .875rem; }
+  #choices .row { flex-wrap: nowrap; margin: 0; }
+  body.login main { max-width: 46rem; }
+  .login .panel { display: grid; grid-template: "head key" auto "more key" 1fr / 1fr 1fr; gap: 0 1.5rem; }
+  .login-key { grid-area: key; }
+  .login-more { align-self: end; margin: 0; }
 }
-@media (max-width: 39.99em) and (orientation: portrait) and (min-height: 50em) {
-  .at-table { --tw: min(3.6875rem, calc((100vw - 11.9rem) / 3)); --th: 5.0625rem; }
-  #stage { grid-template-columns: 5rem minmax(0, 1fr) 5rem; }
-  .dummy-left, .dummy-right { --tw: 2.75rem; --th: 4.125rem; }
-}
-@media (min-width: 56em) and (orientation: landscape) and (min-height: 30.01em) {
-  .bidding .auction th br, #side th br { display: none; }
-  .bidding .auction th br + span, #side th br + span { position: absolute; width: 1px; height: 1px; overflow: hidden; clip-path: inset(50%); }
-  .bidding .auction td { font-size: 1.375rem; padding: .35rem .1rem; }
-  .bidding .board-picture { display: grid; grid-area: mid; place-self: start center; width: 9rem; height: 9rem; }
-  #side { display: flex; flex-direction: column; }
-}
-@media (min-width: 40em) and (orientation: portrait) and (min-height: 30.01em) {
-  .bidding #stage { grid-template: auto minmax(0, 1fr) / 8rem minmax(0, 1fr) 8rem; grid-template-areas: "top top top" "left mid right"; }
-  .bidding .at-left, .bidding .at-right, .bidding .at-top { display: block; }
-  .bidding .auction { align-self: center; }
-  .bidding .auction th br { display: none; }
-  .bidding .auction th br + span { position: absolute; width: 1px; height: 1px; overflow: hidden; clip-path: inset(50%); }
-  .bidding .auction td { font-size: 1.375rem; padding: .35rem .1rem; }
+@media (min-width: 40em) and (min-height: 30.01em) {
+  .login::before { content: "\2660\fe0e \2665\fe0e \2666\fe0e \2663\fe0e"; padding: 0 4rem; place-content: center stretch; white-space: normal; text-align-last: justify; font-size: 9rem; }
 }
 @media print {
   #bar button, button, summary, label, input, select, textarea, #status, #told, #tabs, #dock, #serving, #others, #on-tables, #lines, .director .panel:not(#publishing):not(#ranking) { display: none !important; }
@@ -881,7 +947,7 @@ const TEXTS = {
   bidName: (level, strain, doubled) => level + " " + strain + doubled,
   doubled: { X: " doubled", XX: " redoubled" },
   vulnerable: { None: "nobody vulnerable", NS: "North and South vulnerable", EW: "East and West vulnerable", All: "all vulnerable" },
-  vulnerableShort: { None: "nobody vul", NS: "N\u2013S vul", EW: "E\u2013W vul", All: "all vul" },
+  vulnerableShort: { None: "Nobody vul", NS: "N\u2013S vul", EW: "E\u2013W vul", All: "All vul" },
   you: "You",
   yes: "Yes",
   no: "No",
@@ -900,12 +966,13 @@ const TEXTS = {
   reallyLeave: "Really leave?",
   menu: "Menu",
   textAndPlay: "Text and play",
+  textAndColours: "Text and colours",
   sentTitle: "A call or card is sent",
   sentTwice: "by a second tap, or the button below",
   sentOnce: "at once",
   suitsTitle: "Suits",
-  suitsTwo: "in two colours",
-  suitsFour: "in four colours",
+  suitsTwo: "two colours",
+  suitsFour: "four colours",
   lightTitle: "Light",
   lights: { device: "as the device has it", light: "light", dark: "dark" },
 
@@ -975,8 +1042,10 @@ const TEXTS = {
   toCall: (seat) => seat + " to call",
   dueCall: "to call",
   callIt: "Call ",
+  bidIt: "Bid ",
   playIt: "Play ",
   sending: "Sending \u2026",
+  sendingIt: "Sending ",
   tapCard: "Tap a card",
   yourCard: "Your card",
   pleaseWait: "Please wait",
@@ -984,7 +1053,8 @@ const TEXTS = {
   deals: "deals",
   trickTo: (seat) => "Trick to " + seat,
   dealsShort: (seat) => seat + " deals",
-  atTable: (table, round, rounds) => " \u00b7 table " + table + " \u00b7 round " + round + " of " + rounds,
+  atTable: (table, round, rounds) => " \u00b7 Table " + table + " \u00b7 Round " + round + " of " + rounds,
+  boardOf: (index, count) => " \u00b7 " + (["1st", "2nd", "3rd"][index] || index + 1 + "th") + " of " + count + " boards",
   declarerShort: "decl.",
   declarer: "declarer",
   dummy: "dummy",
@@ -993,11 +1063,18 @@ const TEXTS = {
   ownDummy: "Your hand, which is dummy",
   table: "Table",
   lastTrick: "Last trick",
+  lastTrickTo: (seat) => "Last trick, won by " + seat,
+  backToPlay: "Back to the play",
   trickNow: "Trick",
   tally: (we, they) => "Tricks: we " + we + ", they " + they,
   tricksHead: "Tricks",
+  weTook: (tricks) => "We " + tricks,
+  theyTook: (tricks) => "They " + tricks,
   contract: "Contract",
   by: (seat, own) => (own ? "by you" : "by " + (TEXTS.seats[seat] || seat)),
+  bySeat: (seat, own) => "by " + TEXTS.seats[seat] + (own ? ", you" : ""),
+  toMake: (tricks, left) => tricks + " tricks needed: " + (left > 0 ? left + " to go" : "made"),
+  toBeat: (tricks, left) => "We need " + tricks + " to beat it: " + (left > 0 ? left + " to go" : "it is down"),
   needs: (tricks) => " \u00b7 needs " + tricks,
   weNeed: (tricks) => " \u00b7 we need " + tricks,
   theBoard: "The board",
@@ -1054,14 +1131,19 @@ const TEXTS = {
   isYou: (name) => "You, " + name,
   nextOf: (round, rounds) => "Next, round " + round + " of " + rounds,
   roundOf: (round, rounds) => "Round " + round + " of " + rounds,
-  tableRound: (table, round, rounds) => "Table " + table + ", round " + round + " of " + rounds,
+  sides: { N: "North\u2013South", E: "East\u2013West", S: "North\u2013South", W: "East\u2013West" },
+  pairOf: (pair) => "Pair " + pair,
+  with: (side, name) => ", " + side + " \u00b7 with " + name,
   tableSeat: (table, seat) => "Table " + table + ", " + seat,
   stay: "Stay at your table.",
   goTo: (table) => "Go to table " + table + ".",
+  youAreHere: "you are here",
+  youGoHere: "you go here",
   roundBegins: "The next round begins when the director ends this one.",
   notDealtYet: "The next board is not dealt yet.",
   boardsDone: "Your boards of this round are done. ",
   closed: "The session is closed.",
+  finalOf: (event) => event + ", final",
   ordinals: ["first", "second", "third", "fourth", "fifth", "sixth", "seventh", "eighth", "ninth", "tenth", "eleventh", "twelfth"],
   atPlace: (place) => "at place " + place,
   youAreOf: (place, among) => "You are " + place + " of " + among,
@@ -1071,13 +1153,14 @@ const TEXTS = {
   rankingOfPairs: (first, last) => "Ranking, pairs " + first + " to " + last,
   places: "Places of all pairs",
   placesOfPairs: (first, last) => "Places of pairs " + first + " to " + last,
-  rankingHeads: ["Place", "Pair", "Score", "Per cent"],
+  rankingHeads: ["Place", "Pair", "Score", "%"],
   names: "Names",
   both: (first, second) => first + " and " + second,
   allBoards: "All boards",
   roundSoFar: "This round",
   eveningSoFar: "Evening so far: ",
   now: "now",
+  next: "next",
 
   // A board that is over, and the score card.
   myBoards: "My boards",
@@ -1115,7 +1198,7 @@ const TEXTS = {
   tablesSoFar: (count) => (count === 1 ? "This table alone so far" : count + " tables so far"),
   ours: (worth) => "Ours: " + worth.replace("/", " of ") + ".",
   scoreCard: "Score card",
-  cardHeads: ["Board", "Against", "Contract", "Tr.", "Score", "So far"],
+  cardHeads: ["Board", "Against", "Contract", "Lead", "Tr.", "Score", "So far"],
   openBoard: (number) => "Open board " + number,
   boardsPlayed: (count) => (count === 1 ? "board played" : "boards played"),
   ofPoints: (of) => "of " + of + " matchpoints",
@@ -1143,11 +1226,12 @@ const TEXTS = {
   minutesAgo: (minutes) => (minutes === 0 ? "just now" : minutes === 1 ? "1 minute ago" : minutes + " minutes ago"),
   answered: "On my way",
   grant: "Take it back \u2026",
-  telling: "Tell all tables, and the clock",
+  telling: "Tell all tables",
   tellText: "A notice for all tables, up to 200 characters",
-  tellAll: "Tell all tables",
+  tellExample: "Tea after round 4",
+  tellAll: "Send",
   takeDown: "Take it down",
-  clockMinutes: "Minutes for the round",
+  clockMinutes: "Minutes",
   clockStart: "Start the clock",
   clockMore: "+ 2 min",
   clockStop: "Stop",
@@ -1172,10 +1256,12 @@ const TEXTS = {
   openTable: (table) => "Open table " + table,
   openedAt: (table, round) => "Table " + table + ", round " + round,
   allDone: "All tables have done their boards.",
-  stillPlaying: (tables) => (tables.length === 1 ? "Still at play: table " : "Still at play: tables ") + tables.join(", ") + ".",
+  tablesDone: (done, all) => done + " of " + all + " tables done",
+  stillOpen: (playing, undealt) => [["Still at play", playing], ["No deal yet", undealt]].filter(([, tables]) => tables.length)
+    .map(([what, tables]) => what + (tables.length === 1 ? ": table " : ": tables ") + tables.join(", ")),
   roundIs: (round, rounds, still) => "Round " + round + " of " + rounds + ". " + still,
   allEnded: "All rounds are ended",
-  endWaits: (round, tables) => "End round " + round + ": still at play at " + (tables.length === 1 ? "table " : "tables ") + tables.join(", "),
+  endWaits: (round, open) => "End round " + round + ". " + open.join("; "),
   endRound: (round, last) => "End round " + round + (last ? ", and close the session" : ""),
   endOf: (round) => "End of round " + round,
   endTheRound: "End the round",
@@ -1194,7 +1280,9 @@ const TEXTS = {
   to: "to",
   shuffle: "Shuffle",
   dealFile: "Or from a dealing program",
-  chooseFile: "A file of deals (PBN)",
+  chooseFile: "Choose a PBN file",
+  noFile: "No file is chosen.",
+  fileHas: (name, count) => name + ": " + count + (count === 1 ? " deal" : " deals"),
   dealText: "or their text: PBN, or lines such as 1 N:AKQJ.T98.765.432 ...",
   dealtWrongly: "A board that was dealt wrongly",
   undealHelp: "As long as nobody has called on it.",
@@ -1207,7 +1295,7 @@ const TEXTS = {
   round: "Round",
   tableField: "Table",
   boardField: "Board",
-  rulings: "Rulings",
+  rule: "Rule",
   openPlay: "Show this play",
   per: [["60", "60: in no way at fault"], ["50", "50: partly at fault"], ["40", "40: directly at fault"]],
   setTricksTo: (tricks) => "Set declarer's tricks to " + tricks,
@@ -1483,11 +1571,15 @@ function showLogin() {
       event.preventDefault();
       key = field.value.replace(/\s/g, "");
       say("notice", "");
+      say("wrong", "");
       look();
     };
-    const form = make("form", { onsubmit: enter, className: "panel" }, make("label", { for: "key" }, TEXTS.yourKey), field,
-      make("p", { className: "second" }, TEXTS.keyHelp), make("button", { type: "submit", className: "send" }, TEXTS.sitDown),
-      make("p", { className: "second" }, TEXTS.slipLost));
+    field.setAttribute("aria-describedby", "wrong key-help");
+    const form = make("form", { onsubmit: enter, className: "panel" },
+      make("div", { className: "login-head" }, make("p", { className: "large", aria_hidden: "true" }, TEXTS.title)),
+      make("div", { className: "login-key" }, make("label", { for: "key" }, TEXTS.yourKey), field, make("p", { id: "wrong", role: "alert" }),
+        make("p", { id: "key-help", className: "second" }, TEXTS.keyHelp), make("button", { type: "submit", className: "send" }, TEXTS.sitDown)),
+      make("div", { className: "login-more" }, make("p", { className: "second" }, TEXTS.slipLost), button(TEXTS.textAndColours, "", "colours", true, showMenu)));
     field.oninput = () => {
       field.setAttribute("aria-invalid", "false");
       if (field.selectionStart === field.value.length) field.value = field.value.replace(/\s/g, "").replace(/(\d{3})(?=\d)/g, "$1 ");
@@ -1595,7 +1687,7 @@ async function lookOnce(asked) {
 
 function refuse(refused) {
   leave();
-  say("notice", TEXTS.refusals[refused] || TEXTS.noKey);
+  say("wrong", TEXTS.refusals[refused] || TEXTS.noKey);
   at("key").setAttribute("aria-invalid", "true");
 }
 
@@ -1716,6 +1808,9 @@ function cardNodes(card) {
     make("span", { className: "suit", aria_hidden: "true" }, SIGNS[card[0]])];
 }
 
+// A card in a text, its suit before its rank.
+const cardInText = (card, label) => make("span", { className: SUIT_CLASSES[card[0]].trim(), role: "img", aria_label: label }, ...cardNodes(card).reverse());
+
 // A call as text nodes; doubles stand behind the bid in a contract.
 function callNodes(call) {
   if (call === "PASS") return [make("span", { className: "pass" }, TEXTS.pass)];
@@ -1764,6 +1859,8 @@ function allowedCall(view, call) {
 // A call or card that was tapped once; which board's claim is being made, and of how many tricks; whether the last trick is looked at.
 let marked = null;
 let claiming = null;
+// The call or card that is on its way, in whose place it is shown already; else empty.
+let onWay = "";
 let looking = false;
 let drawn = () => {};
 let movedAt = 0;
@@ -1804,12 +1901,14 @@ function send(line) {
   return act(line);
 }
 
+// What a name stands for, as of a card or a call that can be tapped.
+const namedNodes = (what) => (what === "" ? [] : what.startsWith("card-") ? cardNodes(what.slice(5)).reverse() : callNodes(what.slice(5)));
+
 function confirmButton(prompt, sending) {
   const ready = marked !== null && !busy;
-  const label = busy ? TEXTS.sending : marked ? [sending,
-    ...(marked.what.startsWith("card-") ? cardNodes(marked.what.slice(5)).reverse() : callNodes(marked.what.slice(5)))] : prompt;
+  const label = busy ? [onWay ? TEXTS.sendingIt : TEXTS.sending, ...namedNodes(onWay)] : marked ? [sending, ...namedNodes(marked.what)] : prompt;
   const node = button(make("span", null, ...[].concat(label)), "", "confirm", ready, () => { if (marked) send(marked.line); });
-  if (ready) node.className = "send";
+  node.className = ready ? "send" : busy ? "sending" : "";
   return node;
 }
 
@@ -1842,11 +1941,11 @@ function biddingBox(view) {
     const line = "CALL " + key + " " + view.board + " " + view.made.calls + " " + word;
     const node = button(label, name, id, mine && allowedCall(view, word), (event) => choose(id, line, event));
     node.className = className;
-    node.setAttribute("aria-pressed", String(marked !== null && marked.what === id));
+    node.setAttribute("aria-pressed", String(onWay === id || (marked !== null && marked.what === id)));
     return node;
   };
   const cells = [call("PASS", TEXTS.pass, "", "box-call"), call("X", "X", TEXTS.double, "box-call"), call("XX", "XX", TEXTS.redouble, "box-call"),
-    confirmButton(mine ? (isSafe() ? TEXTS.tapCall : TEXTS.yourCall) : TEXTS.toCall(SEAT_NAMES[view.turn]), TEXTS.callIt)];
+    confirmButton(mine ? (isSafe() ? TEXTS.tapCall : TEXTS.yourCall) : TEXTS.toCall(SEAT_NAMES[view.turn]), marked && isBid(marked.what.slice(5)) ? TEXTS.bidIt : TEXTS.callIt)];
   for (let level = 1; level <= 7; level += 1) {
     for (const strain of STRAINS) {
       const word = level + strain;
@@ -1957,10 +2056,12 @@ function auctionTable(place, view) {
     make("span", { aria_label: SEAT_NAMES[seat] }, seat === view.seat && view.isOwn !== false ? TEXTS.you : place.names ? place.names[seat] : ""))));
   const cells = Array(columns.indexOf(view.dealer)).fill("").concat(view.calls);
   const rows = [];
-  for (let i = 0; i < cells.length + (due ? 1 : 0); i += 4) {
+  // An auction at play has room for twelve calls, so that it stays where it is.
+  for (let i = 0; i < Math.max(cells.length + (due ? 1 : 0), due ? 12 : 0); i += 4) {
     rows.push(make("tr", null, ...[0, 1, 2, 3].map((j) => {
       const dueHere = due !== null && i + j === cells.length;
-      if (dueHere && marked && marked.what.startsWith("call-")) return make("td", { className: "turn marked" }, ...callNodes(marked.what.slice(5)));
+      const chosen = dueHere ? onWay || (marked ? marked.what : "") : "";
+      if (chosen.startsWith("call-")) return make("td", { className: "turn marked" }, ...namedNodes(chosen));
       if (dueHere) return make("td", { className: "turn", aria_label: TEXTS.dueCall }, "?");
       return make("td", null, ...(cells[i + j] ? callNodes(cells[i + j]) : [""]));
     })));
@@ -2002,7 +2103,8 @@ function handNode(view, hand, label, id, mine, where) {
   };
   const voidNode = (suit) => make("div", { className: "group void-of in-" + suit }, make("span", { className: "void" }, suitSign(suit), " \u2013"));
   const group = ([suit, ranks]) => (ranks === "" ? voidNode(suit)
-    : make("div", { className: "group in-" + suit + (ranks[0] === hand[suit][0] ? "" : " more") }, ...[...ranks].map((rank) => card(suit, rank))));
+    : make("div", { className: "group in-" + suit + (ranks[0] === hand[suit][0] ? "" : " more") },
+      ...[...ranks].filter((rank) => onWay !== "card-" + suit + rank).map((rank) => card(suit, rank))));
   const isShown = ([suit, ranks]) => ranks !== "" || (id === "dummy" && hand[suit] === "");
   const suits = where === "left" || where === "right" ? SUITS.map((suit) => [[suit, hand[suit]]]) : rowsOf(hand, view.board, id);
   const rows = suits.map((row) => row.filter(isShown)).filter((row) => row.length > 0);
@@ -2021,17 +2123,22 @@ function plate(place, view, seat) {
   return node;
 }
 
+// A card of a trick, on the side of who played it.
+function cardOnTable(view, { seat, card }, won) {
+  return make("span", { className: "played " + placeOf(view, seat) + SUIT_CLASSES[card[0]] + (won ? " won" : ""), role: "img",
+    aria_label: SEAT_NAMES[seat] + ": " + cardName(card) }, ...cardNodes(card));
+}
+
 // The trick on the table: the one at play, or the last whole one until the next card is led.
 function trickNode(view) {
-  const whole = view.trick.length === 0;
+  const sent = onWay.startsWith("card-") ? cardOnTable(view, { seat: view.turn, card: onWay.slice(5) }, false) : null;
+  const whole = view.trick.length === 0 && sent === null;
   const trick = whole ? view.last : view.trick;
-  const node = make("div", { className: "trick", role: "group", aria_label: whole && trick.length ? TEXTS.lastTrick : TEXTS.trickNow });
-  for (const { seat, card } of trick) {
-    const won = whole && seat === view.turn;
-    node.append(make("span", { className: "played " + placeOf(view, seat) + SUIT_CLASSES[card[0]] + (won ? " won" : ""), role: "img",
-      aria_label: SEAT_NAMES[seat] + ": " + cardName(card) }, ...cardNodes(card)));
-  }
-  if (!whole && onTurn(view)) node.append(make("span", { className: "due " + placeOf(view, view.turn), aria_hidden: "true" }, view.turn));
+  const node = make("div", { className: "trick", role: "group", aria_label: whole && trick.length ? TEXTS.lastTrick : TEXTS.trickNow },
+    ...trick.map((one) => cardOnTable(view, one, whole && one.seat === view.turn)));
+  if (sent) sent.className += " sent";
+  if (sent) node.append(sent);
+  else if (!whole && onTurn(view)) node.append(make("span", { className: "due " + placeOf(view, view.turn), aria_hidden: "true" }, view.turn));
   return node;
 }
 
@@ -2043,47 +2150,60 @@ function stageNode(place, view, middle) {
     if (where === "bottom") continue;
     const box = make("div", { className: "at-" + where }, plate(place, view, seat));
     if (view.playing && seat === dummy && view.dummy) box.append(handNode(view,
-      view.dummy, TEXTS.dummyHand(SEAT_NAMES[seat]), "dummy", handPlayed(place, view) === "dummy", where));
+      view.dummy, TEXTS.dummyHand(SEAT_NAMES[seat]), "dummy", !busy && handPlayed(place, view) === "dummy", where));
     node.append(box);
   }
   node.append(middle);
   return node;
 }
 
+// The tricks of this player's side and of the other.
+const sidesOf = (view) => (view.seat === "N" || view.seat === "S" ? [view.tricks.NS, view.tricks.EW] : [view.tricks.EW, view.tricks.NS]);
+
 // The tricks as cards are turned at a table: ours upright, theirs lying.
-function tallyNode(place, view) {
-  const [we, they] = view.seat === "N" || view.seat === "S" ? [view.tricks.NS, view.tricks.EW] : [view.tricks.EW, view.tricks.NS];
+function tallyNode(view) {
+  const [we, they] = sidesOf(view);
   const marks = Array(Number(we)).fill("ours").concat(Array(Number(they)).fill("theirs"), Array(13 - Number(we) - Number(they)).fill(""));
-  return [make("span",
-    { className: "tally", role: "img", aria_label: TEXTS.tally(we, they) }, ...marks.map((mark) => make("i", { className: mark }))),
-    make("span", { className: "score", aria_hidden: "true" }, we + "\u2013" + they)];
+  return make("span", { className: "tally", role: "img", aria_label: TEXTS.tally(we, they) }, ...marks.map((mark) => make("i", { className: mark })));
 }
 
-function contractNodes(place, view, short) {
-  const { bid, declarer } = place.contract;
-  const ours = declarer === view.seat || declarer === partner(view.seat);
-  const needs = 6 + Number(bid[0]);
-  const words = (short && declarer !== view.seat ? declarer : TEXTS.by(declarer, declarer === view.seat)) + (ours ? TEXTS.needs(needs) : TEXTS.weNeed(14 - needs));
-  return [make("span", { className: "contract", aria_label: callName(bid) }, ...callNodes(bid)), make("span", null, words)];
+// The contract, and how many tricks this side needs.
+const contractNode = ({ bid }) => make("span", { className: "contract", aria_label: callName(bid) }, ...callNodes(bid));
+const isOurs = (view, declarer) => declarer === view.seat || declarer === partner(view.seat);
+const needed = (view, { bid, declarer }) => (isOurs(view, declarer) ? 6 + Number(bid[0]) : 8 - Number(bid[0]));
+
+function stripNode({ contract }, view, auction) {
+  const { declarer } = contract;
+  const words = (declarer === view.seat ? TEXTS.by(declarer, true) : declarer)
+    + (isOurs(view, declarer) ? TEXTS.needs : TEXTS.weNeed)(needed(view, contract));
+  const calls = make("details", { id: "calls" }, make("summary", null, contractNode(contract), make("span", null, words)), make("div", null, auction));
+  return make("section", { id: "strip", aria_label: TEXTS.contract }, calls, tallyNode(view),
+    make("span", { className: "score", aria_hidden: "true" }, sidesOf(view).join("\u2013")));
 }
 
-function stripNode(place, view) {
-  const calls = make("details", { id: "calls" }, make("summary", null, ...contractNodes(place, view, true)), make("div", null, auctionTable(place, view)));
-  return make("section", { id: "strip", aria_label: TEXTS.contract }, calls, ...tallyNode(place, view));
+// Who won the last trick.
+const lastWinner = (place, view) => winnerOf(view.last, strainOf(place.contract.bid)[0]);
+
+function lastTrickNodes(place, view) {
+  const winner = lastWinner(place, view);
+  return view.last.map(({ seat, card }) => make("span", { className: seat === winner ? "won" : "" },
+    make("span", { className: "second", aria_hidden: "true" }, seat + " "), cardInText(card, SEAT_NAMES[seat] + ": " + cardName(card))));
 }
 
-function lastTrickNodes(view) {
-  return view.last.map(({ seat, card }) => make("span", { className: "field" },
-    seat + " ",
-    make("span", { className: SUIT_CLASSES[card[0]].trim(), role: "img", aria_label: SEAT_NAMES[seat] + ": " + cardName(card) }, ...cardNodes(card).reverse())));
-}
-
+// What stands beside the table: the contract and the tricks, the last trick, the auction and the round.
 function sideNode(place, view) {
+  const { contract } = place;
+  const [we, they] = sidesOf(view);
+  const due = needed(view, contract);
+  const part = (name, title, ...nodes) => make("section", { className: "side-" + name }, make("h2", null, title), ...nodes);
   const node = make("aside", { id: "side", aria_label: TEXTS.theBoard },
-    make("p", null, ...contractNodes(place, view)), make("h2", null, TEXTS.tricksHead),
-    make("p", { className: "row" }, ...tallyNode(place, view)));
-  if (view.last.length) node.append(make("h2", null, TEXTS.lastTrick), make("p", { className: "row" }, ...lastTrickNodes(view)));
-  node.append(make("h2", null, TEXTS.auction), auctionTable(place, view), make("h2", null, TEXTS.roundSoFar), roundNode(place, view));
+    make("section", { className: "side-contract" }, contractNode(contract), make("span", null, make("b", null, TEXTS.bySeat(contract.declarer, contract.declarer === view.seat)), make("br"),
+      (isOurs(view, contract.declarer) ? TEXTS.toMake : TEXTS.toBeat)(due, due - Number(we)))),
+    part("tricks", TEXTS.tricksHead, make("p", null, make("span", null, TEXTS.weTook(we)), tallyNode(view), make("span", null, TEXTS.theyTook(they)))));
+  if (view.last.length) node.append(part("last", TEXTS.lastTrickTo(SEAT_NAMES[lastWinner(place, view)]), make("p", null, ...lastTrickNodes(place, view))));
+  const all = worthOfAll(told.boards);
+  node.append(part("auction", TEXTS.auction, auctionTable(place, view)),
+    part("round", TEXTS.roundSoFar, roundNode(place, view), ...(all ? [make("p", null, TEXTS.eveningSoFar, worthOfSome(all))] : [])));
   return node;
 }
 
@@ -2128,8 +2248,7 @@ function claimSheet(place, view) {
     node.setAttribute("aria-pressed", String(claiming.tricks === tricks));
     return node;
   };
-  const numbers = Array.from({ length: left + 1 },
-    (_none, tricks) => choice(tricks, tricks === 0 ? TEXTS.claimNone : tricks === left ? TEXTS.claimAll(left) : String(tricks)));
+  const some = Array.from({ length: left - 1 }, (_none, i) => choice(i + 1, String(i + 1)));
   const line = "CLAIM " + key + " " + view.board + " " + view.made.claims + " " + claiming.tricks;
   const said = make("input", { id: "claim-says", type: "text", maxLength: 100, value: saying, oninput: () => { saying = said.value; } });
   // What is said goes with the claim once that stands.
@@ -2140,16 +2259,19 @@ function claimSheet(place, view) {
   };
   const claim = button(TEXTS.claimTricks(claiming.tricks), "", "claim-button", true, (event) => (isDeaf(event) ? undefined : makeIt()));
   claim.className = "send";
-  return sheet("claiming", TEXTS.claimTitle,
-    make("h2", null, TEXTS.claimOf(left)), make("div", { className: "numbers" }, ...numbers),
+  return sheet("claiming", TEXTS.claimTitle, make("h2", null, TEXTS.claimTitle), make("div", null, TEXTS.claimOf(left)),
+    make("div", { className: "numbers" }, ...some), make("div", { className: "ends" }, choice(0, TEXTS.claimNone), choice(left, TEXTS.claimAll(left))),
     make("p", null, claimWords(place, view, view.seat, claiming.tricks) + "."),
-    make("label", { for: "claim-says" }, TEXTS.claimSays), said, make("p", { className: "second" }, TEXTS.claimHelp),
+    make("div", { className: "says" }, make("label", { for: "claim-says" }, TEXTS.claimSays), said), make("p", { className: "second" }, TEXTS.claimHelp),
     make("div", { className: "row" }, button(TEXTS.back, "", "claim-back", true, () => { claiming = null; drawn(); }), claim));
 }
 
-function lastSheet(view) {
-  return sheet("last-trick", TEXTS.lastTrick, make("h2", null, TEXTS.lastTrick),
-    make("div", { className: "row" }, ...lastTrickNodes(view)), button(TEXTS.close, "", "last-close", true, () => { looking = false; drawn(); }));
+function lastSheet(place, view) {
+  const winner = lastWinner(place, view);
+  const close = button(TEXTS.backToPlay, "", "last-close", true, () => { looking = false; drawn(); });
+  close.className = "send";
+  return sheet("last-trick", TEXTS.lastTrick, make("h2", null, TEXTS.lastTrickTo(SEAT_NAMES[winner])),
+    make("div", { className: "trick" }, ...view.last.map((one) => cardOnTable(view, one, one.seat === winner))), close);
 }
 
 // Answers to a claim that this player is asked for.
@@ -2206,17 +2328,17 @@ function isMine(place, view) {
 function playNodes(place, view) {
   const dummy = dummyOf(place);
   const own = handNode(view, view.hand,
-    view.seat === dummy && view.playing ? TEXTS.ownDummy : TEXTS.ownHand(SEAT_NAMES[view.seat]), "hand", handPlayed(place, view) === "own");
+    view.seat === dummy && view.playing ? TEXTS.ownDummy : TEXTS.ownHand(SEAT_NAMES[view.seat]), "hand", !busy && handPlayed(place, view) === "own");
   if (!view.playing || !place.contract) {
     const stage = stageNode(place, view, make("div", { id: "auction", className: "auction" }, auctionTable(place, view)));
     // The board lies there while there is room.
-    if (view.calls.length < 8) stage.append(boardPicture({ number: Number(view.board), side: "NS", calls: [] }, view.seat));
+    if (view.calls.length < 9) stage.append(boardPicture({ number: Number(view.board), side: "NS", calls: [] }, view.seat));
     return [stage, own, biddingBox(view)];
   }
-  const nodes = [stripNode(place, view), stageNode(place, view, trickNode(view)), own];
+  const nodes = [stripNode(place, view, auctionTable(place, view)), stageNode(place, view, trickNode(view)), own];
   if (claiming && (claiming.board !== view.board || view.claim || view.trick.length > 0)) claiming = null;
   if (claiming) nodes.push(claimSheet(place, view));
-  else if (looking && view.last.length) nodes.push(lastSheet(view));
+  else if (looking && view.last.length) nodes.push(lastSheet(place, view));
   nodes.push(view.claim && place.answer ? answerDock(place, view) : playDock(place, view), sideNode(place, view));
   return nodes;
 }
@@ -2302,18 +2424,24 @@ function namesNode(place) {
 // What the evening has come to so far, and the way to the score card.
 function soFarNodes() {
   const all = worthOfAll(told.boards);
-  const words = all ? [make("p", null, TEXTS.eveningSoFar, make("b", null, all.percent ? TEXTS.percent(all.percent) : TEXTS.imps(all.points)))] : [];
+  const words = all ? [make("p", null, TEXTS.eveningSoFar, make("b", null, worthOfSome(all)))] : [];
   return [...words, make("div", { className: "row" }, button(TEXTS.myBoards, "", "between-boards", true, () => turnLeaf({ card: true })))];
 }
 
-function betweenNodes(place, done) {
+// The table at which he sits and the one to which he goes.
+function wayNodes(table, next) {
+  if (!table || table.number === next.number) return [];
+  const tile = (className, number, words) => make("li", { className }, make("b", null, number), words);
+  return [make("ol", { className: "round" }, tile("here", table.number, TEXTS.youAreHere), tile("now", next.number, TEXTS.youGoHere))];
+}
+
+function betweenNodes(place, next) {
   const nodes = [];
-  const next = done && place.next;
   if (next) {
     nodes.push(make("section", { className: "panel" }, make("p", { className: "second" }, TEXTS.nextOf(place.round + 1, place.rounds)),
       make("p", { className: "large" }, TEXTS.tableSeat(next.number, SEAT_NAMES[next.seat])),
       make("p", null, TEXTS.boardsOf(next.first, next.last) + ". ",
-        make("b", null, place.table && next.number === place.table.number ? TEXTS.stay : TEXTS.goTo(next.number))),
+        make("b", null, place.table && next.number === place.table.number ? TEXTS.stay : TEXTS.goTo(next.number))), ...wayNodes(place.table, next),
       make("p", { className: "second" }, TEXTS.roundBegins)));
   }
   const here = make("section", { className: "panel" }, make("p", { className: "second" }, TEXTS.roundOf(place.round, place.rounds)));
@@ -2335,8 +2463,9 @@ function barFor(place, view) {
   const chip = at("chip");
   chip.hidden = !view;
   if (!view) {
-    at("title").textContent = headText(place);
-    at("below").textContent = place.table ? TEXTS.tableRound(place.table.number, place.round, place.rounds) : TEXTS.roundOf(Math.min(place.round, place.rounds), place.rounds);
+    const { table, names } = place;
+    at("title").textContent = shownName(place.pair, place.name);
+    at("below").textContent = TEXTS.pairOf(place.pair) + (table ? TEXTS.with(TEXTS.sides[table.seat], names[partner(table.seat)]) : "");
     return;
   }
   const ours = view.seat === "N" || view.seat === "S" ? "NS" : "EW";
@@ -2347,7 +2476,13 @@ function barFor(place, view) {
   chip.setAttribute("aria-label", TEXTS.boardWords(view.board, SEAT_NAMES[view.dealer], vulnerableText(view.vulnerable)));
   at("title").textContent = TEXTS.board(view.board);
   at("below").replaceChildren(TEXTS.dealsShort(view.dealer) + " \u00b7 " + TEXTS.vulnerableShort[view.vulnerable],
-    make("span", { className: "wide" }, place.table ? TEXTS.atTable(place.table.number, place.round, place.rounds) : ""));
+    make("span", { className: "wide" }, place.table ? TEXTS.atTable(place.table.number, place.round, place.rounds) + whichBoard(place.table, view.board) : ""));
+}
+
+// Which of the boards of this round it is, where it is one of them.
+function whichBoard({ first, last }, board) {
+  const [index, count] = [Number(board) - Number(first), Number(last) - Number(first) + 1];
+  return index >= 0 && index < count ? TEXTS.boardOf(index, count) : "";
 }
 
 // The classes by which the style lays the page out.
@@ -2376,7 +2511,8 @@ function showView(placeReply, reply) {
     drawn = () => {};
     if (showLeaf(place, TEXTS.toNext)) return;
     barFor(place, null);
-    show(made + told.text, status, "between", () => betweenNodes(place, done || refused === "SitsOut"));
+    const goesTo = (done || refused === "SitsOut") && place.next;
+    show(made + told.text, status, "between" + (goesTo ? " goes-on" : ""), () => betweenNodes(place, goesTo));
     return;
   }
   const view = readView(reply);
@@ -2417,7 +2553,10 @@ async function showClosed(placeReply, asked, mine) {
   turnTitle(false);
   drawn = () => {};
   if (showLeaf(place, TEXTS.toNext)) return;
-  barFor(place, null);
+  const [event, where] = results.text.split("\n").map((line) => line.replace(/-/g, " "));
+  at("chip").hidden = true;
+  at("title").textContent = TEXTS.finalOf(event);
+  at("below").textContent = where;
   const both = [first, second].filter((reply) => !refusal(reply));
   show(made + results.text + told.text, TEXTS.closed, "final", () => finalNodes(place, both));
 }
@@ -2487,12 +2626,14 @@ async function act(line) {
   busy = true;
   turn += 1;
   say("notice", "");
-  for (const node of at("main").querySelectorAll("button")) node.disabled = true;
+  onWay = /^C(ALL|ARD) /.test(line) ? line.slice(0, 4).toLowerCase() + "-" + line.split(" ").pop() : "";
+  drawn();
   const slow = setTimeout(() => say("notice", TEXTS.slow), SLOW);
   // The answer, and what there is to see then.
   const reply = await ask("/lines", line + "\nSEE " + asked + "\n");
   clearTimeout(slow);
   busy = false;
+  onWay = "";
   if (at("notice").textContent === TEXTS.slow) say("notice", "");
   if (key !== asked) return key === null ? undefined : look();
   shown = "";
@@ -2524,15 +2665,19 @@ function chosen() {
   drawn();
 }
 
-// The menu: of a player his boards, how he sends and how cards look; of all light and dark, and to leave.
+// The suits in the colours of a choice.
+const suitsIn = (colours, words) => make("span", null, make("span", { className: colours + " suits", aria_hidden: "true" }, ...SUITS.map(suitSign)), " " + words);
+
+// The menu: of a player his boards, how he sends and how cards look; of all light and dark, and to leave who has logged in.
 function showMenu() {
-  const options = [choiceOf(TEXTS.lightTitle, "light", lightNow(), Object.entries(TEXTS.lights))];
-  if (document.body.className !== "director") {
+  const options = [choiceOf(TEXTS.suitsTitle, "suits", sessionStorage.getItem("suits") || "two", [["two", suitsIn("two", TEXTS.suitsTwo)], ["four", suitsIn("four", TEXTS.suitsFour)]]),
+    choiceOf(TEXTS.lightTitle, "light", lightNow(), Object.entries(TEXTS.lights))];
+  if (key !== null && !isDirector()) {
     options.unshift(button(TEXTS.myBoards, "", "menu-boards", true, () => { closeMenu(); turnLeaf({ card: true }); }),
-      choiceOf(TEXTS.sentTitle, "sent", isSafe() ? "twice" : "once", [["twice", TEXTS.sentTwice], ["once", TEXTS.sentOnce]]),
-      choiceOf(TEXTS.suitsTitle, "suits", sessionStorage.getItem("suits") || "two", [["two", TEXTS.suitsTwo], ["four", TEXTS.suitsFour]]));
+      choiceOf(TEXTS.sentTitle, "sent", isSafe() ? "twice" : "once", [["twice", TEXTS.sentTwice], ["once", TEXTS.sentOnce]]));
   }
-  at("options").replaceChildren(make("h2", null, TEXTS.textAndPlay), ...options);
+  at("options").replaceChildren(make("h2", null, key === null ? TEXTS.textAndColours : TEXTS.textAndPlay), ...options);
+  at("leave").hidden = key === null;
   at("choices").hidden = false;
   [...at("options").querySelectorAll("button"), ...at("options").querySelectorAll("input")][0].focus();
 }
@@ -2543,14 +2688,15 @@ function closeMenu() {
 
 at("choices").onkeydown = holdTab;
 at("menu").onclick = () => { if (at("choices").hidden) showMenu(); else closeMenu(); };
-at("chosen").onclick = () => { closeMenu(); at("menu").focus(); };
-at("menu").textContent = TEXTS.menu;
+at("chosen").onclick = () => { closeMenu(); (at("colours") || at("menu")).focus(); };
+at("menu").setAttribute("aria-label", TEXTS.menu);
 at("chosen").textContent = TEXTS.done;
 window.addEventListener("resize", showNewest);
 document.addEventListener("keydown", (event) => {
   if (event.key !== "Escape") return;
   if (!at("choices").hidden) at("chosen").onclick();
   closeCall();
+  if (at("no")) at("no").click();
   if (marked || claiming || looking) { unmark(); drawn(); }
 });
 chosen();
@@ -2681,14 +2827,19 @@ function worthText(worth) {
   return Number(of) === 0 ? "" : TEXTS.percent((100 * Number(points) / Number(of)).toFixed(1));
 }
 
+// The same beside a bar where it is in per cent.
+function worthNodes(worth) {
+  const text = worthText(worth);
+  const [points, of] = text ? worth.split("/").map(Number) : [];
+  return of === undefined ? [text] : [make("progress", { max: of, value: points, aria_hidden: "true" }), text];
+}
+
 function bandNode(board, seat) {
   const { result } = board;
   const lead = board.cards.length ? board.cards[0] : null;
   const words = result.bid ? [...resultNodes(result, seat), ", " + TEXTS.made(result.tricks - 6 - Number(result.bid[0]))] : resultNodes(result, seat);
   const below = result.bid ? [TEXTS.tricks(result.tricks) + (lead ? " \u00b7 " : "")] : [];
-  if (lead) below.push(TEXTS.lead + " ",
-    make("span", { role: "img", aria_label: cardName(lead.card), className: SUIT_CLASSES[lead.card[0]].trim() }, ...cardNodes(lead.card).reverse()),
-    " " + TEXTS.by(lead.seat, lead.seat === seat));
+  if (lead) below.push(TEXTS.lead + " ", cardInText(lead.card, cardName(lead.card)), " " + TEXTS.by(lead.seat, lead.seat === seat));
   return make("section", { id: "band", className: "banner", aria_label: TEXTS.result },
     make("p", { className: "large" }, ...words), make("p", { className: "large" }, scoreText(board)),
     make("p", null, ...below), make("p", null, worthText(board.worth) && TEXTS.soFar(worthText(board.worth))));
@@ -2732,12 +2883,8 @@ function trickPicture(board, own, step) {
   const view = viewOf(board, own);
   const { trick } = board.cards[step - 1];
   const node = make("div", { className: "trick", role: "group", aria_label: TEXTS.trick(trick + 1) });
-  for (const { seat, card, winner } of board.cards.slice(0, step).filter((one) => one.trick === trick)) {
-    const won = winner === seat && board.cards.slice(0, step).filter((one) => one.trick === trick).length === 4;
-    node.append(make("span",
-      { className: "played " + placeOf(view, seat) + SUIT_CLASSES[card[0]] + (won ? " won" : ""), role: "img", aria_label: SEAT_NAMES[seat] + ": " + cardName(card) },
-      ...cardNodes(card)));
-  }
+  const cards = board.cards.slice(0, step).filter((one) => one.trick === trick);
+  node.append(...cards.map((one) => cardOnTable(view, one, cards.length === 4 && one.winner === one.seat)));
   return node;
 }
 
@@ -2755,8 +2902,8 @@ function steppedNode(board, own, step, stepped) {
   const slider = make("input",
     { id: "step", type: "range", min: 0, max: board.cards.length, step: 1, aria_label: TEXTS.stepThrough, oninput: () => go(Number(slider.value)) });
   const buttons = [
-    ["first", "\u21e4", () => 0], ["back", "\u2190", (now) => now - 1], ["on", "\u2192", (now) => now + 1],
-    ["end", "\u21e5", () => board.cards.length]]
+    ["first", "|\u2039", () => 0], ["back", "\u2039", (now) => now - 1], ["on", "\u203a", (now) => now + 1],
+    ["end", "\u203a|", () => board.cards.length]]
     .map(([name, sign, to]) => make("button",
       { type: "button", id: "step-" + name, aria_label: TEXTS.steps[name], onclick: () => go(to(Number(slider.value))) }, sign));
   const go = (now) => {
@@ -2827,7 +2974,7 @@ function linesSoFar(board) {
 // The scores of North and South in a row, where the list of results stands on a part of its own.
 function tilesNode(board) {
   const lines = linesSoFar(board).filter((one) => isScored(one.result));
-  const tiles = lines.map((one) => make("li", { className: one.own ? "own" : "" }, signed(one.result.score)));
+  const tiles = lines.map((one) => make("li", { className: one.own ? "own" : "" }, signed(one.result.score), ...(one.own ? [" ", make("b", null, TEXTS.we)] : [])));
   return make("div", { className: "tiles" }, make("p", { className: "second" }, TEXTS.scoresSoFar(lines.length)), make("ol", null, ...tiles));
 }
 
@@ -2884,9 +3031,11 @@ function cardTable(place, boards) {
     const others = SEATS.filter((seat) => (seat === "N" || seat === "S") !== (board.side === "NS"));
     const opens = button(String(board.number), TEXTS.openBoard(board.number),
       "open-" + board.round + "-" + board.number, true, () => showBoard(board));
+    const [lead] = board.cards;
     return make("tr", null, make("td", null, opens), make("td", { className: "who" },
       ...nameNodes(board.names[others[0]]), " \u2013 ", ...nameNodes(board.names[others[1]])), make("td", null, ...resultNodes(board.result)),
-      numberCell(tricksText(board.result)), numberCell(scoreText(board)), numberCell(worthText(board.worth)));
+      make("td", null, ...(lead ? [cardInText(lead.card, cardName(lead.card))] : [])),
+      numberCell(tricksText(board.result)), numberCell(scoreText(board)), make("td", { className: "number" }, ...worthNodes(board.worth)));
   });
   return make("table", { id: "card", className: "list", aria_label: TEXTS.scoreCard }, listHeads(TEXTS.cardHeads, 3), make("tbody", null, ...rows));
 }
@@ -2897,7 +3046,7 @@ function roundNode(place, view) {
   return make("ol", { className: "round" }, ...numbers.map((number) => {
     const over = told.boards.find((board) => board.number === number && board.round === String(place.round));
     const now = String(number) === view.board;
-    const came = over ? worthText(over.worth) || scoreText(over) || "\u2013" : now ? TEXTS.now : "";
+    const came = over ? worthText(over.worth) || scoreText(over) || "\u2013" : now ? TEXTS.now : number === Number(view.board) + 1 ? TEXTS.next : "";
     return make("li", { className: now ? "now" : "" }, make("b", null, String(number)), came);
   }));
 }
@@ -2912,6 +3061,8 @@ function worthOfAll(boards) {
   if (sum(1) === 0) return null;
   return { points: sum(0).toFixed(1), of: sum(1), percent: (100 * sum(0) / sum(1)).toFixed(1) };
 }
+
+const worthOfSome = (all) => (all.percent ? TEXTS.percent(all.percent) : TEXTS.imps(all.points));
 
 function scoreCardNodes(place) {
   const all = worthOfAll(told.boards);
@@ -3060,8 +3211,10 @@ const clockText = (seconds) => Math.floor(seconds / 60) + ":" + String(seconds %
 function showClock() {
   clearTimeout(clockTimer);
   at("clock").hidden = desk.clock === null;
+  if (at("clock-runs")) [at("clock-runs").hidden, at("clock-sets").hidden] = [desk.clock === null, desk.clock !== null];
   if (desk.clock === null) return;
   const left = secondsLeft();
+  say("clock-left", clockText(left));
   if (CLOCK_SAID.includes(left)) say("heard", TEXTS.minutesLeft(left / 60));
   at("clock").className = left === 0 ? "over" : "";
   at("clock").replaceChildren(make("b", null, clockText(left)), make("span", null, TEXTS.clockLeft));
@@ -3073,15 +3226,22 @@ function showClock() {
 const whoCalls = ({ pair, name }) => TEXTS.ofPair(shownName(pair, name), pair);
 
 function callNodesOf(call) {
-  if (!isDirector()) return [make("p", null, make("b", null, TEXTS.directorCalled), " ", call.text ? call.text + ". " : "", TEXTS.waitForDirector)];
+  if (!isDirector()) return [make("p", { className: "note called" }, make("span", null, make("b", null, TEXTS.directorCalled), " ", call.text ? call.text + ". " : "", TEXTS.waitForDirector))];
   const stateOf = (number) => lastTables && lastTables.tables.find((one) => one.number === number);
   const open = () => { const state = stateOf(call.table); if (state) openTable(state); };
   const grant = (number) => { const state = stateOf(number); if (state) grantBack(state); };
-  return [make("div", { className: "row" }, make("p", null, make("b", null, TEXTS.tableCalls(call.table)), " ", call.text ? call.text + ". " : "",
+  return [make("div", { className: "note called" }, make("p", null, make("b", null, TEXTS.tableCalls(call.table)), " ", call.text ? call.text + ". " : "",
     whoCalls(call) + ", " + TEXTS.minutesAgo(call.minutes) + "."),
   ...(call.text === TEXTS.slip ? [make("button", { type: "button", id: "grant-" + call.table, onclick: () => grant(call.table) }, TEXTS.grant)] : []),
   make("button", { type: "button", id: "answered-" + call.table, onclick: () => askDesk("ANSWERED " + call.table) }, TEXTS.answered),
   make("button", { type: "button", id: "go-" + call.table, className: "send", onclick: open }, TEXTS.openTable(call.table)))];
+}
+
+// The director's notice, which he takes down where he reads it.
+function noticeNodes() {
+  if (!desk.notice) return [];
+  return [make("div", { className: "note" }, make("p", null, make("b", null, TEXTS.noticeOf), " ", desk.notice),
+    ...(isDirector() ? [make("button", { type: "button", id: "take-down", onclick: () => askDesk("NOTICE") }, TEXTS.takeDown)] : []))];
 }
 
 // Shows what stands, where it has changed; the focus stays.
@@ -3093,9 +3253,8 @@ function showDesk() {
   if (made === deskShown) return;
   deskShown = made;
   const focus = document.activeElement ? document.activeElement.id : "";
-  const notice = desk.notice ? [make("p", null, make("b", null, TEXTS.noticeOf), " ", desk.notice)] : [];
   const end = minutes <= ENDS_SOON ? [make("p", null, TEXTS.pagesEnd(minutes, isDirector()))] : [];
-  at("desk").replaceChildren(...end, ...notice, ...desk.calls.flatMap(callNodesOf));
+  at("desk").replaceChildren(...end, ...noticeNodes(), ...desk.calls.flatMap(callNodesOf));
   if (focus && at(focus)) at(focus).focus();
   drawn();
 }
@@ -3124,21 +3283,26 @@ function closeCall() {
 }
 
 at("bell").onclick = () => { if (reason === null) showCall(); else closeCall(); };
-at("bell").textContent = TEXTS.bell;
+at("bell").replaceChildren(make("span", null, TEXTS.bell));
 at("bell").setAttribute("aria-label", TEXTS.callDirector);
 at("calling").onkeydown = holdTab;
 
 // ---- the director tells all tables, and sets the clock
 
 function tellingNodes() {
-  const field = make("input", { id: "tell-text", type: "text", maxLength: 200 });
+  const field = make("input", { id: "tell-text", type: "text", maxLength: 200, aria_label: TEXTS.tellText, placeholder: TEXTS.tellExample });
   const telling = () => { const words = plainText(field.value); if (words) askDesk("NOTICE " + words); };
-  const start = () => { if (isFilledIn("telling")) askDesk("CLOCK " + numberAt("clock-minutes")); };
+  return [make("div", { className: "row" }, field, button(TEXTS.tellAll, "", "tell-all", true, telling))];
+}
+
+// A row to start the clock, and in its place one while it runs.
+function clockNodes() {
+  const start = () => { if (isFilledIn("clock-sets")) askDesk("CLOCK " + numberAt("clock-minutes")); };
   const more = () => { if (desk.clock !== null) askDesk("CLOCK " + (Math.ceil(secondsLeft() / 60) + 2)); };
-  return [make("label", { for: "tell-text" }, TEXTS.tellText), make("div", { className: "row" }, field, button(TEXTS.tellAll, "", "tell-all", true, telling),
-    button(TEXTS.takeDown, "", "take-down", true, () => askDesk("NOTICE"))),
-  make("div", { className: "row" }, numberField("clock-minutes", TEXTS.clockMinutes, 1, 240, 20), button(TEXTS.clockStart, "", "clock-start", true, start),
-    button(TEXTS.clockMore, "", "clock-more", true, more), button(TEXTS.clockStop, "", "clock-stop", true, () => askDesk("CLOCK")))];
+  return [make("div", { id: "clock-sets", className: "row", hidden: desk.clock !== null }, numberField("clock-minutes", TEXTS.clockMinutes, 1, 240, 20),
+    button(TEXTS.clockStart, "", "clock-start", true, start)),
+  make("div", { id: "clock-runs", className: "row", hidden: desk.clock === null }, make("b", { id: "clock-left" }, desk.clock === null ? "" : clockText(secondsLeft())),
+    button(TEXTS.clockStop, "", "clock-stop", true, () => askDesk("CLOCK")), button(TEXTS.clockMore, "", "clock-more", true, more))];
 }
 "##;
 
@@ -3182,12 +3346,25 @@ function tell(text) {
   say("told", text);
 }
 
-// Asks before it acts; the question stands where it was raised, and no other beside it.
-function confirmFirst(box, question, act, ...more) {
-  const close = () => box.replaceChildren();
-  tell("");
+// Takes down a question that stands.
+function closeQuestions() {
   for (const id of ["end-question", "rule-question", "deal-question", "back-question"]) if (at(id)) at(id).replaceChildren();
-  box.replaceChildren(make("p", null, question), ...more.map((words) => make("p", null, ...[].concat(words))),
+}
+
+// A place for questions, which is a sheet over the page while one stands.
+const questionBox = (id) => make("div", { id, className: "sheet question", role: "dialog", aria_modal: "true", onkeydown: holdTab });
+
+// Asks before it acts; no other question stands beside it, and the focus goes back to what raised it.
+function confirmFirst(box, question, act, ...more) {
+  const raised = document.activeElement;
+  const close = () => {
+    closeQuestions();
+    if (raised) raised.focus();
+  };
+  tell("");
+  closeQuestions();
+  box.setAttribute("aria-label", question);
+  box.replaceChildren(make("h2", null, question), ...more.map((words) => make("p", null, ...[].concat(words))),
     make("div", { className: "row" },
       button(TEXTS.no, "", "no", true, close), button(TEXTS.yes, TEXTS.yesTo(question), "yes", true, () => { close(); act(); })));
   at("yes").className = "send";
@@ -3298,6 +3475,12 @@ function marksOf(table) {
   return make("span", { className: "marks", aria_hidden: "true" }, ...marks);
 }
 
+// Why a table calls, where it says so.
+function reasonNodes(table) {
+  const call = desk.calls.find((one) => one.table === table.number);
+  return call && call.text ? [make("b", null, call.text), make("br")] : [];
+}
+
 const pairText = (pair) => (pair === "0" ? "\u2013" : pairNames.has(Number(pair)) ? pair + " " + pairNames.get(Number(pair)) : pair);
 
 function tablesTable(state) {
@@ -3308,7 +3491,7 @@ function tablesTable(state) {
     const open = make("button", { type: "button", id: "open-" + table.number, aria_label: TEXTS.openTable(table.number), onclick: () => openTable(table) }, TEXTS.open);
     return make("tr", { className: stands },
       ...[[table.number], [pairText(table.ns)], [pairText(table.ew)],
-        [table.idle ? "" : table.board], [progressText(table)], [marksOf(table), table.idle ? "" : TEXTS.stillFor(Number(minutes))],
+        [table.idle ? "" : TEXTS.board(table.board)], [...reasonNodes(table), progressText(table)], [marksOf(table), table.idle ? "" : TEXTS.stillFor(Number(minutes))],
         [TEXTS.stands[stands]]].map((words) => make("td", null, ...words)),
       make("td", null, ...(table.idle === "SitsOut" ? [] : [open])));
   });
@@ -3321,15 +3504,15 @@ function openTable(table) {
   return openPlay([lastTables.round, table.number, table.idle ? 1 : placeInSet(Number(table.board))]);
 }
 
-// The tables that are still at play, by their numbers.
-function stillPlaying(state) {
-  return state.tables.filter((table) => table.idle !== "NotCurrent" && table.idle !== "SitsOut").map((table) => table.number);
+// The tables that are still at play and those that wait for a deal, by their numbers, in words; nothing where all are done.
+function stillOpen(state) {
+  const among = (isOf) => state.tables.filter((table) => isOf(table.idle)).map((table) => table.number);
+  return TEXTS.stillOpen(among((idle) => !["NotCurrent", "SitsOut", "NotDealt"].includes(idle)), among((idle) => idle === "NotDealt"));
 }
 
 function roundText(state) {
   if (state.round > state.rounds) return TEXTS.closed;
-  const open = stillPlaying(state);
-  return TEXTS.roundIs(state.round, state.rounds, open.length === 0 ? TEXTS.allDone : TEXTS.stillPlaying(open));
+  return TEXTS.roundIs(state.round, state.rounds, stillOpen(state).map((words) => words + ".").join(" ") || TEXTS.allDone);
 }
 
 function showTables(state) {
@@ -3339,7 +3522,8 @@ function showTables(state) {
   noteSets(state);
   say("status", roundText(state));
   say("below", state.round > state.rounds ? "" : TEXTS.roundOf(state.round, state.rounds));
-  say("tab-tables", TEXTS.tabs.tables + (desk.calls.length ? " (" + desk.calls.length + ")" : ""));
+  const calls = desk.calls.length ? [" ", make("span", { className: "count" }, String(desk.calls.length))] : [];
+  if (at("tab-tables").textContent !== TEXTS.tabs.tables + (calls.length ? " " + desk.calls.length : "")) at("tab-tables").replaceChildren(TEXTS.tabs.tables, ...calls);
   const old = at("tables");
   const tables = tablesTable(state);
   // What stands in the focus stays there.
@@ -3349,8 +3533,9 @@ function showTables(state) {
   const end = at("end-round");
   if (!end) return;
   const closed = state.round > state.rounds;
-  const open = stillPlaying(state);
+  const open = stillOpen(state);
   end.disabled = closed || open.length > 0;
+  say("round-is", closed ? "" : TEXTS.tablesDone(state.tables.filter((table) => table.idle === "NotCurrent" || table.idle === "SitsOut").length, state.tables.length));
   const label = closed ? TEXTS.allEnded : open.length > 0 ? TEXTS.endWaits(state.round, open) : TEXTS.endRound(state.round, state.round === state.rounds);
   if (end.textContent !== label) end.textContent = label;
   end.onclick = () => confirmFirst(at("end-question"), TEXTS.asks(label), () => doOne("NEXT " + state.round, TEXTS.endOf(state.round)));
@@ -3401,7 +3586,7 @@ function openedNodes(board, words) {
   return [make("div", { className: "row" },
     make("h2", null, TEXTS.openedAt(words[1], words[0])), ...others,
     make("button", { type: "button", id: "opened-close", onclick: CLOSED }, TEXTS.close)),
-    make("div", { className: "row" }, back), make("div", { id: "back-question" }), bandNode(board), make("div", { className: "parts" }, steppedNode(board, "S", board.cards.length, () => {}), playedNode(board, "S", board.cards.length))];
+    make("div", { className: "row" }, back), questionBox("back-question"), bandNode(board), make("div", { className: "parts" }, steppedNode(board, "S", board.cards.length, () => {}), playedNode(board, "S", board.cards.length))];
 }
 
 // ---- corrections of what players did
@@ -3588,16 +3773,16 @@ function rulingNodes() {
   return [
     make("section", { id: "choosing", className: "panel", aria_label: TEXTS.openPlay }, row(...playFields("rule"), button(TEXTS.openPlay, "", "rule-open", true, show))),
     make("section", { id: "opened", aria_label: TEXTS.theBoard }),
-    section("ruling", TEXTS.rulings, make("div", { id: "rule-question" }),
-      group(TEXTS.setTheTricks, row(numberField("rule-tricks", TEXTS.declarersTricks, 0, 13, 7), button(TEXTS.setTricks, "", "rule-set", true, setTricks))),
-      group(TEXTS.assignScore, row(choice("assign-bid", TEXTS.contract, ALL_BIDS.map((bid) => [bid, callName(bid)])),
+    section("ruling", TEXTS.rule, questionBox("rule-question"),
+      folded(TEXTS.setTheTricks, row(numberField("rule-tricks", TEXTS.declarersTricks, 0, 13, 7), button(TEXTS.setTricks, "", "rule-set", true, setTricks))),
+      folded(TEXTS.assignScore, row(choice("assign-bid", TEXTS.contract, ALL_BIDS.map((bid) => [bid, callName(bid)])),
         choice("assign-doubled", TEXTS.double, TEXTS.doublings), choice("assign-declarer", TEXTS.declarerField, SEATS.map((seat) => [seat, SEAT_NAMES[seat]])),
         numberField("assign-tricks", TEXTS.declarersTricks, 0, 13, 7), button(TEXTS.assignScore, "", "rule-assign", true, assign))),
-      group(TEXTS.averages, row(choice("rule-ns", TEXTS.northSouthPer, TEXTS.per), choice("rule-ew", TEXTS.eastWestPer, TEXTS.per),
+      folded(TEXTS.averages, row(choice("rule-ns", TEXTS.northSouthPer, TEXTS.per), choice("rule-ew", TEXTS.eastWestPer, TEXTS.per),
         button(TEXTS.awardAverages, "", "rule-average", true, average))),
-      group(TEXTS.outAndBack, row(button(TEXTS.takeOut, "", "rule-void", true, () => rule(TEXTS.takeOut, "VOID", "", () => TEXTS.takenOut)),
+      folded(TEXTS.outAndBack, row(button(TEXTS.takeOut, "", "rule-void", true, () => rule(TEXTS.takeOut, "VOID", "", () => TEXTS.takenOut)),
         button(TEXTS.takeBackButton, "", "rule-restore", true, () => rule(TEXTS.takeBack, "RESTORE", "", () => TEXTS.asPlayed)))),
-      group(TEXTS.solving, row(numberField("solve-tricks", TEXTS.afterTricks, 7, 13, 7), button(TEXTS.solve, "", "solve", true, solve)),
+      folded(TEXTS.solving, row(numberField("solve-tricks", TEXTS.afterTricks, 7, 13, 7), button(TEXTS.solve, "", "solve", true, solve)),
         make("p", { id: "solved", role: "status" }))),
     section("standing", TEXTS.rulingsStand, make("ul", { id: "ruled" }))];
 }
@@ -3675,6 +3860,11 @@ function group(title, ...nodes) {
   return make("div", { className: "subject" }, make("h3", null, title), ...nodes);
 }
 
+// The same folded together until its heading is pressed.
+function folded(title, ...nodes) {
+  return make("details", null, make("summary", null, title), ...nodes);
+}
+
 function linesNodes() {
   const box = make("textarea", { id: "box", spellcheck: false });
   const replies = make("pre", { id: "replies", role: "log", aria_label: TEXTS.replies });
@@ -3692,17 +3882,25 @@ function undeal() {
   confirmFirst(at("deal-question"), TEXTS.asks(TEXTS.undealOf(board)), () => doOne("UNDEAL " + board, TEXTS.undealOf(board), true));
 }
 
+// The deals of a file stand in the text, to be looked at and dealt.
+async function readFile(chosen) {
+  if (!chosen) return;
+  at("deal-text").value = await chosen.text();
+  say("file-has", TEXTS.fileHas(chosen.name, dealsIn(at("deal-text").value).length));
+}
+
 function dealNodes() {
-  const file = make("input", { id: "deal-file", type: "file", onchange: async () => { at("deal-text").value = await file.files[0].text(); } });
+  const file = make("input", { id: "deal-file", type: "file", onchange: () => readFile(file.files[0]) });
   const main = (node) => { node.className = "send"; return node; };
   return [
     make("p", { id: "deal-of", className: "second" }),
     group(TEXTS.shuffleHere, make("div", { className: "row" },
       numberField("shuffle-first", TEXTS.shuffleFrom, 1, MOST_BOARDS, 1), numberField("shuffle-last", TEXTS.to, 1, MOST_BOARDS, ""),
       main(button(TEXTS.shuffle, "", "shuffle", true, shuffleBoards))), make("p", { className: "second" }, TEXTS.seedSecret)),
-    group(TEXTS.dealFile, make("label", { for: "deal-file" }, TEXTS.chooseFile), file,
+    group(TEXTS.dealFile, file, make("div", { className: "row" }, make("label", { id: "choose-file", for: "deal-file" }, TEXTS.chooseFile),
+      make("span", { id: "file-has", role: "status" }, TEXTS.noFile)),
       make("label", { for: "deal-text" }, TEXTS.dealText), make("textarea", { id: "deal-text", spellcheck: false }),
-      button(TEXTS.deal, "", "deal", true, () => dealText(at("deal-text").value))), make("div", { id: "deal-question" }),
+      button(TEXTS.deal, "", "deal", true, () => dealText(at("deal-text").value))), questionBox("deal-question"),
     group(TEXTS.dealtWrongly, make("div", { className: "row" }, numberField("undeal-board", TEXTS.boardField, 1, MOST_BOARDS, 1),
       button(TEXTS.undeal, "", "undeal", true, undeal)), make("p", { className: "second" }, TEXTS.undealHelp))];
 }
@@ -3712,8 +3910,8 @@ function directorNodes() {
   return [
     make("p", { id: "told", role: "status" }),
     on("tables", make("table", { id: "tables" }), make("div", { id: "aside" },
-      make("section", { id: "round", className: "panel", aria_label: TEXTS.round }, button(TEXTS.endTheRound, "", "end-round", false, () => {}),
-        make("div", { id: "end-question" })),
+      make("section", { id: "round", className: "panel", aria_label: TEXTS.round }, ...clockNodes(), make("p", { id: "round-is", className: "second" }),
+        button(TEXTS.endTheRound, "", "end-round", false, () => {}), questionBox("end-question")),
       section("telling", TEXTS.telling, ...tellingNodes()))),
     on("boards", section("dealing", TEXTS.dealBoards, ...dealNodes())),
     on("rulings", ...rulingNodes()),
