@@ -117,17 +117,21 @@ function noticeNodes() {
     ...(isDirector() ? [make("button", { type: "button", id: "take-down", onclick: () => askDesk("NOTICE") }, TEXTS.takeDown)] : []))];
 }
 
+// Which of two disks is kept alone, and which is lost.
+const lostDisk = () => (/ is lost$/.test(desk.disk) ? desk.disk : "");
+
 // Shows what stands, where it has changed; the focus stays.
 function showDesk() {
   showClock();
   at("bell").hidden = key === null || isDirector();
   const minutes = desk.ends === null ? ENDS_SOON + 1 : Math.max(1, Math.ceil(desk.ends / 60));
-  const made = JSON.stringify([desk.notice, desk.calls, desk.said, isDirector(), minutes <= ENDS_SOON ? minutes : 0]);
+  const made = JSON.stringify([desk.notice, desk.calls, desk.said, isDirector(), lostDisk(), minutes <= ENDS_SOON ? minutes : 0]);
   if (made === deskShown) return;
   deskShown = made;
   const focus = document.activeElement ? document.activeElement.id : "";
   const end = minutes <= ENDS_SOON ? [make("p", null, TEXTS.pagesEnd(minutes, isDirector()))] : [];
-  at("desk").replaceChildren(...end, ...noticeNodes(), ...desk.calls.flatMap(callNodesOf));
+  const lost = lostDisk() ? [make("p", { id: "lost-disk", className: "note called", role: "alert" }, TEXTS.diskLost(lostDisk()))] : [];
+  at("desk").replaceChildren(...lost, ...end, ...noticeNodes(), ...desk.calls.flatMap(callNodesOf));
   if (focus && at(focus)) at(focus).focus();
   drawn();
 }

@@ -286,6 +286,7 @@ const TEXTS = {
   noticeOf: "The director:",
   pagesEnd: (minutes, isDirector) => (minutes === 1 ? "In a minute" : "In " + minutes + " minutes") + " the pages close. What was played is kept"
     + (isDirector ? "; start the command again to go on." : "."),
+  diskLost: (which) => "A disk has failed: " + which + ". The evening goes on.",
   serving: (disk, time) => (disk ? "Disk: " + disk + ". " : "") + "The pages close at " + time + ".",
   clockLeft: "left",
   minutesLeft: (minutes) => (minutes === 1 ? "One minute left" : minutes + " minutes left") + " in this round",

@@ -377,6 +377,12 @@ run({
     assert.deepStrictEqual(page.waits.map((wait) => wait.body), [`${KEY}\n${tables(AT_PLAY)}NOTICE Tea\n`]);
   },
 
+  "a disk that is lost is told above the page": async () => {
+    const named = (name) => opened(tables(AT_PLAY), "OK\n", played(), `OK\nNOW 0 14400\nDISK ${name}\n.\n`);
+    assert.strictEqual((await named("a.disk and b.disk")).at("lost-disk"), null);
+    assert.strictEqual((await named("b.disk alone, a.disk is lost")).text("lost-disk"), "A disk has failed: b.disk alone, a.disk is lost. The evening goes on.");
+  },
+
   "each field stands under its heading": async () => {
     const ranks = { 1: "OK\n1 2 6.0/8.0 75.00\n2 1 2.0/8.0 25.00\n.\n", 2: "OK\n1 8 3.0/8.0 37.50\n2 7 1.0/8.0 12.50\n.\n" };
     const page = await opened(tables(AT_PLAY), (where, body) => (where === "/results" ? "Pair 2: Cy and Di\n" : ranks[body.trim().split(" ")[2]]));
