@@ -65,7 +65,7 @@ fn stand_so(disk: &Reading<Session>, copy: &Reading<Session>) -> Judged
 {
     Judged {
         disk_first: comes_first(disk, copy),
-        was_level: disk.epoch == copy.epoch,
+        was_level: is_same_state(&disk.state, &copy.state),
     }
 }
 
