@@ -17,13 +17,12 @@ use Rattle.table_pages.specs.declared.page_texts.PageTexts.{PageTexts}
 use Rattle.club_commands.specs.Ended.{Ended}
 use Rattle.club_commands.specs.PairWeb.{ServerOver, pair_ended_by, IsBegun, ShowsPairAt, ShowsJoinedWith}
 use Rattle.club_commands.specs.Web.{site_at}
+use Rattle.club_commands.proofs.Shown.{settled_store}
 
 -- stores that work and have nothing pending are settled
 pub settled_pair : (v w : ClubStore) (stopped : Bool) → IsOne v w → are_settled (pair_of v w stopped) ≡ true
 settled_pair v w stopped one =
-    let ours : is_settled v.failed v.pending ≡ true = ap (λ (b : Bool). is_settled b v.pending) one.0 ∙ ap (λ (xs : List Action). is_settled false xs) one.2 in
-    let theirs : is_settled w.failed w.pending ≡ true = ap (λ (b : Bool). is_settled b w.pending) one.1 ∙ ap (λ (xs : List Action). is_settled false xs) one.3 in
-    ap (λ (b : Bool). b && is_settled w.failed w.pending) ours ∙ ap (λ (b : Bool). true && b) theirs
+    ap (λ (b : Bool). b && is_settled w.failed w.pending) (settled_store v one.0 one.2) ∙ ap (λ (b : Bool). true && b) (settled_store w one.1 one.3)
 
 -- how pages ended is by the pair as it was last
 pub ended_at : {D E : Type 0} (server last : ServerOver D E) (stopped : Bool) (standing : Option PairStanding) (disk_first has_clock : Bool) (ended : Ended)

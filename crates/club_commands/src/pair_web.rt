@@ -12,7 +12,7 @@ use crate::listed::refuse_list;
 use crate::listening::{listen_at, listening_line, names_of};
 use crate::machine::Host;
 use crate::output::write_output;
-use crate::web::{Shown, people_of};
+use crate::web::{Shown, pages_over, people_of};
 use bridge_endings::Cache;
 use bridge_session::Session;
 use club_disk::ClubStore;
@@ -28,9 +28,7 @@ use std::hash::RandomState;
 use std::io::Write;
 use std::net::{Net, TcpListener, TcpStream};
 use std::time::Clock;
-use table_pages::{
-    HostNames, LineServer, PageTexts, Seconds, ServerClock, TablePages, show_minutes,
-};
+use table_pages::{LineServer, Seconds, ServerClock, TablePages, show_minutes};
 
 /// The disk, or the copy.
 fn lost_disk(is_disk: bool) -> LostDisk
@@ -174,33 +172,6 @@ fn level_text(was_level: bool) -> &'static str
     }
 }
 
-/// The pages of these texts over two stores, by this clock, with the lines of the players' names and what stands beside their
-/// session, where players are told of other tables or not.
-fn pages_over_two<K: Seconds>(
-    alloc: Global,
-    names: HostNames,
-    texts: PageTexts,
-    people: Vec<u8>,
-    server: PairServer<ClubStore, ClubStore>,
-    cache: Cache,
-    desk: Desk,
-    open_boards: bool,
-    clock: K,
-) -> TablePages<PairServer<ClubStore, ClubStore>, K>
-    requires { are_settled (value_of server) ≡ true }
-    ensures server { result.server ≡ server }
-    ensures names { result.names ≡ names }
-    ensures texts { result.texts ≡ texts }
-    ensures people { result.people ≡ people }
-{
-    let mut pages = TablePages::new(alloc, names, texts, server, cache, desk, clock);
-    pages.show_names(people);
-    if open_boards {
-        pages.open_boards();
-    }
-    pages
-}
-
 /// Shows pages over a session that was opened on two disks, with what stands beside it.
 fn show_joined_with<N: Host, W: Write>(
     rt: &N,
@@ -232,29 +203,14 @@ fn show_joined_with<N: Host, W: Write>(
         return Err(RunFault::Store(StoreFault::NoMemory));
     };
     let server = PairServer::new(first, second, disks);
+    let (host, texts, minutes) = (&shown.host, shown.texts, shown.minutes);
+    let open = host.open_boards;
     let clock = ServerClock::new(rt);
-    let open = shown.host.open_boards;
-    let mut pages = pages_over_two(
-        alloc,
-        names,
-        shown.texts,
-        people,
-        server,
-        cache,
-        desk,
-        open,
-        clock,
+    let mut pages = pages_over(
+        alloc, names, texts, people, server, cache, desk, open, clock,
     );
-    show_pair_at(
-        rt,
-        alloc,
-        &shown.host,
-        shown.minutes,
-        judged,
-        line.as_str(),
-        &mut pages,
-        output,
-    )
+    let line = line.as_str();
+    show_pair_at(rt, alloc, host, minutes, judged, line, &mut pages, output)
 }
 
 /// Shows pages for so many minutes over a session that was opened on two disks. A list with another number of pairs than the

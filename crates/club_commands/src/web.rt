@@ -28,7 +28,9 @@ use std::hash::RandomState;
 use std::io::{self, Write};
 use std::net::{Net, TcpListener, TcpStream};
 use std::time::Clock;
-use table_pages::{HostNames, PageTexts, Seconds, ServerClock, TablePages, show_minutes};
+use table_pages::{
+    HostNames, LineServer, PageTexts, Seconds, ServerClock, TablePages, show_minutes,
+};
 
 /// How the showing of pages ended, by whether the store has failed and by what the clock answered, which are handed in, since
 /// only so a clause can say what comes of them.
@@ -107,29 +109,28 @@ fn listen_and_show<N: Host, W: Write, K: Seconds>(
     show_heard(rt, alloc, listen_at(rt, host), minutes, line, pages, output)
 }
 
-/// The pages of these texts over a store, by this clock, with the lines of the players' names and what stands beside its session,
-/// where players are told of other tables or not.
-fn pages_over<K: Seconds>(
+/// The pages of these texts over what answers lines, by this clock, with the lines of the players' names and what stands beside the
+/// session, where players are told of other tables or not.
+pub fn pages_over<L: LineServer, K: Seconds>(
     alloc: Global,
     names: HostNames,
     texts: PageTexts,
     people: Vec<u8>,
-    store: ClubStore,
+    server: L,
     cache: Cache,
     desk: Desk,
     open_boards: bool,
     clock: K,
-) -> TablePages<ClubStore, K>
-    requires works { store.failed ≡ false }
-    requires none_pending { store.pending ≡ [] }
-    ensures server { result.server ≡ store }
+) -> TablePages<L, K>
+    requires { L.is_ready server ≡ true }
+    ensures server { result.server ≡ server }
     ensures names { result.names ≡ names }
     ensures texts { result.texts ≡ texts }
     ensures people { result.people ≡ people }
     ensures open { result.is_open ≡ open_boards }
     ensures desk { result.desk ≡ desk }
 {
-    let mut pages = TablePages::new(alloc, names, texts, store, cache, desk, clock);
+    let mut pages = TablePages::new(alloc, names, texts, server, cache, desk, clock);
     pages.show_names(people);
     if open_boards {
         pages.open_boards();
@@ -190,28 +191,12 @@ fn show_named<N: Host, W: Write>(
     let Ok(people) = people_of(alloc, shown.names, &store) else {
         return with_disk(store, Err(RunFault::Store(StoreFault::NoMemory)));
     };
+    let (host, texts, minutes) = (&shown.host, shown.texts, shown.minutes);
+    let open = host.open_boards;
     let clock = ServerClock::new(rt);
-    let open = shown.host.open_boards;
-    let mut pages = pages_over(
-        alloc,
-        names,
-        shown.texts,
-        people,
-        store,
-        cache,
-        desk,
-        open,
-        clock,
-    );
-    let ended = listen_and_show(
-        rt,
-        alloc,
-        &shown.host,
-        shown.minutes,
-        line.as_str(),
-        &mut pages,
-        output,
-    );
+    let mut pages = pages_over(alloc, names, texts, people, store, cache, desk, open, clock);
+    let line = line.as_str();
+    let ended = listen_and_show(rt, alloc, host, minutes, line, &mut pages, output);
     with_disk(pages.into_server(), ended)
 }
 
