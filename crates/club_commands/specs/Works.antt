@@ -61,8 +61,8 @@ module _ (input output : Stream) (ended : Ended) where
   abbrev pub Serves : Service → ClubStore → ClubStore → Type 0
   Serves (Input set) start last = Scripts file_disk set start last input output ended
   Serves (Connections port count) start last = ServesPort count start last ended × IsUntouched input × IsUntouched output
-  Serves (Pages texts host minutes disk misfit names) start last =
-      ShowsListed texts host output ended misfit names start last × IsUntouched input
+  Serves (Pages shown disk) start last =
+      ShowsListed shown.texts shown.host output ended shown.misfit shown.names start last × IsUntouched input
 
   -- that is the fault, and nothing was read or written
   abbrev pub IsNothingDone : StoreFault → Type 0
@@ -109,7 +109,8 @@ module _ (input output : Stream) (ended : Ended) where
 -- what is done over a disk where names are shown
 abbrev pub work_with : Listed → Names → Work
 work_with (listed.Results html) names = Results html names
-work_with (listed.Pages texts host minutes disk misfit) names = Serve (Pages texts host minutes disk misfit names)
+work_with (listed.Pages texts host minutes disk misfit) names =
+    Serve (Pages (record { texts = texts; host = host; minutes = minutes; misfit = misfit; names = names }) disk)
 
 -- that was done with these names
 abbrev pub HasListed : Listed → Names → Stream → Stream → Ended → Type 0

@@ -10,7 +10,7 @@ use crate::fault::RunFault;
 use crate::listed::refuse_list;
 use crate::machine::{Host, Machine};
 use crate::pair_web::show_joined;
-use crate::web::Shown;
+use crate::work::Shown;
 use bridge_endings::Cache;
 use club_disk::{Access, ClubDisk, ClubStore, lock_for, locked_disk};
 use desk_replies::Desk;

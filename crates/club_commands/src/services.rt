@@ -10,7 +10,7 @@ use crate::fault::{RunFault, SystemFault};
 use crate::machine::Host;
 use crate::script::serve_store;
 use crate::serving::serve_connections;
-use crate::web::{Shown, show_over};
+use crate::web::show_over;
 use crate::work::Service;
 use bridge_endings::Cache;
 use club_disk::{ClubDisk, ClubStore, Left, open_session, with_disk};
@@ -76,22 +76,8 @@ fn serve_with<S: Host, R: Read, W: Write>(
             let ended = listen(rt, port, count, &mut store, &mut cache);
             with_disk(store, ended)
         }
-        Service::Pages {
-            texts,
-            host,
-            minutes,
-            disk,
-            misfit,
-            names,
-        } => {
-            let desk = Desk::new(60 * u32::from(minutes), disk);
-            let shown = Shown {
-                texts,
-                host,
-                minutes,
-                misfit,
-                names,
-            };
+        Service::Pages { shown, disk } => {
+            let desk = Desk::new(60 * u32::from(shown.minutes), disk);
             show_over(rt, alloc, &shown, store, cache, desk, output)
         }
     }

@@ -13,7 +13,7 @@ use crate::listed::refuse_list;
 use crate::listening::{listen_at, listening_line, names_of};
 use crate::machine::Host;
 use crate::output::write_output;
-use crate::work::Misfit;
+use crate::work::{Misfit, Shown};
 use bridge_endings::Cache;
 use bridge_session::Session;
 use club_disk::{ClubDisk, ClubStore, Left, with_disk};
@@ -136,21 +136,6 @@ pub fn pages_over<L: LineServer, K: Seconds>(
         pages.open_boards();
     }
     pages
-}
-
-/// What pages are shown, where, for how many minutes, and with which names in place of the configuration's.
-#[derive(Clone, Copy)]
-pub struct Shown<'a> {
-    /// What the pages are.
-    pub texts: PageTexts,
-    /// Where they are shown.
-    pub host: WebHost<'a>,
-    /// For how many minutes, from 1 to 1440.
-    pub minutes: u16,
-    /// What comes of a list with another number of pairs.
-    pub misfit: Misfit,
-    /// The names of a list.
-    pub names: Option<&'a [PairNames]>,
 }
 
 /// The lines that tell the names of the players of a store's session.
