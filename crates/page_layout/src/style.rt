@@ -11,9 +11,9 @@ pub const PAGE_START: &[u8] = br##"<!doctype html>
 /// What stands between the title and the page: its style, on a screen and on paper.
 pub const PAGE_STYLE: &[u8] = br##"</title>
 <style>
-:root { color-scheme: light dark; --page: #f4f1e8; --ink: #15201b; --second: #4a574f; --line: #d9d4c6; --edge: #6f7a74; --felt: #1f5f4a; --red: #a8001c; --link: #0b57a4; --panel: #fff; --soft: #ece8dc; }
+:root { color-scheme: light dark; --page: #f4f1e8; --ink: #15201b; --second: #4a574f; --line: #d9d4c6; --edge: #6f7a74; --felt: #1f5f4a; --on-felt: #fff; --red: #a8001c; --link: #0b57a4; --panel: #fff; --soft: #ece8dc; }
 @media (prefers-color-scheme: dark) {
-:root { --page: #0d1311; --ink: #e9ede9; --second: #a8b5ae; --line: #33403a; --edge: #7d8983; --felt: #7cc4a5; --red: #ff8d8d; --link: #8cc2ff; --panel: #17201c; --soft: #202b26; }
+:root { --page: #0d1311; --ink: #e9ede9; --second: #a8b5ae; --line: #33403a; --edge: #7d8983; --felt: #7cc4a5; --on-felt: #0d1311; --red: #ff8d8d; --link: #8cc2ff; --panel: #17201c; --soft: #202b26; }
 }
 * { box-sizing: border-box; }
 body { display: grid; grid-template-columns: minmax(0, 1fr); gap: 0 2rem; margin: 1rem auto; max-width: 72rem; padding: 0 1rem; color: var(--ink); background: var(--page); font: 16px/1.35 -apple-system, "Segoe UI", Roboto, "Helvetica Neue", "Liberation Sans", Arial, system-ui, sans-serif; }
@@ -45,6 +45,10 @@ th { border-bottom: 2px solid var(--edge); font-size: .8125rem; color: var(--sec
 .traveller > details { justify-self: stretch; order: 2; }
 .traveller > h3 + p + table:not([class]) { font-size: 1.125rem; }
 .traveller > h3 + p + table:not([class]) td { padding: 0 1rem 0 0; border: 0; line-height: 1.3; letter-spacing: .06em; }
+.traveller > h3 + p + table:not([class]) tr:nth-child(n+5):nth-child(-n+8) > :nth-child(2) { padding: 0; border-right: 1rem solid var(--page); color: var(--on-felt); background: var(--felt); text-align: center; font-size: .875em; }
+tr:nth-child(5) > td:nth-child(2):empty::before { content: "N"; }
+tr:nth-child(6) > td:nth-child(2):empty::before { content: "W E"; word-spacing: 1.5em; }
+tr:nth-child(8) > td:nth-child(2):empty::before { content: "S"; }
 details { border-top: 1px solid var(--line); }
 summary { padding: .7rem 0; font-weight: bold; cursor: pointer; overflow-wrap: anywhere; }
 details > table { width: 100%; }
@@ -84,7 +88,7 @@ body { grid-template-columns: repeat(2, minmax(0, 1fr)); }
 }
 @page { size: A4; margin: 12mm; }
 @media print {
-:root { color-scheme: light; --page: #fff; --ink: #000; --second: #333; --line: #ccc; --edge: #333; --felt: #333; --red: #b8000f; --link: #000; --panel: #fff; }
+:root { color-scheme: light; --page: #fff; --ink: #000; --second: #333; --line: #ccc; --edge: #333; --felt: #eee; --on-felt: #000; --red: #b8000f; --link: #000; --panel: #fff; }
 body { margin: 0; max-width: none; padding: 0; font-size: 9pt; grid-template-columns: repeat(2, minmax(0, 1fr)); }
 nav, details { display: none; }
 a { color: inherit; text-decoration: none; }
@@ -97,12 +101,13 @@ h2, h3 { break-after: avoid; }
 .sheet:not([id]) { break-before: auto; }
 .sheet > h2 { margin-top: 0; }
 .traveller, .card, tr { break-inside: avoid; }
-.traveller { grid-template-columns: auto minmax(0, 1fr); align-items: start; padding-bottom: 2mm; }
-.traveller > h3, .traveller > p { grid-column: 1 / -1; }
-.traveller > h3 { margin: 2mm 0 0; }
-.traveller > h3 + p + table:not([class]) { grid-column: 1; font-size: 10pt; }
-.traveller > .lines { grid-column: 2; order: 0; font-size: 8.5pt; }
-.traveller > .lines + table { grid-column: 1 / -1; font-size: 8pt; }
+.traveller { grid-template-columns: minmax(0, 3fr) minmax(0, 2fr); border: 0; }
+.traveller + .traveller { break-before: page; }
+.traveller > :is(h3, p, .lines) { grid-column: 1 / -1; }
+.traveller > h3 { margin: 0; font-size: 14pt; }
+.traveller > h3 + p + table:not([class]) { font-size: 14pt; }
+.traveller > .lines { font-size: 10pt; }
+.traveller > .lines + table { align-self: center; }
 .sheet:has(> .card) { columns: 2; column-gap: 4mm; }
 .sheet:has(> .card) > h2 { column-span: all; }
 .card { margin: 0 0 3mm; padding: 2mm; border: 1px dashed #666; border-radius: 0; font-size: 8.5pt; }

@@ -8,7 +8,7 @@ ghost use Rattle.bridge_results.specs.HtmlCard.{html_card_line, html_card_lines}
 use crate::card::CardLine;
 use crate::html::cells::{percent_cell, result_cell};
 use crate::html::columns::{SHARE_CARD_COLUMNS, SUM_CARD_COLUMNS};
-use crate::html::links::{board_target, pair_target};
+use crate::html::links::{board_target, linked_row, pair_target};
 use crate::pages::cells::{declarer_cell, gain_cell, score_cell};
 use crate::pages::pair_card::{counted_gain, side_words};
 use crate::pages::shown::shown_pair;
@@ -16,7 +16,7 @@ use bridge_config::PairFields;
 use bridge_score::Scoring;
 use evening_draft::PairNames;
 use line_text::{number_text, write_text};
-use page_layout::{PageText, push_linked_row};
+use page_layout::PageText;
 use std::io::{Error, Write};
 
 /// The row of a line by matchpoints.
@@ -54,9 +54,7 @@ fn share_line(names: Option<&[PairNames]>, pairs: &[PairFields], line: &CardLine
         b"",
         b"",
     ];
-    let mut text = PageText::new();
-    push_linked_row(&mut text, &SHARE_CARD_COLUMNS, &targets, &cells);
-    text
+    linked_row(&SHARE_CARD_COLUMNS, &targets, &cells)
 }
 
 /// The row of a line by IMPs.
@@ -90,9 +88,7 @@ fn sum_line(names: Option<&[PairNames]>, pairs: &[PairFields], line: &CardLine) 
         b"",
         b"",
     ];
-    let mut text = PageText::new();
-    push_linked_row(&mut text, &SUM_CARD_COLUMNS, &targets, &cells);
-    text
+    linked_row(&SUM_CARD_COLUMNS, &targets, &cells)
 }
 
 /// Writes the row of a line.

@@ -1,22 +1,24 @@
 //! The traveller of a board in HTML.
 ghost use Rattle.std.specs.Prelude.{◌≡◌, ◌≤◌, ◌++◌, length, flat_map};
+ghost use Rattle.std.specs.Fmt.{decimal};
 ghost use Rattle.std.specs.Option.{option_map};
 ghost use Rattle.line_text.specs.Streams.{stream, Written};
 ghost use Rattle.page_layout.specs.Table.{table_end};
 ghost use Rattle.page_layout.specs.declared.format.Format.TheVariants.{Html};
 ghost use Rattle.bridge_score.specs.declared.ranking.Scoring.TheVariants.{MatchPoints, Imps};
+ghost use Rattle.bridge_results.specs.BoardText.{side_gain};
 ghost use Rattle.bridge_results.specs.HtmlBoard.{gain_for, side_percent, html_line, html_line_titles, html_lines_head, html_lines, html_traveller};
 
 use crate::compare::Comparison;
 use crate::html::cells::{percent_cell, perhaps_card, result_cell};
 use crate::html::columns::{SHARE_LINE_COLUMNS, SUM_LINE_COLUMNS};
-use crate::html::links::{pair_target, play_target};
+use crate::html::links::{linked_row, pair_target, play_target};
 use crate::pages::board::{side_gain, write_table_end};
 use crate::pages::cells::{declarer_cell, line_score, score_cell};
 use crate::traveller::BoardLine;
 use bridge_score::Scoring;
 use line_text::{NumberText, number_text, write_text};
-use page_layout::{Format, PageText, push_bytes, push_linked_row, push_titles};
+use page_layout::{Format, PageText, push_bytes, push_titles};
 use std::io::{Error, Write};
 
 /// What North and South gained, or else East and West.
@@ -41,18 +43,31 @@ fn side_percent(line: &BoardLine, available: u32, ns: bool) -> NumberText
     }
 }
 
+/// The number of a pair.
+fn pair_text(pair: u8) -> NumberText
+    ensures text { result.bytes ≡ decimal pair }
+    ensures short { length result.bytes ≤ 10 }
+{
+    number_text(u32::from(pair))
+}
+
+/// What a side gained, in matchpoints.
+fn points(line: &BoardLine, ns: bool) -> NumberText
+    ensures text { result.bytes ≡ side_gain MatchPoints line.now.comparison ns }
+    ensures short { length result.bytes ≤ 22 }
+{
+    side_gain(Scoring::MatchPoints, line.comparison, ns)
+}
+
 /// The row of a line by matchpoints.
 fn share_line(line: &BoardLine, available: u32) -> PageText
     ensures { result.items ≡ html_line MatchPoints available line.now }
 {
     let play = &line.play;
-    let ns = number_text(u32::from(play.row.ns));
-    let ew = number_text(u32::from(play.row.ew));
-    let made = result_cell(play.outcome);
-    let lead = perhaps_card(play.lead);
+    let (ns, ew) = (pair_text(play.row.ns), pair_text(play.row.ew));
+    let (made, lead) = (result_cell(play.outcome), perhaps_card(play.lead));
     let score = score_cell(play.outcome, line_score(line.comparison));
-    let ns_gain = side_gain(Scoring::MatchPoints, line.comparison, true);
-    let ew_gain = side_gain(Scoring::MatchPoints, line.comparison, false);
+    let (ns_gain, ew_gain) = (points(line, true), points(line, false));
     let ns_percent = side_percent(line, available, true);
     let ew_percent = side_percent(line, available, false);
     let cells = [
@@ -81,9 +96,7 @@ fn share_line(line: &BoardLine, available: u32) -> PageText
         b"",
         b"",
     ];
-    let mut text = PageText::new();
-    push_linked_row(&mut text, &SHARE_LINE_COLUMNS, &targets, &cells);
-    text
+    linked_row(&SHARE_LINE_COLUMNS, &targets, &cells)
 }
 
 /// The row of a line by IMPs.
@@ -91,10 +104,8 @@ fn sum_line(line: &BoardLine, available: u32) -> PageText
     ensures { result.items ≡ html_line Imps available line.now }
 {
     let play = &line.play;
-    let ns = number_text(u32::from(play.row.ns));
-    let ew = number_text(u32::from(play.row.ew));
-    let made = result_cell(play.outcome);
-    let lead = perhaps_card(play.lead);
+    let (ns, ew) = (pair_text(play.row.ns), pair_text(play.row.ew));
+    let (made, lead) = (result_cell(play.outcome), perhaps_card(play.lead));
     let score = score_cell(play.outcome, line_score(line.comparison));
     let ns_gain = side_gain(Scoring::Imps, line.comparison, true);
     let ew_gain = side_gain(Scoring::Imps, line.comparison, false);
@@ -120,9 +131,7 @@ fn sum_line(line: &BoardLine, available: u32) -> PageText
         b"",
         b"",
     ];
-    let mut text = PageText::new();
-    push_linked_row(&mut text, &SUM_LINE_COLUMNS, &targets, &cells);
-    text
+    linked_row(&SUM_LINE_COLUMNS, &targets, &cells)
 }
 
 /// Writes the row of a line.

@@ -8,7 +8,7 @@ ghost use Rattle.page_layout.specs.Page.{section_end};
 ghost use Rattle.page_layout.specs.Table.{table_end};
 ghost use Rattle.bridge_results.specs.HtmlPage.{html_ranked, html_ranking_start, html_ranked_rows, html_ranking};
 
-use crate::html::links::pair_target;
+use crate::html::links::{linked_row, pair_target};
 use crate::pages::columns::{SHARE_COLUMNS, SUM_COLUMNS};
 use crate::pages::ranking::{push_ranked_titles, write_end};
 use crate::pages::shown::shown_pair;
@@ -16,7 +16,7 @@ use bridge_config::{Config, PairFields};
 use bridge_score::{Ranked, Scoring, share_percent};
 use evening_draft::PairNames;
 use line_text::{number_text, percent_text, signed_text, tenths_text, write_text};
-use page_layout::{Format, PageText, push_bytes, push_linked_row};
+use page_layout::{Format, PageText, push_bytes};
 use std::io::{Error, Write};
 
 /// The row of a pair by matchpoints.
@@ -46,9 +46,7 @@ fn share_row(names: Option<&[PairNames]>, pairs: &[PairFields], ranked: &Ranked)
         b"",
         b"",
     ];
-    let mut text = PageText::new();
-    push_linked_row(&mut text, &SHARE_COLUMNS, &targets, &cells);
-    text
+    linked_row(&SHARE_COLUMNS, &targets, &cells)
 }
 
 /// The row of a pair by IMPs.
@@ -67,9 +65,7 @@ fn sum_row(names: Option<&[PairNames]>, pairs: &[PairFields], ranked: &Ranked) -
         value.as_str().as_bytes(),
     ];
     let targets = [b"".as_slice(), target.as_str().as_bytes(), b"", b""];
-    let mut text = PageText::new();
-    push_linked_row(&mut text, &SUM_COLUMNS, &targets, &cells);
-    text
+    linked_row(&SUM_COLUMNS, &targets, &cells)
 }
 
 /// Writes the row of a pair.
