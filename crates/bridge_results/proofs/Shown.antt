@@ -1,7 +1,7 @@
 -- The record of which a line tells.
-use Rattle.std.proofs.Common.{◌≡◌, ℕ, ◌+◌, ◌-◌, ◌*◌, ◌≤◌, ◌<◌, Bool, true, false, cond, if◌then◌else◌, List, [], ◌∷◌, ◌++◌, length, get_or, map, filter, Option, Some, None, refl, sym, ap, ◌∙◌, subst, arith}
-use Rattle.std.specs.Prelude.{All, IfSome, Contains, ◌&&◌, nat_le, flat_map, option_and_then}
-use Rattle.std.specs.List.{cons_option, filter_map}
+use Rattle.std.proofs.Common.{◌≡◌, ℕ, ◌-◌, ◌*◌, Bool, true, false, cond, if◌then◌else◌, List, [], ◌∷◌, Option, Some, None, refl, sym, ap, ◌∙◌, subst, arith}
+use Rattle.std.specs.Prelude.{All, IfSome, Contains, flat_map, option_and_then}
+use Rattle.std.specs.List.{cons_option}
 use Rattle.std.proofs.lemmas.Bool.{and_from, le-leb}
 use Rattle.std.proofs.lemmas.List.Elements.{All-nil, All-cons, All-append, All-map, All-filter, All-contains_itself}
 use Rattle.std.proofs.lemmas.List.Elements.{recursion_from_All}
@@ -18,9 +18,9 @@ use Rattle.session_rules.specs.StateRange.{IsSession}
 use Rattle.bridge_ranking.specs.Ranking.{games_of}
 use Rattle.bridge_results.specs.declared.play.TablePlay.{TablePlay}
 use Rattle.bridge_results.specs.declared.traveller.BoardLine.{BoardLine}
-use Rattle.bridge_results.specs.Plays.{has_outcome, lead_of, play_by, table_play_in, table_play_at, plays_at, plays_of, plays_on, is_of}
-use Rattle.bridge_results.specs.Traveller.{board_line_of, in_order, rows_of, traveller}
-use Rattle.bridge_results.specs.HtmlCourse.{id_by, is_id, shown_record}
+use Rattle.bridge_results.specs.Plays.{has_outcome, lead_of, table_play_in, table_play_at, plays_at, plays_of, plays_on, is_of}
+use Rattle.bridge_results.specs.Traveller.{board_line_of, rows_of, traveller}
+use Rattle.bridge_results.specs.HtmlCourse.{id_by, is_id}
 use Rattle.bridge_results.specs.HtmlRecord.{IsShownAsRecorded}
 use Rattle.bridge_results.proofs.Known.{row_numbers, record_at}
 use Rattle.bridge_results.proofs.Plays.{plays_are}

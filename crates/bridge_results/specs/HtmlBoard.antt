@@ -1,5 +1,5 @@
 -- A board in HTML: its hands, its traveller, its frequencies, and how each table played it.
-use Rattle.std.specs.Prelude.{ℕ, Bool, true, false, List, [], ◌∷◌, ◌++◌, codes, flat_map, ℤ, Option, None, Some}
+use Rattle.std.specs.Prelude.{ℕ, Bool, true, false, List, [], ◌∷◌, ◌++◌, codes, flat_map, ℤ}
 use Rattle.std.specs.Option.{option_map}
 use Rattle.std.specs.Fmt.{decimal}
 use Rattle.bridge_cards.specs.declared.seat.Side.TheVariants.{NorthSouth}

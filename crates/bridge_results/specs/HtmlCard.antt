@@ -1,5 +1,5 @@
 -- The score card of a pair in HTML, with its place.
-use Rattle.std.specs.Prelude.{ℕ, ◌==◌, List, [], ◌∷◌, ◌++◌, codes, flat_map, length, unsigned_abs, position, slice_get, Option, None, Some, option_and_then}
+use Rattle.std.specs.Prelude.{ℕ, ◌==◌, List, [], ◌∷◌, ◌++◌, codes, flat_map, length, unsigned_abs, position, slice_get, Option, Some, option_and_then}
 use Rattle.std.specs.Option.{option_map, option_map_or}
 use Rattle.std.specs.Fmt.{decimal, signed_decimal}
 use Rattle.bridge_score.specs.declared.ranking.Ranked.{Ranked}

@@ -1,7 +1,6 @@
 //! What stands in the cells about a play in HTML, as players write it.
 ghost use Rattle.std.specs.Prelude.{◌≡◌, ◌+◌, ◌≤◌, ◌<◌, ◌++◌, codes, length};
 ghost use Rattle.std.specs.Fmt.{decimal};
-ghost use Rattle.arrayvec.specs.ArrayString.{array_string_len};
 ghost use Rattle.bridge_auction.specs.Level.{IsLevel};
 ghost use Rattle.bridge_results.specs.HtmlCells.{doubled_marks, tricks_beside, made_cell, result_cell, shown_letter, card_cell, perhaps_card, gain_share, percent_cell};
 
@@ -89,18 +88,19 @@ pub fn result_cell(outcome: Outcome) -> CellText
     }
 }
 
-/// Adds the letter of a rank, and 10 for a ten.
-fn push_letter(text: &mut CellText, letter: u8)
-    requires room { array_string_len text.old + 2 ≤ 22 }
-    requires ascii { letter < 128 }
-    ensures text { text.new.bytes ≡ text.old.bytes ++ shown_letter letter }
-    ensures room { array_string_len text.new ≤ array_string_len text.old + 2 }
+/// The letter of a rank, and 10 for a ten.
+pub fn shown_letter(letter: u8) -> ArrayString<2>
+    requires { letter < 128 }
+    ensures text { result.bytes ≡ shown_letter letter }
+    ensures short { length result.bytes ≤ 2 }
 {
+    let mut text = ArrayString::new();
     if letter == b'T' {
         text.push_str("10");
     } else {
         text.push(char::from(letter));
     }
+    text
 }
 
 /// A card, as `H10`.
@@ -110,7 +110,7 @@ fn card_cell(card: Card) -> CellText
 {
     let mut text = CellText::new();
     text.push(char::from(card.suit().letter()));
-    push_letter(&mut text, card.rank().letter());
+    text.push_str(shown_letter(card.rank().letter()).as_str());
     text
 }
 

@@ -38,6 +38,7 @@ fn by_matchpoints(rt: HostRuntime) -> Result<(), Fail> {
         "<h2>Ranking NS</h2>",
         "<h2>Ranking EW</h2>",
         "<section class=\"traveller\" id=\"board-1\">\n<h3>Board 1</h3>\n",
+        "<tr><td></td><td><span class=\"s\">&spades;</span> AKQJ1098765432</td><td></td></tr>\n",
         "<td><a href=\"#play-1-2-3\">4<span class=\"h\">&hearts;</span>+1</a></td><td>N</td>",
         "<td class=\"r\">4.0</td><td class=\"r\">0.0</td><td class=\"r\">100.00</td><td class=\"r\">0.00</td></tr>",
         "<section class=\"card\" id=\"pair-6\">\n<h3>Pair 6: Kim and Lea</h3>\n<p>Place 1 of 3: 12.0 of 12.0, 100.00 %</p>\n",

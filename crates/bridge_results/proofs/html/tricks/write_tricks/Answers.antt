@@ -1,4 +1,4 @@
-use Rattle.std.proofs.Common.{◌≡◌, ◌<◌, length, ap, arith}
+use Rattle.std.proofs.Common.{length, ap, arith}
 use Rattle.bridge_results.specs.HtmlCourse.{trick_row, fours}
 use Rattle.bridge_results.proofs.WrittenRows.{index_taken, index_failed, indexes_taken}
 use Rattle.bridge_results.proofs.html.tricks.write_tricks.Goals as goal
