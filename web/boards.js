@@ -112,7 +112,7 @@ function resultNodes(result, seat) {
 const isScored = (result) => result.score !== undefined;
 
 // What stands for the score of one side, or nothing.
-const scoreText = (board) => (isScored(board.result) ? signed(ownScore(board)) : board.result.average ? TEXTS.percent(board.result.average[board.side]) : "");
+const scoreText = (board) => (isScored(board.result) ? signed(ownScore(board)) : board.result.average && board.side in board.result.average ? TEXTS.percent(board.result.average[board.side]) : "");
 
 // The worth so far, of matchpoints in per cent.
 function worthText(worth) {

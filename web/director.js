@@ -435,10 +435,13 @@ async function rule(what, word, rest, after, isCorrection = false) {
   if (!isFilledIn("on-rulings")) return;
   const words = playWords("rule");
   if (words === null) return;
-  const name = what + ", " + playName("rule");
   const seen = await askPlay(words);
   if (seen === null) return tell(TEXTS.noAnswer);
   const board = refusal(seen) ? null : readBoards(seen).boards[0];
+  // The answer tells which boards were played there.
+  if (board) firstBoards.set(words[0] + " " + words[1], Number(board.number) - words[2] + 1);
+  if (playWords("rule") === null) return;
+  const name = what + ", " + playName("rule");
   const line = [word, ...words, rest].join(" ").trim();
   onceUnchanged(at("rule-question"), words, seen, TEXTS.asks(name), () => doOne(line, name, isCorrection), ...(board && board.names ? beforeAndAfter(board, after) : []));
 }

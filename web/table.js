@@ -160,11 +160,14 @@ function unmark() {
   looking = false;
 }
 
-// What is tapped is marked, and sent by a second tap, or sent at once.
+// Doubles, and bids of the highest two levels, which nobody makes in passing.
+const isRare = (line) => /^CALL .* (XX?|[67]\w+)$/.test(line);
+
+// What is tapped is marked, and sent by a second tap; or sent at once, but for rare calls.
 function choose(what, line, event) {
   if (isDeaf(event)) return;
   held = what;
-  if (!isSafe()) return send(line);
+  if (!isSafe() && !isRare(line)) return send(line);
   if (marked && marked.what === what) {
     if (Date.now() - marked.at >= TWICE) send(line);
     return;

@@ -329,9 +329,18 @@ run({
   "each refusal has its sentence": async () => {
     for (const [name, said] of Object.entries(SAID)) {
       const page = await openedAt("rulings", tables(AT_PLAY), `ERR 5 ${name}\n`);
-      await sent(page, "rule-void", /Take the play out/, [`/boards ${KEY} 1 1 1`]);
+      fill(page, { "rule-round": "2", "rule-table": "2", "rule-board": "6" });
+      await sent(page, "rule-void", /Take the play out/, [`/boards ${KEY} 2 2 3`]);
       assert.match(page.text("told"), said, name);
     }
+  },
+
+  "a board that was not played at that table is not ruled on, also where the table was not seen": async () => {
+    const page = await openedAt("rulings", tables(AT_PLAY), "OK\n", played({ BOARD: "13 1 3 1 -" }));
+    fill(page, { "rule-round": "1", "rule-table": "3", "rule-board": "1" });
+    assert.deepStrictEqual(await page.click("rule-void"), [`/boards ${KEY} 1 3 1`]);
+    assert.match(page.text("told"), /13 to 15/);
+    assert.strictEqual(page.at("yes"), null);
   },
 
   "an ending is solved for both sides": async () => {

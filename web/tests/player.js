@@ -118,13 +118,19 @@ run({
     assert.ok(page.at("key"));
   },
 
-  "each call sends its line": async () => {
+  "each call sends its line, and doubles and bids of six or seven once they are confirmed": async () => {
+    const marked = async (page, call) => {
+      assert.deepStrictEqual(await page.click(`call-${call}`), []);
+      assert.strictEqual(await sent(page, "confirm"), `/lines CALL ${KEY} 4 2 ${call}\n`);
+    };
     for (const call of ["PASS", ...BIDS]) {
-      assert.strictEqual(await sent(await seated(place(), view()), `call-${call}`), `/lines CALL ${KEY} 4 2 ${call}\n`);
+      const page = await seated(place(), view());
+      if (/^[67]/.test(call)) await marked(page, call);
+      else assert.strictEqual(await sent(page, `call-${call}`), `/lines CALL ${KEY} 4 2 ${call}\n`);
     }
     const doubled = { AT: "2 0 0", CALLS: "1H PASS" };
-    assert.strictEqual(await sent(await seated(place(), view({ ...doubled, CALLS: "PASS 1H" })), "call-X"), `/lines CALL ${KEY} 4 2 X\n`);
-    assert.strictEqual(await sent(await seated(place(), view({ ...doubled, CALLS: "1H X" })), "call-XX"), `/lines CALL ${KEY} 4 2 XX\n`);
+    await marked(await seated(place(), view({ ...doubled, CALLS: "PASS 1H" })), "X");
+    await marked(await seated(place(), view({ ...doubled, CALLS: "1H X" })), "XX");
   },
 
   "only calls that are legal can be clicked": async () => {

@@ -1884,11 +1884,14 @@ function unmark() {
   looking = false;
 }
 
-// What is tapped is marked, and sent by a second tap, or sent at once.
+// Doubles, and bids of the highest two levels, which nobody makes in passing.
+const isRare = (line) => /^CALL .* (XX?|[67]\w+)$/.test(line);
+
+// What is tapped is marked, and sent by a second tap; or sent at once, but for rare calls.
 function choose(what, line, event) {
   if (isDeaf(event)) return;
   held = what;
-  if (!isSafe()) return send(line);
+  if (!isSafe() && !isRare(line)) return send(line);
   if (marked && marked.what === what) {
     if (Date.now() - marked.at >= TWICE) send(line);
     return;
@@ -2818,7 +2821,7 @@ function resultNodes(result, seat) {
 const isScored = (result) => result.score !== undefined;
 
 // What stands for the score of one side, or nothing.
-const scoreText = (board) => (isScored(board.result) ? signed(ownScore(board)) : board.result.average ? TEXTS.percent(board.result.average[board.side]) : "");
+const scoreText = (board) => (isScored(board.result) ? signed(ownScore(board)) : board.result.average && board.side in board.result.average ? TEXTS.percent(board.result.average[board.side]) : "");
 
 // The worth so far, of matchpoints in per cent.
 function worthText(worth) {
@@ -3749,10 +3752,13 @@ async function rule(what, word, rest, after, isCorrection = false) {
   if (!isFilledIn("on-rulings")) return;
   const words = playWords("rule");
   if (words === null) return;
-  const name = what + ", " + playName("rule");
   const seen = await askPlay(words);
   if (seen === null) return tell(TEXTS.noAnswer);
   const board = refusal(seen) ? null : readBoards(seen).boards[0];
+  // The answer tells which boards were played there.
+  if (board) firstBoards.set(words[0] + " " + words[1], Number(board.number) - words[2] + 1);
+  if (playWords("rule") === null) return;
+  const name = what + ", " + playName("rule");
   const line = [word, ...words, rest].join(" ").trim();
   onceUnchanged(at("rule-question"), words, seen, TEXTS.asks(name), () => doOne(line, name, isCorrection), ...(board && board.names ? beforeAndAfter(board, after) : []));
 }
