@@ -729,7 +729,7 @@ function betweenNodes(place, next) {
     make("p", { className: "large" }, TEXTS.tableSeat(place.table.number, SEAT_NAMES[place.table.seat])),
     make("p", null, placeText(place) + "."), namesNode(place));
   else here.append(make("p", { className: "large" }, TEXTS.sitOut));
-  if (!next) nodes.push(here);
+  if (!next || !place.table) nodes.unshift(here);
   const played = told.boards.filter((board) => board.round === String(place.round));
   if (played.length) nodes.push(make("section", { className: "panel wide-panel" }, make("h2", null, TEXTS.roundSoFar), cardTable(place, played),
     ...soFarNodes()));
@@ -920,7 +920,7 @@ async function act(line) {
   unsure = reply === null ? line : "";
   unsureAt = Date.now();
   if (reply === null) say("notice", TEXTS.unknownFate);
-  else if (refusal(reply)) say("notice", TEXTS.refusals[refusal(reply)] || reply);
+  else if (refusal(reply)) sayPassing(TEXTS.refusals[refusal(reply)] || reply);
   const view = reply === null ? "" : reply.slice(reply.indexOf("\n") + 1);
   if (/^C(ALL|ARD) /.test(line) && goesOn(view)) showView(lastPlace, view);
   await look();

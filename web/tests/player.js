@@ -434,6 +434,9 @@ run({
     assert.deepStrictEqual(tiles(await seated(place({ NEXT: "2 W 7 9" }), "ERR 8 NotCurrent\n")), []);
     const out = await seated(place({ TABLE: "-", NAMES: "-" }), "ERR 8 SitsOut\n");
     assert.deepStrictEqual([tiles(out), out.text("below")], [[], "Pair 2"]);
+    const panels = out.document.root.all().filter((one) => one.className === "panel").map((one) => one.textContent);
+    assert.match(panels[0], /You sit out$/);
+    assert.match(panels[1], /Table 1, West/);
   },
 
   "each refusal has its sentence": async () => {
