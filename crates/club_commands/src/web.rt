@@ -1,5 +1,5 @@
 //! Pages for browsers, as the command `web` shows them.
-ghost use Rattle.std.specs.Prelude.{◌≡◌, ◌≤◌, [], false, length, string_bytes, OnOk, IfOk, IfErr, IfSome};
+ghost use Rattle.std.specs.Prelude.{true, ◌≡◌, ◌≤◌, [], false, length, string_bytes, OnOk, IfOk, IfErr, IfSome};
 ghost use Rattle.line_text.specs.Streams.{stream};
 ghost use Rattle.table_pages.specs.Site.{site_of};
 ghost use Rattle.club_commands.specs.declared.fault.RunFault.TheVariants.{System};
