@@ -36,11 +36,8 @@ pub fn line_of_two(keyword: &[u8], word: &[u8]) -> PageText
 #[tactic(auto, unfolding(crate::specs::ConfigText::ended))]
 pub fn line_of_six(keyword: &[u8], words: Five<'_>) -> PageText
     requires keyword { length keyword.now ≤ 24 }
-    requires first { length words.first.now ≤ 24 }
-    requires second { length words.second.now ≤ 24 }
-    requires third { length words.third.now ≤ 24 }
-    requires fourth { length words.fourth.now ≤ 24 }
-    requires fifth { length words.fifth.now ≤ 24 }
+    requires first { (length words.first.now ≤ 24) × (length words.second.now ≤ 24) }
+    requires later { (length words.third.now ≤ 24) × (length words.fourth.now ≤ 24) × (length words.fifth.now ≤ 24) }
     ensures { result.items ≡ ended (spaced (keyword.now ∷ words_of words.entry)) }
 {
     let mut text = PageText::new();

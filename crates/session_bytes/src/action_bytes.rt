@@ -1,6 +1,7 @@
 //! The bytes of an action on the disk.
 ghost use Rattle.std.specs.Prelude.{◌≡◌, ◌<◌, ◌≤◌, ◌+◌, ◌++◌, ◌∷◌, [], length, flat_map, All};
 ghost use Rattle.std.specs.Int.{w16, w32, w64, to_be_bytes};
+ghost use Rattle.bridge_cards.specs.Board.{IsBoard};
 ghost use Rattle.bridge_cards.specs.CardSet.{IsCardSet};
 ghost use Rattle.session_rules.specs.StateRange.{IsCorrectionInRange};
 ghost use Rattle.session_bytes.specs.ActionRange.{IsDeedInRange, IsActInRange, IsInRange, IsKey, IsTurn, IsPlayIdInRange};
@@ -39,14 +40,10 @@ fn push_act(act: &Act, bytes: &mut ArrayVec<u8, PAYLOAD_BYTES>)
             push_deed(&deed, bytes);
         }
         Act::Deal { key, board, hands } => {
-            push_head(1, key, bytes);
-            bytes.push(board.number());
+            push_board(1, key, board, bytes);
             push_hands(&hands, bytes);
         }
-        Act::Undeal { key, board } => {
-            push_head(13, key, bytes);
-            bytes.push(board.number());
-        }
+        Act::Undeal { key, board } => push_board(13, key, board, bytes),
         Act::RoundEnd { key, round } => {
             push_head(7, key, bytes);
             bytes.push(round.number());
@@ -132,6 +129,17 @@ fn push_head(kind: u8, key: Key, bytes: &mut ArrayVec<u8, PAYLOAD_BYTES>)
 {
     bytes.push(kind);
     bytes.try_extend_from_slice(&key.0.to_be_bytes()).unwrap();
+}
+
+/// Adds the kind, the key and the board.
+fn push_board(kind: u8, key: Key, board: BoardNumber, bytes: &mut ArrayVec<u8, PAYLOAD_BYTES>)
+    requires { bytes.old.items ≡ [] }
+    ensures bytes { bytes.new.items ≡ headed kind key.0 (board ∷ []) }
+    ensures few { length bytes.new.items ≡ 6 }
+    ensures range { IsKey key × IsBoard board }
+{
+    push_head(kind, key, bytes);
+    bytes.push(board.number());
 }
 
 /// Adds the kind, the key, the board and the number of calls, cards or claims made before.

@@ -1,5 +1,5 @@
 -- Who does what by an action.
-use Rattle.std.specs.Prelude.{ℕ}
+use Rattle.std.specs.Prelude.{ℕ, Bool, true, false}
 use Rattle.bridge_config.specs.declared.fields.Key.{Key}
 use Rattle.session_rules.specs.declared.act.Act.{Act}
 use Rattle.session_rules.specs.declared.act.Act.TheVariants as act
@@ -27,6 +27,15 @@ act_of (Void key play) = act.Ruling key play correction.Void
 act_of (Adjust key play ns ew) = act.Ruling key play (correction.Adjust ns ew)
 act_of (Assign key play contract tricks) = act.Ruling key play (correction.Assign contract tricks)
 act_of (Restore key play) = act.Ruling key play correction.Restore
+
+-- whether the director rules on a play, or takes a ruling back
+abbrev pub is_ruling : Action → Bool
+is_ruling (Tricks key play tricks) = true
+is_ruling (Void key play) = true
+is_ruling (Adjust key play ns ew) = true
+is_ruling (Assign key play contract tricks) = true
+is_ruling (Restore key play) = true
+is_ruling other = false
 
 -- the key by which somebody acts
 abbrev pub key_of : Act → Key

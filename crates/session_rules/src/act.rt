@@ -1,7 +1,7 @@
 //! Who does what by an action.
-ghost use Rattle.std.specs.Prelude.{◌≡◌};
+ghost use Rattle.std.specs.Prelude.{◌≡◌, true};
 ghost use Rattle.session_rules.specs.declared.act.Act.TheVariants as act;
-ghost use Rattle.session_rules.specs.Act.{act_of, key_of, of_player, of_ruling};
+ghost use Rattle.session_rules.specs.Act.{act_of, is_ruling, key_of, of_player, of_ruling};
 
 use crate::action::{Action, PlayId};
 use crate::correction::Correction;
@@ -95,6 +95,16 @@ impl Action {
             Action::Refuse { key, board, at } => player(key, board, at, Deed::Refuse),
             Action::NextRound { key, round } => Act::RoundEnd { key, round },
             Action::Back { key, play } => Act::Back { key, play },
+            _ => self.ruled(),
+        }
+    }
+
+    /// What the director rules on which play.
+    fn ruled(self) -> Act
+        requires { is_ruling self ≡ true }
+        ensures { result ≡ act_of self }
+    {
+        match self {
             Action::Tricks { key, play, tricks } => ruling(key, play, Correction::Tricks(tricks)),
             Action::Void { key, play } => ruling(key, play, Correction::Void),
             Action::Adjust { key, play, ns, ew } => ruling(
@@ -109,6 +119,7 @@ impl Action {
                 tricks,
             } => ruling(key, play, Correction::Assign { contract, tricks }),
             Action::Restore { key, play } => ruling(key, play, Correction::Restore),
+            _ => unreachable!(),
         }
     }
 

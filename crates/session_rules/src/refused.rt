@@ -9,72 +9,72 @@ use std::fmt;
 #[derive(Clone, Copy, Debug, PartialEq, Eq)]
 pub enum Refused {
     /// The key is nobody's.
-    NoKey,
+    NoKey = 1,
     /// The director's action or question by a player, or a player's by the director; the ranking to a player before the session
     /// is closed.
-    NotAllowed,
+    NotAllowed = 2,
     /// The session is closed.
-    Closed,
+    Closed = 3,
     /// There is no such play of a live row, no such board in the session, or no such field.
-    NoSuchPlay,
+    NoSuchPlay = 4,
     /// The play's round has not begun.
-    NotYet,
+    NotYet = 5,
     /// The pair sits out in this round.
-    SitsOut,
+    SitsOut = 6,
     /// The board is not that of the table's current play, or there is no such play.
-    NotCurrent,
+    NotCurrent = 7,
     /// The board is not dealt.
-    NotDealt,
+    NotDealt = 8,
     /// A call after the auction, or another action of a player before its end.
-    WrongPhase,
+    WrongPhase = 9,
     /// Another number of calls, cards or claims was made, or it is another round.
-    Stale,
+    Stale = 10,
     /// No claim stands.
-    NoClaim,
+    NoClaim = 11,
     /// A claim stands (Law 68).
-    ClaimStands,
+    ClaimStands = 12,
     /// The player is not asked about the claim, or has agreed already.
-    NotAsked,
+    NotAsked = 13,
     /// It is not the player's turn, or dummy claims.
-    NotYourTurn,
+    NotYourTurn = 14,
     /// A claim is made between tricks alone.
-    MidTrick,
+    MidTrick = 15,
     /// More tricks are claimed than are left.
-    TooManyTricks,
+    TooManyTricks = 16,
     /// The bid is not higher than every bid so far (Law 18).
-    InsufficientBid,
+    InsufficientBid = 17,
     /// The last call other than a pass is no bid by an opponent (Law 19A).
-    InadmissibleDouble,
+    InadmissibleDouble = 18,
     /// The last call other than a pass is no double by an opponent (Law 19B).
-    InadmissibleRedouble,
+    InadmissibleRedouble = 19,
     /// The hand in turn does not hold the card.
-    NotHeld,
+    NotHeld = 20,
     /// The hand in turn holds a card of the suit led (Law 44).
-    MustFollow,
+    MustFollow = 21,
     /// The board is dealt.
-    AlreadyDealt,
+    AlreadyDealt = 22,
     /// The hands are no deal (Law 1).
-    BadDeal,
+    BadDeal = 23,
     /// A play of the round is neither finished, void nor adjusted.
-    RoundOpen,
+    RoundOpen = 24,
     /// The auction is not ended, or nobody bid.
-    NoContract,
+    NoContract = 25,
     /// The play is not over; or its round is, and without its ruling it would be unfinished.
-    NotFinished,
+    NotFinished = 26,
     /// So many cards are no ending of the play.
-    NotAnEnding,
+    NotAnEnding = 27,
     /// 99 claims were made in the play.
-    ClaimsSpent,
+    ClaimsSpent = 28,
     /// Averages are of matchpoints, and the scoring is by IMPs.
-    NotMatchPoints,
+    NotMatchPoints = 29,
     /// Nothing was done in the play that could be taken back.
-    NothingToTakeBack,
+    NothingToTakeBack = 50,
     /// The play's round is not the current one.
-    NotThisRound,
+    NotThisRound = 51,
     /// A ruling stands on the play, or on one of the board's.
-    RulingStands,
+    RulingStands = 52,
     /// A call was made on the board.
-    BoardBegun,
+    BoardBegun = 53,
 }
 
 impl Refused {
@@ -83,41 +83,7 @@ impl Refused {
         ensures number { result ≡ refusal_number self }
         ensures most { result ≤ 53 }
     {
-        match self {
-            Refused::NoKey => 1,
-            Refused::NotAllowed => 2,
-            Refused::Closed => 3,
-            Refused::NoSuchPlay => 4,
-            Refused::NotYet => 5,
-            Refused::SitsOut => 6,
-            Refused::NotCurrent => 7,
-            Refused::NotDealt => 8,
-            Refused::WrongPhase => 9,
-            Refused::Stale => 10,
-            Refused::NoClaim => 11,
-            Refused::ClaimStands => 12,
-            Refused::NotAsked => 13,
-            Refused::NotYourTurn => 14,
-            Refused::MidTrick => 15,
-            Refused::TooManyTricks => 16,
-            Refused::InsufficientBid => 17,
-            Refused::InadmissibleDouble => 18,
-            Refused::InadmissibleRedouble => 19,
-            Refused::NotHeld => 20,
-            Refused::MustFollow => 21,
-            Refused::AlreadyDealt => 22,
-            Refused::BadDeal => 23,
-            Refused::RoundOpen => 24,
-            Refused::NoContract => 25,
-            Refused::NotFinished => 26,
-            Refused::NotAnEnding => 27,
-            Refused::ClaimsSpent => 28,
-            Refused::NotMatchPoints => 29,
-            Refused::NothingToTakeBack => 50,
-            Refused::NotThisRound => 51,
-            Refused::RulingStands => 52,
-            Refused::BoardBegun => 53,
-        }
+        self as u8
     }
 
     /// The refusal's name, in one word of at most 20 letters.
@@ -155,10 +121,21 @@ impl Refused {
             Refused::NotAnEnding => "NotAnEnding",
             Refused::ClaimsSpent => "ClaimsSpent",
             Refused::NotMatchPoints => "NotMatchPoints",
+            _ => self.name_from_50(),
+        }
+    }
+
+    /// The name of a refusal of the director's corrections, which have the numbers from 50 on.
+    fn name_from_50(self) -> &'static str
+        requires { 50 ≤ refusal_number self }
+        ensures name { result.now ≡ refusal_name self }
+        ensures short { length result.now ≤ 20 }
+    {
+        match self {
             Refused::NothingToTakeBack => "NothingToTakeBack",
             Refused::NotThisRound => "NotThisRound",
             Refused::RulingStands => "RulingStands",
-            Refused::BoardBegun => "BoardBegun",
+            _ => "BoardBegun",
         }
     }
 }

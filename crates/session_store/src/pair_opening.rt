@@ -1,5 +1,5 @@
 //! Opening a pair of disks.
-ghost use Rattle.std.specs.Prelude.{◌≤◌, IfOk, IfErr};
+ghost use Rattle.std.specs.Prelude.{◌≡◌, ◌≤◌, IfOk, IfErr};
 ghost use Rattle.session_store.specs.Layout.{sector_count};
 ghost use Rattle.session_store.specs.PairOpening.{ComparesEpochs, IsNotJoined, IsPairOpened, IsPairRefused, Joins};
 
@@ -19,6 +19,19 @@ pub struct UnopenedPair<A: SectorDisk + Drop, B: SectorDisk + Drop> {
     pub second: B,
     /// Why the pair was not opened.
     pub fault: PairFault,
+}
+
+impl<A: SectorDisk + Drop, B: SectorDisk + Drop> UnopenedPair<A, B> {
+    /// The disks of a pair that was not opened for that fault.
+    fn new(first: A, second: B, fault: PairFault) -> UnopenedPair<A, B>
+        ensures { result ≡ record { first = first; second = second; fault = fault } }
+    {
+        UnopenedPair {
+            first,
+            second,
+            fault,
+        }
+    }
 }
 
 /// The epoch of the second disk, which is not the newer one.
@@ -89,26 +102,14 @@ pub fn open_pair<A: SectorDisk + Drop, B: SectorDisk + Drop, K: Kept>(
 {
     if first.count() < SECTORS {
         let fault = PairFault::First(StoreFault::TooSmall);
-        return Err(UnopenedPair {
-            first,
-            second,
-            fault,
-        });
+        return Err(UnopenedPair::new(first, second, fault));
     }
     if second.count() < SECTORS {
         let fault = PairFault::Second(StoreFault::TooSmall);
-        return Err(UnopenedPair {
-            first,
-            second,
-            fault,
-        });
+        return Err(UnopenedPair::new(first, second, fault));
     }
     match compare_epochs(&mut first, &mut second) {
-        Err(fault) => Err(UnopenedPair {
-            first,
-            second,
-            fault,
-        }),
+        Err(fault) => Err(UnopenedPair::new(first, second, fault)),
         Ok(own) => match Store::open(alloc, first) {
             Ok(store) => join_disk(alloc, store, second, own),
             Err((first, fault)) => Err(UnopenedPair {

@@ -7,7 +7,7 @@ use Rattle.session_store.proofs.pair_opening.open_pair.Goals as goal
 pub returns-in-Err-clause-refuses : goal.returns-in-Err-clause-refuses
 returns-in-Err-clause-refuses g c =
     let compared = c.compare_epochs.ensures in
-    not-compared g.K.Kept.kept g.A.SectorDisk.disk g.B.SectorDisk.disk _ _ _ _ compared.first_quiet compared.second_quiet _ c.in-Err.ensures.cause
+    rw c.new-in-Err.ensures (not-compared g.K.Kept.kept g.A.SectorDisk.disk g.B.SectorDisk.disk _ _ _ _ compared.first_quiet compared.second_quiet _ c.in-Err.ensures.cause)
 
 pub returns-in-Ok-open-clause-opens : goal.returns-in-Ok-open-clause-opens
 returns-in-Ok-open-clause-opens g c =
@@ -30,8 +30,10 @@ pub returns-then-count-lt-SECTORS-2-clause-refuses :
 returns-then-count-lt-SECTORS-2-clause-refuses g c =
     let first = g.A.SectorDisk.disk in
     let second = g.B.SectorDisk.disk in
+    rw c.new-then-count-lt-SECTORS-2.ensures (
     only-looked g.K.Kept.kept first second c.args.first c.args.first c.args.second c.args.second
     (quiet first c.args.first) (quiet second c.args.second) _ (λ same. cc)
+    )
 
 pub returns-in-Err-open-clause-refuses : goal.returns-in-Err-open-clause-refuses
 returns-in-Err-open-clause-refuses g c =
@@ -41,3 +43,13 @@ returns-in-Err-open-clause-refuses g c =
     = omega (arith, compared.first_quiet.remains.count, c.if-count-lt-SECTORS.false, c.count.ensures.count) in
     first-not_opened g.K.Kept.kept first g.B.SectorDisk.disk _ _ _ _ compared.first_quiet compared.second_quiet _ _ (first-not_newer _)
     (c.in-Err-open.ensures.refuses large).not_opened
+
+pub returns-then-count-lt-SECTORS-clause-refuses :
+    goal.returns-then-count-lt-SECTORS-clause-refuses
+returns-then-count-lt-SECTORS-clause-refuses g c =
+    let first = g.A.SectorDisk.disk in
+    let second = g.B.SectorDisk.disk in
+    rw c.new.ensures (
+    only-looked g.K.Kept.kept first second c.args.first c.args.first c.args.second c.args.second
+    (quiet first c.args.first) (quiet second c.args.second) _ (λ same. cc)
+    )
