@@ -8,7 +8,8 @@ ghost use Rattle.bridge_endings.specs.Left.{left_to};
 ghost use Rattle.bridge_endings.specs.Closed.{is_held, is_below, moved_up, closed, opened};
 
 use crate::search::suit_of;
-use bridge_cards::{Card, CardSet};
+use crate::trick::above;
+use bridge_cards::{Card, CardSet, Suit};
 
 /// The hands with those of their cards that are left.
 pub fn cards_left(hands: &[CardSet; 4], left: CardSet) -> [CardSet; 4]
@@ -30,6 +31,17 @@ pub fn all_cards(hands: &[CardSet; 4]) -> CardSet
 {
     let [north, east, south, west] = hands;
     north.union(*east).union(*south).union(*west)
+}
+
+/// Those of the cards that are gone that have a card left below them in their suit.
+pub fn gaps(gone: CardSet, left: CardSet) -> CardSet {
+    let mut gaps = CardSet::new();
+    for suit in Suit::ALL {
+        if let Some(lowest) = left.of_suit(suit).lowest() {
+            gaps = gaps.union(above(gone.of_suit(suit), lowest));
+        }
+    }
+    gaps
 }
 
 /// The hands, with their cards below the gap moved up by one.

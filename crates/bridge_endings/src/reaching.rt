@@ -7,7 +7,7 @@ ghost use Rattle.bridge_endings.specs.Agree.{IsDealtOut};
 ghost use Rattle.bridge_endings.specs.SearchValue.{GoesOn, IsAnswer, IsTable};
 
 use crate::answer::{Answer, still_to_try, upwards};
-use crate::closed::{all_cards, cards_left, closed_hands, opened};
+use crate::closed::{all_cards, cards_left, closed_hands, gaps, opened};
 use crate::found::Found;
 use crate::like_hands::lengths_of;
 use crate::move_order::next_card;
@@ -63,7 +63,7 @@ impl Search {
         if is_settled(&trick, tricks, need) {
             return without_cards(need);
         }
-        if tricks < 2 {
+        if tricks < 3 {
             return self.reaches(table, hands, left, &trick, tricks, need, None);
         }
         if need == settled_by_one(leader, tricks)
@@ -76,7 +76,7 @@ impl Search {
             };
         }
         let cards = cards_left(hands, left);
-        let gone = all_cards(hands).difference(left);
+        let gone = gaps(all_cards(hands).difference(left), left);
         self.reaches_closed(table, &cards, gone, &trick, tricks, need)
     }
 
@@ -172,7 +172,6 @@ impl Search {
         }
         let sought = is_sought(trick.turn());
         let seen = self.seen(hands, left, legal, trick, best);
-        let first = next_card(legal, trick, &seen).unwrap_or_default();
         let (mut rest, mut counts) = (legal, CardSet::new());
         while let Some(card) = next_card(rest, trick, &seen) {
             let answer = self.reaches_with(table, hands, left, trick, card, tricks, need);
@@ -182,6 +181,7 @@ impl Search {
             rest = still_to_try(rest, card, answer.counts);
             counts = counts.union(answer.counts);
         }
+        let first = next_card(legal, trick, &seen).unwrap_or_default();
         all_tried(sought, counts, first)
     }
 

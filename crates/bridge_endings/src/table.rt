@@ -5,6 +5,7 @@ ghost use Rattle.bridge_endings.specs.Left.{all_lengths};
 ghost use Rattle.bridge_endings.specs.SearchValue.{IsAnswer, IsFound, IsTable, Tells};
 
 use crate::answer::Answer;
+use crate::closed::all_cards;
 use crate::found::{Found, Told};
 use bridge_cards::{Card, CardSet, Seat, Suit};
 
@@ -80,8 +81,34 @@ pub fn empty_table() -> [Entry; ENTRIES]
     [Entry::of(Found::nothing()); ENTRIES]
 }
 
-/// Where the list begins of hands with those lengths, where that suit is trumps and that seat leads, in a table of so many.
-fn slot(lengths: u64, trump: Option<Suit>, leader: Seat, entries: usize) -> usize
+/// The highest card of each suit that the hands have, where it is the suit's highest of all.
+fn tops_of(hands: &[CardSet; 4]) -> CardSet {
+    let tops = 1_u64 << 12 | 1 << 25 | 1 << 38 | 1 << 51;
+    match CardSet::from_bits(tops) {
+        Some(tops) => all_cards(hands).intersection(tops),
+        None => CardSet::new(),
+    }
+}
+
+/// A number for which of the cards, each the highest of its suit, stands in which hand.
+fn owners(hands: &[CardSet; 4], tops: CardSet) -> u64 {
+    let [_, east, south, west] = hands;
+    let east = east.intersection(tops).bits();
+    let south = south.intersection(tops).bits() >> 1;
+    let west = west.intersection(tops).bits() >> 2;
+    east ^ south ^ west ^ tops.bits() >> 3
+}
+
+/// Where the list begins of hands with those lengths and the cards of that set where they are, where that suit is trumps and that
+/// seat leads, in a table of so many.
+fn slot(
+    hands: &[CardSet; 4],
+    tops: CardSet,
+    lengths: u64,
+    trump: Option<Suit>,
+    leader: Seat,
+    entries: usize,
+) -> usize
     requires { 0 < entries }
     ensures { result < entries }
 {
@@ -93,11 +120,13 @@ fn slot(lengths: u64, trump: Option<Suit>, leader: Seat, entries: usize) -> usiz
     // An odd number without a pattern, as the fraction of the golden ratio: the upper bits of the products spread.
     let spread = 0x9e37_79b9_7f4a_7c15;
     let mixed = (lengths ^ lengths >> 32 ^ seat << 32).wrapping_mul(spread);
-    let mixed = (mixed ^ mixed >> 29).wrapping_mul(spread);
+    let mixed = (mixed ^ mixed >> 29 ^ owners(hands, tops)).wrapping_mul(spread);
+    let mixed = (mixed ^ mixed >> 32).wrapping_mul(spread);
     (mixed >> 32) as usize % entries
 }
 
-/// What the table knows of the hands with those lengths. An entry that tells the answer becomes the first of its list.
+/// What the table knows of the hands with those lengths. Of what was found a part is listed by who has the highest card of each
+/// suit, and the rest, where not all of these counted, is not.
 pub fn look_up(
     table: &mut [Entry],
     hands: &[CardSet; 4],
@@ -112,7 +141,39 @@ pub fn look_up(
     ensures answer { IfSome result.answer (λ answer. IsAnswer trump (4 * tricks) need answer (dealt hands.now) leader []) }
     ensures table { IsTable table.new }
 {
-    let slot = slot(lengths, trump, leader, table.len());
+    let entries = table.len();
+    let by_tops = slot(hands, tops_of(hands), lengths, trump, leader, entries);
+    let known = look_in(table, by_tops, hands, lengths, trump, leader, tricks, need);
+    if known.answer.is_some() {
+        return known;
+    }
+    let rest = slot(hands, CardSet::new(), lengths, trump, leader, entries);
+    let more = look_in(table, rest, hands, lengths, trump, leader, tricks, need);
+    if more.answer.is_some() || more.place != 0 {
+        return more;
+    }
+    Known::open(known.best.or(more.best), known.place)
+}
+
+/// The same of one list. An entry that tells the answer becomes the first of it.
+fn look_in(
+    table: &mut [Entry],
+    slot: usize,
+    hands: &[CardSet; 4],
+    lengths: u64,
+    trump: Option<Suit>,
+    leader: Seat,
+    tricks: u8,
+    need: u8,
+) -> Known
+    requires table { IsTable table.old }
+    requires lengths { lengths ≡ all_lengths hands.now }
+    ensures answer { IfSome result.answer (λ answer. IsAnswer trump (4 * tricks) need answer (dealt hands.now) leader []) }
+    ensures table { IsTable table.new }
+{
+    if slot >= table.len() {
+        return Known::open(None, 0);
+    }
     let (mut best, mut place) = (None, 0);
     let (mut before, mut next) = (0, table[slot].first);
     for _ in 0..LOOKED_AT {
@@ -171,13 +232,31 @@ fn set_first(table: &mut [Entry], slot: usize, first: u32)
     }
 }
 
+/// Where the list begins into which something found is put.
+fn slot_of(found: &Found, entries: usize) -> usize
+    requires { 0 < entries }
+    ensures { result < entries }
+{
+    let tops = tops_of(&found.hands);
+    let all_count = tops.difference(found.counts).is_empty();
+    let listed = if all_count { tops } else { CardSet::new() };
+    slot(
+        &found.hands,
+        listed,
+        found.lengths,
+        found.trump,
+        found.leader,
+        entries,
+    )
+}
+
 /// Puts something found into the table, at that place, as the first of its list.
 fn put(table: &mut [Entry], found: &Found, place: u32)
     requires table { IsTable table.old }
     requires found { IsFound found.now }
     ensures { IsTable table.new }
 {
-    let slot = slot(found.lengths, found.trump, found.leader, table.len());
+    let slot = slot_of(found, table.len());
     let index = place as usize;
     if index >= table.len() {
         return;

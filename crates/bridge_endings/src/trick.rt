@@ -192,7 +192,7 @@ impl Trick {
 }
 
 /// Those of the cards that are above that one in the order of the deck.
-fn above(cards: CardSet, card: Card) -> CardSet
+pub fn above(cards: CardSet, card: Card) -> CardSet
     ensures { (other : ℕ) → has_card result other ≡ true → has_card cards other ≡ true }
 {
     let bits = (cards.bits() >> card.number() >> 1) << 1 << card.number();

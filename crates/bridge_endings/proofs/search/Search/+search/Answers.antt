@@ -87,7 +87,7 @@ reaches_with-returns-clause-answer t c =
 
 pub reaches_from-reaches_closed-requires : goal.reaches_from-reaches_closed-requires
 reaches_from-reaches_closed-requires t c = (
-  omega (arith, card_count_le c.difference-gone.result),
+  omega (arith, card_count_le c.gaps-gone.result),
   (
     c.requires.table,
     (

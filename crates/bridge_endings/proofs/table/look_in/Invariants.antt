@@ -1,5 +1,5 @@
 use Rattle.bridge_endings.specs.SearchValue.{IsTable}
-use Rattle.bridge_endings.proofs.table.look_up.Given as goal
+use Rattle.bridge_endings.proofs.table.look_in.Given as goal
 
 abbrev pub invariant-loop : goal.invariant-loop
 invariant-loop l = record { table : IsTable l.table }
