@@ -280,9 +280,10 @@ function scoresNode(board) {
     return node;
   }
   const lines = linesSoFar(board);
-  const rows = lines.map((one) => make("tr", { className: one.own ? "own" : "" }, make(
-    "td", null, one.own ? one.table + " " + TEXTS.we : one.table), make("td", null, ...resultNodes(one.result)),
-    numberCell(tricksText(one.result)), numberCell(isScored(one.result) ? signed(one.result.score) : "")));
+  const ofSide = (side) => (side === board.side ? TEXTS.weHere : TEXTS.theyHere);
+  const pairs = (one) => (one.own ? [ofSide("NS"), ofSide("EW")] : [one.ns, one.ew]);
+  const rows = lines.map((one) => make("tr", { className: one.own ? "own" : "" }, ...pairs(one).map((pair) => make("td", null, pair)),
+    make("td", null, ...resultNodes(one.result)), numberCell(tricksText(one.result)), numberCell(isScored(one.result) ? signed(one.result.score) : "")));
   node.append(make("h2", null, TEXTS.tablesSoFar(lines.length)),
     make("table", { className: "list", aria_label: TEXTS.scores }, listHeads(TEXTS.scoreHeads, 2), make("tbody", null, ...rows)));
   if (worthText(board.worth)) node.append(make("p", { className: "second" }, TEXTS.ours(board.worth)));
@@ -341,7 +342,7 @@ function roundNode(place, view) {
   return make("ol", { className: "round" }, ...numbers.map((number) => {
     const over = told.boards.find((board) => board.number === number && board.round === String(place.round));
     const now = String(number) === view.board;
-    const came = over ? worthText(over.worth) || scoreText(over) || "\u2013" : now ? TEXTS.now : number === Number(view.board) + 1 ? TEXTS.next : "";
+    const came = over ? worthText(over.worth) || scoreText(over) || "\u2013" : now ? TEXTS.now : number === Number(view.board) + 1 ? TEXTS.next : TEXTS.later;
     return make("li", { className: now ? "now" : "" }, make("b", null, String(number)), came);
   }));
 }
@@ -366,7 +367,7 @@ function scoreCardNodes(place) {
   const figures = [figure(String(told.boards.length), TEXTS.boardsPlayed(told.boards.length))];
   if (all && all.percent) figures.unshift(figure(TEXTS.percent(all.percent), TEXTS.soFar("")));
   if (all) figures.push(figure(all.points, all.of === null ? TEXTS.impsName : TEXTS.ofPoints(all.of)));
-  const back = button(TEXTS.toTable, "", "onward", true, () => turnLeaf(null));
+  const back = button(place.round > place.rounds ? TEXTS.toRanking : TEXTS.toTable, "", "onward", true, () => turnLeaf(null));
   back.className = "send";
   return [make("div", { className: "figures" }, ...figures), make("section",
     { className: "panel wide-panel" }, make("h2", null, TEXTS.scoreCard),
@@ -396,24 +397,27 @@ function showLeaf(place, next) {
   return true;
 }
 
-// Asks for the boards of this key; nothing changes where no answer comes. What the director ruled since is told.
+// Asks for the boards of this key, and says whether they came; else nothing changes. What the director ruled since is told.
 async function loadBoards(asked) {
   const reply = await ask("/boards", asked);
-  if (reply === null || refusal(reply)) return;
+  if (reply === null || refusal(reply)) return false;
   const old = told.key === asked ? told.boards : [];
   told = { key: asked, at: Date.now(), ...readBoards(reply) };
   const same = (one, other) => one.number === other.number && one.round === other.round;
   const isRuled = (board) => old.some((one) => same(one, board) && JSON.stringify(one.result) !== JSON.stringify(board.result));
   const ruled = told.boards.filter(isRuled).map((board) => board.number);
   if (ruled.length) sayPassing(TEXTS.ruledOn(ruled), playIs.split(" ").slice(0, 2).join(" "));
+  return true;
 }
 
 // Looks at the boards where one was over since the page looked last, which is shown then; and else now and then.
 async function lookAtBoards(asked, place, now) {
   const ended = atBoard !== null && atBoard.key === asked && atBoard.board !== now ? atBoard : null;
-  if (ended || told.key !== asked || Date.now() - told.at > BOARDS_LAST) await loadBoards(asked);
+  const isNew = (ended || told.key !== asked || Date.now() - told.at > BOARDS_LAST) && await loadBoards(asked);
   if (key !== asked) return;
   atBoard = now === null ? null : { key: asked, board: now, round: String(place.round) };
   const board = ended && told.boards.find((one) => String(one.number) === ended.board && one.round === ended.round);
   if (board) leaf = { board: board.number, round: board.round, step: 0, part: "hands" };
+  // What is played no more and yet not told as over has been ruled on.
+  else if (ended && isNew && ended.round === String(place.round)) sayPassing(TEXTS.endedByRuling(ended.board));
 }

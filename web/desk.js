@@ -13,7 +13,11 @@ let desk = nothingStands();
 let clockTimer = 0;
 // What is on the page of it; and the reason that is chosen while the director is being called, or null.
 let deskShown = "";
+// The round that the clock runs down to, between two.
+let nextRound = null;
 let reason = null;
+
+const timeText = (time) => new Date(time).toLocaleTimeString([], { hour: "2-digit", minute: "2-digit" });
 
 // A line from so many words on.
 const wordsFrom = (line, count) => line.split(" ").slice(count).join(" ");
@@ -29,7 +33,8 @@ const DESK_LINES = {
   CLOCK: (found, line) => { found.clock = Number(wordsFrom(line, 1)) - found.now; },
   CALL: (found, line) => {
     const [, table, since, pair, name] = line.split(" ");
-    found.calls.push({ table, minutes: Math.floor((found.now - Number(since)) / 60), pair, name, text: wordsFrom(line, 5) });
+    const seconds = found.now - Number(since);
+    found.calls.push({ table, minutes: Math.floor(seconds / 60), time: timeText(found.at - SECOND * seconds), pair, name, text: wordsFrom(line, 5) });
   },
   STATEMENT: (found, line) => { found.said = wordsFrom(line, 1); },
 };
@@ -49,23 +54,30 @@ const isDirector = () => role.isDirector;
 // A text without what the server takes in none: control characters, and those that turn the direction of others.
 const plainText = (text) => text.replace(/[\p{Cc}\u061c\u200e\u200f\u2028-\u202e\u2066-\u2069]/gu, " ").trim();
 
-// Shows what an answer says that stands.
+// Shows what an answer says that stands. A call of this table that stands no more is being answered.
 function takeDesk(reply) {
   if (refusal(reply)) return;
+  const called = desk.calls.length > 0;
   desk = readDesk(reply);
+  const isBack = passing !== null && [TEXTS.callBack, TEXTS.cardBack].includes(passing.text);
+  if (called && desk.calls.length === 0 && !isDirector() && !isBack) sayPassing(TEXTS.directorComes);
   showDesk();
 }
 
-// Asks something of the desk, and shows what stands then.
+// Asks something of the desk, and shows what stands then; says whether it was done.
 async function askDesk(order) {
   const asked = key;
-  if (asked === null) return;
+  if (asked === null) return false;
   const reply = await ask("/desk", asked + " " + order);
-  if (key !== asked) return;
-  if (reply !== null && !refusal(reply)) return takeDesk(reply);
+  if (key !== asked) return false;
+  if (reply !== null && !refusal(reply)) {
+    takeDesk(reply);
+    return true;
+  }
   const why = reply === null ? TEXTS.unknownDone : TEXTS.refusals[refusal(reply)] || reply;
   if (isDirector()) tell(why);
   else say("notice", why);
+  return false;
 }
 
 // Whoever sat here has left.
@@ -90,7 +102,7 @@ function showClock() {
   say("clock-left", clockText(left));
   if (CLOCK_SAID.includes(left)) say("heard", TEXTS.minutesLeft(left / 60));
   at("clock").className = left === 0 ? "over" : "";
-  at("clock").replaceChildren(make("b", null, clockText(left)), make("span", null, TEXTS.clockLeft));
+  at("clock").replaceChildren(make("b", null, clockText(left)), make("span", null, nextRound === null ? TEXTS.clockLeft : TEXTS.untilRound(nextRound)));
   clockTimer = setTimeout(showClock, SECOND);
 }
 
@@ -99,7 +111,7 @@ function showClock() {
 const whoCalls = ({ pair, name }) => TEXTS.ofPair(shownName(pair, name), pair);
 
 function callNodesOf(call) {
-  if (!isDirector()) return [make("p", { className: "note called" }, make("span", null, make("b", null, TEXTS.directorCalled), " ", call.text ? call.text + ". " : "", TEXTS.waitForDirector))];
+  if (!isDirector()) return [make("p", { className: "note called" }, make("span", null, make("b", null, TEXTS.directorCalled(call.time)), " ", (call.text || TEXTS.nothingSaid) + ". ", TEXTS.waitForDirector))];
   const stateOf = (number) => lastTables && lastTables.tables.find((one) => one.number === number);
   const open = () => { const state = stateOf(call.table); if (state) openTable(state); };
   const grant = (number) => { const state = stateOf(number); if (state) grantBack(state); };
@@ -147,7 +159,8 @@ function showCall() {
   if (reason === null) reason = "";
   const send = button(TEXTS.callDirector, "", "call-director", true, () => { const order = reason ? "CALL " + reason : "CALL"; closeCall(); askDesk(order); });
   send.className = "send";
-  at("calling").replaceChildren(make("h2", null, TEXTS.callTitle), make("p", { className: "second" }, TEXTS.callHelp),
+  const seat = lastPlace ? readPlace(lastPlace).table : null;
+  at("calling").replaceChildren(make("h2", null, TEXTS.callTitle(seat && seat.number)), make("p", { className: "second" }, TEXTS.callHelp),
     make("div", { className: "reasons" }, ...TEXTS.reasons.map(choice)), make("div", { className: "row" }, button(TEXTS.back, "", "call-back", true, closeCall), send));
   at("calling").hidden = false;
   send.focus();
@@ -168,7 +181,7 @@ at("calling").onkeydown = holdTab;
 
 function tellingNodes() {
   const field = make("input", { id: "tell-text", type: "text", maxLength: 200, aria_label: TEXTS.tellText, placeholder: TEXTS.tellExample });
-  const telling = () => { const words = plainText(field.value); if (words) askDesk("NOTICE " + words); };
+  const telling = async () => { const words = plainText(field.value); if (words && await askDesk("NOTICE " + words)) field.value = ""; };
   return [make("div", { className: "row" }, field, button(TEXTS.tellAll, "", "tell-all", true, telling))];
 }
 

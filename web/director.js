@@ -83,6 +83,7 @@ async function doOne(line, what, isCorrection = false) {
   const reply = await order([line], isCorrection);
   if (reply !== null) tell(TEXTS.becameOf(what, outcome(reply)));
   look();
+  return reply !== null && !refusal(reply);
 }
 
 // ---- the parts of the page
@@ -98,10 +99,11 @@ function showTab(name) {
   at(name === "tables" ? "aside" : "on-standings").append(at("ranking"));
 }
 
-function openTab(name) {
+async function openTab(name) {
   tell("");
   showTab(name);
-  look();
+  await look();
+  if (name === "boards" && at("dealt")) await findDealt();
 }
 
 // The buttons of the parts; that of the tables says how many of them call.
@@ -212,6 +214,7 @@ function showTables(state) {
   lastTables = state;
   noteSets(state);
   say("status", roundText(state));
+  at("status").className = "";
   say("below", state.round > state.rounds ? "" : TEXTS.roundOf(state.round, state.rounds));
   const calls = desk.calls.length ? [" ", make("span", { className: "count" }, String(desk.calls.length))] : [];
   if (at("tab-tables").textContent !== TEXTS.tabs.tables + (calls.length ? " " + desk.calls.length : "")) at("tab-tables").replaceChildren(TEXTS.tabs.tables, ...calls);
@@ -229,7 +232,8 @@ function showTables(state) {
   say("round-is", closed ? "" : TEXTS.tablesDone(state.tables.filter((table) => table.idle === "NotCurrent" || table.idle === "SitsOut").length, state.tables.length));
   const label = closed ? TEXTS.allEnded : open.length > 0 ? TEXTS.endWaits(state.round, open) : TEXTS.endRound(state.round, state.round === state.rounds);
   if (end.textContent !== label) end.textContent = label;
-  end.onclick = () => confirmFirst(at("end-question"), TEXTS.asks(label), () => doOne("NEXT " + state.round, TEXTS.endOf(state.round)));
+  end.onclick = () => confirmFirst(at("end-question"), TEXTS.asks(label), () => doOne("NEXT " + state.round, TEXTS.endOf(state.round)),
+    state.round === state.rounds ? TEXTS.closeEffect : TEXTS.endEffect(state.round + 1));
 }
 
 // ---- a play that is looked at
@@ -245,7 +249,7 @@ async function openPlay(words) {
   opened = { words, text: "" };
   showTab("rulings");
   await showOpened();
-  if (at("opened").scrollIntoView) at("opened").scrollIntoView({ block: "nearest" });
+  if (typeof scrollTo === "function") scrollTo(0, 0);
 }
 
 async function showOpened() {
@@ -259,6 +263,7 @@ async function showOpened() {
     return CLOSED();
   }
   const board = { ...readBoards(text).boards[0], text };
+  wanted.board = board;
   at("opened").replaceChildren(...openedNodes(board, wanted.words));
   for (const [field, value] of [["round", wanted.words[0]], ["table", wanted.words[1]],
     ["board", board.number]]) at("rule-" + field).value = String(value);
@@ -289,8 +294,10 @@ function latestOf(board) {
   if (board.claim) return TEXTS.claimBy(SEAT_NAMES[board.claim.seat], board.claim.tricks);
   if (card) return TEXTS.doneBy(SEAT_NAMES[card.seat], cardName(card.card));
   if (count === 0) return "";
-  return TEXTS.doneBy(SEAT_NAMES[SEATS[(SEATS.indexOf(dealerOf(board.number)) + count - 1) % 4]], callName(board.calls[count - 1]));
+  return TEXTS.doneBy(SEAT_NAMES[lastCaller(board)], callName(board.calls[count - 1]));
 }
+
+const lastCaller = (board) => SEATS[(SEATS.indexOf(dealerOf(board.number)) + board.calls.length - 1) % 4];
 
 // Does something to a play once the question is answered, if the play is still what it was when it was asked.
 function onceUnchanged(box, words, seen, question, act, ...more) {
@@ -301,16 +308,26 @@ function onceUnchanged(box, words, seen, question, act, ...more) {
   }, ...more);
 }
 
-function takeLatestBack(board, words) {
-  const what = TEXTS.onBoard(TEXTS.takeBackOf(latestOf(board)), board.number);
-  onceUnchanged(at("back-question"), words, board.text, TEXTS.asks(what), () => doOne("BACK " + words.join(" "), what, true),
-    [TEXTS.playedBy(board.names)]);
+// What becomes of a play whose latest claim, card or call is taken back.
+function backEffect(board) {
+  const card = board.cards[board.cards.length - 1];
+  if (board.claim) return TEXTS.claimBackTo;
+  if (!card) return TEXTS.callBackTo(SEAT_NAMES[lastCaller(board)]);
+  // The leader sits behind declarer, whose partner is dummy.
+  const dummy = nextTo(board.cards[0].seat);
+  return TEXTS.cardBackTo(SEAT_NAMES[card.seat === dummy ? partner(dummy) : card.seat], SEAT_NAMES[card.seat]);
 }
 
-// The play at a table that asks for its latest call or card back, and the question whether it goes.
+function takeLatestBack(board, words, then = () => {}) {
+  const what = TEXTS.atTableOnBoard(TEXTS.takeBackOf(latestOf(board)), words[1], board.number);
+  const back = async () => { if (await doOne("BACK " + words.join(" "), what, true)) then(); };
+  onceUnchanged(at("back-question"), words, board.text, TEXTS.asks(what), back, [backEffect(board)], [TEXTS.playedBy(board.names)]);
+}
+
+// The play at a table that asks for its latest call or card back, and the question whether it goes; its call is answered then.
 async function grantBack(table) {
   await openTable(table);
-  if (opened && at("opened-back") && !at("opened-back").disabled) at("opened-back").onclick();
+  if (opened && opened.board && latestOf(opened.board)) takeLatestBack(opened.board, opened.words, () => askDesk("ANSWERED " + table.number));
 }
 
 // ---- deals
@@ -344,20 +361,105 @@ function dealtText(boards, replies) {
 async function dealAll(lines, boards) {
   const reply = await order(lines);
   if (reply === null) return;
-  tell(dealtText(boards, reply.split("\n")));
+  const replies = reply.split("\n");
+  boards.forEach((board, i) => dealtAs.set(Number(board), ["", "AlreadyDealt"].includes(refusal(replies[i] || "ERR 0 -")) ? "dealt" : "refused"));
+  tell(dealtText(boards, replies));
+  dealtAnew();
   look();
+}
+
+// The boards from one to another.
+function boardsToShuffle() {
+  const [first, last] = ["shuffle-first", "shuffle-last"].map((id) => Number(at(id).value));
+  return Array.from({ length: Math.max(0, Math.min(last, MOST_BOARDS) - first + 1) }, (_none, i) => first + i);
 }
 
 function shuffleBoards() {
   if (!isFilledIn("dealing")) return;
-  const first = Number(at("shuffle-first").value);
-  const last = Number(at("shuffle-last").value);
-  const boards = [];
-  for (let board = first; board <= last && boards.length < MOST_BOARDS; board += 1) boards.push(board);
-  const seed = drawSeed();
-  if (boards.length === 0) tell(TEXTS.noBoardsThere);
-  else dealAll(boards.map((board) => "SHUFFLE " + board + " " + seed), boards);
+  const boards = boardsToShuffle();
+  if (boards.length === 0) return tell(TEXTS.noBoardsThere);
+  confirmFirst(at("deal-question"), TEXTS.asks(TEXTS.shuffleOf(boards[0], boards[boards.length - 1])), () => {
+    const seed = drawSeed();
+    dealAll(boards.map((board) => "SHUFFLE " + board + " " + seed), boards);
+  }, TEXTS.shuffleEffect);
 }
+
+// ---- which boards are dealt
+
+// By number: dealt, or refused; and whether it was found which of the others are to be dealt.
+const dealtAs = new Map();
+let dealsFound = false;
+// Which search for them is the last one, and whether it is at work.
+let search = 0;
+let isSearching = false;
+const dealState = (board) => dealtAs.get(board) || (dealsFound ? "open" : "unknown");
+const allBoards = () => Array.from({ length: boardsOfAll }, (_none, i) => i + 1);
+
+// The boards that are dealt, as the plays of each round tell: asked until all are known to be, or no round is left.
+async function findDealt() {
+  const { rounds, tables } = lastTables;
+  const found = new Set();
+  const [asked, mine] = [key, (search += 1)];
+  isSearching = true;
+  for (let round = 1; tables.length && round <= rounds && found.size < boardsOfAll; round += 1) {
+    // One after the other, so that nobody else waits for them.
+    for (const play of tables.flatMap(({ number }) => Array.from({ length: boardsOfSet }, (_none, i) => [round, number, i + 1]))) {
+      const reply = await askPlay(play);
+      if (mine !== search || key !== asked) return;
+      if (reply === null) return endSearch();
+      if (!refusal(reply)) found.add(readBoards(reply).boards[0].number);
+    }
+    for (const board of found) dealtAs.set(board, "dealt");
+    showDealt();
+  }
+  endSearch();
+  if (!tables.length) return;
+  for (const board of allBoards()) if (!found.has(board) && dealState(board) === "dealt") dealtAs.delete(board);
+  dealsFound = true;
+  showDealt();
+  putFirst(allBoards().find((board) => dealState(board) !== "dealt"));
+}
+
+function endSearch() {
+  isSearching = false;
+}
+
+// What was dealt or taken back meanwhile is to be found too.
+function dealtAnew() {
+  showDealt();
+  if (isSearching) findDealt();
+}
+
+// The first board that is to be dealt stands in its field, where nobody has written another.
+function putFirst(board) {
+  if (board && Number(at("shuffle-first").value) === putFirst.last) at("shuffle-first").value = putFirst.last = board;
+  sayShuffle();
+}
+
+// A tile for each board, and how many there are of each state.
+function showDealt() {
+  if (!at("dealt")) return;
+  at("dealt").replaceChildren(...allBoards().map((board) => make("li", { className: dealState(board) }, make("b", null, String(board)), TEXTS.dealStates[dealState(board)])));
+  const counts = ["dealt", "open", "refused"].map((state) => [state, allBoards().filter((board) => dealState(board) === state).length]);
+  at("dealt-counts").replaceChildren(...counts.filter(([, count]) => count).map(([state, count]) => make("span", { className: state }, TEXTS.dealCount(state, count))));
+}
+
+function sayShuffle() {
+  const count = boardsToShuffle().length;
+  say("shuffle", count ? TEXTS.shuffleMany(count) : TEXTS.shuffle);
+}
+
+// What is wrong with the text of a deal, as far as a page can tell; else nothing.
+function faultOf(text) {
+  const [, first, rest] = /^([NESW]):(.*)$/.exec(text.trim()) || [];
+  const hands = rest === undefined ? [] : rest.split(" ").map((hand) => hand.split(".").flatMap((ranks, i) => [...ranks].map((rank) => HAND_SUITS[i] + rank)));
+  if (hands.length !== 4) return TEXTS.noDealText;
+  const odd = hands.findIndex((hand) => hand.length !== 13);
+  if (odd >= 0) return TEXTS.handHas(SEAT_NAMES[SEATS[(SEATS.indexOf(first) + odd) % 4]], hands[odd].length);
+  return new Set(hands.flat()).size === 52 ? "" : TEXTS.cardTwice;
+}
+
+const faultsIn = (deals) => deals.map(([board, deal]) => [board, faultOf(deal)]).filter(([, fault]) => fault).map(([board, fault]) => TEXTS.isRefused(board, fault));
 
 // Says which boards a text has, and which of them the session has not, before it deals those that it has.
 function dealText(text) {
@@ -369,7 +471,7 @@ function dealText(text) {
   if (some.length === 0) return tell(TEXTS.notOfSession(others));
   const boards = some.map((deal) => deal[0]);
   return confirmFirst(at("deal-question"), TEXTS.asks(TEXTS.dealThese(boards)),
-    () => dealAll(some.map((deal) => "DEAL " + deal[0] + " " + deal[1]), boards), ...(others.length ? [TEXTS.notOfSession(others)] : []));
+    () => dealAll(some.map((deal) => "DEAL " + deal[0] + " " + deal[1]), boards), ...(others.length ? [TEXTS.notOfSession(others)] : []), ...faultsIn(some));
 }
 
 // ---- a form of a few fields
@@ -425,7 +527,8 @@ function playFields(prefix) {
 function beforeAndAfter(board, after) {
   return [
     [TEXTS.nowIs, ...resultNodes(board.result),
-      ...(board.result.bid ? [", " + TEXTS.made(board.result.tricks - 6 - Number(board.result.bid[0]))] : []), TEXTS.thenIs, after(board),
+      ...(board.result.bid ? [", " + TEXTS.made(board.result.tricks - 6 - Number(board.result.bid[0])) + TEXTS.northSouthScore(signed(board.result.score))] : []),
+      TEXTS.thenIs, after(board),
       "."],
     [TEXTS.playedBy(board.names)]];
 }
@@ -449,7 +552,14 @@ async function rule(what, word, rest, after, isCorrection = false) {
 // What a number of tricks makes of the contract of a play.
 function withTricks(board, tricks) {
   const bid = board.result.bid || [...board.calls].reverse().find(isBid);
-  return bid ? callName(bid) + ", " + TEXTS.made(tricks - 6 - Number(bid[0])) : TEXTS.tricks(tricks);
+  if (!bid) return TEXTS.tricks(tricks);
+  return callName(bid) + ", " + TEXTS.made(tricks - 6 - Number(bid[0])) + (board.result.declarer ? scoreThen(board, bid, board.result.declarer, tricks) : "");
+}
+
+// What North and South score then.
+function scoreThen(board, bid, declarer, tricks) {
+  const score = scoreOf(bid, tricks, isVulnerable({ vulnerable: vulnerableOf(board.number) }, declarer));
+  return TEXTS.northSouthScore(signed(declarer === "N" || declarer === "S" ? score : -score));
 }
 
 function rulingNodes() {
@@ -460,7 +570,7 @@ function rulingNodes() {
   const assign = () => {
     const [contract, declarer, tricks] = [at("assign-bid").value + at("assign-doubled").value, at("assign-declarer").value, numberAt("assign-tricks")];
     const score = TEXTS.assignedAs(callName(contract), SEAT_NAMES[declarer], TEXTS.made(tricks - 6 - Number(contract[0])));
-    rule(TEXTS.assignScore, "ASSIGN", [contract, declarer, tricks].join(" "), () => score, true);
+    rule(TEXTS.assignScore, "ASSIGN", [contract, declarer, tricks].join(" "), (board) => score + scoreThen(board, contract, declarer, tricks), true);
   };
   const show = () => { if (isFilledIn("on-rulings")) { const words = playWords("rule"); if (words) openPlay(words); } };
   const row = (...nodes) => make("div", { className: "row" }, ...nodes);
@@ -573,24 +683,27 @@ function linesNodes() {
 function undeal() {
   if (!isFilledIn("dealing")) return;
   const board = numberAt("undeal-board");
-  confirmFirst(at("deal-question"), TEXTS.asks(TEXTS.undealOf(board)), () => doOne("UNDEAL " + board, TEXTS.undealOf(board), true));
+  const undo = async () => { if (await doOne("UNDEAL " + board, TEXTS.undealOf(board), true)) { dealtAs.delete(board); dealtAnew(); } };
+  confirmFirst(at("deal-question"), TEXTS.asks(TEXTS.undealOf(board)), undo, TEXTS.undealEffect);
 }
 
 // The deals of a file stand in the text, to be looked at and dealt.
 async function readFile(chosen) {
   if (!chosen) return;
   at("deal-text").value = await chosen.text();
-  say("file-has", TEXTS.fileHas(chosen.name, dealsIn(at("deal-text").value).length));
+  const deals = dealsIn(at("deal-text").value);
+  say("file-has", [TEXTS.fileHas(chosen.name, deals.length), ...faultsIn(deals)].join(". "));
 }
 
 function dealNodes() {
   const file = make("input", { id: "deal-file", type: "file", onchange: () => readFile(file.files[0]) });
   const main = (node) => { node.className = "send"; return node; };
-  return [
-    make("p", { id: "deal-of", className: "second" }),
-    group(TEXTS.shuffleHere, make("div", { className: "row" },
-      numberField("shuffle-first", TEXTS.shuffleFrom, 1, MOST_BOARDS, 1), numberField("shuffle-last", TEXTS.to, 1, MOST_BOARDS, ""),
-      main(button(TEXTS.shuffle, "", "shuffle", true, shuffleBoards))), make("p", { className: "second" }, TEXTS.seedSecret)),
+  const shuffled = make("div", { className: "row", oninput: sayShuffle },
+    numberField("shuffle-first", TEXTS.shuffleFrom, 1, MOST_BOARDS, 1), numberField("shuffle-last", TEXTS.to, 1, MOST_BOARDS, ""));
+  const tiles = group(TEXTS.boardsOfEvening, make("p", { id: "deal-of", className: "second" }), make("ol", { id: "dealt" }), make("p", { id: "dealt-counts" }));
+  tiles.className += " all-boards";
+  return [tiles,
+    group(TEXTS.shuffleHere, shuffled, main(button(TEXTS.shuffle, "", "shuffle", true, shuffleBoards)), make("p", { className: "second" }, TEXTS.seedSecret)),
     group(TEXTS.dealFile, file, make("div", { className: "row" }, make("label", { id: "choose-file", for: "deal-file" }, TEXTS.chooseFile),
       make("span", { id: "file-has", role: "status" }, TEXTS.noFile)),
       make("label", { for: "deal-text" }, TEXTS.dealText), make("textarea", { id: "deal-text", spellcheck: false }),
@@ -610,11 +723,11 @@ function directorNodes() {
     on("boards", section("dealing", TEXTS.dealBoards, ...dealNodes())),
     on("rulings", ...rulingNodes()),
     on("standings", section("ranking", TEXTS.standings, button(TEXTS.showRanking, "", "rank", true, askRankings), make("div", { id: "rankings" }))),
-    on("evening", make("p", { id: "serving", className: "second" }), section("publishing", TEXTS.results, make("div", { id: "others" }, ...othersNodes(null)),
-      make("div", { className: "row" },
+    on("evening", section("keeping", TEXTS.thisEvening, make("p", { id: "serving" })), section("seeing", TEXTS.othersHead, make("div", { id: "others" }, ...othersNodes(null))),
+      section("publishing", TEXTS.results, make("div", { className: "row" },
         button(TEXTS.showResults, "", "show-results", true, showResults), button(TEXTS.print, "", "print", true, () => window.print())),
       make("pre", { id: "results" })),
-    section("lines", TEXTS.lines, ...linesNodes()))];
+      section("lines", TEXTS.lines, ...linesNodes()))];
 }
 
 // Shows the director's page, built once, with its tables as they are now.
@@ -633,7 +746,10 @@ async function showDirector(reply, asked, mine) {
     showTab("tables");
     showTables(state);
     at("shuffle-last").value = state.all;
+    putFirst.last = 1;
     say("deal-of", TEXTS.boardsInSets(state.all, state.boards));
+    showDealt();
+    sayShuffle();
     standingsAt = 0;
     pairNames = shownPairs(namesIn((await ask("/results", asked)) || ""));
   }

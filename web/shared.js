@@ -81,7 +81,11 @@ function refusal(reply) {
 // chosen, keys find it there again.
 let byKeys = false;
 let held = "";
-window.addEventListener("keydown", () => { byKeys = true; });
+window.addEventListener("keydown", (event) => {
+  byKeys = true;
+  // A key that is held down presses a button once.
+  if (event && event.repeat && event.key === "Enter" && event.target.tagName === "BUTTON") event.preventDefault();
+});
 window.addEventListener("pointerdown", () => { byKeys = false; });
 const isLost = () => document.activeElement === null || document.activeElement === document.body;
 
@@ -316,7 +320,10 @@ async function lookOnce(asked) {
   }
   await askNames(asked);
   if (mine !== turn) return;
-  const told = role.isDirector ? [ask("/tables", asked)] : [place || ask("/place", asked), ask("/lines", "SEE " + asked + "\n")];
+  // The view is asked for first, and shown as soon as it is there where it goes on from the one that is shown.
+  const view = role.isDirector ? null : ask("/lines", "SEE " + asked + "\n");
+  if (view) view.then((text) => { if (mine === turn && text !== null && goesOn(text)) showView(lastPlace, text); });
+  const told = role.isDirector ? [ask("/tables", asked)] : [place || ask("/place", asked), view];
   const replies = await Promise.all([...told, ask("/desk", asked)]);
   if (mine !== turn) return;
   if (replies.includes(null)) return unreachable();

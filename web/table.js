@@ -68,6 +68,7 @@ function readView(reply) {
 }
 
 const partner = (seat) => SEATS[(SEATS.indexOf(seat) + 2) % 4];
+const nextTo = (seat) => SEATS[(SEATS.indexOf(seat) + 1) % 4];
 const cardName = (card) => TEXTS.cardName(TEXTS.ranks[card[1]] || card[1], TEXTS.suits[card[0]]);
 const { rankText } = TEXTS;
 
@@ -141,7 +142,7 @@ let onWay = "";
 let looking = false;
 let drawn = () => {};
 let movedAt = 0;
-// Milliseconds in which a finger's tap counts for nothing, once what can be tapped has moved; and between two taps.
+// Milliseconds in which a tap or a click counts for nothing, once what can be tapped has moved; and between two taps.
 const DEAF = 400;
 const TWICE = 250;
 
@@ -152,7 +153,15 @@ function isSafe() {
   return typeof matchMedia === "function" && matchMedia("(pointer: coarse)").matches;
 }
 
-const isDeaf = (event) => Boolean(event && event.pointerType === "touch" && Date.now() - movedAt < DEAF);
+// Of a finger or a mouse, which may have meant what stood there before; keys choose what is in the focus.
+const isDeaf = (event) => Boolean(event && event.detail > 0 && Date.now() - movedAt < DEAF);
+
+// Draws what a tap here has marked: nothing moves.
+function redraw() {
+  const was = movedAt;
+  drawn();
+  movedAt = was;
+}
 
 function unmark() {
   marked = null;
@@ -163,17 +172,36 @@ function unmark() {
 // Doubles, and bids of the highest two levels, which nobody makes in passing.
 const isRare = (line) => /^CALL .* (XX?|[67]\w+)$/.test(line);
 
+// What is marked already is sent, unless that was just now.
+function sendMarked(event) {
+  if (marked && !isDeaf(event) && Date.now() - marked.at >= TWICE) send(marked.line);
+}
+
+function mark(what, line) {
+  marked = { what, line, at: Date.now() };
+  redraw();
+}
+
 // What is tapped is marked, and sent by a second tap; or sent at once, but for rare calls.
 function choose(what, line, event) {
   if (isDeaf(event)) return;
   held = what;
-  if (!isSafe() && !isRare(line)) return send(line);
-  if (marked && marked.what === what) {
-    if (Date.now() - marked.at >= TWICE) send(line);
-    return;
-  }
-  marked = { what, line, at: Date.now() };
-  drawn();
+  if (marked && marked.what === what) sendMarked(event);
+  else if (isSafe() || isRare(line)) mark(what, line);
+  else send(line);
+}
+
+// Whether the line of what is marked would still be the next one.
+function isStillDue(view, line) {
+  const [word, , board, made] = line.split(" ");
+  return board === view.board && made === view.made[{ CALL: "calls", CARD: "cards", REFUSE: "claims" }[word]] && (view.claim !== null) === (word === "REFUSE");
+}
+
+// A tap on the felt takes back what is marked.
+function tapFelt(event) {
+  if (marked === null || event.target.closest("button")) return;
+  unmark();
+  redraw();
 }
 
 function send(line) {
@@ -187,7 +215,7 @@ const namedNodes = (what) => (what === "" ? [] : what.startsWith("card-") ? card
 function confirmButton(prompt, sending) {
   const ready = marked !== null && !busy;
   const label = busy ? [onWay ? TEXTS.sendingIt : TEXTS.sending, ...namedNodes(onWay)] : marked ? [sending, ...namedNodes(marked.what)] : prompt;
-  const node = button(make("span", null, ...[].concat(label)), "", "confirm", ready, () => { if (marked) send(marked.line); });
+  const node = button(make("span", null, ...[].concat(label)), "", "confirm", ready, sendMarked);
   node.className = ready ? "send" : busy ? "sending" : "";
   return node;
 }
@@ -322,9 +350,10 @@ function boxKey(event) {
   choseKey(chosen ? at("call-" + chosen) : null);
 }
 
-// The newest row of a long auction is in view.
+// Of a long auction the row in which a call is due is in view.
 function showNewest() {
-  if (at("auction")) at("auction").scrollTop = at("auction").scrollHeight;
+  const [box, due] = [at("auction"), at("due-call")];
+  if (box) box.scrollTop = due ? due.offsetTop + due.offsetHeight - box.clientHeight : box.scrollHeight;
 }
 
 function auctionTable(place, view) {
@@ -341,8 +370,8 @@ function auctionTable(place, view) {
     rows.push(make("tr", null, ...[0, 1, 2, 3].map((j) => {
       const dueHere = due !== null && i + j === cells.length;
       const chosen = dueHere ? onWay || (marked ? marked.what : "") : "";
-      if (chosen.startsWith("call-")) return make("td", { className: "turn marked" }, ...namedNodes(chosen));
-      if (dueHere) return make("td", { className: "turn", aria_label: TEXTS.dueCall }, "?");
+      if (chosen.startsWith("call-")) return make("td", { id: "due-call", className: "turn marked" }, ...namedNodes(chosen));
+      if (dueHere) return make("td", { id: "due-call", className: "turn", aria_label: TEXTS.dueCall }, "?");
       return make("td", null, ...(cells[i + j] ? callNodes(cells[i + j]) : [""]));
     })));
   }
@@ -418,12 +447,13 @@ function trickNode(view) {
     ...trick.map((one) => cardOnTable(view, one, whole && one.seat === view.turn)));
   if (sent) sent.className += " sent";
   if (sent) node.append(sent);
-  else if (!whole && onTurn(view)) node.append(make("span", { className: "due " + placeOf(view, view.turn), aria_hidden: "true" }, view.turn));
+  const due = whole || !onTurn(view) ? null : !sent ? view.turn : trick.length < 3 ? nextTo(view.turn) : null;
+  if (due) node.append(make("span", { className: "due " + placeOf(view, due), aria_hidden: "true" }, due));
   return node;
 }
 
 function stageNode(place, view, middle) {
-  const node = make("section", { id: "stage", aria_label: TEXTS.table });
+  const node = make("section", { id: "stage", aria_label: TEXTS.table, onclick: tapFelt });
   const dummy = dummyOf(place);
   for (const seat of SEATS) {
     const where = placeOf(view, seat);
@@ -524,7 +554,7 @@ const leftOf = (view) => 13 - Number(view.tricks.NS) - Number(view.tricks.EW);
 function claimSheet(place, view) {
   const left = leftOf(view);
   const choice = (tricks, label) => {
-    const node = button(label, "", "claim-" + tricks, true, () => { claiming = { board: view.board, tricks }; drawn(); });
+    const node = button(label, "", "claim-" + tricks, true, () => { claiming = { board: view.board, tricks }; redraw(); });
     node.setAttribute("aria-pressed", String(claiming.tricks === tricks));
     return node;
   };
@@ -560,8 +590,16 @@ function answerDock(place, view) {
   return make("section", { id: "dock", className: "claimed", aria_label: TEXTS.theClaim },
     make("p", null, make("b", null, TEXTS.claims(SEAT_NAMES[view.claim.seat], view.claim.tricks, leftOf(view))), make("br"),
       claimWords(place, view, view.claim.seat, Number(view.claim.tricks)) + TEXTS.ifAgreed, ...(desk.said ? [make("br"), TEXTS.saidWith(desk.said)] : [])),
-    button(TEXTS.refuse, "", "refuse", true, (event) => { if (!isDeaf(event)) send(line("REFUSE")); }),
-    button(TEXTS.agree, "", "agree", true, (event) => { if (!isDeaf(event)) send(line("AGREE")); }));
+    refuseButton(line("REFUSE")), button(TEXTS.agree, "", "agree", true, (event) => { if (!isDeaf(event)) send(line("AGREE")); }));
+}
+
+// Whoever refuses is asked: it wants a second press.
+function refuseButton(line) {
+  const asked = marked !== null && marked.what === "refuse";
+  const press = (event) => { if (isDeaf(event)) return; if (asked) sendMarked(event); else mark("refuse", line); };
+  const node = button(asked ? TEXTS.reallyRefuse : TEXTS.refuse, "", "refuse", true, press);
+  node.setAttribute("aria-pressed", String(asked));
+  return node;
 }
 
 function playDock(place, view) {
@@ -569,7 +607,7 @@ function playDock(place, view) {
   const isDummy = dummyOf(place) === view.seat;
   const cells = [button(TEXTS.lastTrick, "", "last", view.last.length > 0, () => { looking = !looking; drawn(); })];
   const claim = button(TEXTS.claim, "", "claim-open",
-    !isDummy && !view.claim && view.trick.length === 0, () => { claiming = { board: view.board, tricks: leftOf(view) }; drawn(); });
+    !isDummy && !view.claim && view.trick.length === 0 && view.made.cards !== "0", () => { claiming = { board: view.board, tricks: leftOf(view) }; drawn(); });
   claim.hidden = isDummy;
   if (isDummy) cells.push(claim, button(TEXTS.myBoards, "", "confirm", true, () => turnLeaf({ card: true })));
   else cells.push(claim, confirmButton(played ? (isSafe() ? TEXTS.tapCard : TEXTS.yourCard) : TEXTS.pleaseWait, TEXTS.playIt));
@@ -578,11 +616,15 @@ function playDock(place, view) {
 
 const toPlay = (view, lead) => (view.turn === view.seat ? TEXTS.youAreToPlay : TEXTS.isToPlay(SEAT_NAMES[view.turn], lead));
 
+// Declarer's claim asks both defenders: whose answer is due no more has agreed, and his partner is asked.
+const hasAgreed = (place, view) => view.claim.seat === place.contract.declarer && isOther(view, view.claim.seat) && !place.answer;
+
 // What is waited for, in a sentence.
 function waiting(place, view) {
   if (view.claim) {
     const { seat, tricks } = view.claim;
     if (place.answer) return TEXTS.answerWaited;
+    if (hasAgreed(place, view)) return TEXTS.youAgreed(SEAT_NAMES[partner(view.seat)]);
     return (seat === view.seat ? TEXTS.youClaim(tricks, leftOf(view)) : TEXTS.claims(SEAT_NAMES[seat], tricks, leftOf(view))) + TEXTS.waitPlease;
   }
   if (!view.playing) return view.turn === view.seat ? TEXTS.yourTurnToCall : TEXTS.isToCall(SEAT_NAMES[view.turn]);
@@ -715,13 +757,18 @@ function wayNodes(table, next) {
   return [make("ol", { className: "round" }, tile("here", table.number, TEXTS.youAreHere), tile("now", next.number, TEXTS.youGoHere))];
 }
 
+function wayText(table, next) {
+  const up = table ? Number(next.number) - Number(table.number) : null;
+  return up === 0 ? TEXTS.stay : TEXTS.goTo(next.number, up);
+}
+
 function betweenNodes(place, next) {
   const nodes = [];
   if (next) {
     nodes.push(make("section", { className: "panel" }, make("p", { className: "second" }, TEXTS.nextOf(place.round + 1, place.rounds)),
       make("p", { className: "large" }, TEXTS.tableSeat(next.number, SEAT_NAMES[next.seat])),
       make("p", null, TEXTS.boardsOf(next.first, next.last) + ". ",
-        make("b", null, place.table && next.number === place.table.number ? TEXTS.stay : TEXTS.goTo(next.number))), ...wayNodes(place.table, next),
+        make("b", null, wayText(place.table, next))), ...wayNodes(place.table, next),
       make("p", { className: "second" }, TEXTS.roundBegins)));
   }
   const here = make("section", { className: "panel" }, make("p", { className: "second" }, TEXTS.roundOf(place.round, place.rounds)));
@@ -731,7 +778,7 @@ function betweenNodes(place, next) {
   else here.append(make("p", { className: "large" }, TEXTS.sitOut));
   if (!next || !place.table) nodes.unshift(here);
   const played = told.boards.filter((board) => board.round === String(place.round));
-  if (played.length) nodes.push(make("section", { className: "panel wide-panel" }, make("h2", null, TEXTS.roundSoFar), cardTable(place, played),
+  if (played.length) nodes.push(make("section", { className: "panel wide-panel" }, make("h2", null, TEXTS.roundOwn(place.round)), cardTable(place, played),
     ...soFarNodes()));
   else if (told.boards.length) nodes.push(make("section", { className: "panel" }, ...soFarNodes()));
   return nodes;
@@ -779,6 +826,7 @@ function turnTitle(mine) {
 
 function showView(placeReply, reply) {
   const place = readPlace(placeReply);
+  nextRound = null;
   const refused = refusal(reply);
   const made = placeReply + reply;
   if (refused) {
@@ -792,13 +840,14 @@ function showView(placeReply, reply) {
     if (showLeaf(place, TEXTS.toNext)) return;
     barFor(place, null);
     const goesTo = (done || refused === "SitsOut") && place.next;
+    nextRound = goesTo ? place.round + 1 : null;
     show(made + told.text, status, "between" + (goesTo ? " goes-on" : ""), () => betweenNodes(place, goesTo));
     return;
   }
   const view = readView(reply);
   playGoesOn(place, view);
   if (unsure) sayFate(place, view);
-  if (marked && !marked.line.startsWith(marked.what.startsWith("card-") ? "CARD " + key + " " + view.board + " " + view.made.cards + " " : "CALL " + key + " " + view.board + " " + view.made.calls + " ")) marked = null;
+  if (marked && !isStillDue(view, marked.line)) marked = null;
   const mine = isMine(place, view);
   turnTitle(mine);
   const said = news(view);
@@ -845,7 +894,7 @@ async function showClosed(placeReply, asked, mine) {
 function bannerNode(place, own, among, names) {
   const large = (words) => make("p", { className: "large" }, words);
   return make("section", { id: "own", className: "banner" }, large(TEXTS.youAreOf(TEXTS.ordinals[own[0] - 1] || TEXTS.atPlace(own[0]), among)),
-    large(own[3] ? TEXTS.percent(own[3]) : own[2]), make("p", null, names.get(place.pair) || headText(place)), make("p", null, own[3] ? TEXTS.pointsOf(own[2]) : ""));
+    large(own[3] ? TEXTS.percent(own[3]) : own[2]), make("p", null, TEXTS.pairAnd(place.pair, names.get(place.pair))), make("p", null, own[3] ? TEXTS.pointsOf(own[2]) : ""));
 }
 
 function finalNodes(place, both) {
@@ -857,10 +906,12 @@ function finalNodes(place, both) {
   }
   nodes.push(make("div", { className: "sides" },
     ...rankings(both, place.pair, names).map((nodes) => make("section", { className: "panel" }, ...nodes))));
-  if (told.boards.length) nodes.push(make("section",
-    { id: "own-card", className: "panel wide-panel" }, make("h2", null, TEXTS.scoreCard), cardTable(place, told.boards)));
-  nodes.push(make("details", { id: "all-results" }, make("summary", null, TEXTS.allBoards), make("pre", { id: "results" }, shownResults(results.text))),
-    button(TEXTS.print, "", "print", true, () => window.print()));
+  const card = button(TEXTS.ownCard, "", "my-boards", told.boards.length > 0, () => turnLeaf({ card: true }));
+  card.className = "send";
+  const all = make("details", { id: "all-results" }, make("summary", null, TEXTS.allBoards), make("pre", { id: "results" }, shownResults(results.text)));
+  const turnAll = () => { all.open = !all.open; if (all.open && all.scrollIntoView) all.scrollIntoView(); };
+  nodes.push(make("div", { className: "ways" }, card, button(TEXTS.allBoards, "", "all-boards", true, turnAll),
+    button(TEXTS.print, "", "print", true, () => window.print())), all);
   return nodes;
 }
 
@@ -899,6 +950,20 @@ function sayFate(place, view) {
   say("notice", view.board !== board ? "" : taken ? TEXTS.wasTaken : TEXTS.wasNotTaken);
 }
 
+// Milliseconds after which it is said that a line is on its way, and that it has no answer; and the notice that says so.
+const ON_WAY = 1500;
+const NO_ANSWER = 5000;
+let late = false;
+function sayLate(what) {
+  const status = (words) => { say("status", words); at("status").className = ""; };
+  const named = what === "" ? TEXTS.it : what.startsWith("card-") ? TEXTS.theCard(cardName(what.slice(5))) : callName(what.slice(5));
+  return [setTimeout(() => status(TEXTS.sending), ON_WAY), setTimeout(() => {
+    status(TEXTS.noAnswerFor(NO_ANSWER / 1000));
+    say("notice", TEXTS.slow(named));
+    late = true;
+  }, NO_ANSWER)];
+}
+
 // Sends one line, and shows what has become of it.
 async function act(line) {
   if (busy) return;
@@ -908,13 +973,14 @@ async function act(line) {
   say("notice", "");
   onWay = /^C(ALL|ARD) /.test(line) ? line.slice(0, 4).toLowerCase() + "-" + line.split(" ").pop() : "";
   drawn();
-  const slow = setTimeout(() => say("notice", TEXTS.slow), SLOW);
+  const timers = sayLate(onWay);
   // The answer, and what there is to see then.
   const reply = await ask("/lines", line + "\nSEE " + asked + "\n");
-  clearTimeout(slow);
+  timers.forEach(clearTimeout);
   busy = false;
   onWay = "";
-  if (at("notice").textContent === TEXTS.slow) say("notice", "");
+  if (late) say("notice", "");
+  late = false;
   if (key !== asked) return key === null ? undefined : look();
   shown = "";
   unsure = reply === null ? line : "";

@@ -268,9 +268,12 @@ def deal(page, work):
     page.window.click("#yes")
     page.told("Dealt: 2.")
     page.window.wait("document.getElementById('shuffle-last').value === '21'")
-    page.window.click("#shuffle")
+    is_asked(page, "#shuffle", "deal-question", "Shuffle boards 1 to 21", "no")
+    page.told("")
+    is_asked(page, "#shuffle", "deal-question", "Shuffle boards 1 to 21", "yes")
     page.told("Dealt: " + ", ".join(map(str, range(3, 22))) + ". Boards 1, 2: already dealt.")
-    page.window.click("#shuffle")
+    page.window.wait("document.getElementById('dealt-counts').textContent === 'dealt, 21'")
+    is_asked(page, "#shuffle", "deal-question", "Shuffle boards 1 to 21", "yes")
     page.told("No board was dealt. Boards " + ", ".join(map(str, range(1, 22))) + ": already dealt.")
 
 
@@ -290,7 +293,7 @@ def undeal(page):
     page.told("")
     is_asked(page, "#undeal", "deal-question", what, "yes")
     page.told(f"{what}: done.")
-    page.window.click("#shuffle")
+    is_asked(page, "#shuffle", "deal-question", "Shuffle boards 1 to 21", "yes")
     page.told("Dealt: 21. Boards " + ", ".join(map(str, range(1, 21))) + ": already dealt.")
 
 
@@ -306,7 +309,7 @@ def take_back(evening, page, board):
     page.window.wait("document.getElementById('opened-back') && !document.getElementById('opened-back').disabled")
     seat = ["North", "East", "South", "West"][(dealer + 1) % 4]
     call = page.window.value("callName('2H')")
-    what = f"Take back {seat}'s {call} on board {board}"
+    what = f"Take back {seat}'s {call}, table 1, board {board}"
     is_asked(page, "#opened-back", "back-question", what, "no")
     page.told("")
     is_asked(page, "#opened-back", "back-question", what, "yes")
@@ -404,7 +407,7 @@ def opens(evening, page):
 
 
 def boards_unseen(evening):
-    """A page that has not seen which boards were played names a board by its place, and takes no number that is lacking."""
+    """A page that has not seen which boards were played asks, and takes no board of others and no number that is lacking."""
     window = Window(evening.browser, f"http://127.0.0.1:{PORT}/")
     window.wait("document.getElementById('key')")
     window.type("#key", evening.director)
@@ -415,7 +418,10 @@ def boards_unseen(evening):
     for field, number in [("rule-round", 1), ("rule-table", 2), ("rule-board", 8)]:
         window.type(f"#{field}", str(number))
     window.click("#rule-void")
-    window.wait("document.getElementById('rule-question').innerText.startsWith('Take the play out, round 1, table 2, board in place 2 of its set?')")
+    window.wait(f"{text_of('told')} === 'In round 1 table 2 has boards 4 to 6.'")
+    window.type("#rule-board", "5")
+    window.click("#rule-void")
+    window.wait("document.getElementById('rule-question').innerText.startsWith('Take the play out, round 1, table 2, board 5?')")
     assert window.value("document.getElementById('rule-question').innerText.includes('Then: taken out by the director.')")
     window.click("#no")
     window.type("#rule-tricks", "")

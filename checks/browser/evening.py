@@ -115,8 +115,13 @@ def play(window, line):
         window.click("#claim-open")
         window.click(f"#claim-{words[4]}")
     pressed = {"CALL": f"#call-{words[-1]}", "CARD": f"#card-{words[-1]}", "CLAIM": "#claim-button", "AGREE": "#agree", "REFUSE": "#refuse"}[words[0]]
-    window.wait(f"document.querySelector('{pressed}') && !document.querySelector('{pressed}').disabled")
+    # A click just after the table has moved counts for nothing.
+    window.wait(f"document.querySelector('{pressed}') && !document.querySelector('{pressed}').disabled && !isDeaf({{ detail: 1 }})")
     before = window.value("document.body.innerText")
+    if words[0] == "REFUSE" or words[-1][0] in "67" and words[0] == "CALL" or words[-1] in ["X", "XX"]:
+        # What is asked wants a second click, that does not follow at once.
+        window.click(pressed)
+        window.wait("marked !== null && Date.now() - marked.at >= TWICE")
     window.click(pressed)
     window.wait(f"!busy && document.body.innerText !== {json.dumps(before)}")
     notice = window.value("document.getElementById('notice').textContent")

@@ -1,6 +1,6 @@
 """Measures the players' pages in a headless Chromium, at the sizes of telephones, tablets and laptops, light and dark: that what is
-due needs no scrolling, with names of 24 characters and after twelve calls too, that no row of the auction is half hidden, that a claim
-moves no hand, that nothing is lost with letters twice as large or at 320 pixels, that what can be pressed is large enough, and that
+due needs no scrolling, with names of 24 characters and after twelve calls too, that no row of the auction is half hidden, that neither
+a claim nor what is told moves a hand, that nothing is lost with letters twice as large or at 320 pixels, that what can be pressed is large enough, and that
 texts stand out from what is below them.
 
 looks.py PROGRAM EXAMPLES [FOLDER]     (pictures go to FOLDER)
@@ -23,6 +23,7 @@ NORTH, EAST, SOUTH, WEST = SEATS = ["40213", "26751", "71850", "60482"]
 DIRECTOR = "52817"
 DEAL = "N:K73.AK652.2.Q652 J652.Q8.QT97.K43 AQ94.J7.K43.JT98 T8.T943.AJ865.A7"
 CALLS = ["1C", "PASS", "1D", "PASS", "1H", "PASS", "1S", "X", "XX", "PASS", "2C", "PASS"]
+NOTICE = "Tea is in the kitchen after round 4. Please be back by 21:10, and bring your cups back."
 NAMES = {"A.Berger": "Maximiliana-Berger-Lange", "M.Okafor": "Chukwuemeka.Okafor-Adae1",
          "B.Adeyemi": "Bartholomew.Adeyemi-Olu1", "N.Fischer": "Nathanael_Fischer-Schmid"}
 
@@ -97,6 +98,16 @@ def tops(window):
     return found_at
 
 
+def places(window):
+    """Where the hands and what is pressed begin, at all sizes."""
+    found_at = {}
+    for width, height in SIZES:
+        window.size(width, height)
+        time.sleep(0.3)
+        found_at[width, height] = window.value("['dummy', 'hand', 'dock'].map((id) => document.getElementById(id).getBoundingClientRect().top)")
+    return found_at
+
+
 def large_letters(window, name):
     """Letters twice as large, and the smallest screens: nothing stands beside the page."""
     window.ask("Page.setFontSizes", fontSizes={"standard": 32, "fixed": 26})
@@ -146,6 +157,16 @@ def main():
             measure_all(windows[EAST], "lead")
             send(f"CARD {EAST} 1 0 D7")
             measure_all(windows[NORTH], "declarer")
+            before = places(windows[NORTH])
+            for name, words in [("noticed", f"{DIRECTOR} NOTICE {NOTICE}"), ("called", f"{NORTH} CALL Slow play"), ("answered", f"{DIRECTOR} ANSWERED 1")]:
+                server.posted("/desk", words)
+                time.sleep(1.5)
+                moved = [size for size, tops_at in places(windows[NORTH]).items() if tops_at != before[size]]
+                if moved:
+                    found.append(f"{name}: what is told moves a hand at {moved}")
+                measure_all(windows[NORTH], name)
+                measure_all(windows[WEST], name + "-defender")
+            server.posted("/desk", f"{DIRECTOR} NOTICE")
             measure_all(windows[WEST], "defender")
             windows[WEST].click("#menu")
             windows[WEST].click("#suits-four")

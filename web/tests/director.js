@@ -40,9 +40,16 @@ const LOOKS = [`/tables ${KEY}`];
 // With the rulings that stand, where they are in sight.
 const RULED_LOOKS = [...LOOKS, `/boards ${KEY}`];
 
-// The same with another part of the page in sight.
+// The same with another part of the page in sight. With the boards it is asked which of them are dealt: each play of a round.
+const plays = (round, count) => Array.from({ length: count }, (_none, i) => [1, 2, 3].map((place) => `/boards ${KEY} ${round} ${i + 1} ${place}`)).flat();
 async function openedAt(tab, ...words) {
   const page = await opened(...words);
+  if (tab === "boards") {
+    const asked = await page.click("tab-boards");
+    assert.deepStrictEqual([asked[0], ...asked.slice(1, 13)], [...LOOKS, ...plays(1, 4)]);
+    await page.settle();
+    return page;
+  }
   assert.deepStrictEqual(await page.click("tab-" + tab), tab === "rulings" || tab === "evening" ? RULED_LOOKS : tab === "standings" ? [...LOOKS, ...RANKS] : LOOKS);
   return page;
 }
@@ -94,6 +101,16 @@ run({
     assert.strictEqual(page.at("shuffle-last").value, "21");
   },
 
+  "that the server does not answer is said for as long as it does not": async () => {
+    const page = await opened(tables(AT_PLAY));
+    page.answer = () => null;
+    await page.look();
+    assert.deepStrictEqual([page.text("status"), page.at("status").className], ["The server does not answer. Trying again.", "lost"]);
+    page.answer = () => tables(AT_PLAY);
+    await page.look();
+    assert.deepStrictEqual([page.text("status").slice(0, 13), page.at("status").className], ["Round 2 of 7.", ""]);
+  },
+
   "the names of the list stand in the tables, in plays and with calls": async () => {
     const page = await opened(tables(AT_PLAY), "Pair 1: Ann and Bob\nPair 2: Cat and Dan\n", played(), "OK\nNOW 7 14400\nCALL 2 7 2 Dan Slow\n.\n",
       "OK\n2\tCat\tDan\tC\u00e1t\tD\u00e1n\n.\n");
@@ -113,6 +130,7 @@ run({
     const page = await opened(tables(DONE));
     assert.strictEqual(page.text("status"), "Round 2 of 7. All tables have done their boards.");
     await page.click("end-round");
+    assert.ok(page.text("end-question").includes("All tables go on to round 3."));
     assert.deepStrictEqual(await page.click("no"), []);
     assert.strictEqual(page.at("yes"), null);
     assert.strictEqual(await sent(page, "end-round", /End round 2\?/), `/lines NEXT ${KEY} 2\n`);
@@ -127,11 +145,72 @@ run({
   "boards are shuffled by numbers that nobody can guess": async () => {
     const page = await openedAt("boards", tables(AT_PLAY), "OK\nERR 22 AlreadyDealt\nOK\n");
     fill(page, { "shuffle-first": "4", "shuffle-last": "6" });
-    assert.strictEqual(await sent(page, "shuffle"), `/lines ${[4, 5, 6].map((board) => `SHUFFLE ${KEY} ${board} ${SEED}\n`).join("")}`);
+    assert.strictEqual(await sent(page, "shuffle", /Shuffle boards 4 to 6\?Boards that are dealt already stay as they are\./), `/lines ${[4, 5, 6].map((board) => `SHUFFLE ${KEY} ${board} ${SEED}\n`).join("")}`);
     assert.strictEqual(page.text("told"), "Dealt: 4, 6. Board 5: already dealt.");
     fill(page, { "shuffle-last": "37" });
     assert.deepStrictEqual(await page.click("shuffle"), []);
     assert.match(page.text("told"), /in its range/);
+  },
+
+  "which boards are dealt is found from the plays, and stands on a tile for each": async () => {
+    // At table T of round R, which has the boards of set T + R - 1: those up to 7, and of set 3 no more, are dealt.
+    const dealt = (body) => {
+      const [, round, table, index] = body.split(" ").map(Number);
+      const board = 3 * ((table + round - 2) % 7) + index;
+      return board <= 7 ? played({ BOARD: `${board} ${round} ${table} ${index} -` }) : "ERR 8 NotDealt\n";
+    };
+    const seven = [1, 2, 3, 4, 5, 6, 7].map((table) => `TABLE ${table} ${table} ${table + 7} - NotDealt`);
+    const page = await opened(tables(seven), (where, body) => (where === "/lines" ? "OK\nERR 23 BadDeal\nERR 22 AlreadyDealt\n" : "OK\n"), dealt);
+    const tiles = () => page.at("dealt").nodes.map((tile) => tile.textContent);
+    assert.deepStrictEqual([tiles()[0], page.text("dealt-counts"), page.text("shuffle")], ["1\u2026", "", "Shuffle 21 boards"]);
+    await page.click("tab-boards");
+    await page.settle();
+    assert.deepStrictEqual(tiles().slice(5, 9), ["6dealt", "7dealt", "8to deal", "9to deal"]);
+    assert.deepStrictEqual([page.at("shuffle-first").value, page.text("shuffle"), page.text("dealt-counts")], ["8", "Shuffle 14 boards", "dealt, 7to deal, 14"]);
+    fill(page, { "shuffle-last": "10" });
+    page.at("shuffle-first").parent.parent.oninput();
+    assert.strictEqual(page.text("shuffle"), "Shuffle 3 boards");
+    await page.click("shuffle");
+    await page.click("yes");
+    assert.deepStrictEqual(tiles().slice(6, 11), ["7dealt", "8dealt", "9refused", "10dealt", "11to deal"]);
+    fill(page, { "undeal-board": "8" });
+    page.answer = (where) => (where === "/tables" ? tables(seven) : "OK\n");
+    await page.click("undeal");
+    assert.match(page.text("deal-question"), /^Take back the deal of board 8\?Nobody has its cards then/);
+    await page.click("yes");
+    assert.strictEqual(tiles()[7], "8to deal");
+    // What another device has dealt or taken back is found when the boards are opened again.
+    page.answer = (where, body) => (where === "/tables" ? tables(seven) : where === "/boards" && body.includes(" ") ? (body.endsWith(" 1 1 1") ? played({ BOARD: "1 1 1 1 -" }) : "ERR 8 NotDealt\n") : "OK\n");
+    await page.click("tab-boards");
+    await page.settle();
+    assert.deepStrictEqual([page.text("dealt-counts"), page.at("shuffle-first").value], ["dealt, 1to deal, 19refused, 1", "2"]);
+  },
+
+  "what is dealt while it is found which boards are dealt is not forgotten": async () => {
+    let held = null;
+    const page = await opened(tables(AT_PLAY));
+    page.answer = (where) => (where === "/tables" ? tables(AT_PLAY) : where === "/lines" ? "OK\n" : held ? "ERR 8 NotDealt\n" : new Promise((resolve) => { held = resolve; }));
+    await page.asks(() => { page.at("tab-boards").click(1); });
+    fill(page, { "shuffle-first": "1", "shuffle-last": "1" });
+    const release = held;
+    await page.click("shuffle");
+    page.answer = (where, body) => (where === "/tables" ? tables(AT_PLAY) : where === "/lines" ? "OK\n" : body.endsWith(" 1 1 1") ? played({ BOARD: "1 1 1 1 -" }) : "ERR 8 NotDealt\n");
+    await page.click("yes");
+    release("ERR 8 NotDealt\n");
+    await page.settle();
+    assert.strictEqual(page.text("dealt-counts"), "dealt, 1to deal, 20");
+  },
+
+  "what is wrong with a deal is said before it is dealt": async () => {
+    const page = await openedAt("boards", tables(AT_PLAY));
+    const good = "N:AKQJ.T98.765.432 432.AKQJ.T98.765 765.432.AKQJ.T98 T98.765.432.AKQJ";
+    const [short, twice] = [good.replace("432.AKQJ.T98.765", "432.AKQJ.T98.76"), good.replace("AKQJ.T98.765.432", "AKQJ.T98.765.AKQ")];
+    page.at("deal-file").files = [{ name: "a.pbn", text: async () => `1 ${good}\n9 ${short}\n10 ${twice}\n11 N:AK Q\n` }];
+    await page.asks(() => page.at("deal-file").onchange());
+    const faults = ["Board 9: East has 12 cards", "Board 10: a card is in it twice", "Board 11: that is no deal"];
+    assert.ok(faults.every((fault) => page.text("file-has").includes(fault)) && !page.text("file-has").includes("Board 1:"), page.text("file-has"));
+    await page.click("deal");
+    assert.ok(faults.every((fault) => page.text("deal-question").includes(fault)), page.text("deal-question"));
   },
 
   "deals of a text are sent as they stand": async () => {
@@ -153,7 +232,7 @@ run({
   "a file of deals is read into the text": async () => {
     const page = await openedAt("boards", tables(AT_PLAY));
     assert.strictEqual(page.text("file-has"), "No file is chosen.");
-    for (const [text, has] of [["1 N:... ", "tonight.pbn: 1 deal"], ["none", "tonight.pbn: 0 deals"]]) {
+    for (const [text, has] of [["1 N:AKQJ.T98.765.432 432.AKQJ.T98.765 765.432.AKQJ.T98 T98.765.432.AKQJ", "tonight.pbn: 1 deal"], ["none", "tonight.pbn: 0 deals"]]) {
       page.at("deal-file").files = [{ name: "tonight.pbn", text: async () => text }];
       assert.deepStrictEqual(await page.asks(() => page.at("deal-file").onchange()), []);
       assert.deepStrictEqual([page.at("deal-text").value, page.text("file-has")], [text, has]);
@@ -167,15 +246,15 @@ run({
     fill(page, { "rule-round": "2", "rule-table": "2", "rule-board": "6", "rule-tricks": "9" });
     const play = "round 2, table 2, board 6";
     const asked = [`/boards ${KEY} 2 2 3`];
-    const became = "Now: 3NT E, one down. Then: 3 no trump, made.North Cat, East Eve, South Dan, West Fay.";
+    const became = "Now: 3NT E, one down \\(\\+100 for N\u2013S\\)\\. Then: 3 no trump, made \\(\u2212600 for N\u2013S\\)\\.North Cat, East Eve, South Dan, West Fay.";
     assert.strictEqual(await sent(page, "rule-set", new RegExp(`Set declarer's tricks to 9, ${play}\\?${became}`), asked), `/lines TRICKS ${KEY} 2 2 3 9\n`);
     assert.strictEqual(page.text("told"), `Set declarer's tricks to 9, ${play}: done.`);
     for (const [ns, ew] of [["60", "40"], ["40", "60"], ["50", "60"]]) {
       fill(page, { "rule-ns": ns, "rule-ew": ew });
-      assert.strictEqual(await sent(page, "rule-average", new RegExp(`Award ${ns} and ${ew} per cent, ${play}\\?Now: 3NT E, one down. Then: average, ${ns}\u00a0% and ${ew}\u00a0%\\.`), asked), `/lines ADJUST ${KEY} 2 2 3 ${ns} ${ew}\n`);
+      assert.strictEqual(await sent(page, "rule-average", new RegExp(`Award ${ns} and ${ew} per cent, ${play}\\?Now: 3NT E, one down \\(\\+100 for N\u2013S\\). Then: average, ${ns}\u00a0% and ${ew}\u00a0%\\.`), asked), `/lines ADJUST ${KEY} 2 2 3 ${ns} ${ew}\n`);
     }
-    assert.strictEqual(await sent(page, "rule-void", new RegExp(`Take the play out, ${play}\\?Now: 3NT E, one down. Then: taken out by the director.`), asked), `/lines VOID ${KEY} 2 2 3\n`);
-    assert.strictEqual(await sent(page, "rule-restore", new RegExp(`Take the ruling back, ${play}\\?Now: 3NT E, one down. Then: as it was played.`), asked), `/lines RESTORE ${KEY} 2 2 3\n`);
+    assert.strictEqual(await sent(page, "rule-void", new RegExp(`Take the play out, ${play}\\?Now: 3NT E, one down \\(\\+100 for N\u2013S\\). Then: taken out by the director.`), asked), `/lines VOID ${KEY} 2 2 3\n`);
+    assert.strictEqual(await sent(page, "rule-restore", new RegExp(`Take the ruling back, ${play}\\?Now: 3NT E, one down \\(\\+100 for N\u2013S\\). Then: as it was played.`), asked), `/lines RESTORE ${KEY} 2 2 3\n`);
     fill(page, { "rule-board": "9" });
     assert.deepStrictEqual(await page.click("rule-void"), []);
     assert.strictEqual(page.text("told"), "In round 2 table 2 has boards 4 to 6.");
@@ -267,16 +346,18 @@ run({
   },
 
   "the latest claim, card or call of a play is taken back, if it is still the latest": async () => {
-    for (const [other, latest] of [
-      [{ CLAIM: "E 6" }, "East's claim of 6 tricks"], [{}, "East's 2 of diamonds"],
-      [{ CARDS: "-" }, "North's pass"], [{ CARDS: "-", CALLS: "1C X" }, "South's double"],
+    for (const [other, latest, effect] of [
+      [{ CLAIM: "E 6" }, "East's claim of 6 tricks", "The claim falls, and play goes on."], [{}, "East's 2 of diamonds", "It goes back to the hand of East, and East is to play."],
+      [{ CARDS: "S H3 H4" }, "West's 4 of hearts", "It goes back to dummy, West, and East is to play."],
+      [{ CARDS: "-" }, "North's pass", "North is to call again."], [{ CARDS: "-", CALLS: "1C X" }, "South's double", "South is to call again."],
     ]) {
       const page = await opened(tables(AT_PLAY), "OK\n", played(other));
       await page.click("open-2");
       assert.deepStrictEqual(await page.click("opened-back"), []);
-      assert.ok(page.text("back-question").startsWith(`Take back ${latest} on board 6?North Cat, East Eve, South Dan, West Fay.`), page.text("back-question"));
+      assert.ok(page.text("back-question").startsWith(
+        `Take back ${latest}, table 2, board 6?${effect} All four are told.North Cat, East Eve, South Dan, West Fay.`), page.text("back-question"));
       assert.deepStrictEqual((await page.click("yes")).slice(0, 2), [`/boards ${KEY} 2 2 3`, `/correct BACK ${KEY} 2 2 3\n`]);
-      assert.strictEqual(page.text("told"), `Take back ${latest} on board 6: done.`);
+      assert.strictEqual(page.text("told"), `Take back ${latest}, table 2, board 6: done.`);
       await page.click("opened-back");
       page.answer = (where) => (where === "/boards" ? played({ ...other, RESULT: "VOID" }) : "OK\n");
       assert.deepStrictEqual(await page.click("yes"), [`/boards ${KEY} 2 2 3`]);
@@ -303,15 +384,21 @@ run({
     const page = await opened(tables(AT_PLAY), "OK\n", played(), "OK\nNOW 9 14400\nCALL 2 5 2 Dan I did not mean my last call or card\nCALL 1 7 8 Fay Claim\n.\n");
     assert.strictEqual(page.at("grant-1"), null);
     assert.deepStrictEqual(await page.click("grant-2"), [`/boards ${KEY} 2 2 3`]);
-    assert.match(page.text("back-question"), /^Take back East's 2 of diamonds on board 6\?/);
-    assert.ok((await page.click("yes")).includes(`/correct BACK ${KEY} 2 2 3\n`));
+    assert.match(page.text("back-question"), /^Take back East's 2 of diamonds, table 2, board 6\?/);
+    const then = await page.click("yes");
+    const granted = then.indexOf(`/correct BACK ${KEY} 2 2 3\n`);
+    assert.ok(granted >= 0 && then.indexOf(`/desk ${KEY} ANSWERED 2`) > granted, then.join());
+    // What was refused leaves the call.
+    page.answer = (where) => (where === "/boards" ? played() : where === "/tables" ? tables(AT_PLAY) : "ERR 5 WrongPhase\n");
+    await page.click("grant-2");
+    assert.ok(!(await page.click("yes")).some((one) => one.startsWith("/desk")));
   },
 
   "a score is assigned, and a deal is taken back": async () => {
     const page = await openedAt("rulings", tables(AT_PLAY));
     fill(page, { "rule-round": "2", "rule-table": "2", "rule-board": "6", "assign-bid": "4S", "assign-doubled": "X", "assign-declarer": "W", "assign-tricks": "8" });
     const asked = [`/boards ${KEY} 2 2 3`];
-    const became = "Now: 3NT E, one down. Then: 4 spades doubled by West, two down.";
+    const became = "Now: 3NT E, one down \\(\\+100 for N\u2013S\\). Then: 4 spades doubled by West, two down \\(\\+500 for N\u2013S\\).";
     assert.strictEqual(await sent(page, "rule-assign", new RegExp(`Assign a score, round 2, table 2, board 6\\?${became}`), asked), `/correct ASSIGN ${KEY} 2 2 3 4SX W 8\n`);
     await page.click("tab-boards");
     fill(page, { "undeal-board": "7" });
@@ -371,6 +458,7 @@ run({
     assert.deepStrictEqual(await page.click("clock-start"), []);
     fill(page, { "clock-minutes": "20" });
     assert.deepStrictEqual(await desk("tell-all", "NOTICE Tea after round 4\n"), [`/desk ${KEY} NOTICE Tea after round 4`]);
+    assert.strictEqual(page.at("tell-text").value, "");
     assert.deepStrictEqual(await desk("clock-start", "NOTICE Tea after round 4\nCLOCK 1210\n"), [`/desk ${KEY} CLOCK 20`]);
     assert.deepStrictEqual(shown(), [false, true, true]);
     assert.strictEqual(page.text("clock-left"), "20:00");
@@ -429,12 +517,15 @@ run({
   "no answer says so, and nothing is sent beside what is out": async () => {
     const page = await openedAt("boards", tables(AT_PLAY), null);
     fill(page, { "shuffle-first": "1", "shuffle-last": "1" });
-    assert.deepStrictEqual((await page.click("shuffle")).length, 1);
+    await page.click("shuffle");
+    assert.deepStrictEqual((await page.click("yes")).length, 1);
     assert.match(page.text("told"), /No answer came/);
     let release;
     page.answer = () => new Promise((resolve) => { release = () => resolve("OK\n"); });
-    assert.deepStrictEqual((await page.click("shuffle")).length, 1);
-    assert.deepStrictEqual(await page.click("shuffle"), []);
+    await page.click("shuffle");
+    assert.deepStrictEqual((await page.click("yes")).length, 1);
+    await page.click("shuffle");
+    assert.deepStrictEqual(await page.click("yes"), []);
     assert.match(page.text("told"), /still waited for/);
     release();
     await page.settle();

@@ -95,10 +95,15 @@ class Element {
     return !this.hidden && (this.parent === null || this.parent.isShown);
   }
 
-  // A click as a user makes it, which a button that is greyed or hidden does not get.
-  click(pointerType = "mouse") {
+  // This element or the next one round it that has a tag, or null.
+  closest(tag) {
+    return this.tag === tag || this.parent === null ? (this.tag === tag ? this : null) : this.parent.closest(tag);
+  }
+
+  // A click of a mouse or a finger, or with no detail of keys, which a button that is greyed or hidden does not get.
+  click(detail = 0) {
     if (this.disabled || !this.isShown) throw new Error(`#${this.id} cannot be clicked`);
-    return this.onclick({ preventDefault() {}, pointerType });
+    return this.onclick({ preventDefault() {}, detail, target: this });
   }
 }
 

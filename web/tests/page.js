@@ -131,8 +131,10 @@ class Page {
     return this.document.root.all().find((element) => element.tag === "button" && element.textContent === label);
   }
 
-  async click(id, pointerType) {
-    return this.asks(() => this.at(id).click(pointerType));
+  // A click of the mouse, so many milliseconds after what came before.
+  async click(id, after = 400) {
+    this.now += after;
+    return this.asks(() => this.at(id).click(1));
   }
 
   // The cells of a table, row by row.

@@ -46,12 +46,14 @@ async function seated(placed, seen, done = "OK\n", over = boards(), stands = und
   }, { key: KEY }, people);
   if (stands) page.stands = stands;
   await page.settle();
-  assert.deepStrictEqual(page.asked, [...LOOKS, `/boards ${KEY}`]);
+  assert.deepStrictEqual(page.asked, [...FIRST, `/boards ${KEY}`]);
   return page;
 }
 
 // What a look asks for; what each line is followed by.
-const LOOKS = [`/place ${KEY}`, `/lines SEE ${KEY}\n`];
+// What is asked at the first look, and at later ones.
+const FIRST = [`/place ${KEY}`, `/lines SEE ${KEY}\n`];
+const LOOKS = [`/lines SEE ${KEY}\n`, `/place ${KEY}`];
 const THEN = `SEE ${KEY}\n`;
 
 // The line that is sent at a click; a look follows it.
@@ -121,6 +123,7 @@ run({
   "each call sends its line, and doubles and bids of six or seven once they are confirmed": async () => {
     const marked = async (page, call) => {
       assert.deepStrictEqual(await page.click(`call-${call}`), []);
+      assert.deepStrictEqual(await page.click(`call-${call}`, 249), [], "a second click that is too soon");
       assert.strictEqual(await sent(page, "confirm"), `/lines CALL ${KEY} 4 2 ${call}\n`);
     };
     for (const call of ["PASS", ...BIDS]) {
@@ -183,11 +186,12 @@ run({
       assert.ok(page.text("claiming").includes(comes.replace("four over", "4 over").replace("four down", "4 down")), page.text("claiming"));
       assert.strictEqual(await sent(page, "claim-button"), `/lines CLAIM ${KEY} 4 1 ${tricks}\n`);
     }
-    const page = await seated(place({ CONTRACT: "1H E" }), play({ TRICKS: "2 3" }));
+    const page = await seated(place({ CONTRACT: "1H E" }), play({ AT: "7 20 0", TRICKS: "2 3" }));
     await page.click("claim-open");
     assert.deepStrictEqual(await page.click("claim-back"), []);
     assert.strictEqual(page.at("claiming"), null);
-    assert.ok((await seated(place({ CONTRACT: "1H E" }), play({ TRICK: "E H7" }))).at("claim-open").disabled);
+    assert.ok((await seated(place({ CONTRACT: "1H E" }), play({ AT: "7 5 0", TRICK: "E H7" }))).at("claim-open").disabled);
+    assert.ok((await seated(place({ CONTRACT: "1H E" }), play())).at("claim-open").disabled, "before the lead");
     assert.ok((await seated(place({ CONTRACT: "1H N" }), play())).at("claim-open").hidden);
   },
 
@@ -206,11 +210,23 @@ run({
       assert.strictEqual(page.text("status"), "Your answer is waited for");
       assert.ok(page.text("dock").startsWith("East claims 5 of the 13 tricks left. "), page.text("dock"));
       assert.strictEqual(page.text(id).toUpperCase(), word);
+      if (id === "refuse") {
+        assert.deepStrictEqual(await page.click(id), []);
+        assert.strictEqual(page.text(id), "Really refuse?");
+        assert.deepStrictEqual(await page.click(id, 249), [], "a second click that is too soon");
+        page.document.listeners.get("keydown")({ key: "Escape" });
+        assert.strictEqual(page.text(id), "Refuse");
+        await page.click(id);
+      }
       assert.strictEqual(await sent(page, id), `/lines ${word} ${KEY} 4 1\n`);
     }
     const page = await seated(place({ CONTRACT: "1H E" }), play({ CLAIM: "S 5" }));
     assert.strictEqual(page.at("agree"), null);
     assert.match(page.text("status"), /^You claim 5 of the 13 tricks left\. Please wait\.$/);
+    const agreed = (contract, claim) => seated(place({ CONTRACT: contract }), play({ AT: "7 20 1", CLAIM: claim }));
+    assert.strictEqual((await agreed("1H E", "E 5")).text("status"), "You have agreed. North is asked.");
+    assert.strictEqual((await agreed("1H N", "N 5")).text("status"), "North claims 5 of the 13 tricks left. Please wait.", "dummy is not asked");
+    assert.strictEqual((await agreed("1H E", "N 5")).text("status"), "North claims 5 of the 13 tricks left. Please wait.", "a defender's claim asks declarer alone");
   },
 
   "the table shows what is seen": async () => {
@@ -258,7 +274,7 @@ run({
       ["4S E", "4 2", "by EastWe need 4 to beat it: it is down"]]) {
       const page = await seated(place({ CONTRACT: contract }), play({ AT: "9 40 0", TRICKS: tricks }));
       assert.ok(page.text("side").includes(due), page.text("side"));
-      assert.ok(page.text("side").endsWith("This round4now5next6"), page.text("side"));
+      assert.ok(page.text("side").endsWith("This round4now5next6later"), page.text("side"));
     }
   },
 
@@ -271,17 +287,22 @@ run({
     let page = await twice(view());
     assert.deepStrictEqual(await page.click("call-1H"), []);
     assert.strictEqual(page.at("call-1H").getAttribute("aria-pressed"), "true");
-    assert.deepStrictEqual(await page.click("call-1H"), [], "a second tap that is too soon");
-    assert.deepStrictEqual(await page.click("call-2C"), []);
+    assert.deepStrictEqual(await page.click("call-1H", 249), [], "a second tap that is too soon");
+    assert.deepStrictEqual(await page.click("call-2C", 0), []);
     assert.strictEqual(page.at("call-1H").getAttribute("aria-pressed"), "false");
-    page.now += 250;
-    assert.deepStrictEqual((await page.click("call-2C"))[0], `/lines CALL ${KEY} 4 2 2C\n${THEN}`);
+    assert.deepStrictEqual(await page.click("confirm", 249), [], "a tap on the button that is too soon");
+    assert.deepStrictEqual((await page.click("call-2C", 1))[0], `/lines CALL ${KEY} 4 2 2C\n${THEN}`);
     page = await twice(play(), place({ CONTRACT: "1H E" }));
     assert.ok(page.at("confirm").disabled);
     assert.deepStrictEqual(await page.click("card-HQ"), []);
     page.document.listeners.get("keydown")({ key: "Escape" });
     assert.strictEqual(page.at("card-HQ").getAttribute("aria-pressed"), "false");
+    await page.click("card-HQ");
+    page.at("stage").onclick({ target: page.named("West") });
+    assert.strictEqual(page.at("card-HQ").getAttribute("aria-pressed"), "false", "a tap on the felt");
     assert.deepStrictEqual(await page.click("card-HJ"), []);
+    page.at("stage").onclick({ target: page.at("card-HJ") });
+    assert.strictEqual(page.at("card-HJ").getAttribute("aria-pressed"), "true", "a tap on a card");
     assert.deepStrictEqual((await page.click("confirm"))[0], `/lines CARD ${KEY} 4 0 HJ\n${THEN}`);
     await page.click("menu");
     assert.ok(page.at("sent-twice").checked && page.at("suits-two").checked && page.at("light-device").checked);
@@ -294,11 +315,36 @@ run({
     assert.ok(page.at("choices").hidden);
   },
 
-  "a finger's tap counts for nothing just after the table has moved": async () => {
+  "a tap or a click counts for nothing just after the table has moved, and a key does": async () => {
     const page = await seated(place(), view());
-    assert.deepStrictEqual(await page.click("call-1H", "touch"), []);
-    page.now += 400;
-    assert.deepStrictEqual((await page.click("call-1H", "touch"))[0], `/lines CALL ${KEY} 4 2 1H\n${THEN}`);
+    assert.deepStrictEqual(await page.click("call-1H", 399), []);
+    assert.deepStrictEqual((await page.click("call-1H", 1))[0], `/lines CALL ${KEY} 4 2 1H\n${THEN}`);
+    assert.deepStrictEqual((await page.asks(() => page.at("call-1H").click()))[0], `/lines CALL ${KEY} 4 2 1H\n${THEN}`);
+    // The second click of two that wins a trick leads nothing.
+    const lead = { AT: "7 4 0", LAST: "E H2 HQ H3 H4", TRICKS: "1 0" };
+    const play4 = await seated(place({ CONTRACT: "1H E" }), play({ AT: "7 1 0", TRICK: "E H2" }), "OK\n" + play(lead));
+    play4.answer = (where, body) => (where === "/place" ? place({ CONTRACT: "1H E" }) : body.startsWith("CARD ") ? "OK\n" + play(lead) : play(lead));
+    assert.strictEqual((await play4.click("card-HQ"))[0], `/lines CARD ${KEY} 4 1 HQ\n${THEN}`);
+    assert.deepStrictEqual(await play4.click("card-HJ", 150), []);
+    assert.strictEqual((await play4.click("card-HJ", 250))[0], `/lines CARD ${KEY} 4 4 HJ\n${THEN}`);
+  },
+
+  "of a claim the number may be chosen and sent at once, and not the sheet that has just come": async () => {
+    const page = await seated(place({ CONTRACT: "1H E" }), play({ AT: "7 20 1", TRICKS: "2 3" }));
+    await page.click("claim-open");
+    assert.deepStrictEqual(await page.click("claim-button", 399), []);
+    await page.click("claim-3", 1);
+    assert.strictEqual((await page.click("claim-button", 0))[0], `/lines CLAIM ${KEY} 4 1 3\n${THEN}`);
+  },
+
+  "a key that is held down presses a button once": async () => {
+    const page = await seated(place(), view());
+    const prevented = (repeat, tagName) => {
+      let stopped = false;
+      page.listeners.get("keydown")({ key: "Enter", repeat, target: { tagName }, preventDefault: () => { stopped = true; } });
+      return stopped;
+    };
+    assert.deepStrictEqual([prevented(false, "BUTTON"), prevented(true, "BUTTON"), prevented(true, "TEXTAREA")], [false, true, false]);
   },
 
   "the last card plays itself": async () => {
@@ -332,6 +378,13 @@ run({
     assert.deepStrictEqual(await page.news(), LOOKS);
     assert.strictEqual(page.text("status"), "Your turn to call");
     assert.deepStrictEqual(page.waits.map((wait) => wait.body), [`${KEY}\n${place()}${view()}NOTICE Tea\nCLOCK 90\n`]);
+  },
+
+  "what others do on the board is shown before the place is told": async () => {
+    const page = await seated(place(), view({ TURN: "W", AT: "1 0 0", CALLS: "PASS" }));
+    page.answer = (where) => (where === "/place" ? new Promise(() => {}) : view());
+    assert.deepStrictEqual(await page.news(), LOOKS);
+    assert.strictEqual(page.text("status"), "Your turn to call");
   },
 
   "where news cannot be waited for the page looks every second": async () => {
@@ -386,7 +439,7 @@ run({
   },
 
   "a hand is one stop for Tab, and a sheet holds the focus": async () => {
-    const page = await seated(place({ CONTRACT: "1H E" }), play({ TRICK: "-" }));
+    const page = await seated(place({ CONTRACT: "1H E" }), play({ AT: "7 4 0", LAST: "S HK H2 H3 H4" }));
     const stops = () => page.at("hand").querySelectorAll("button").filter((one) => one.tabIndex === 0).map((one) => one.id);
     assert.strictEqual(stops().length, 1);
     const [first, second] = page.at("hand").querySelectorAll("button").filter((one) => !one.disabled);
@@ -430,6 +483,10 @@ run({
     const tiles = (page) => page.document.root.all().filter((one) => one.tag === "li" && one.parent.className === "round").map((one) => one.textContent);
     const page = await seated(place(), "ERR 8 NotCurrent\n");
     assert.deepStrictEqual(tiles(page), ["2you are here", "1you go here"]);
+    assert.match(page.text("main"), /Boards 7 to 9\. Move down one table\./);
+    for (const [next, way] of [["3", "Move up one table."], ["4", "Go to table 4."], ["2", "Stay at your table."]]) {
+      assert.ok((await seated(place({ NEXT: `${next} W 7 9` }), "ERR 8 NotCurrent\n")).text("main").includes(way), way);
+    }
     assert.deepStrictEqual([page.text("title"), page.text("below")], ["Dan", "Pair 2, North\u2013South \u00b7 with Cat"]);
     assert.deepStrictEqual(tiles(await seated(place({ NEXT: "2 W 7 9" }), "ERR 8 NotCurrent\n")), []);
     const out = await seated(place({ TABLE: "-", NAMES: "-" }), "ERR 8 SitsOut\n");
@@ -466,12 +523,23 @@ run({
     assert.match(page.text("notice"), /No answer came/);
   },
 
-  "after 3 seconds without an answer it says so": async () => {
-    const page = await seated(place(), view());
-    page.answer = () => new Promise(() => {});
-    await page.asks(() => { page.at("call-PASS").click(); });
-    await page.pass(3000);
-    assert.match(page.text("notice"), /does not answer yet/);
+  "while an answer is due it says so, first that it is on its way and then that there is none": async () => {
+    for (const [act, what, where, seen, then, due] of [
+      ["call-2C", "2 clubs", place(), view(), view({ AT: "3 0 0", TURN: "W", CALLS: "PASS PASS 2C" }), "West is to call."],
+      ["card-HQ", "the queen of hearts", place({ CONTRACT: "1H E" }), play(), play({ AT: "7 1 0", TURN: "W", TRICK: "S HQ" }), "East is to play from dummy."]]) {
+      const page = await seated(where, seen);
+      let release;
+      page.answer = () => new Promise((resolve) => { release = resolve; });
+      await page.asks(() => { page.at(act).click(); });
+      await page.pass(1500);
+      assert.deepStrictEqual([page.text("status"), page.at("status").className, page.text("notice")], ["Sending \u2026", "", ""]);
+      await page.pass(5000);
+      assert.deepStrictEqual([page.text("status"), page.text("notice")], ["No answer for 5 seconds", `No answer yet. What you see next tells whether ${what} was taken.`]);
+      page.answer = (at) => (at === "/place" ? where : then);
+      release("OK\n");
+      await page.settle();
+      assert.deepStrictEqual([page.text("status"), page.text("notice")], [due, ""]);
+    }
     const idle = await seated(place(), view());
     let release;
     idle.answer = (where) => new Promise((resolve) => { if (where === "/place") release = () => resolve(place()); else resolve(view()); });
@@ -507,7 +575,8 @@ run({
     await card.asks(() => { card.at("card-HQ").click(); });
     assert.strictEqual(card.at("card-HQ"), null);
     assert.strictEqual(card.named("South: queen of hearts").className, "played bottom red sent");
-    assert.deepStrictEqual([card.text("confirm"), card.at("confirm").className, card.named("Trick").nodes.length], ["Sending " + hearts + "Q", "sending", 1]);
+    assert.deepStrictEqual([card.text("confirm"), card.at("confirm").className, card.named("Trick").nodes.map((one) => one.className)],
+      ["Sending " + hearts + "Q", "sending", ["played bottom red sent", "due left"]]);
     assert.deepStrictEqual(enabled(card, "card-"), []);
     card.answer = answer(play({ AT: "7 4 0", LAST: "S HK H2 H3 H4", TRICKS: "1 0" }), "1H E");
     await card.pass(8000);
@@ -540,14 +609,14 @@ run({
       return where === "/results" ? RESULTS : ranks[body.trim().split(" ")[2]];
     }, { key: KEY });
     await page.settle();
-    const asked = [...LOOKS, `/lines RANK ${KEY} 1\n`, `/lines RANK ${KEY} 2\n`];
-    assert.deepStrictEqual(page.asked, [...asked, `/results ${KEY}`, `/boards ${KEY}`]);
+    const ranked = [`/lines RANK ${KEY} 1\n`, `/lines RANK ${KEY} 2\n`];
+    const asked = [...LOOKS, ...ranked];
+    assert.deepStrictEqual(page.asked, [...FIRST, ...ranked, `/results ${KEY}`, `/boards ${KEY}`]);
     const titles = ["Place", "Pair", "Names", "Score", "%"];
     assert.deepStrictEqual([page.text("title"), page.text("below")], ["Club Night, final", "Town Hall, 2026.03.14"]);
     assert.deepStrictEqual(page.rows(page.named("Places of pairs 1 to 2")), [titles, ["1", "2", "Cy and Di", "6.0/8.0", "75.00"], ["2", "1", "Ann and Bob", "2.0/8.0", "25.00"]]);
     assert.deepStrictEqual(page.rows(page.named("Places of pairs 3 to 4")), [titles, ["1", "4", "", "5.0/8.0", "62.50"], ["2", "3", "Eve and Flo", "3.0/8.0", "37.50"]]);
-    assert.strictEqual(page.text("own"), "You are first of 275.00\u00a0%Cy and Di6.0 of 8.0");
-    assert.deepStrictEqual(page.rows(page.at("card"))[1], ["4", "Eve \u2013 Fay", "3NT E", "\u2666\ufe0e2", "8", "\u221250", ""]);
+    assert.strictEqual(page.text("own"), "You are first of 275.00\u00a0%Pair 2, Cy and Di6.0 of 8.0");
     assert.strictEqual(page.named("Places of pairs 3 to 4").parent.nodes[0].textContent, "Ranking, pairs 3 to 4");
     assert.strictEqual(page.named("Places of pairs 1 to 2").querySelectorAll("tr")[1].className, "own");
     assert.strictEqual(page.text("results"), RESULTS);
@@ -555,12 +624,22 @@ run({
     assert.deepStrictEqual(await page.look(), asked);
     page.now += 60000;
     assert.deepStrictEqual(await page.look(), [...asked, `/results ${KEY}`, `/boards ${KEY}`]);
+    assert.ok(!page.at("all-results").open);
+    await page.click("all-boards");
+    assert.ok(page.at("all-results").open);
+    await page.click("print");
+    assert.strictEqual(page.printed, 1);
+    assert.deepStrictEqual(await page.click("my-boards"), asked);
+    assert.deepStrictEqual(page.rows(page.at("card"))[1], ["4", "Eve \u2013 Fay", "3NT E", "\u2666\ufe0e2", "8", "\u221250", ""]);
+    assert.strictEqual(page.text("onward"), "To the ranking");
+    await page.click("onward");
+    assert.ok(page.at("own"));
   },
 
   "a board that is over stays until the player goes on": async () => {
     const page = await seated(place({ CONTRACT: "3NT S" }), play({ AT: "7 9 0" }));
     page.answer = (where) => (where === "/place" ? place() : where === "/boards" ? boards(board()) : view({ PLAY: "1 2 2 5" }));
-    assert.deepStrictEqual(await page.look(), [`/place ${KEY}`, `/lines SEE ${KEY}\n`, `/boards ${KEY}`]);
+    assert.deepStrictEqual(await page.look(), [...LOOKS, `/boards ${KEY}`]);
     assert.strictEqual(page.text("title"), "Board 4");
     assert.strictEqual(page.text("band"), "3NT by you, made+6009 tricks \u00b7 lead \u2666\ufe0e2 by West");
     assert.strictEqual(page.text("onward"), "Next: board 5, your turn");
@@ -620,7 +699,8 @@ run({
     await page.click("menu-boards");
     assert.strictEqual(page.rows(page.at("card"))[1].pop(), "75.0\u00a0%");
     await page.click("open-1-4");
-    assert.deepStrictEqual(page.rows(page.named("Scores").querySelectorAll("table")[0]).slice(1), [["6", "3NT N", "10", "+630"], ["2 (we)", "3NT S", "9", "+600"], ["5", "3NT N", "7", "\u2212200"]]);
+    assert.deepStrictEqual(page.rows(page.named("Scores").querySelectorAll("table")[0]).slice(1), [["6", "9", "3NT N", "10", "+630"], ["we", "they", "3NT S", "9", "+600"], ["2", "8", "3NT N", "7", "\u2212200"]]);
+    assert.ok(page.named("Scores").textContent.endsWith("Ours: 3.0 of 4 matchpoints."), page.named("Scores").textContent);
     const tiles = page.document.root.all().filter((one) => one.tag === "li" && one.parent.parent.className === "tiles");
     assert.deepStrictEqual(tiles.map((one) => one.textContent + one.className), ["+630", "+600 (we)own", "\u2212200"]);
     const shut = await seated(place(), view({ PLAY: "1 2 2 5" }), "OK\n", boards(board()));
@@ -636,9 +716,18 @@ run({
     page.now += 30000;
     await page.look();
     assert.strictEqual(page.text("notice"), "The director has ruled on board 4.");
-    page.answer = (where) => (where === "/place" ? place() : where === "/boards" ? boards(board({ RESULT: "VOID" })) : view({ PLAY: "1 2 3 6" }));
+    page.answer = (where) => (where === "/place" ? place() : where === "/boards" ? boards(board({ RESULT: "VOID" }), board({ BOARD: "5 1 2 2 NS" })) : view({ PLAY: "1 2 3 6" }));
     await page.look();
     assert.strictEqual(page.text("notice"), "");
+  },
+
+  "a board that the director has ended is told to those who played it": async () => {
+    for (const [over, told] of [[boards(), "Board 4 is not played on: the director has ruled so."], [boards(board()), ""], [null, ""]]) {
+      const page = await seated(place(), view());
+      page.answer = (where) => (where === "/place" ? place() : where === "/boards" ? over : view({ PLAY: "1 2 2 5" }));
+      await page.look();
+      assert.strictEqual(page.text("notice"), told);
+    }
   },
 
   "rulings on several boards are told together": async () => {
@@ -708,15 +797,26 @@ run({
     for (const [words, order] of [["Out of turn", " CALL Out of turn"], ["", " CALL"]]) {
       const page = await seated(place(), view());
       assert.deepStrictEqual(await page.click("bell"), []);
+      assert.strictEqual(page.at("calling").querySelectorAll("h2")[0].textContent, "Call the director to table 2?");
       if (words) page.button(words).click();
       const { answer } = page;
       page.answer = () => `OK\nNOW 7 14400\nCALL 2 7 2 Dan ${words}\n.\n`;
       assert.deepStrictEqual(await page.click("call-director"), [`/desk ${KEY}${order}`]);
-      assert.strictEqual(page.text("desk"), `Director called. ${words ? words + ". " : ""}Please wait, play nothing.`);
+      const time = new Date(page.now).toLocaleTimeString([], { hour: "2-digit", minute: "2-digit" });
+      assert.strictEqual(page.text("desk"), `Director called, ${time}: ${words || "no reason said"}. Please wait, play nothing.`);
       page.answer = answer;
       await page.look();
-      assert.strictEqual(page.text("desk"), "");
+      assert.deepStrictEqual([page.text("desk"), page.text("notice")], ["", "The director has seen the call and is on the way."]);
     }
+  },
+
+  "what the director took back for a call is not hidden by what is told of the call": async () => {
+    const page = await seated(place(), view({ AT: "3 0 0", CALLS: "PASS PASS 1C", TURN: "W" }), "OK\n", boards(), "OK\nNOW 70 14400\nCALL 2 7 2 Dan Slip\n.\n");
+    page.answer = (where) => (where === "/place" ? place() : view());
+    await page.look();
+    page.stands = "OK\nNOW 71 14400\n.\n";
+    await page.look();
+    assert.strictEqual(page.text("notice"), "The director has taken back the last call.");
   },
 
   "the notice and the clock of the round are shown": async () => {
@@ -727,6 +827,9 @@ run({
     page.context.showClock();
     assert.strictEqual(page.text("clock"), "5:00left");
     assert.strictEqual(page.text("heard"), "5 minutes left in this round");
+    const between = await seated(place(), "ERR 8 NotCurrent\n", "OK\n", boards(), "OK\nNOW 20 14400\nCLOCK 110\n.\n");
+    between.context.showClock();
+    assert.strictEqual(between.text("clock"), "1:30to round 2");
   },
 
   "that the pages close is said ten minutes before": async () => {
@@ -738,7 +841,7 @@ run({
 
   "what is said with a claim follows it once it stands, and is shown to who answers": async () => {
     const claims = async (done) => {
-      const page = await seated(place({ CONTRACT: "1H E" }), play(), done);
+      const page = await seated(place({ CONTRACT: "1H E" }), play({ AT: "7 4 0" }), done);
       await page.click("claim-open");
       page.at("claim-says").value = " drawing trumps\u202e ";
       page.at("claim-says").oninput();

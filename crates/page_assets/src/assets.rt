@@ -146,6 +146,7 @@ body:not(.at-table) #desk { padding: 0 .75rem; }
 #clock.over b { color: var(--felt-red); }
 #clock[hidden] { display: none; }
 .reasons { display: grid; grid-template-columns: 1fr 1fr; gap: .6rem; margin: .6rem 0; }
+.reasons > :first-child { grid-column: 1 / -1; }
 #status {
   grid-area: say; justify-self: center; margin: .25rem .5rem; padding: .2rem 1rem; max-width: calc(100% - 1rem); border-radius: 1rem; text-align: center;
   background: var(--soft);
@@ -218,6 +219,8 @@ details { margin: .6rem 0; border-top: 1px solid var(--edge); padding-top: .4rem
   background: var(--felt); border-radius: .75rem;
 }
 .banner .large { font-size: 1.375rem; }
+.final :is(#clock, #bell, #all-results:not([open])) { display: none; }
+.ways { display: grid; grid-template-columns: repeat(3, 1fr); gap: .6rem; }
 .banner p { margin: 0; font-size: .875rem; }
 .banner p:nth-child(even) { text-align: right; }
 .sheet fieldset { padding: 0 .5rem; margin: .4rem 0; border: 1px solid var(--line); border-radius: .5rem; }
@@ -243,6 +246,13 @@ body.director main { max-width: 84rem; }
 .question > p:last-of-type:not(:only-of-type) { padding: 0; font-weight: normal; background: none; }
 #tell-text { flex: 1; width: auto; min-width: 0; }
 #dealing { padding: 0; border: 0; background: none; }
+#dealing > h2 { position: absolute; width: 1px; height: 1px; overflow: hidden; clip-path: inset(50%); }
+#dealt { display: grid; grid-template-columns: repeat(auto-fill, minmax(4rem, 1fr)); gap: .4rem; margin: .4rem 0; padding: 0; list-style: none; }
+#dealt li { display: grid; justify-items: center; padding: .15rem; border: 1px dashed var(--edge); border-radius: .5rem; font-size: .875rem; }
+#dealt b { font-size: 1.0625rem; }
+#dealt .dealt { color: #fff; background: var(--not-vul); border-style: solid; }
+#dealt .refused { color: var(--note-ink); background: var(--note); border: 2px solid var(--vul); }
+#dealt-counts { display: flex; flex-wrap: wrap; gap: .2rem 1rem; font-size: .875rem; }
 #dealing .subject { margin-bottom: .75rem; padding: .75rem 1rem; background: var(--panel); border: 1px solid var(--line); border-radius: .75rem; }
 #dealing h3 { margin: 0 0 .4rem; font-size: 1.0625rem; }
 #choose-file { padding: .2rem .9rem; font-weight: bold; border: 1px solid var(--edge); border-radius: .5rem; cursor: pointer; }
@@ -311,10 +321,17 @@ body.director main { max-width: 84rem; }
   #aside .who { width: 100%; max-width: 0; overflow: hidden; text-overflow: ellipsis; white-space: nowrap; }
   #aside wbr { display: none; }
   #aside #rankings h2 { margin: .3rem 0 0; font-size: .875rem; font-weight: normal; color: var(--second); }
-  #dealing { display: grid; grid-template: "h h" auto "p p" auto "s f" auto "u f" 1fr / 1fr 1fr; gap: 0 .75rem; align-items: start; }
-  #dealing > h2 { grid-area: h; }
-  #dealing > p { grid-area: p; }
-    #dealing .subject:has(#deal-file) { grid-area: f; }
+  #dealing { display: grid; grid-template: "a s" auto "a f" auto "u f" 1fr / 1fr 1fr; gap: 0 .75rem; align-items: start; }
+  #dealing .all-boards { grid-area: a; }
+  #dealing .subject:has(#shuffle) { grid-area: s; }
+  #dealing .subject:has(#deal-file) { grid-area: f; }
+  #dealing .subject:has(#undeal) { grid-area: u; }
+  #on-evening { display: grid; grid-template: "k p" auto "s p" 1fr "l l" auto / 1fr 1fr; gap: 0 .75rem; align-items: start; }
+  #keeping { grid-area: k; }
+  #seeing { grid-area: s; }
+  #publishing { grid-area: p; align-self: stretch; }
+  #on-evening:has(#results:not(:empty)) { grid-template: "k s" auto "p p" auto "l l" auto / 1fr 1fr; }
+  #lines { grid-area: l; }
   #on-rulings { display: grid; grid-template: "c c" auto "o r" auto "s r" 1fr / minmax(0, 1fr) 26rem; gap: 0 .75rem; align-items: start; }
   #choosing { grid-area: c; }
   #opened { grid-area: o; }
@@ -352,9 +369,13 @@ summary { cursor: pointer; min-height: 2.2rem; font-weight: bold; }
 /* The table: one grid, the player at the bottom. First what an upright telephone has, and all. */
 .at-table {
   --tw: 3.125rem; --th: 4.25rem; --cw: calc((100vw - 3.125rem) / 7); --fw: var(--cw); --ch: clamp(3.25rem, 8.65dvh, 4.6rem); display: grid;
-  grid-template: "bar" auto "note" auto "strip" auto "side" auto "stage" 1fr "say" auto "hand" auto "dock" auto / minmax(0, 1fr); background: var(--felt);
+  grid-template: "bar" auto "strip" auto "side" auto "stage" 1fr "note" auto "say" auto "hand" auto "dock" auto / minmax(0, 1fr); background: var(--felt);
 }
 .at-table main { display: contents; }
+/* What is told stands below the felt, which gives the room: no hand moves for it. */
+.at-table #notes > :not(:empty) { margin: 0 .5rem .2rem; border-radius: .5rem; overflow: hidden; }
+.at-table #desk > .note { align-items: safe center; }
+.at-table #desk > * { border-top: 0; }
 .at-table #status { color: var(--plate-ink); background: var(--plate); }
 .at-table #status.turn { color: var(--gold-ink); background: var(--gold); font-weight: bold; }
 #strip {
@@ -517,8 +538,8 @@ td.marked { outline: 2px dashed var(--blue); outline-offset: -2px; }
 #dock #call-XX:enabled { color: #fff; background: var(--redouble); }
 #dock :is(.box-call, .bid)[aria-pressed=true] { color: var(--gold-ink); background: var(--gold); outline: 3px solid var(--blue); }
 #dock #confirm :is(.bid, .suit) { min-height: 0; color: inherit; background: none; font-size: inherit; }
-#dock #confirm.sending { display: inline-flex; justify-content: center; align-items: center; gap: .4rem; color: var(--ink); border-style: solid; }
-#confirm.sending::before { content: ""; width: 1rem; height: 1rem; border: 2px solid; border-left-color: transparent; border-radius: 50%; }
+#dock #confirm.sending { display: inline-flex; justify-content: center; align-items: center; gap: .4rem; color: var(--ink); border-style: solid; white-space: nowrap; }
+#confirm.sending::before { content: ""; flex: none; width: 1rem; height: 1rem; border: 2px solid; border-left-color: transparent; border-radius: 50%; }
 @keyframes wheel { to { transform: rotate(1turn); } }
 #dock.play { grid-template-columns: 4fr 3fr 3.7fr; gap: .4rem; }
 #dock.play:has([hidden]) { grid-template-columns: 1fr 1fr; }
@@ -543,21 +564,27 @@ td.marked { outline: 2px dashed var(--blue); outline-offset: -2px; }
 .sheet .row { justify-content: space-between; gap: .6rem; }
 .sheet .row > button { min-width: 6.5rem; min-height: 3.25rem; }
 .sheet .row > .send { flex: 1; }
+.sheet .played, .sheet .played .suit { font-size: 1.375rem; }
 .sheet .trick { --tw: 3.125rem; --th: 4.25rem; justify-content: center; justify-self: stretch; margin-bottom: .75rem; padding: .5rem; border-radius: .75rem; background: var(--felt); }
 #last-close { width: 100%; min-height: 3.25rem; }
 @media (max-width: 39.99em), (orientation: landscape) and (max-height: 30em) {
   #bell span, .bidding #status:not(.lost) { position: absolute; width: 1px; height: 1px; margin: 0; padding: 0; overflow: hidden; clip-path: inset(50%); }
 }
-/* What stands above a small table takes its room from the cards; whoever waits for the director needs no turn. */
+/* What is told at a small table takes its room from the trick; whoever waits for the director needs no turn. */
 @media (max-width: 39.99em) and (max-height: 49.99em) {
   #stage { gap: .25rem .4rem; padding: .2rem .5rem; }
-  .at-table:has(#desk:not(:empty), #notice:not(:empty)) { --ch: max(2.75rem, 6.9dvh); }
+  .at-table:has(#desk:not(:empty), #notice:not(:empty)) { --th: 3.1rem; }
+  .at-table:has(#desk:not(:empty), #notice:not(:empty)) :is(.at-left, .at-right) { --ch: 2.2rem; }
 }
 @media (max-width: 39.99em), (max-height: 30em) {
   .at-table #notice { padding: .2rem .75rem; font-size: .875rem; line-height: 1.25; }
-  .at-table #desk > * { max-height: 2.75rem; overflow-y: auto; font-size: .875rem; line-height: 1.25; }
+  .at-table #desk > * { max-height: 2.5rem; overflow-y: auto; font-size: .875rem; line-height: 1.25; }
+  #dock #confirm.sending { gap: .25rem; font-size: .875rem; }
+  #dock #confirm.sending::before { width: .75rem; height: .75rem; }
   .at-table:has(#desk > .called) #status:not(.lost) { position: absolute; width: 1px; height: 1px; margin: 0; padding: 0; overflow: hidden; clip-path: inset(50%); }
 }
+@media (max-width: 39.99em), (max-height: 49.99em) { .at-table #notice:not(:empty) + #desk { display: none; } }
+@media (max-width: 39.99em) and (min-height: 50em) { .at-table #desk > * { max-height: 3.6rem; } }
 @media (max-width: 39.99em) and (orientation: portrait) { .wide { display: none; } }
 @media (max-width: 39.99em) and (orientation: portrait) and (min-height: 50em) {
   .at-table { --tw: min(3.6875rem, calc((100vw - 12.5rem) / 3)); --th: 5.0625rem; }
@@ -590,13 +617,14 @@ td.marked { outline: 2px dashed var(--blue); outline-offset: -2px; }
 @media (orientation: landscape) and (max-height: 30em) {
   .at-table {
     --ch: 4rem; --cw: min(3rem, calc((100vw - 13rem) / 13.4)); --fw: 3.1rem; --tw: 2.75rem; --th: 3.5rem;
-    grid-template: "bar bar" auto "note note" auto "stage strip" auto "stage dock" 1fr "say dock" auto "hand dock" auto / minmax(0, 1fr) 11rem;
+    grid-template: "bar bar" auto "stage strip" auto "stage dock" 1fr "note dock" auto "say dock" auto "hand dock" auto / minmax(0, 1fr) 11rem;
   }
   .at-table.bidding {
     --cw: min(3rem, calc((100vw - 27rem) / 13.4));
-    grid-template: "bar bar" auto "note note" auto "stage dock" 1fr "say dock" auto "hand dock" auto / minmax(0, 1fr) 25rem;
+    grid-template: "bar bar" auto "stage dock" 1fr "note dock" auto "say dock" auto "hand dock" auto / minmax(0, 1fr) 25rem;
   }
   .at-table.dummy-left, .at-table.dummy-right { --tw: 2.5rem; --th: 3.5rem; }
+  .at-table.at-table:has(#desk:not(:empty), #notice:not(:empty)) { --th: 3rem; }
   #bar { min-height: 2.75rem; padding-top: 0; padding-bottom: 0; }
   #bar > button { border-color: transparent; }
   #chip { width: 2.25rem; height: 2.25rem; }
@@ -641,6 +669,7 @@ td.marked { outline: 2px dashed var(--blue); outline-offset: -2px; }
   #dock.claimed { align-self: end; align-content: end; gap: .4rem; }
   #dock.claimed button { gap: .2rem; min-height: 3rem; font-size: .9375rem; }
   #dock.claimed button::before { width: 1rem; height: 1rem; }
+  #dock.claimed #refuse[aria-pressed=true]::before { content: none; }
   .sheet { inset: auto .5rem .4rem; max-width: 46rem; max-height: calc(100dvh - .8rem); margin: 0 auto; padding: .5rem .75rem; border-radius: .75rem; }
 }
 /* Tablets and laptops. */
@@ -663,6 +692,8 @@ td.marked { outline: 2px dashed var(--blue); outline-offset: -2px; }
   #dock.claimed { grid-template-columns: minmax(0, 1fr) 10rem 10rem; align-items: center; }
   #dock.claimed p { grid-column: auto; max-height: 3.25rem; overflow-y: auto; font-size: .875rem; line-height: 1.2; }
   #dock.claimed b { font-size: 1rem; }
+  .sheet .trick { --tw: 4.5rem; --th: 6.25rem; gap: .3rem .5rem; }
+  .sheet .played, .sheet .played .suit { font-size: 2rem; }
   .sheet { inset: 0; width: min(34rem, 100% - 2rem); height: fit-content; margin: auto; padding: 1.25rem; border-radius: .75rem; }
   .bidding #stage { grid-template: auto minmax(0, 1fr) / 8rem minmax(0, 1fr) 8rem; grid-template-areas: "top top top" "left mid right"; padding: .75rem 1rem; }
   .bidding :is(.at-left, .at-right, .at-top) { display: block; }
@@ -679,21 +710,24 @@ td.marked { outline: 2px dashed var(--blue); outline-offset: -2px; }
   #calls summary::after { content: none; }
   #side { display: grid; grid-template-columns: 1.3fr 1fr 1fr; gap: 0 1.25rem; height: 8.0625rem; padding: .5rem 1rem; overflow-y: auto; }
   #side > * { grid-row: 1; min-width: 0; }
+  .side-auction { max-height: 6.75rem; overflow-y: auto; }
+  .side-auction h2 { display: none; }
+  .side-auction th { position: sticky; top: 0; height: 1.75rem; }
   .side-contract, .side-tricks { display: none; }
   .side-auction { grid-column: 1; }
   .side-last { grid-column: 2; }
   .side-round { grid-column: 3; }
   .side-last p { grid-template-columns: 1fr 1fr; }
-  .side-auction td { height: 1.4rem; font-size: .9375rem; }
+  #side .side-auction td { height: 1.25rem; font-size: .9375rem; line-height: 1; }
   .bidding #side { display: none; }
   .box-call, .box #confirm { min-height: 3.25rem; }
 }
 @media (min-width: 56em) and (orientation: landscape) and (min-height: 30.01em) {
   .at-table {
     --cw: 3.2rem; --fw: 4.375rem; --ch: 6.25rem; --tw: 4.5rem; --th: 6.25rem;
-    grid-template: "bar bar" auto "note note" auto "stage side" 1fr "say side" auto "hand side" auto "dock side" auto / minmax(0, 1fr) 18rem;
+    grid-template: "bar bar" auto "stage side" 1fr "note side" auto "say side" auto "hand side" auto "dock side" auto / minmax(0, 1fr) 18rem;
   }
-  .at-table.bidding { --cw: 2.8rem; grid-template: "bar bar" auto "note note" auto "stage dock" 1fr "hand dock" auto / minmax(0, 1fr) 23rem; }
+  .at-table.bidding { --cw: 2.8rem; grid-template: "bar bar" auto "stage dock" 1fr "note dock" auto "hand dock" auto / minmax(0, 1fr) 23rem; }
   #strip, .bidding #side { display: none; }
   #side { display: flex; flex-direction: column; gap: .9rem; padding: .75rem 1rem; overflow-y: auto; }
   .side-contract { display: flex; align-items: center; gap: .75rem; line-height: 1.25; }
@@ -825,11 +859,17 @@ td.marked { outline: 2px dashed var(--blue); outline-offset: -2px; }
 .part > table:not(.list) th { font-size: .8125rem; color: var(--plate-ink); background: var(--plate); }
 .part > table:not(.list) tbody tr:nth-child(even) { background: var(--soft); }
 .part > table:not(.list) td .bid { font-weight: bold; }
-@media (max-width: 55.99em) {
+@media (max-width: 47.99em), (max-height: 30em) {
   .part { display: none; }
   .part-hands .hands, .part-play .play, .part-scores .scores { display: block; }
 }
-@media (min-width: 56em) {
+@media (min-width: 48em) and (max-width: 55.99em) and (min-height: 30.01em) {
+  .over .diagram :is(.of-left, .of-right) .who { flex-wrap: wrap; font-size: .8125rem; }
+  .over .diagram { --tw: 1.9rem; --th: 2.6rem; gap: .3rem; }
+  .over :is(.of-middle, .board-picture) { min-width: 6.5rem; width: 6.5rem; min-height: 6.5rem; height: 6.5rem; }
+  .over .of-middle:has(.trick) { height: auto; width: auto; }
+}
+@media (min-width: 48em) and (min-height: 30.01em) {
   #parts { display: none; }
   #opened .parts { grid-template: "h p" auto / 1fr 1fr; }
   .parts { display: grid; grid-template: "h s" auto "h p" 1fr / 1fr 1fr; gap: 0 .75rem; align-items: start; }
@@ -854,12 +894,15 @@ td.marked { outline: 2px dashed var(--blue); outline-offset: -2px; }
   .list progress { display: none; }
   :is(.boards, .final) #card, :is(.boards, .final) #card :is(thead, tbody) { display: block; }
   :is(.boards, .final) #card tr {
-    display: grid; grid-template: "b c l t s w" auto "b a a a a a" auto / 3.25rem minmax(3.5rem, 1fr) 2.25rem 1.5rem 3.25rem 3.75rem; align-items: center; border-bottom: 1px solid var(--line);
+    display: grid; grid-template: "b c l t s w" auto "b a a a a a" auto / 2.75rem minmax(3.5rem, 1fr) 2.1rem 1.4rem 3.1rem 4.1rem; column-gap: .2rem; align-items: center; border-bottom: 1px solid var(--line);
   }
+  :is(.boards, .final) #card td button { min-width: 2.75rem; }
   :is(.boards, .final) #card :is(th, td) { padding: .1rem; border: 0; }
   :is(.boards, .final) #card :is(th, td):first-child { grid-area: b; }
   :is(.boards, .final) #card th:nth-child(2) { position: absolute; width: 1px; height: 1px; overflow: hidden; clip-path: inset(50%); }
   :is(.boards, .final) #card .who { grid-area: a; padding-bottom: .4rem; font-size: .8125rem; color: var(--second); }
+  .ways { grid-template-columns: 1fr 1fr; }
+  .ways > :first-child { grid-column: 1 / -1; min-height: 3.25rem; }
   .over #main { padding: .5rem .5rem 0; }
   .over .panel { padding: .5rem; }
   .over .banner { margin-bottom: .5rem; }
@@ -897,8 +940,25 @@ td.marked { outline: 2px dashed var(--blue); outline-offset: -2px; }
   :is(.at-left, .at-right) > .plate { flex-direction: row; width: fit-content; max-width: 100%; margin: 0; }
   :is(.at-left, .at-right) > .plate span { display: block; }
   .over .diagram { grid-template: "top" auto "left" auto "middle" auto "right" auto "bottom" auto / minmax(0, 1fr); }
-  .boards .panel, .between .panel { overflow-x: auto; }
-  .stepper { grid-template-columns: repeat(4, 1fr); }
+  :is(.boards, .between, .final, .director) .panel { overflow-x: auto; }
+  .ways, .figures { grid-template-columns: minmax(0, 1fr); }
+  .ways > :first-child { grid-column: auto; }
+  :is(.sides, #rankings) tr { display: grid; grid-template: "a p s" auto "n n n" auto / 1fr 1fr auto; }
+  :is(.sides, #rankings) tr :is(th, td) { grid-area: s; border: 0; }
+  :is(.sides, #rankings) tr :is(th, td):first-child { grid-area: a; text-align: left; }
+  :is(.sides, #rankings) tr :is(th, td):nth-child(2) { grid-area: p; }
+  :is(.sides, #rankings) tr .who { grid-area: n; border-bottom: 1px solid var(--line); overflow-wrap: anywhere; }
+  :is(.sides, #rankings) thead { display: none; }
+  #opened .row { display: grid; }
+  .director :is(.field, .row, #opened) { min-width: 0; max-width: 100%; }
+  #opened .diagram { grid-template: "top" auto "left" auto "middle" auto "right" auto "bottom" auto / minmax(0, 1fr); }
+  #opened .of-top, #opened .of-bottom { max-width: none; }
+  .director #tables tr { grid-template: "n" auto "b" auto "s" auto "w" auto "p" auto "q" auto "m" auto "o" auto / minmax(0, 1fr); justify-items: start; }
+  .director #tables td:nth-child(7) { justify-self: start; }
+  .director :is(button, select) { max-width: 100%; overflow-wrap: anywhere; }
+  #bar #tabs { flex-wrap: wrap; }
+  .stepper { grid-template-columns: repeat(2, 1fr); }
+  .part > table:not(.list) :is(th, td) { padding: .1rem 0; font-size: .8125rem; overflow: visible; }
   .stepper p { grid-column: 1 / -1; order: -1; }
   .banner { grid-template-columns: minmax(0, 1fr); }
   .banner p:nth-child(even) { text-align: left; }
@@ -969,7 +1029,7 @@ const TEXTS = {
   textAndColours: "Text and colours",
   sentTitle: "A call or card is sent",
   sentTwice: "by a second tap, or the button below",
-  sentOnce: "at once",
+  sentOnce: "at once, but for doubles and bids of six and seven",
   suitsTitle: "Suits",
   suitsTwo: "two colours",
   suitsFour: "four colours",
@@ -1027,7 +1087,10 @@ const TEXTS = {
     EpochsSpent: "the server's disk is used up",
   },
   unreachable: "The server does not answer. Trying again.",
-  slow: "The server does not answer yet. What you see next tells whether it was taken.",
+  slow: (what) => "No answer yet. What you see next tells whether " + what + " was taken.",
+  noAnswerFor: (seconds) => "No answer for " + seconds + " seconds",
+  it: "it",
+  theCard: (card) => "the " + card,
   unknownFate: "No answer came. It may or may not have been taken; what you see next tells.",
   wasTaken: "It was taken.",
   wasNotTaken: "It was not taken: please try again.",
@@ -1113,12 +1176,15 @@ const TEXTS = {
   someOf: (tricks, left) => (Number(tricks) === left ? (left === 1 ? "the last trick" : "all " + left + " tricks left") : (Number(tricks) === 0 ? "none" : tricks) + " of the " + left + " tricks left"),
   claims: (seat, tricks, left) => seat + " claims " + TEXTS.someOf(tricks, left) + ". ",
   answerWaited: "Your answer is waited for",
+  youAgreed: (seat) => "You have agreed. " + seat + " is asked.",
+  reallyRefuse: "Really refuse?",
   waitPlease: "Please wait.",
   claimed: (seat, tricks) => seat + " claimed " + tricks + (tricks === "1" ? " trick" : " tricks") + ", and it was agreed.",
   claimWaits: (seat, tricks) => seat + " claims " + tricks + (tricks === "1" ? " trick" : " tricks") + ", and not all have answered.",
   hasClaimed: (seat, tricks) => seat + " claimed " + tricks + (tricks === "1" ? " trick." : " tricks."),
   callBack: "The director has taken back the last call.",
   cardBack: "The director has taken back the last card.",
+  endedByRuling: (board) => "Board " + board + " is not played on: the director has ruled so.",
   claimRefused: "The claim stands no more: it was refused, or the director took it back. Play goes on.",
 
   // Between the boards, and at the end.
@@ -1136,7 +1202,9 @@ const TEXTS = {
   with: (side, name) => ", " + side + " \u00b7 with " + name,
   tableSeat: (table, seat) => "Table " + table + ", " + seat,
   stay: "Stay at your table.",
-  goTo: (table) => "Go to table " + table + ".",
+  goTo: (table, up) => (up === 1 ? "Move up one table." : up === -1 ? "Move down one table." : "Go to table " + table + "."),
+  untilRound: (round) => "to round " + round,
+  roundOwn: (round) => "Your round " + round,
   youAreHere: "you are here",
   youGoHere: "you go here",
   roundBegins: "The next round begins when the director ends this one.",
@@ -1148,6 +1216,7 @@ const TEXTS = {
   atPlace: (place) => "at place " + place,
   youAreOf: (place, among) => "You are " + place + " of " + among,
   pointsOf: (score) => score.replace("/", " of "),
+  pairAnd: (pair, names) => "Pair " + pair + (names ? ", " + names : ""),
   percent: (number) => number + "\u00a0%",
   ranking: "Ranking",
   rankingOfPairs: (first, last) => "Ranking, pairs " + first + " to " + last,
@@ -1161,11 +1230,14 @@ const TEXTS = {
   eveningSoFar: "Evening so far: ",
   now: "now",
   next: "next",
+  later: "later",
 
   // A board that is over, and the score card.
   myBoards: "My boards",
   goOn: "Go on",
   toTable: "To the table",
+  toRanking: "To the ranking",
+  ownCard: "My score card",
   nextBoard: (number) => "Next: board " + number,
   nextYours: (number) => "Next: board " + number + ", your turn",
   toNext: "Go on",
@@ -1192,11 +1264,13 @@ const TEXTS = {
   steps: { first: "To the beginning", back: "One card back", on: "One card on", end: "To the end" },
   trickHeads: ["Tr.", "Led by", "1st", "2nd", "3rd", "4th", "Won"],
   scoresShut: "What other tables did is shown once the director opens it.",
-  scoreHeads: ["Table", "Contract", "Tricks", "N\u2013S"],
+  scoreHeads: ["N\u2013S", "E\u2013W", "Contract", "Tricks", "N\u2013S score"],
+  weHere: "we",
+  theyHere: "they",
   we: "(we)",
   scoresSoFar: (count) => "North and South's scores at " + (count === 1 ? "this table" : count + " tables") + " so far",
   tablesSoFar: (count) => (count === 1 ? "This table alone so far" : count + " tables so far"),
-  ours: (worth) => "Ours: " + worth.replace("/", " of ") + ".",
+  ours: (worth) => "Ours: " + (worth.includes("/") ? worth.replace("/", " of ") + " matchpoints." : TEXTS.imps(worth) + "."),
   scoreCard: "Score card",
   cardHeads: ["Board", "Against", "Contract", "Lead", "Tr.", "Score", "So far"],
   openBoard: (number) => "Open board " + number,
@@ -1208,11 +1282,13 @@ const TEXTS = {
   // What stands beside the session.
   bell: "Director",
   callDirector: "Call the director",
-  callTitle: "Call the director to your table?",
+  callTitle: (table) => "Call the director to " + (table ? "table " + table : "your table") + "?",
   callHelp: "Everybody stops. What it is about helps, and may be left out:",
   slip: "I did not mean my last call or card",
   reasons: ["I did not mean my last call or card", "Wrong call or card", "Out of turn", "Claim", "Hesitation or information", "Slow play", "Something else"],
-  directorCalled: "Director called.",
+  directorCalled: (time) => "Director called, " + time + ":",
+  nothingSaid: "no reason said",
+  directorComes: "The director has seen the call and is on the way.",
   waitForDirector: "Please wait, play nothing.",
   noticeOf: "The director:",
   pagesEnd: (minutes, isDirector) => (minutes === 1 ? "In a minute" : "In " + minutes + " minutes") + " the pages close. What was played is kept"
@@ -1280,6 +1356,16 @@ const TEXTS = {
   shuffleFrom: "Boards",
   to: "to",
   shuffle: "Shuffle",
+  shuffleMany: (count) => "Shuffle " + (count === 1 ? "1 board" : count + " boards"),
+  shuffleOf: (first, last) => "Shuffle " + (first === last ? "board " + first : "boards " + first + " to " + last),
+  shuffleEffect: "Boards that are dealt already stay as they are.",
+  boardsOfEvening: "Boards of the evening",
+  dealStates: { dealt: "dealt", open: "to deal", refused: "refused", unknown: "\u2026" },
+  dealCount: (state, count) => TEXTS.dealStates[state] + ", " + count,
+  handHas: (seat, cards) => seat + " has " + cards + (cards === 1 ? " card" : " cards"),
+  cardTwice: "a card is in it twice",
+  noDealText: "that is no deal",
+  isRefused: (board, why) => "Board " + board + ": " + why + ". It will be refused, the others can be dealt.",
   dealFile: "Or from a dealing program",
   chooseFile: "Choose a PBN file",
   noFile: "No file is chosen.",
@@ -1319,7 +1405,14 @@ const TEXTS = {
   playedBy: (names) => "North " + names.N + ", East " + names.E + ", South " + names.S + ", West " + names.W + ".",
   changedSince: "This play has changed since you looked at it. Look again, and rule then.",
   takeBackOf: (what) => "Take back " + what,
-  onBoard: (what, board) => what + " on board " + board,
+  atTableOnBoard: (what, table, board) => what + ", table " + table + ", board " + board,
+  cardBackTo: (seat, from) => "It goes back to " + (from === seat ? "the hand of " + seat : "dummy, " + from) + ", and " + seat + " is to play. All four are told.",
+  callBackTo: (seat) => seat + " is to call again. All four are told.",
+  claimBackTo: "The claim falls, and play goes on. All four are told.",
+  endEffect: (round) => "All tables go on to round " + round + ".",
+  closeEffect: "Nothing more can be played; the final ranking is shown to all.",
+  undealEffect: "Nobody has its cards then, and it can be dealt anew.",
+  northSouthScore: (score) => " (" + score + " for N\u2013S)",
   claimBy: (seat, tricks) => seat + "'s claim of " + tricks + (tricks === "1" ? " trick" : " tricks"),
   doneBy: (seat, what) => seat + "'s " + what,
   nothingDone: "Nothing to take back",
@@ -1341,7 +1434,9 @@ const TEXTS = {
   standings: "Standings",
   showRanking: "Show it as it is now",
   asOf: (time) => "As of " + time + ".",
-  othersTitle: "Players see what other tables did, of boards that they have played:",
+  thisEvening: "This evening",
+  othersHead: "What players see",
+  othersTitle: "What other tables did, of boards that they have played:",
   othersOpen: "Show it to them",
   othersShut: "Hide it from them",
   othersAre: { true: "shown", false: "hidden" },
@@ -1439,7 +1534,11 @@ function refusal(reply) {
 // chosen, keys find it there again.
 let byKeys = false;
 let held = "";
-window.addEventListener("keydown", () => { byKeys = true; });
+window.addEventListener("keydown", (event) => {
+  byKeys = true;
+  // A key that is held down presses a button once.
+  if (event && event.repeat && event.key === "Enter" && event.target.tagName === "BUTTON") event.preventDefault();
+});
 window.addEventListener("pointerdown", () => { byKeys = false; });
 const isLost = () => document.activeElement === null || document.activeElement === document.body;
 
@@ -1674,7 +1773,10 @@ async function lookOnce(asked) {
   }
   await askNames(asked);
   if (mine !== turn) return;
-  const told = role.isDirector ? [ask("/tables", asked)] : [place || ask("/place", asked), ask("/lines", "SEE " + asked + "\n")];
+  // The view is asked for first, and shown as soon as it is there where it goes on from the one that is shown.
+  const view = role.isDirector ? null : ask("/lines", "SEE " + asked + "\n");
+  if (view) view.then((text) => { if (mine === turn && text !== null && goesOn(text)) showView(lastPlace, text); });
+  const told = role.isDirector ? [ask("/tables", asked)] : [place || ask("/place", asked), view];
   const replies = await Promise.all([...told, ask("/desk", asked)]);
   if (mine !== turn) return;
   if (replies.includes(null)) return unreachable();
@@ -1792,6 +1894,7 @@ function readView(reply) {
 }
 
 const partner = (seat) => SEATS[(SEATS.indexOf(seat) + 2) % 4];
+const nextTo = (seat) => SEATS[(SEATS.indexOf(seat) + 1) % 4];
 const cardName = (card) => TEXTS.cardName(TEXTS.ranks[card[1]] || card[1], TEXTS.suits[card[0]]);
 const { rankText } = TEXTS;
 
@@ -1865,7 +1968,7 @@ let onWay = "";
 let looking = false;
 let drawn = () => {};
 let movedAt = 0;
-// Milliseconds in which a finger's tap counts for nothing, once what can be tapped has moved; and between two taps.
+// Milliseconds in which a tap or a click counts for nothing, once what can be tapped has moved; and between two taps.
 const DEAF = 400;
 const TWICE = 250;
 
@@ -1876,7 +1979,15 @@ function isSafe() {
   return typeof matchMedia === "function" && matchMedia("(pointer: coarse)").matches;
 }
 
-const isDeaf = (event) => Boolean(event && event.pointerType === "touch" && Date.now() - movedAt < DEAF);
+// Of a finger or a mouse, which may have meant what stood there before; keys choose what is in the focus.
+const isDeaf = (event) => Boolean(event && event.detail > 0 && Date.now() - movedAt < DEAF);
+
+// Draws what a tap here has marked: nothing moves.
+function redraw() {
+  const was = movedAt;
+  drawn();
+  movedAt = was;
+}
 
 function unmark() {
   marked = null;
@@ -1887,17 +1998,36 @@ function unmark() {
 // Doubles, and bids of the highest two levels, which nobody makes in passing.
 const isRare = (line) => /^CALL .* (XX?|[67]\w+)$/.test(line);
 
+// What is marked already is sent, unless that was just now.
+function sendMarked(event) {
+  if (marked && !isDeaf(event) && Date.now() - marked.at >= TWICE) send(marked.line);
+}
+
+function mark(what, line) {
+  marked = { what, line, at: Date.now() };
+  redraw();
+}
+
 // What is tapped is marked, and sent by a second tap; or sent at once, but for rare calls.
 function choose(what, line, event) {
   if (isDeaf(event)) return;
   held = what;
-  if (!isSafe() && !isRare(line)) return send(line);
-  if (marked && marked.what === what) {
-    if (Date.now() - marked.at >= TWICE) send(line);
-    return;
-  }
-  marked = { what, line, at: Date.now() };
-  drawn();
+  if (marked && marked.what === what) sendMarked(event);
+  else if (isSafe() || isRare(line)) mark(what, line);
+  else send(line);
+}
+
+// Whether the line of what is marked would still be the next one.
+function isStillDue(view, line) {
+  const [word, , board, made] = line.split(" ");
+  return board === view.board && made === view.made[{ CALL: "calls", CARD: "cards", REFUSE: "claims" }[word]] && (view.claim !== null) === (word === "REFUSE");
+}
+
+// A tap on the felt takes back what is marked.
+function tapFelt(event) {
+  if (marked === null || event.target.closest("button")) return;
+  unmark();
+  redraw();
 }
 
 function send(line) {
@@ -1911,7 +2041,7 @@ const namedNodes = (what) => (what === "" ? [] : what.startsWith("card-") ? card
 function confirmButton(prompt, sending) {
   const ready = marked !== null && !busy;
   const label = busy ? [onWay ? TEXTS.sendingIt : TEXTS.sending, ...namedNodes(onWay)] : marked ? [sending, ...namedNodes(marked.what)] : prompt;
-  const node = button(make("span", null, ...[].concat(label)), "", "confirm", ready, () => { if (marked) send(marked.line); });
+  const node = button(make("span", null, ...[].concat(label)), "", "confirm", ready, sendMarked);
   node.className = ready ? "send" : busy ? "sending" : "";
   return node;
 }
@@ -2046,9 +2176,10 @@ function boxKey(event) {
   choseKey(chosen ? at("call-" + chosen) : null);
 }
 
-// The newest row of a long auction is in view.
+// Of a long auction the row in which a call is due is in view.
 function showNewest() {
-  if (at("auction")) at("auction").scrollTop = at("auction").scrollHeight;
+  const [box, due] = [at("auction"), at("due-call")];
+  if (box) box.scrollTop = due ? due.offsetTop + due.offsetHeight - box.clientHeight : box.scrollHeight;
 }
 
 function auctionTable(place, view) {
@@ -2065,8 +2196,8 @@ function auctionTable(place, view) {
     rows.push(make("tr", null, ...[0, 1, 2, 3].map((j) => {
       const dueHere = due !== null && i + j === cells.length;
       const chosen = dueHere ? onWay || (marked ? marked.what : "") : "";
-      if (chosen.startsWith("call-")) return make("td", { className: "turn marked" }, ...namedNodes(chosen));
-      if (dueHere) return make("td", { className: "turn", aria_label: TEXTS.dueCall }, "?");
+      if (chosen.startsWith("call-")) return make("td", { id: "due-call", className: "turn marked" }, ...namedNodes(chosen));
+      if (dueHere) return make("td", { id: "due-call", className: "turn", aria_label: TEXTS.dueCall }, "?");
       return make("td", null, ...(cells[i + j] ? callNodes(cells[i + j]) : [""]));
     })));
   }
@@ -2142,12 +2273,13 @@ function trickNode(view) {
     ...trick.map((one) => cardOnTable(view, one, whole && one.seat === view.turn)));
   if (sent) sent.className += " sent";
   if (sent) node.append(sent);
-  else if (!whole && onTurn(view)) node.append(make("span", { className: "due " + placeOf(view, view.turn), aria_hidden: "true" }, view.turn));
+  const due = whole || !onTurn(view) ? null : !sent ? view.turn : trick.length < 3 ? nextTo(view.turn) : null;
+  if (due) node.append(make("span", { className: "due " + placeOf(view, due), aria_hidden: "true" }, due));
   return node;
 }
 
 function stageNode(place, view, middle) {
-  const node = make("section", { id: "stage", aria_label: TEXTS.table });
+  const node = make("section", { id: "stage", aria_label: TEXTS.table, onclick: tapFelt });
   const dummy = dummyOf(place);
   for (const seat of SEATS) {
     const where = placeOf(view, seat);
@@ -2248,7 +2380,7 @@ const leftOf = (view) => 13 - Number(view.tricks.NS) - Number(view.tricks.EW);
 function claimSheet(place, view) {
   const left = leftOf(view);
   const choice = (tricks, label) => {
-    const node = button(label, "", "claim-" + tricks, true, () => { claiming = { board: view.board, tricks }; drawn(); });
+    const node = button(label, "", "claim-" + tricks, true, () => { claiming = { board: view.board, tricks }; redraw(); });
     node.setAttribute("aria-pressed", String(claiming.tricks === tricks));
     return node;
   };
@@ -2284,8 +2416,16 @@ function answerDock(place, view) {
   return make("section", { id: "dock", className: "claimed", aria_label: TEXTS.theClaim },
     make("p", null, make("b", null, TEXTS.claims(SEAT_NAMES[view.claim.seat], view.claim.tricks, leftOf(view))), make("br"),
       claimWords(place, view, view.claim.seat, Number(view.claim.tricks)) + TEXTS.ifAgreed, ...(desk.said ? [make("br"), TEXTS.saidWith(desk.said)] : [])),
-    button(TEXTS.refuse, "", "refuse", true, (event) => { if (!isDeaf(event)) send(line("REFUSE")); }),
-    button(TEXTS.agree, "", "agree", true, (event) => { if (!isDeaf(event)) send(line("AGREE")); }));
+    refuseButton(line("REFUSE")), button(TEXTS.agree, "", "agree", true, (event) => { if (!isDeaf(event)) send(line("AGREE")); }));
+}
+
+// Whoever refuses is asked: it wants a second press.
+function refuseButton(line) {
+  const asked = marked !== null && marked.what === "refuse";
+  const press = (event) => { if (isDeaf(event)) return; if (asked) sendMarked(event); else mark("refuse", line); };
+  const node = button(asked ? TEXTS.reallyRefuse : TEXTS.refuse, "", "refuse", true, press);
+  node.setAttribute("aria-pressed", String(asked));
+  return node;
 }
 
 function playDock(place, view) {
@@ -2293,7 +2433,7 @@ function playDock(place, view) {
   const isDummy = dummyOf(place) === view.seat;
   const cells = [button(TEXTS.lastTrick, "", "last", view.last.length > 0, () => { looking = !looking; drawn(); })];
   const claim = button(TEXTS.claim, "", "claim-open",
-    !isDummy && !view.claim && view.trick.length === 0, () => { claiming = { board: view.board, tricks: leftOf(view) }; drawn(); });
+    !isDummy && !view.claim && view.trick.length === 0 && view.made.cards !== "0", () => { claiming = { board: view.board, tricks: leftOf(view) }; drawn(); });
   claim.hidden = isDummy;
   if (isDummy) cells.push(claim, button(TEXTS.myBoards, "", "confirm", true, () => turnLeaf({ card: true })));
   else cells.push(claim, confirmButton(played ? (isSafe() ? TEXTS.tapCard : TEXTS.yourCard) : TEXTS.pleaseWait, TEXTS.playIt));
@@ -2302,11 +2442,15 @@ function playDock(place, view) {
 
 const toPlay = (view, lead) => (view.turn === view.seat ? TEXTS.youAreToPlay : TEXTS.isToPlay(SEAT_NAMES[view.turn], lead));
 
+// Declarer's claim asks both defenders: whose answer is due no more has agreed, and his partner is asked.
+const hasAgreed = (place, view) => view.claim.seat === place.contract.declarer && isOther(view, view.claim.seat) && !place.answer;
+
 // What is waited for, in a sentence.
 function waiting(place, view) {
   if (view.claim) {
     const { seat, tricks } = view.claim;
     if (place.answer) return TEXTS.answerWaited;
+    if (hasAgreed(place, view)) return TEXTS.youAgreed(SEAT_NAMES[partner(view.seat)]);
     return (seat === view.seat ? TEXTS.youClaim(tricks, leftOf(view)) : TEXTS.claims(SEAT_NAMES[seat], tricks, leftOf(view))) + TEXTS.waitPlease;
   }
   if (!view.playing) return view.turn === view.seat ? TEXTS.yourTurnToCall : TEXTS.isToCall(SEAT_NAMES[view.turn]);
@@ -2439,13 +2583,18 @@ function wayNodes(table, next) {
   return [make("ol", { className: "round" }, tile("here", table.number, TEXTS.youAreHere), tile("now", next.number, TEXTS.youGoHere))];
 }
 
+function wayText(table, next) {
+  const up = table ? Number(next.number) - Number(table.number) : null;
+  return up === 0 ? TEXTS.stay : TEXTS.goTo(next.number, up);
+}
+
 function betweenNodes(place, next) {
   const nodes = [];
   if (next) {
     nodes.push(make("section", { className: "panel" }, make("p", { className: "second" }, TEXTS.nextOf(place.round + 1, place.rounds)),
       make("p", { className: "large" }, TEXTS.tableSeat(next.number, SEAT_NAMES[next.seat])),
       make("p", null, TEXTS.boardsOf(next.first, next.last) + ". ",
-        make("b", null, place.table && next.number === place.table.number ? TEXTS.stay : TEXTS.goTo(next.number))), ...wayNodes(place.table, next),
+        make("b", null, wayText(place.table, next))), ...wayNodes(place.table, next),
       make("p", { className: "second" }, TEXTS.roundBegins)));
   }
   const here = make("section", { className: "panel" }, make("p", { className: "second" }, TEXTS.roundOf(place.round, place.rounds)));
@@ -2455,7 +2604,7 @@ function betweenNodes(place, next) {
   else here.append(make("p", { className: "large" }, TEXTS.sitOut));
   if (!next || !place.table) nodes.unshift(here);
   const played = told.boards.filter((board) => board.round === String(place.round));
-  if (played.length) nodes.push(make("section", { className: "panel wide-panel" }, make("h2", null, TEXTS.roundSoFar), cardTable(place, played),
+  if (played.length) nodes.push(make("section", { className: "panel wide-panel" }, make("h2", null, TEXTS.roundOwn(place.round)), cardTable(place, played),
     ...soFarNodes()));
   else if (told.boards.length) nodes.push(make("section", { className: "panel" }, ...soFarNodes()));
   return nodes;
@@ -2503,6 +2652,7 @@ function turnTitle(mine) {
 
 function showView(placeReply, reply) {
   const place = readPlace(placeReply);
+  nextRound = null;
   const refused = refusal(reply);
   const made = placeReply + reply;
   if (refused) {
@@ -2516,13 +2666,14 @@ function showView(placeReply, reply) {
     if (showLeaf(place, TEXTS.toNext)) return;
     barFor(place, null);
     const goesTo = (done || refused === "SitsOut") && place.next;
+    nextRound = goesTo ? place.round + 1 : null;
     show(made + told.text, status, "between" + (goesTo ? " goes-on" : ""), () => betweenNodes(place, goesTo));
     return;
   }
   const view = readView(reply);
   playGoesOn(place, view);
   if (unsure) sayFate(place, view);
-  if (marked && !marked.line.startsWith(marked.what.startsWith("card-") ? "CARD " + key + " " + view.board + " " + view.made.cards + " " : "CALL " + key + " " + view.board + " " + view.made.calls + " ")) marked = null;
+  if (marked && !isStillDue(view, marked.line)) marked = null;
   const mine = isMine(place, view);
   turnTitle(mine);
   const said = news(view);
@@ -2569,7 +2720,7 @@ async function showClosed(placeReply, asked, mine) {
 function bannerNode(place, own, among, names) {
   const large = (words) => make("p", { className: "large" }, words);
   return make("section", { id: "own", className: "banner" }, large(TEXTS.youAreOf(TEXTS.ordinals[own[0] - 1] || TEXTS.atPlace(own[0]), among)),
-    large(own[3] ? TEXTS.percent(own[3]) : own[2]), make("p", null, names.get(place.pair) || headText(place)), make("p", null, own[3] ? TEXTS.pointsOf(own[2]) : ""));
+    large(own[3] ? TEXTS.percent(own[3]) : own[2]), make("p", null, TEXTS.pairAnd(place.pair, names.get(place.pair))), make("p", null, own[3] ? TEXTS.pointsOf(own[2]) : ""));
 }
 
 function finalNodes(place, both) {
@@ -2581,10 +2732,12 @@ function finalNodes(place, both) {
   }
   nodes.push(make("div", { className: "sides" },
     ...rankings(both, place.pair, names).map((nodes) => make("section", { className: "panel" }, ...nodes))));
-  if (told.boards.length) nodes.push(make("section",
-    { id: "own-card", className: "panel wide-panel" }, make("h2", null, TEXTS.scoreCard), cardTable(place, told.boards)));
-  nodes.push(make("details", { id: "all-results" }, make("summary", null, TEXTS.allBoards), make("pre", { id: "results" }, shownResults(results.text))),
-    button(TEXTS.print, "", "print", true, () => window.print()));
+  const card = button(TEXTS.ownCard, "", "my-boards", told.boards.length > 0, () => turnLeaf({ card: true }));
+  card.className = "send";
+  const all = make("details", { id: "all-results" }, make("summary", null, TEXTS.allBoards), make("pre", { id: "results" }, shownResults(results.text)));
+  const turnAll = () => { all.open = !all.open; if (all.open && all.scrollIntoView) all.scrollIntoView(); };
+  nodes.push(make("div", { className: "ways" }, card, button(TEXTS.allBoards, "", "all-boards", true, turnAll),
+    button(TEXTS.print, "", "print", true, () => window.print())), all);
   return nodes;
 }
 
@@ -2623,6 +2776,20 @@ function sayFate(place, view) {
   say("notice", view.board !== board ? "" : taken ? TEXTS.wasTaken : TEXTS.wasNotTaken);
 }
 
+// Milliseconds after which it is said that a line is on its way, and that it has no answer; and the notice that says so.
+const ON_WAY = 1500;
+const NO_ANSWER = 5000;
+let late = false;
+function sayLate(what) {
+  const status = (words) => { say("status", words); at("status").className = ""; };
+  const named = what === "" ? TEXTS.it : what.startsWith("card-") ? TEXTS.theCard(cardName(what.slice(5))) : callName(what.slice(5));
+  return [setTimeout(() => status(TEXTS.sending), ON_WAY), setTimeout(() => {
+    status(TEXTS.noAnswerFor(NO_ANSWER / 1000));
+    say("notice", TEXTS.slow(named));
+    late = true;
+  }, NO_ANSWER)];
+}
+
 // Sends one line, and shows what has become of it.
 async function act(line) {
   if (busy) return;
@@ -2632,13 +2799,14 @@ async function act(line) {
   say("notice", "");
   onWay = /^C(ALL|ARD) /.test(line) ? line.slice(0, 4).toLowerCase() + "-" + line.split(" ").pop() : "";
   drawn();
-  const slow = setTimeout(() => say("notice", TEXTS.slow), SLOW);
+  const timers = sayLate(onWay);
   // The answer, and what there is to see then.
   const reply = await ask("/lines", line + "\nSEE " + asked + "\n");
-  clearTimeout(slow);
+  timers.forEach(clearTimeout);
   busy = false;
   onWay = "";
-  if (at("notice").textContent === TEXTS.slow) say("notice", "");
+  if (late) say("notice", "");
+  late = false;
   if (key !== asked) return key === null ? undefined : look();
   shown = "";
   unsure = reply === null ? line : "";
@@ -2989,9 +3157,10 @@ function scoresNode(board) {
     return node;
   }
   const lines = linesSoFar(board);
-  const rows = lines.map((one) => make("tr", { className: one.own ? "own" : "" }, make(
-    "td", null, one.own ? one.table + " " + TEXTS.we : one.table), make("td", null, ...resultNodes(one.result)),
-    numberCell(tricksText(one.result)), numberCell(isScored(one.result) ? signed(one.result.score) : "")));
+  const ofSide = (side) => (side === board.side ? TEXTS.weHere : TEXTS.theyHere);
+  const pairs = (one) => (one.own ? [ofSide("NS"), ofSide("EW")] : [one.ns, one.ew]);
+  const rows = lines.map((one) => make("tr", { className: one.own ? "own" : "" }, ...pairs(one).map((pair) => make("td", null, pair)),
+    make("td", null, ...resultNodes(one.result)), numberCell(tricksText(one.result)), numberCell(isScored(one.result) ? signed(one.result.score) : "")));
   node.append(make("h2", null, TEXTS.tablesSoFar(lines.length)),
     make("table", { className: "list", aria_label: TEXTS.scores }, listHeads(TEXTS.scoreHeads, 2), make("tbody", null, ...rows)));
   if (worthText(board.worth)) node.append(make("p", { className: "second" }, TEXTS.ours(board.worth)));
@@ -3050,7 +3219,7 @@ function roundNode(place, view) {
   return make("ol", { className: "round" }, ...numbers.map((number) => {
     const over = told.boards.find((board) => board.number === number && board.round === String(place.round));
     const now = String(number) === view.board;
-    const came = over ? worthText(over.worth) || scoreText(over) || "\u2013" : now ? TEXTS.now : number === Number(view.board) + 1 ? TEXTS.next : "";
+    const came = over ? worthText(over.worth) || scoreText(over) || "\u2013" : now ? TEXTS.now : number === Number(view.board) + 1 ? TEXTS.next : TEXTS.later;
     return make("li", { className: now ? "now" : "" }, make("b", null, String(number)), came);
   }));
 }
@@ -3075,7 +3244,7 @@ function scoreCardNodes(place) {
   const figures = [figure(String(told.boards.length), TEXTS.boardsPlayed(told.boards.length))];
   if (all && all.percent) figures.unshift(figure(TEXTS.percent(all.percent), TEXTS.soFar("")));
   if (all) figures.push(figure(all.points, all.of === null ? TEXTS.impsName : TEXTS.ofPoints(all.of)));
-  const back = button(TEXTS.toTable, "", "onward", true, () => turnLeaf(null));
+  const back = button(place.round > place.rounds ? TEXTS.toRanking : TEXTS.toTable, "", "onward", true, () => turnLeaf(null));
   back.className = "send";
   return [make("div", { className: "figures" }, ...figures), make("section",
     { className: "panel wide-panel" }, make("h2", null, TEXTS.scoreCard),
@@ -3105,26 +3274,29 @@ function showLeaf(place, next) {
   return true;
 }
 
-// Asks for the boards of this key; nothing changes where no answer comes. What the director ruled since is told.
+// Asks for the boards of this key, and says whether they came; else nothing changes. What the director ruled since is told.
 async function loadBoards(asked) {
   const reply = await ask("/boards", asked);
-  if (reply === null || refusal(reply)) return;
+  if (reply === null || refusal(reply)) return false;
   const old = told.key === asked ? told.boards : [];
   told = { key: asked, at: Date.now(), ...readBoards(reply) };
   const same = (one, other) => one.number === other.number && one.round === other.round;
   const isRuled = (board) => old.some((one) => same(one, board) && JSON.stringify(one.result) !== JSON.stringify(board.result));
   const ruled = told.boards.filter(isRuled).map((board) => board.number);
   if (ruled.length) sayPassing(TEXTS.ruledOn(ruled), playIs.split(" ").slice(0, 2).join(" "));
+  return true;
 }
 
 // Looks at the boards where one was over since the page looked last, which is shown then; and else now and then.
 async function lookAtBoards(asked, place, now) {
   const ended = atBoard !== null && atBoard.key === asked && atBoard.board !== now ? atBoard : null;
-  if (ended || told.key !== asked || Date.now() - told.at > BOARDS_LAST) await loadBoards(asked);
+  const isNew = (ended || told.key !== asked || Date.now() - told.at > BOARDS_LAST) && await loadBoards(asked);
   if (key !== asked) return;
   atBoard = now === null ? null : { key: asked, board: now, round: String(place.round) };
   const board = ended && told.boards.find((one) => String(one.number) === ended.board && one.round === ended.round);
   if (board) leaf = { board: board.number, round: board.round, step: 0, part: "hands" };
+  // What is played no more and yet not told as over has been ruled on.
+  else if (ended && isNew && ended.round === String(place.round)) sayPassing(TEXTS.endedByRuling(ended.board));
 }
 "##;
 
@@ -3144,7 +3316,11 @@ let desk = nothingStands();
 let clockTimer = 0;
 // What is on the page of it; and the reason that is chosen while the director is being called, or null.
 let deskShown = "";
+// The round that the clock runs down to, between two.
+let nextRound = null;
 let reason = null;
+
+const timeText = (time) => new Date(time).toLocaleTimeString([], { hour: "2-digit", minute: "2-digit" });
 
 // A line from so many words on.
 const wordsFrom = (line, count) => line.split(" ").slice(count).join(" ");
@@ -3160,7 +3336,8 @@ const DESK_LINES = {
   CLOCK: (found, line) => { found.clock = Number(wordsFrom(line, 1)) - found.now; },
   CALL: (found, line) => {
     const [, table, since, pair, name] = line.split(" ");
-    found.calls.push({ table, minutes: Math.floor((found.now - Number(since)) / 60), pair, name, text: wordsFrom(line, 5) });
+    const seconds = found.now - Number(since);
+    found.calls.push({ table, minutes: Math.floor(seconds / 60), time: timeText(found.at - SECOND * seconds), pair, name, text: wordsFrom(line, 5) });
   },
   STATEMENT: (found, line) => { found.said = wordsFrom(line, 1); },
 };
@@ -3180,23 +3357,30 @@ const isDirector = () => role.isDirector;
 // A text without what the server takes in none: control characters, and those that turn the direction of others.
 const plainText = (text) => text.replace(/[\p{Cc}\u061c\u200e\u200f\u2028-\u202e\u2066-\u2069]/gu, " ").trim();
 
-// Shows what an answer says that stands.
+// Shows what an answer says that stands. A call of this table that stands no more is being answered.
 function takeDesk(reply) {
   if (refusal(reply)) return;
+  const called = desk.calls.length > 0;
   desk = readDesk(reply);
+  const isBack = passing !== null && [TEXTS.callBack, TEXTS.cardBack].includes(passing.text);
+  if (called && desk.calls.length === 0 && !isDirector() && !isBack) sayPassing(TEXTS.directorComes);
   showDesk();
 }
 
-// Asks something of the desk, and shows what stands then.
+// Asks something of the desk, and shows what stands then; says whether it was done.
 async function askDesk(order) {
   const asked = key;
-  if (asked === null) return;
+  if (asked === null) return false;
   const reply = await ask("/desk", asked + " " + order);
-  if (key !== asked) return;
-  if (reply !== null && !refusal(reply)) return takeDesk(reply);
+  if (key !== asked) return false;
+  if (reply !== null && !refusal(reply)) {
+    takeDesk(reply);
+    return true;
+  }
   const why = reply === null ? TEXTS.unknownDone : TEXTS.refusals[refusal(reply)] || reply;
   if (isDirector()) tell(why);
   else say("notice", why);
+  return false;
 }
 
 // Whoever sat here has left.
@@ -3221,7 +3405,7 @@ function showClock() {
   say("clock-left", clockText(left));
   if (CLOCK_SAID.includes(left)) say("heard", TEXTS.minutesLeft(left / 60));
   at("clock").className = left === 0 ? "over" : "";
-  at("clock").replaceChildren(make("b", null, clockText(left)), make("span", null, TEXTS.clockLeft));
+  at("clock").replaceChildren(make("b", null, clockText(left)), make("span", null, nextRound === null ? TEXTS.clockLeft : TEXTS.untilRound(nextRound)));
   clockTimer = setTimeout(showClock, SECOND);
 }
 
@@ -3230,7 +3414,7 @@ function showClock() {
 const whoCalls = ({ pair, name }) => TEXTS.ofPair(shownName(pair, name), pair);
 
 function callNodesOf(call) {
-  if (!isDirector()) return [make("p", { className: "note called" }, make("span", null, make("b", null, TEXTS.directorCalled), " ", call.text ? call.text + ". " : "", TEXTS.waitForDirector))];
+  if (!isDirector()) return [make("p", { className: "note called" }, make("span", null, make("b", null, TEXTS.directorCalled(call.time)), " ", (call.text || TEXTS.nothingSaid) + ". ", TEXTS.waitForDirector))];
   const stateOf = (number) => lastTables && lastTables.tables.find((one) => one.number === number);
   const open = () => { const state = stateOf(call.table); if (state) openTable(state); };
   const grant = (number) => { const state = stateOf(number); if (state) grantBack(state); };
@@ -3278,7 +3462,8 @@ function showCall() {
   if (reason === null) reason = "";
   const send = button(TEXTS.callDirector, "", "call-director", true, () => { const order = reason ? "CALL " + reason : "CALL"; closeCall(); askDesk(order); });
   send.className = "send";
-  at("calling").replaceChildren(make("h2", null, TEXTS.callTitle), make("p", { className: "second" }, TEXTS.callHelp),
+  const seat = lastPlace ? readPlace(lastPlace).table : null;
+  at("calling").replaceChildren(make("h2", null, TEXTS.callTitle(seat && seat.number)), make("p", { className: "second" }, TEXTS.callHelp),
     make("div", { className: "reasons" }, ...TEXTS.reasons.map(choice)), make("div", { className: "row" }, button(TEXTS.back, "", "call-back", true, closeCall), send));
   at("calling").hidden = false;
   send.focus();
@@ -3299,7 +3484,7 @@ at("calling").onkeydown = holdTab;
 
 function tellingNodes() {
   const field = make("input", { id: "tell-text", type: "text", maxLength: 200, aria_label: TEXTS.tellText, placeholder: TEXTS.tellExample });
-  const telling = () => { const words = plainText(field.value); if (words) askDesk("NOTICE " + words); };
+  const telling = async () => { const words = plainText(field.value); if (words && await askDesk("NOTICE " + words)) field.value = ""; };
   return [make("div", { className: "row" }, field, button(TEXTS.tellAll, "", "tell-all", true, telling))];
 }
 
@@ -3400,6 +3585,7 @@ async function doOne(line, what, isCorrection = false) {
   const reply = await order([line], isCorrection);
   if (reply !== null) tell(TEXTS.becameOf(what, outcome(reply)));
   look();
+  return reply !== null && !refusal(reply);
 }
 
 // ---- the parts of the page
@@ -3415,10 +3601,11 @@ function showTab(name) {
   at(name === "tables" ? "aside" : "on-standings").append(at("ranking"));
 }
 
-function openTab(name) {
+async function openTab(name) {
   tell("");
   showTab(name);
-  look();
+  await look();
+  if (name === "boards" && at("dealt")) await findDealt();
 }
 
 // The buttons of the parts; that of the tables says how many of them call.
@@ -3529,6 +3716,7 @@ function showTables(state) {
   lastTables = state;
   noteSets(state);
   say("status", roundText(state));
+  at("status").className = "";
   say("below", state.round > state.rounds ? "" : TEXTS.roundOf(state.round, state.rounds));
   const calls = desk.calls.length ? [" ", make("span", { className: "count" }, String(desk.calls.length))] : [];
   if (at("tab-tables").textContent !== TEXTS.tabs.tables + (calls.length ? " " + desk.calls.length : "")) at("tab-tables").replaceChildren(TEXTS.tabs.tables, ...calls);
@@ -3546,7 +3734,8 @@ function showTables(state) {
   say("round-is", closed ? "" : TEXTS.tablesDone(state.tables.filter((table) => table.idle === "NotCurrent" || table.idle === "SitsOut").length, state.tables.length));
   const label = closed ? TEXTS.allEnded : open.length > 0 ? TEXTS.endWaits(state.round, open) : TEXTS.endRound(state.round, state.round === state.rounds);
   if (end.textContent !== label) end.textContent = label;
-  end.onclick = () => confirmFirst(at("end-question"), TEXTS.asks(label), () => doOne("NEXT " + state.round, TEXTS.endOf(state.round)));
+  end.onclick = () => confirmFirst(at("end-question"), TEXTS.asks(label), () => doOne("NEXT " + state.round, TEXTS.endOf(state.round)),
+    state.round === state.rounds ? TEXTS.closeEffect : TEXTS.endEffect(state.round + 1));
 }
 
 // ---- a play that is looked at
@@ -3562,7 +3751,7 @@ async function openPlay(words) {
   opened = { words, text: "" };
   showTab("rulings");
   await showOpened();
-  if (at("opened").scrollIntoView) at("opened").scrollIntoView({ block: "nearest" });
+  if (typeof scrollTo === "function") scrollTo(0, 0);
 }
 
 async function showOpened() {
@@ -3576,6 +3765,7 @@ async function showOpened() {
     return CLOSED();
   }
   const board = { ...readBoards(text).boards[0], text };
+  wanted.board = board;
   at("opened").replaceChildren(...openedNodes(board, wanted.words));
   for (const [field, value] of [["round", wanted.words[0]], ["table", wanted.words[1]],
     ["board", board.number]]) at("rule-" + field).value = String(value);
@@ -3606,8 +3796,10 @@ function latestOf(board) {
   if (board.claim) return TEXTS.claimBy(SEAT_NAMES[board.claim.seat], board.claim.tricks);
   if (card) return TEXTS.doneBy(SEAT_NAMES[card.seat], cardName(card.card));
   if (count === 0) return "";
-  return TEXTS.doneBy(SEAT_NAMES[SEATS[(SEATS.indexOf(dealerOf(board.number)) + count - 1) % 4]], callName(board.calls[count - 1]));
+  return TEXTS.doneBy(SEAT_NAMES[lastCaller(board)], callName(board.calls[count - 1]));
 }
+
+const lastCaller = (board) => SEATS[(SEATS.indexOf(dealerOf(board.number)) + board.calls.length - 1) % 4];
 
 // Does something to a play once the question is answered, if the play is still what it was when it was asked.
 function onceUnchanged(box, words, seen, question, act, ...more) {
@@ -3618,16 +3810,26 @@ function onceUnchanged(box, words, seen, question, act, ...more) {
   }, ...more);
 }
 
-function takeLatestBack(board, words) {
-  const what = TEXTS.onBoard(TEXTS.takeBackOf(latestOf(board)), board.number);
-  onceUnchanged(at("back-question"), words, board.text, TEXTS.asks(what), () => doOne("BACK " + words.join(" "), what, true),
-    [TEXTS.playedBy(board.names)]);
+// What becomes of a play whose latest claim, card or call is taken back.
+function backEffect(board) {
+  const card = board.cards[board.cards.length - 1];
+  if (board.claim) return TEXTS.claimBackTo;
+  if (!card) return TEXTS.callBackTo(SEAT_NAMES[lastCaller(board)]);
+  // The leader sits behind declarer, whose partner is dummy.
+  const dummy = nextTo(board.cards[0].seat);
+  return TEXTS.cardBackTo(SEAT_NAMES[card.seat === dummy ? partner(dummy) : card.seat], SEAT_NAMES[card.seat]);
 }
 
-// The play at a table that asks for its latest call or card back, and the question whether it goes.
+function takeLatestBack(board, words, then = () => {}) {
+  const what = TEXTS.atTableOnBoard(TEXTS.takeBackOf(latestOf(board)), words[1], board.number);
+  const back = async () => { if (await doOne("BACK " + words.join(" "), what, true)) then(); };
+  onceUnchanged(at("back-question"), words, board.text, TEXTS.asks(what), back, [backEffect(board)], [TEXTS.playedBy(board.names)]);
+}
+
+// The play at a table that asks for its latest call or card back, and the question whether it goes; its call is answered then.
 async function grantBack(table) {
   await openTable(table);
-  if (opened && at("opened-back") && !at("opened-back").disabled) at("opened-back").onclick();
+  if (opened && opened.board && latestOf(opened.board)) takeLatestBack(opened.board, opened.words, () => askDesk("ANSWERED " + table.number));
 }
 
 // ---- deals
@@ -3661,20 +3863,105 @@ function dealtText(boards, replies) {
 async function dealAll(lines, boards) {
   const reply = await order(lines);
   if (reply === null) return;
-  tell(dealtText(boards, reply.split("\n")));
+  const replies = reply.split("\n");
+  boards.forEach((board, i) => dealtAs.set(Number(board), ["", "AlreadyDealt"].includes(refusal(replies[i] || "ERR 0 -")) ? "dealt" : "refused"));
+  tell(dealtText(boards, replies));
+  dealtAnew();
   look();
+}
+
+// The boards from one to another.
+function boardsToShuffle() {
+  const [first, last] = ["shuffle-first", "shuffle-last"].map((id) => Number(at(id).value));
+  return Array.from({ length: Math.max(0, Math.min(last, MOST_BOARDS) - first + 1) }, (_none, i) => first + i);
 }
 
 function shuffleBoards() {
   if (!isFilledIn("dealing")) return;
-  const first = Number(at("shuffle-first").value);
-  const last = Number(at("shuffle-last").value);
-  const boards = [];
-  for (let board = first; board <= last && boards.length < MOST_BOARDS; board += 1) boards.push(board);
-  const seed = drawSeed();
-  if (boards.length === 0) tell(TEXTS.noBoardsThere);
-  else dealAll(boards.map((board) => "SHUFFLE " + board + " " + seed), boards);
+  const boards = boardsToShuffle();
+  if (boards.length === 0) return tell(TEXTS.noBoardsThere);
+  confirmFirst(at("deal-question"), TEXTS.asks(TEXTS.shuffleOf(boards[0], boards[boards.length - 1])), () => {
+    const seed = drawSeed();
+    dealAll(boards.map((board) => "SHUFFLE " + board + " " + seed), boards);
+  }, TEXTS.shuffleEffect);
 }
+
+// ---- which boards are dealt
+
+// By number: dealt, or refused; and whether it was found which of the others are to be dealt.
+const dealtAs = new Map();
+let dealsFound = false;
+// Which search for them is the last one, and whether it is at work.
+let search = 0;
+let isSearching = false;
+const dealState = (board) => dealtAs.get(board) || (dealsFound ? "open" : "unknown");
+const allBoards = () => Array.from({ length: boardsOfAll }, (_none, i) => i + 1);
+
+// The boards that are dealt, as the plays of each round tell: asked until all are known to be, or no round is left.
+async function findDealt() {
+  const { rounds, tables } = lastTables;
+  const found = new Set();
+  const [asked, mine] = [key, (search += 1)];
+  isSearching = true;
+  for (let round = 1; tables.length && round <= rounds && found.size < boardsOfAll; round += 1) {
+    // One after the other, so that nobody else waits for them.
+    for (const play of tables.flatMap(({ number }) => Array.from({ length: boardsOfSet }, (_none, i) => [round, number, i + 1]))) {
+      const reply = await askPlay(play);
+      if (mine !== search || key !== asked) return;
+      if (reply === null) return endSearch();
+      if (!refusal(reply)) found.add(readBoards(reply).boards[0].number);
+    }
+    for (const board of found) dealtAs.set(board, "dealt");
+    showDealt();
+  }
+  endSearch();
+  if (!tables.length) return;
+  for (const board of allBoards()) if (!found.has(board) && dealState(board) === "dealt") dealtAs.delete(board);
+  dealsFound = true;
+  showDealt();
+  putFirst(allBoards().find((board) => dealState(board) !== "dealt"));
+}
+
+function endSearch() {
+  isSearching = false;
+}
+
+// What was dealt or taken back meanwhile is to be found too.
+function dealtAnew() {
+  showDealt();
+  if (isSearching) findDealt();
+}
+
+// The first board that is to be dealt stands in its field, where nobody has written another.
+function putFirst(board) {
+  if (board && Number(at("shuffle-first").value) === putFirst.last) at("shuffle-first").value = putFirst.last = board;
+  sayShuffle();
+}
+
+// A tile for each board, and how many there are of each state.
+function showDealt() {
+  if (!at("dealt")) return;
+  at("dealt").replaceChildren(...allBoards().map((board) => make("li", { className: dealState(board) }, make("b", null, String(board)), TEXTS.dealStates[dealState(board)])));
+  const counts = ["dealt", "open", "refused"].map((state) => [state, allBoards().filter((board) => dealState(board) === state).length]);
+  at("dealt-counts").replaceChildren(...counts.filter(([, count]) => count).map(([state, count]) => make("span", { className: state }, TEXTS.dealCount(state, count))));
+}
+
+function sayShuffle() {
+  const count = boardsToShuffle().length;
+  say("shuffle", count ? TEXTS.shuffleMany(count) : TEXTS.shuffle);
+}
+
+// What is wrong with the text of a deal, as far as a page can tell; else nothing.
+function faultOf(text) {
+  const [, first, rest] = /^([NESW]):(.*)$/.exec(text.trim()) || [];
+  const hands = rest === undefined ? [] : rest.split(" ").map((hand) => hand.split(".").flatMap((ranks, i) => [...ranks].map((rank) => HAND_SUITS[i] + rank)));
+  if (hands.length !== 4) return TEXTS.noDealText;
+  const odd = hands.findIndex((hand) => hand.length !== 13);
+  if (odd >= 0) return TEXTS.handHas(SEAT_NAMES[SEATS[(SEATS.indexOf(first) + odd) % 4]], hands[odd].length);
+  return new Set(hands.flat()).size === 52 ? "" : TEXTS.cardTwice;
+}
+
+const faultsIn = (deals) => deals.map(([board, deal]) => [board, faultOf(deal)]).filter(([, fault]) => fault).map(([board, fault]) => TEXTS.isRefused(board, fault));
 
 // Says which boards a text has, and which of them the session has not, before it deals those that it has.
 function dealText(text) {
@@ -3686,7 +3973,7 @@ function dealText(text) {
   if (some.length === 0) return tell(TEXTS.notOfSession(others));
   const boards = some.map((deal) => deal[0]);
   return confirmFirst(at("deal-question"), TEXTS.asks(TEXTS.dealThese(boards)),
-    () => dealAll(some.map((deal) => "DEAL " + deal[0] + " " + deal[1]), boards), ...(others.length ? [TEXTS.notOfSession(others)] : []));
+    () => dealAll(some.map((deal) => "DEAL " + deal[0] + " " + deal[1]), boards), ...(others.length ? [TEXTS.notOfSession(others)] : []), ...faultsIn(some));
 }
 
 // ---- a form of a few fields
@@ -3742,7 +4029,8 @@ function playFields(prefix) {
 function beforeAndAfter(board, after) {
   return [
     [TEXTS.nowIs, ...resultNodes(board.result),
-      ...(board.result.bid ? [", " + TEXTS.made(board.result.tricks - 6 - Number(board.result.bid[0]))] : []), TEXTS.thenIs, after(board),
+      ...(board.result.bid ? [", " + TEXTS.made(board.result.tricks - 6 - Number(board.result.bid[0])) + TEXTS.northSouthScore(signed(board.result.score))] : []),
+      TEXTS.thenIs, after(board),
       "."],
     [TEXTS.playedBy(board.names)]];
 }
@@ -3766,7 +4054,14 @@ async function rule(what, word, rest, after, isCorrection = false) {
 // What a number of tricks makes of the contract of a play.
 function withTricks(board, tricks) {
   const bid = board.result.bid || [...board.calls].reverse().find(isBid);
-  return bid ? callName(bid) + ", " + TEXTS.made(tricks - 6 - Number(bid[0])) : TEXTS.tricks(tricks);
+  if (!bid) return TEXTS.tricks(tricks);
+  return callName(bid) + ", " + TEXTS.made(tricks - 6 - Number(bid[0])) + (board.result.declarer ? scoreThen(board, bid, board.result.declarer, tricks) : "");
+}
+
+// What North and South score then.
+function scoreThen(board, bid, declarer, tricks) {
+  const score = scoreOf(bid, tricks, isVulnerable({ vulnerable: vulnerableOf(board.number) }, declarer));
+  return TEXTS.northSouthScore(signed(declarer === "N" || declarer === "S" ? score : -score));
 }
 
 function rulingNodes() {
@@ -3777,7 +4072,7 @@ function rulingNodes() {
   const assign = () => {
     const [contract, declarer, tricks] = [at("assign-bid").value + at("assign-doubled").value, at("assign-declarer").value, numberAt("assign-tricks")];
     const score = TEXTS.assignedAs(callName(contract), SEAT_NAMES[declarer], TEXTS.made(tricks - 6 - Number(contract[0])));
-    rule(TEXTS.assignScore, "ASSIGN", [contract, declarer, tricks].join(" "), () => score, true);
+    rule(TEXTS.assignScore, "ASSIGN", [contract, declarer, tricks].join(" "), (board) => score + scoreThen(board, contract, declarer, tricks), true);
   };
   const show = () => { if (isFilledIn("on-rulings")) { const words = playWords("rule"); if (words) openPlay(words); } };
   const row = (...nodes) => make("div", { className: "row" }, ...nodes);
@@ -3890,24 +4185,27 @@ function linesNodes() {
 function undeal() {
   if (!isFilledIn("dealing")) return;
   const board = numberAt("undeal-board");
-  confirmFirst(at("deal-question"), TEXTS.asks(TEXTS.undealOf(board)), () => doOne("UNDEAL " + board, TEXTS.undealOf(board), true));
+  const undo = async () => { if (await doOne("UNDEAL " + board, TEXTS.undealOf(board), true)) { dealtAs.delete(board); dealtAnew(); } };
+  confirmFirst(at("deal-question"), TEXTS.asks(TEXTS.undealOf(board)), undo, TEXTS.undealEffect);
 }
 
 // The deals of a file stand in the text, to be looked at and dealt.
 async function readFile(chosen) {
   if (!chosen) return;
   at("deal-text").value = await chosen.text();
-  say("file-has", TEXTS.fileHas(chosen.name, dealsIn(at("deal-text").value).length));
+  const deals = dealsIn(at("deal-text").value);
+  say("file-has", [TEXTS.fileHas(chosen.name, deals.length), ...faultsIn(deals)].join(". "));
 }
 
 function dealNodes() {
   const file = make("input", { id: "deal-file", type: "file", onchange: () => readFile(file.files[0]) });
   const main = (node) => { node.className = "send"; return node; };
-  return [
-    make("p", { id: "deal-of", className: "second" }),
-    group(TEXTS.shuffleHere, make("div", { className: "row" },
-      numberField("shuffle-first", TEXTS.shuffleFrom, 1, MOST_BOARDS, 1), numberField("shuffle-last", TEXTS.to, 1, MOST_BOARDS, ""),
-      main(button(TEXTS.shuffle, "", "shuffle", true, shuffleBoards))), make("p", { className: "second" }, TEXTS.seedSecret)),
+  const shuffled = make("div", { className: "row", oninput: sayShuffle },
+    numberField("shuffle-first", TEXTS.shuffleFrom, 1, MOST_BOARDS, 1), numberField("shuffle-last", TEXTS.to, 1, MOST_BOARDS, ""));
+  const tiles = group(TEXTS.boardsOfEvening, make("p", { id: "deal-of", className: "second" }), make("ol", { id: "dealt" }), make("p", { id: "dealt-counts" }));
+  tiles.className += " all-boards";
+  return [tiles,
+    group(TEXTS.shuffleHere, shuffled, main(button(TEXTS.shuffle, "", "shuffle", true, shuffleBoards)), make("p", { className: "second" }, TEXTS.seedSecret)),
     group(TEXTS.dealFile, file, make("div", { className: "row" }, make("label", { id: "choose-file", for: "deal-file" }, TEXTS.chooseFile),
       make("span", { id: "file-has", role: "status" }, TEXTS.noFile)),
       make("label", { for: "deal-text" }, TEXTS.dealText), make("textarea", { id: "deal-text", spellcheck: false }),
@@ -3927,11 +4225,11 @@ function directorNodes() {
     on("boards", section("dealing", TEXTS.dealBoards, ...dealNodes())),
     on("rulings", ...rulingNodes()),
     on("standings", section("ranking", TEXTS.standings, button(TEXTS.showRanking, "", "rank", true, askRankings), make("div", { id: "rankings" }))),
-    on("evening", make("p", { id: "serving", className: "second" }), section("publishing", TEXTS.results, make("div", { id: "others" }, ...othersNodes(null)),
-      make("div", { className: "row" },
+    on("evening", section("keeping", TEXTS.thisEvening, make("p", { id: "serving" })), section("seeing", TEXTS.othersHead, make("div", { id: "others" }, ...othersNodes(null))),
+      section("publishing", TEXTS.results, make("div", { className: "row" },
         button(TEXTS.showResults, "", "show-results", true, showResults), button(TEXTS.print, "", "print", true, () => window.print())),
       make("pre", { id: "results" })),
-    section("lines", TEXTS.lines, ...linesNodes()))];
+      section("lines", TEXTS.lines, ...linesNodes()))];
 }
 
 // Shows the director's page, built once, with its tables as they are now.
@@ -3950,7 +4248,10 @@ async function showDirector(reply, asked, mine) {
     showTab("tables");
     showTables(state);
     at("shuffle-last").value = state.all;
+    putFirst.last = 1;
     say("deal-of", TEXTS.boardsInSets(state.all, state.boards));
+    showDealt();
+    sayShuffle();
     standingsAt = 0;
     pairNames = shownPairs(namesIn((await ask("/results", asked)) || ""));
   }
