@@ -29,7 +29,7 @@ pages_over-pages-requires g c =
 
 pub show_pair_at-requires : goal.show_pair_at-requires
 show_pair_at-requires g c = record {
-  line = c.as_str.ensures.value ∙ c.in-Ok-pair_line.ensures
+  line = c.as_str-line.ensures.value ∙ c.in-Ok-pair_line.ensures
       ∙ ap (λ (host : List ℕ). level_line c.args.joined.judged.was_level ++ listening_line host)
       (c.host.ensures ∙ ap (λ (names : HostNames). string_bytes names.host) (sym c.pages_over-pages.ensures.names));
 }
