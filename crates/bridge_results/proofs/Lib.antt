@@ -11,3 +11,5 @@ pub mod WrittenRows
 pub mod SuitLetters
 pub mod FourSuits
 pub mod PageParts
+pub mod HtmlParts
+pub mod Shown

@@ -5,30 +5,31 @@ use Rattle.std.specs.List.{range_with_len}
 use Rattle.std.proofs.lemmas.List.Concat.{flat_map-append}
 use Rattle.session_rules.proofs.Lists.{range-push}
 use Rattle.bridge_cards.specs.declared.suit.Suit.{Suit}
-use Rattle.bridge_cards.specs.DealText.{letter_of, suit_text}
+use Rattle.page_layout.specs.declared.format.Format.{Format}
+use Rattle.bridge_results.specs.Diagram.{rank_in, suit_in}
 
 -- the letter at an index, from the ace down
-abbrev pub letter_at : ℕ → Suit → ℕ → List ℕ
-letter_at hand suit index = letter_of hand suit (14 - index)
+abbrev pub letter_at : Format → ℕ → Suit → ℕ → List ℕ
+letter_at format hand suit index = rank_in format hand suit (14 - index)
 
 -- the letters of so many ranks, from the ace down
-unfoldable pub letters_to : ℕ → Suit → ℕ → List ℕ
-letters_to hand suit count = flat_map (letter_at hand suit) (range_with_len 0 count)
+unfoldable pub letters_to : Format → ℕ → Suit → ℕ → List ℕ
+letters_to format hand suit count = flat_map (letter_at format hand suit) (range_with_len 0 count)
 
 -- of one rank more
-pub letters_more : (hand : ℕ) (suit : Suit) (n : ℕ) (before after : List ℕ) → before ≡ letters_to hand suit n → after ≡ before ++ letter_of hand suit (14 - n) → after ≡ letters_to hand suit (n + 1)
+pub letters_more : (format : Format) (hand : ℕ) (suit : Suit) (n : ℕ) (before after : List ℕ) → before ≡ letters_to format hand suit n → after ≡ before ++ rank_in format hand suit (14 - n) → after ≡ letters_to format hand suit (n + 1)
 unfolding letters_to
-letters_more hand suit n before after first second =
+letters_more format hand suit n before after first second =
     let more : range_with_len 0 (n + 1) ≡ range_with_len 0 n ++ n ∷ [] = rw (add-one, range-push 0 n) (ap (λ i. range_with_len 0 n ++ i ∷ []) (omega arith)) in
-    second ∙ ap (λ text. text ++ letter_of hand suit (14 - n)) first
-    ∙ rw (more, flat_map-append (letter_at hand suit) (range_with_len 0 n) (n ∷ []), append-nil (letter_of hand suit (14 - n))) refl
+    second ∙ ap (λ text. text ++ rank_in format hand suit (14 - n)) first
+    ∙ rw (more, flat_map-append (letter_at format hand suit) (range_with_len 0 n) (n ∷ []), append-nil (rank_in format hand suit (14 - n))) refl
 
 -- of all ranks
-pub letters_all : (hand : ℕ) (suit : Suit) → letters_to hand suit 13 ≡ suit_text hand suit
-unfolding letters_to suit_text
-letters_all hand suit = refl
+pub letters_all : (format : Format) (hand : ℕ) (suit : Suit) → letters_to format hand suit 13 ≡ suit_in format hand suit
+unfolding letters_to suit_in
+letters_all format hand suit = refl
 
 -- of none
-pub letters_none : (hand : ℕ) (suit : Suit) → [] ≡ letters_to hand suit 0
+pub letters_none : (format : Format) (hand : ℕ) (suit : Suit) → [] ≡ letters_to format hand suit 0
 unfolding letters_to
-letters_none hand suit = refl
+letters_none format hand suit = refl

@@ -61,3 +61,26 @@ numbers_taken f count n a b last taken =
     let whole : take (n - 1) (range_with_len 1 count) ≡ range_with_len 1 count
     = ap (λ i. take i (range_with_len 1 count)) (last ∙ sym (length-range_with_len 1 count)) ∙ take-length (range_with_len 1 count) in
     subst (λ numbers. Takes (between a b) (flat_map f numbers)) whole taken
+
+-- the index of an index
+index_there : (count n : ℕ) → n < count → get_or (range_with_len 0 count) n 0 ≡ n
+index_there count n within = get_or-range_with_len 0 count n 0 within ∙ omega arith
+
+-- the text of the next index was taken
+pub index_taken : (f : ℕ → List ℕ) (count n : ℕ) (a b c : Option (List ℕ)) → n < count → Takes (between a b) (flat_map f (take n (range_with_len 0 count))) → Takes (between b c) (f n) → Takes (between a c) (flat_map f (take (n + 1) (range_with_len 0 count)))
+index_taken f count n a b c within first second =
+    element_taken f (range_with_len 0 count) n 0 a b c (omega (arith, length-range_with_len 0 count)) first
+    (subst (λ m. Takes (between b c) (f m)) (sym (index_there count n within)) second)
+
+-- the text of the next index failed, after those before it
+pub index_failed : {E : Type 0} (f : ℕ → List ℕ) (count n : ℕ) (a b c : Option (List ℕ)) (result : Result (Unit {0}) E) → IsErr result → n < count → Takes (between a b) (flat_map f (take n (range_with_len 0 count))) → TakesPrefix (between b c) (f n) → Written (between a c) (flat_map f (range_with_len 0 count)) result
+index_failed f count n a b c result is within first second =
+    element_failed f (range_with_len 0 count) n 0 a b c result is (omega (arith, length-range_with_len 0 count)) first
+    (subst (λ m. TakesPrefix (between b c) (f m)) (sym (index_there count n within)) second)
+
+-- the texts of all indexes were taken
+pub indexes_taken : (f : ℕ → List ℕ) (count n : ℕ) (a b : Option (List ℕ)) → n ≡ count → Takes (between a b) (flat_map f (take n (range_with_len 0 count))) → Takes (between a b) (flat_map f (range_with_len 0 count))
+indexes_taken f count n a b last taken =
+    let whole : take n (range_with_len 0 count) ≡ range_with_len 0 count
+    = ap (λ i. take i (range_with_len 0 count)) (last ∙ sym (length-range_with_len 0 count)) ∙ take-length (range_with_len 0 count) in
+    subst (λ numbers. Takes (between a b) (flat_map f numbers)) whole taken

@@ -12,6 +12,13 @@ pub mod RankingText
 pub mod Diagram
 pub mod BoardText
 pub mod CardText
+pub mod HtmlLinks
+pub mod HtmlCells
+pub mod HtmlCourse
+pub mod HtmlRecord
+pub mod HtmlBoard
+pub mod HtmlCard
+pub mod HtmlPage
 pub mod ResultsText
 pub mod Columns
 pub mod TablesText

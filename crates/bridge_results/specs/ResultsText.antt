@@ -10,6 +10,7 @@ use Rattle.bridge_ranking.specs.Ranking.{has_field, lines_of, IsRankingOf}
 use Rattle.session_rules.specs.State.{SessionValue, deal_on}
 use Rattle.line_text.specs.Streams.{Stream, Written}
 use Rattle.page_layout.specs.declared.format.Format.{Format}
+use Rattle.page_layout.specs.declared.format.Format.TheVariants.{Plain, Html}
 use Rattle.page_layout.specs.declared.format.Level.TheVariants as level
 use Rattle.page_layout.specs.declared.format.Section.TheVariants as section
 use Rattle.page_layout.specs.Page.{page_end, heading_text, section_start, section_end}
@@ -21,6 +22,7 @@ use Rattle.bridge_results.specs.EventText.{event_text}
 use Rattle.bridge_results.specs.RankingText.{field_text}
 use Rattle.bridge_results.specs.BoardText.{board_text}
 use Rattle.bridge_results.specs.CardText.{score_card_text}
+use Rattle.bridge_results.specs.HtmlPage.{page_html}
 
 -- the ranking of a field, exactly where there is such a field
 pub record IsFieldRanking (s : SessionValue) (field : Field) (ranking : Option (List Ranked)) : Type 0 where
@@ -81,9 +83,15 @@ front_text format names configuration first second =
 unfoldable pub sheets_text : Format → Names → SessionValue → List ℕ
 sheets_text format names s = boards_text format s ++ (cards_text format names s ++ page_end format)
 
--- The page: the event, the rankings, the boards and the score cards, with the names of a list or the configuration's.
+-- the page in plain text
+abbrev pub plain_page : Names → SessionValue → Option (List Ranked) → Option (List Ranked) → List ℕ
+plain_page names s first second = front_text Plain names s.configuration first second ++ sheets_text Plain names s
+
+-- The page: the event, the rankings, the boards and the score cards, with the names of a list or the configuration's; in HTML with
+-- links between its parts, and with each table's auction and play.
 abbrev pub named_page_text : Format → Names → SessionValue → Option (List Ranked) → Option (List Ranked) → List ℕ
-named_page_text format names s first second = front_text format names s.configuration first second ++ sheets_text format names s
+named_page_text Plain names s first second = plain_page names s first second
+named_page_text Html names s first second = page_html names s first second
 
 -- the page with the configuration's names
 abbrev pub page_text : Format → SessionValue → Option (List Ranked) → Option (List Ranked) → List ℕ

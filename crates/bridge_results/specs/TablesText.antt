@@ -1,6 +1,6 @@
 -- The plays and the rankings of a session as tables of comma-separated values (RFC 4180): a row has its fields with commas between
 -- them, and a CR and a LF. No field has a comma, a quotation mark or an end of line, so none stands in quotation marks.
-use Rattle.std.specs.Prelude.{◌≡◌, ℕ, Bool, true, false, List, [], ◌∷◌, ◌++◌, codes, flat_map, unsigned_abs, Option, Result}
+use Rattle.std.specs.Prelude.{◌≡◌, ℕ, true, false, List, [], ◌++◌, codes, flat_map, unsigned_abs, Option, Result}
 use Rattle.std.specs.List.{range_with_len}
 use Rattle.std.specs.Option.{option_map_or}
 use Rattle.std.specs.Fmt.{decimal, signed_decimal}

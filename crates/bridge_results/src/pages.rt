@@ -4,11 +4,11 @@ pub mod cells;
 pub mod columns;
 mod diagram;
 mod event;
-mod frequencies;
-mod page;
-mod pair_card;
-mod ranking;
+pub(crate) mod frequencies;
+pub(crate) mod page;
+pub(crate) mod pair_card;
+pub(crate) mod ranking;
 mod sheets;
-mod shown;
+pub(crate) mod shown;
 
 pub use page::{write_results, write_results_with};

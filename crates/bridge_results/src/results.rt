@@ -4,14 +4,17 @@ ghost use Rattle.bridge_ranking.specs.Ranking.{has_field, lines_of, games_of, Is
 ghost use Rattle.bridge_results.specs.Plays.{plays_of};
 ghost use Rattle.bridge_results.specs.Traveller.{StandsOver, rows_of, traveller};
 ghost use Rattle.bridge_results.specs.ScoreCard.{score_card_of};
+ghost use Rattle.bridge_results.specs.HtmlBoard.{available_on};
 
 use crate::card::{ScoreCard, card_lines};
 use crate::compare::games_among;
+use crate::gain::scores_on;
 use crate::play::TablePlay;
 use crate::session_plays::plays_of;
 use crate::traveller::{Traveller, lines_on};
 use arrayvec::ArrayVec;
-use bridge_cards::BoardNumber;
+use bridge_cards::{BoardNumber, Side};
+use bridge_ranking::gain::available_of;
 use bridge_ranking::game::MOST_PLAYS;
 use bridge_ranking::{Field, Game, has_field, lines_of};
 use bridge_score::rank;
@@ -79,6 +82,13 @@ impl<'a> Results<'a> {
     {
         let scoring = self.session.config().fields().scoring;
         lines_on(scoring, &self.games, &self.plays, board)
+    }
+
+    /// What was available on a board to each side, in tenths of a matchpoint.
+    pub fn available(&self, board: BoardNumber) -> u32
+        ensures { result ≡ available_on self.now board }
+    {
+        available_of(&scores_on(&self.games, Side::NorthSouth, board))
     }
 
     /// The score card of a pair: a line for each play, by round, then by board. There is none of a pair that has not played.

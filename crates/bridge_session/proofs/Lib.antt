@@ -9,3 +9,5 @@ pub mod LeftEndings
 pub mod PlayIndexes
 pub mod PartCount
 pub mod Restored
+pub mod HasAllLaws
+pub mod SameCalls

@@ -7,6 +7,7 @@
 //! ```
 #![tactic(auto)]
 
+mod containing;
 pub mod entry;
 pub mod kept;
 mod opening;
@@ -15,6 +16,7 @@ pub mod stored;
 
 pub use bridge_ranking::{Field, equal_scores_gain_the_same};
 pub use bridge_table::check_director;
+pub use containing::sessions_keep_what_they_have;
 pub use entry::Entry;
 pub use session::{Ranking, Session};
 pub use session_bytes::{read_action, write_action};

@@ -1,5 +1,6 @@
 //! The session, and what may be asked of it.
 ghost use Rattle.std.specs.Prelude.{◌≡◌, IfOk, IfSome, MatchResult, Err};
+ghost use Rattle.std.specs.Bool.{Decides};
 ghost use Rattle.std.specs.Option.{option_copied, option_map};
 ghost use Rattle.session_rules.specs.Record.{bidding_of, play_of};
 ghost use Rattle.session_rules.specs.Outcome.{outcome_of};
@@ -10,7 +11,9 @@ ghost use Rattle.session_rules.specs.Views.{IsViewTo};
 ghost use Rattle.bridge_ranking.specs.Ranking.{ranking_answer, IsRankingTo};
 ghost use Rattle.session_rules.specs.StateRange.{IsSession};
 ghost use Rattle.bridge_table.specs.Kept.{plain_of, IsTiedIn};
+ghost use Rattle.bridge_session.specs.HasAll.{HasAllOf};
 
+use crate::containing::{have_deals, have_tables};
 use crate::entry::Entry;
 use crate::opening::room_of;
 use arrayvec::ArrayVec;
@@ -107,6 +110,20 @@ impl Session {
         ensures { option_copied result ≡ deal_on self.now.deals board }
     {
         deal_on(self.deals.as_slice(), board)
+    }
+
+    /// Whether no round of the other session, which is of the same configuration, is still to come here, and nothing that was
+    /// dealt, called or played there is missing. Claims and rulings are not compared.
+    pub fn has_all_of(&self, other: &Session) -> bool
+        ensures { Decides result (HasAllOf self.now other.now) }
+    {
+        if self.round < other.round {
+            return false;
+        }
+        if !have_deals(self.deals.as_slice(), other.deals.as_slice()) {
+            return false;
+        }
+        have_tables(self.tables.as_slice(), other.tables.as_slice())
     }
 
     /// The record of a play, if there is such a play at a live row.

@@ -1,5 +1,5 @@
 -- Pages that were shown over a store.
-use Rattle.std.proofs.Common.{◌≡◌, ◌⊎◌, ℕ, Bool, true, false, List, [], ◌∷◌, Result, Ok, Err, inl, inr, refl, subst, sym, OnOk}
+use Rattle.std.proofs.Common.{◌≡◌, ◌⊎◌, ℕ, Bool, true, false, List, [], ◌∷◌, Result, Ok, Err, inl, inr, refl, subst, sym, ap, ◌∙◌, OnOk}
 use Rattle.std.specs.Prelude.{nat_lt, length, string_bytes}
 use Rattle.http.specs.Request.{head_of, body_of}
 use Rattle.http_server.specs.declared.response.Response.{Response}
@@ -16,7 +16,7 @@ use Rattle.web_loop.specs.Turns.{LeadsTo}
 use Rattle.web_requests.specs.Route.{route_for}
 use Rattle.web_requests.specs.declared.route.Route.{Route}
 use Rattle.web_requests.specs.declared.route.Route.TheVariants.{Page, TextsScript, SharedScript, TableScript, BoardsScript, DeskScript, DirectorScript, Style, Lines, Correct, Place, Tables, Boards, Results, Desk, Wait, Names, Refused}
-use Rattle.table_pages.specs.Answered.{AnswersLines, place_told, tables_told, wait_told, boards_told, desks_told}
+use Rattle.table_pages.specs.Answered.{AnswersLines, is_settled, place_told, tables_told, wait_told, boards_told, desks_told}
 use Rattle.page_replies.specs.ToldResults.{results_told}
 use Rattle.table_pages.specs.declared.host_names.HostNames.{HostNames}
 use Rattle.table_pages.specs.declared.page_texts.PageTexts.{PageTexts}
@@ -31,6 +31,11 @@ use Rattle.club_commands.specs.Ended.{Ended}
 use Rattle.club_commands.specs.Web.{host_at, alias_at, site_at, ended_by, IsUnshown, ShowsAt, ShowsWith, ShowsPages}
 use Rattle.bridge_results.specs.ShownPairs.{Names as Shown}
 use Rattle.evening_commands.specs.People.{people_text}
+
+-- a store that works and has nothing pending can take lines
+pub settled_store : (store : ClubStore) → store.failed ≡ false → store.pending ≡ [] → is_settled store.failed store.pending ≡ true
+settled_store store works none =
+    ap (λ (b : Bool). is_settled b store.pending) works ∙ ap (λ (xs : List Action). is_settled false xs) none
 
 module _ {D : Type 0} (disk : Disk D) where
   -- over one body of lines

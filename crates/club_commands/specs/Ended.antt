@@ -1,7 +1,11 @@
 -- How a command ends: what stands on its output then, and the line on standard error and the exit status that a fault has.
 use Rattle.std.specs.Prelude.{◌≡◌, ◌⊎◌, ◌++◌, ℕ, true, false, List, codes, Result, Err, IfErr, IsErrAnd}
 use Rattle.club_commands.specs.Basis.{Stream, Takes, TakesPrefix, Written, IsUntouched, Disk, Rose, StoreOn, decimal, StoreFault, TooSmall, DiskFault, NotFormatted, Damaged, EpochsSpent, NoMemory, ServeFault, Read, Write, RunFault, StreamFault, System, Config, Store}
-use Rattle.club_commands.specs.declared.fault.RunFault.TheVariants.{Evening, Makeable}
+use Rattle.club_commands.specs.declared.fault.RunFault.TheVariants.{Evening, Makeable, Joining, Lost}
+use Rattle.club_commands.specs.declared.fault.LostDisk.{LostDisk}
+use Rattle.club_commands.specs.declared.fault.LostDisk.TheVariants as lost
+use Rattle.session_pair.specs.declared.joining.JoinFault.{JoinFault}
+use Rattle.session_pair.specs.declared.joining.JoinFault.TheVariants as join
 use Rattle.evening_commands.specs.Fault.{config_line, evening_line}
 use Rattle.makeable_deals.specs.FaultLine.{makeable_line}
 
@@ -43,6 +47,27 @@ store_line (Damaged sector) = (codes "damaged sector " ++ decimal sector) ++ cod
 store_line EpochsSpent = codes "epochs spent\n"
 store_line NoMemory = codes "no memory\n"
 
+-- the line of a copy that gives no session
+abbrev pub copy_line : StoreFault → List ℕ
+copy_line TooSmall = codes "copy: disk too small\n"
+copy_line DiskFault = codes "copy: disk fault\n"
+copy_line NotFormatted = codes "copy: not formatted\n"
+copy_line (Damaged sector) = (codes "copy: damaged sector " ++ decimal sector) ++ codes "\n"
+copy_line EpochsSpent = codes "copy: epochs spent\n"
+copy_line NoMemory = codes "copy: no memory\n"
+
+-- the line where a session was not opened on two disks
+abbrev pub join_line : JoinFault → List ℕ
+join_line (join.Disk fault) = store_line fault
+join_line (join.Copy fault) = copy_line fault
+join_line join.OtherSession = codes "copy: another session\n"
+join_line join.OtherPlays = codes "copy: different plays\n"
+
+-- the line where one of two disks was lost
+abbrev pub lost_line : LostDisk → List ℕ
+lost_line lost.Disk = codes "disk lost\n"
+lost_line lost.Copy = codes "copy lost\n"
+
 -- the line on standard error that names a fault; what the system does not give counts as what cannot be read
 abbrev pub fault_line : RunFault → List ℕ
 fault_line (StreamFault fault) = stream_line fault
@@ -51,10 +76,23 @@ fault_line (Config fault) = config_line fault
 fault_line (Evening fault) = evening_line fault
 fault_line (Makeable fault) = makeable_line fault
 fault_line (Store fault) = store_line fault
+fault_line (Joining fault) = join_line fault
+fault_line (Lost disk) = lost_line disk
+
+-- the exit status where a disk is refused or has failed: 4 where it holds no session, and 3 otherwise
+abbrev pub store_status : StoreFault → ℕ
+store_status TooSmall = 4
+store_status NotFormatted = 4
+store_status (Damaged sector) = 4
+store_status _ = 3
+
+-- the same where a session was not opened on two disks: a copy that holds none is no more than a fault
+abbrev pub join_status : JoinFault → ℕ
+join_status (join.Disk fault) = store_status fault
+join_status _ = 3
 
 -- the exit status at a fault: 4 where the disk holds no session, and 3 otherwise
 abbrev pub fault_status : RunFault → ℕ
-fault_status (Store TooSmall) = 4
-fault_status (Store NotFormatted) = 4
-fault_status (Store (Damaged sector)) = 4
+fault_status (Store fault) = store_status fault
+fault_status (Joining fault) = join_status fault
 fault_status _ = 3

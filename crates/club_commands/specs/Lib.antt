@@ -14,3 +14,4 @@ pub mod Web
 pub mod Works
 pub mod Evening
 pub mod Run
+pub mod PairWeb

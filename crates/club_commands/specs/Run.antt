@@ -1,12 +1,13 @@
 -- What stands on the program's streams once a command was done, and at a fault.
-use Rattle.std.specs.Prelude.{◌≡◌, ◌≢◌, ◌⊎◌, ◌++◌, [], ℕ, List, map, codes, MatchResult}
+use Rattle.std.specs.Prelude.{◌≡◌, ◌≢◌, ◌⊎◌, ◌++◌, [], ℕ, List, map, codes, MatchResult, Option, Some, None}
 use Rattle.club_commands.specs.Basis.{Bor, Stream, TakesPrefix, IsUntouched, ServeFault, StreamFault, NoMemory, Ranking, Games}
 use Rattle.clap.specs.Words.{fault_of}
 use Rattle.bridge_cards.specs.Board.{dealer_of}
 use Rattle.auction_command.specs.Heard.{AnswersAll, StopsAt}
 use Rattle.command_line.specs.Words.{club_app, AsksCommand}
+use Rattle.command_line.specs.declared.command.WebHost.{WebHost}
 use Rattle.command_line.specs.declared.command.Command.{Command}
-use Rattle.command_line.specs.declared.command.Command.TheVariants.{Auction, Format, Script, Correct, Serve, Web, Rank, Pbn, Results, Export, Check, Plan, Draft, Slips, Evening, Makeable, Version}
+use Rattle.command_line.specs.declared.command.Command.TheVariants.{Auction, Format, Script, Correct, Serve, Web, Rank, Pbn, Results, Export, Check, Plan, Draft, Slips, Evening, Makeable, Copy, Version}
 use Rattle.command_line.specs.declared.command.WordsFault.{WordsFault}
 use Rattle.command_line.specs.declared.command.WordsFault.TheVariants.{Usage, Memory}
 use Rattle.table_pages.specs.declared.page_texts.PageTexts.{PageTexts}
@@ -20,8 +21,9 @@ use Rattle.club_commands.specs.Evening.{HasEvening}
 use Rattle.club_commands.specs.Evenings.{HasDrafted, HasPlanned, HasSlips}
 use Rattle.club_commands.specs.Listed.{WithList}
 use Rattle.club_commands.specs.MakeableDeals.{HasMade}
+use Rattle.club_commands.specs.PairWeb.{ShowsTwoListed}
 use Rattle.club_commands.specs.Ended.{Ended, Writes, store_line, fault_line, fault_status}
-use Rattle.club_commands.specs.Works.{HasWorked, HasFormatted, HasListed}
+use Rattle.club_commands.specs.Works.{HasCopied, HasWorked, HasFormatted, HasListed}
 
 -- the output of a board's auction is written for what was read of the input, all or up to a fault of the streams
 abbrev pub HoldsAuction : ℕ → Stream → Stream → Ended → Type 0
@@ -32,6 +34,11 @@ HoldsAuction board input output ended = MatchResult ended (λ _. AnswersAll (dea
 abbrev pub version_line : List ℕ
 version_line = (((codes "bridge_club " ++ VERSION.now) ++ codes ", proved with ") ++ KIT.now) ++ codes "\n"
 
+-- pages of these texts are shown over the session that a disk holds, or that two do
+abbrev pub RunsWeb : PageTexts → Bor (List ℕ) → WebHost → ℕ → Option (Bor (List ℕ)) → Option (Bor (List ℕ)) → Stream → Stream → Ended → Type 0
+RunsWeb texts disk host minutes names None input output ended = WithList (HasListed (listed.Pages texts host minutes disk Refused)) names input output ended
+RunsWeb texts disk host minutes names (Some copy) input output ended = ShowsTwoListed texts host output ended names × IsUntouched input
+
 -- what a command of a program with these pages read from standard input and wrote to standard output, and how it ended
 abbrev pub Runs : PageTexts → Command → Stream → Stream → Ended → Type 0
 Runs texts (Auction board) input output ended = HoldsAuction board input output ended
@@ -39,7 +46,7 @@ Runs texts (Format disk config) input output ended = HasFormatted input output e
 Runs texts (Script disk) input output ended = HasWorked input output ended (work.Serve (service.Input Protocol))
 Runs texts (Correct disk) input output ended = HasWorked input output ended (work.Serve (service.Input Corrections))
 Runs texts (Serve disk port count) input output ended = HasWorked input output ended (work.Serve (service.Connections port count))
-Runs texts (Web disk host minutes names) input output ended = WithList (HasListed (listed.Pages texts host minutes disk Refused)) names input output ended
+Runs texts (Web disk host minutes names copy) input output ended = RunsWeb texts disk host minutes names copy input output ended
 Runs texts (Rank disk) input output ended = HasWorked input output ended (work.Tell Ranking)
 Runs texts (Pbn disk) input output ended = HasWorked input output ended (work.Tell Games)
 Runs texts (Results disk html names) input output ended = WithList (HasListed (listed.Results html)) names input output ended
@@ -50,6 +57,7 @@ Runs texts (Draft names wishes) input output ended = HasDrafted wishes output en
 Runs texts (Slips config slips) input output ended = HasSlips slips output ended × IsUntouched input
 Runs texts (Evening words) input output ended = HasEvening texts words input output ended
 Runs texts (Makeable file pbn) input output ended = HasMade pbn output ended × IsUntouched input
+Runs texts (Copy disk copy) input output ended = HasCopied input output ended
 Runs texts Version input output ended = Writes output version_line ended × IsUntouched input
 
 -- How a command ended, and with which exit status: it was done, and nothing stands on standard error; or it stopped at a fault,

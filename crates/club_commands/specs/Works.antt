@@ -1,7 +1,7 @@
 -- What commands do over a disk in a file.
 use Rattle.std.specs.Prelude.{◌≡◌, ◌⊎◌, codes, Option, None, Result, Ok, Err, IsSomeAnd, MatchResult}
 use Rattle.club_commands.specs.Basis.{Bor, Stream, IsUntouched, Disk, Image, Rose, file_disk, session_keeping}
-use Rattle.club_commands.specs.Basis.{StoreFault, DiskFault, NoMemory, SessionValue, RefusesDisk, ClubDisk, ClubStore, Over, RunFault, Store}
+use Rattle.club_commands.specs.Basis.{StoreFault, DiskFault, NoMemory, SessionValue, RefusesDisk, RefusesReading, header_in, ClubDisk, ClubStore, Over, RunFault, Store}
 use Rattle.sector_disk.specs.Runs.{Remains}
 use Rattle.session_store.specs.Layout.{sector_count}
 use Rattle.session_store.specs.Base.{HasEpoch}
@@ -9,7 +9,7 @@ use Rattle.session_store.specs.Sound.{IsSoundDisk, StandsOnlyFor}
 use Rattle.bridge_results.specs.ShownPairs.{Names}
 use Rattle.club_disk.specs.declared.access.Access.{Access}
 use Rattle.club_disk.specs.declared.access.Access.TheVariants as access
-use Rattle.club_disk.specs.Stored.{Leads}
+use Rattle.club_disk.specs.Stored.{Leads, ReadsSession}
 use Rattle.club_commands.specs.declared.work.Service.{Service}
 use Rattle.club_commands.specs.declared.work.Service.TheVariants.{Input, Connections, Pages}
 use Rattle.club_commands.specs.declared.work.Listed.{Listed}
@@ -47,14 +47,22 @@ Formats made left session output ended = (file_disk.count made ≡ sector_count)
     × ((IsFormattedAs file_disk made left session × Writes output (codes "formatted\n") ended)
     ⊎ (Rose (file_disk.faults made) (file_disk.faults left) × (ended ≡ Err (Store DiskFault)) × IsUntouched output))
 
+-- a disk was read, and holds this session
+abbrev pub IsRead : SessionValue → Type 0
+IsRead session = (d : ClubDisk) × (left : ClubDisk) × ReadsSession file_disk d left session
+
+-- none was found, or it was read, and holds none
+abbrev pub IsUnread : StoreFault → Type 0
+IsUnread cause = (cause ≡ DiskFault) ⊎ ((d : ClubDisk) × (left : ClubDisk) × RefusesReading file_disk header_in d left cause)
+
 -- over what a work did to the streams and how it ended
 module _ (input output : Stream) (ended : Ended) where
   -- lines were answered, from the store that opening gave to the last, up to the end or a fault
   abbrev pub Serves : Service → ClubStore → ClubStore → Type 0
   Serves (Input set) start last = Scripts file_disk set start last input output ended
   Serves (Connections port count) start last = ServesPort count start last ended × IsUntouched input × IsUntouched output
-  Serves (Pages texts host minutes disk misfit names) start last =
-      ShowsListed texts host output ended misfit names start last × IsUntouched input
+  Serves (Pages shown disk) start last =
+      ShowsListed shown.texts shown.host output ended shown.misfit shown.names start last × IsUntouched input
 
   -- that is the fault, and nothing was read or written
   abbrev pub IsNothingDone : StoreFault → Type 0
@@ -93,10 +101,16 @@ module _ (input output : Stream) (ended : Ended) where
   HasFormatted = ((session : Bor SessionValue) × OfFile (Begins (Ok session.now)) × HasWorked (Format session))
       ⊎ ((fault : RunFault) × OfFile (Begins (Err fault)) × (ended ≡ Err fault) × IsUntouched input × IsUntouched output)
 
+  -- the session of a disk was read, and another disk was made to hold it; or there is none, and nothing was done
+  abbrev pub HasCopied : Type 0
+  HasCopied = ((session : Bor SessionValue) × IsRead session.now × HasWorked (Format session))
+      ⊎ ((cause : StoreFault) × IsUnread cause × IsNothingDone cause)
+
 -- what is done over a disk where names are shown
 abbrev pub work_with : Listed → Names → Work
 work_with (listed.Results html) names = Results html names
-work_with (listed.Pages texts host minutes disk misfit) names = Serve (Pages texts host minutes disk misfit names)
+work_with (listed.Pages texts host minutes disk misfit) names =
+    Serve (Pages (record { texts = texts; host = host; minutes = minutes; misfit = misfit; names = names }) disk)
 
 -- that was done with these names
 abbrev pub HasListed : Listed → Names → Stream → Stream → Ended → Type 0

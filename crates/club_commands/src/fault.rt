@@ -2,6 +2,7 @@
 use bridge_config::ConfigFault;
 use evening_commands::{EveningFault, NoRead};
 use makeable_deals::MakeableFault;
+use session_pair::JoinFault;
 use session_store::StoreFault;
 use table_server::ServeFault;
 
@@ -16,6 +17,15 @@ pub enum SystemFault {
     Random,
     /// The clock cannot be read.
     Clock,
+}
+
+/// Which of two disks of one session was lost.
+#[derive(Clone, Copy, Debug, PartialEq, Eq)]
+pub enum LostDisk {
+    /// The disk.
+    Disk,
+    /// The copy.
+    Copy,
 }
 
 /// Why a command stopped.
@@ -33,6 +43,10 @@ pub enum RunFault {
     Makeable(MakeableFault),
     /// The disk is refused or has failed, or memory is refused.
     Store(StoreFault),
+    /// The session was not opened on two disks.
+    Joining(JoinFault),
+    /// One of two disks was lost, and the session went on in the other.
+    Lost(LostDisk),
 }
 
 impl From<ServeFault> for RunFault {

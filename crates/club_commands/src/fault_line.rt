@@ -1,11 +1,12 @@
 //! The line of standard error and the exit status that a fault has.
 ghost use Rattle.std.specs.Prelude.{◌≡◌};
-ghost use Rattle.club_commands.specs.Ended.{stream_line, store_line, fault_line, fault_status};
+ghost use Rattle.club_commands.specs.Ended.{stream_line, store_line, copy_line, join_line, lost_line, fault_line, fault_status, store_status, join_status};
 
-use crate::fault::RunFault;
+use crate::fault::{LostDisk, RunFault};
 use evening_commands::{FaultLine, config_line, evening_line, line_of};
 use itoa::Buffer;
 use makeable_deals::makeable_line;
+use session_pair::JoinFault;
 use session_store::StoreFault;
 use table_server::ServeFault;
 
@@ -29,12 +30,24 @@ pub fn fault_status(fault: RunFault) -> u8
         RunFault::Evening(_) => FAULT,
         RunFault::Makeable(_) => FAULT,
         RunFault::Store(fault) => store_status(fault),
+        RunFault::Joining(fault) => join_status(fault),
+        RunFault::Lost(_) => FAULT,
+    }
+}
+
+/// The exit status where a session was not opened on two disks: what the disk itself has, and else 3.
+fn join_status(fault: JoinFault) -> u8
+    ensures { result ≡ join_status fault }
+{
+    match fault {
+        JoinFault::Disk(fault) => store_status(fault),
+        JoinFault::Copy(_) | JoinFault::OtherSession | JoinFault::OtherPlays => FAULT,
     }
 }
 
 /// The exit status where the disk is refused or has failed, or memory is refused.
 fn store_status(fault: StoreFault) -> u8
-    ensures { result ≡ fault_status (RunFault.Store fault) }
+    ensures { result ≡ store_status fault }
 {
     match fault {
         StoreFault::TooSmall | StoreFault::NotFormatted | StoreFault::Damaged(_) => NO_SESSION,
@@ -53,7 +66,55 @@ pub fn fault_line(fault: RunFault) -> FaultLine
         RunFault::Evening(fault) => evening_line(fault),
         RunFault::Makeable(fault) => makeable_line(fault),
         RunFault::Store(fault) => store_line(fault),
+        RunFault::Joining(fault) => join_line(fault),
+        RunFault::Lost(lost) => lost_line(lost),
     }
+}
+
+/// The line where a session was not opened on two disks.
+fn join_line(fault: JoinFault) -> FaultLine
+    ensures { result.bytes ≡ join_line fault }
+{
+    match fault {
+        JoinFault::Disk(fault) => store_line(fault),
+        JoinFault::Copy(fault) => copy_line(fault),
+        JoinFault::OtherSession => line_of("copy: another session\n"),
+        JoinFault::OtherPlays => line_of("copy: different plays\n"),
+    }
+}
+
+/// The line where one of two disks was lost.
+fn lost_line(lost: LostDisk) -> FaultLine
+    ensures { result.bytes ≡ lost_line lost }
+{
+    match lost {
+        LostDisk::Disk => line_of("disk lost\n"),
+        LostDisk::Copy => line_of("copy lost\n"),
+    }
+}
+
+/// The line where the copy gives no session.
+fn copy_line(fault: StoreFault) -> FaultLine
+    ensures { result.bytes ≡ copy_line fault }
+{
+    match fault {
+        StoreFault::TooSmall => line_of("copy: disk too small\n"),
+        StoreFault::Disk => line_of("copy: disk fault\n"),
+        StoreFault::NotFormatted => line_of("copy: not formatted\n"),
+        StoreFault::Damaged(sector) => damaged_copy_line(sector),
+        StoreFault::EpochsSpent => line_of("copy: epochs spent\n"),
+        StoreFault::NoMemory => line_of("copy: no memory\n"),
+    }
+}
+
+fn damaged_copy_line(sector: u32) -> FaultLine
+    ensures { result.bytes ≡ copy_line (StoreFault.Damaged sector) }
+{
+    let mut line = FaultLine::new();
+    line.push_str("copy: damaged sector ");
+    line.push_str(Buffer::new().format(sector));
+    line.push_str("\n");
+    line
 }
 
 fn stream_line(fault: ServeFault) -> FaultLine

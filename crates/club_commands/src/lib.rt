@@ -9,6 +9,8 @@
 
 mod check;
 mod config_file;
+mod copied;
+mod copying;
 mod counts;
 mod evening;
 mod evening_files;
@@ -24,6 +26,7 @@ mod makeable;
 mod on_disk;
 mod output;
 mod over_disk;
+mod pair_web;
 mod planning;
 mod printable;
 mod release;
@@ -40,8 +43,9 @@ mod work;
 
 pub use check::check_disk;
 pub use config_file::read_session;
-pub use fault::{RunFault, SystemFault};
+pub use fault::{LostDisk, RunFault, SystemFault};
 pub use machine::{Host, Machine};
+pub use pair_web::show_pair;
 pub use planning::plan_evening;
 pub use release::{KIT, VERSION};
 pub use run::{refuse, run_words_with, status_of};

@@ -2,17 +2,19 @@
 ghost use Rattle.line_text.specs.Streams.{stream};
 ghost use Rattle.table_server.specs.declared.line_set.LineSet.TheVariants.{Corrections};
 ghost use Rattle.club_commands.specs.Listed.{WithList};
+ghost use Rattle.club_commands.specs.Run.{RunsWeb};
 ghost use Rattle.club_commands.specs.Works.{HasListed, HasWorked};
 ghost use Rattle.club_commands.specs.declared.work.Listed.TheVariants.{Pages as ListedPages, Results as ListedResults};
 ghost use Rattle.club_commands.specs.declared.work.Misfit.TheVariants.{Refused};
 ghost use Rattle.club_commands.specs.declared.work.Service.TheVariants.{Connections, Input};
 ghost use Rattle.club_commands.specs.declared.work.Work.TheVariants.{Export, Serve, Tell};
 
+use crate::copied::{TwoDisks, show_copied};
 use crate::fault::RunFault;
 use crate::listed::run_listed;
 use crate::machine::Machine;
 use crate::on_disk::run_over;
-use crate::work::{Listed, Misfit, Service, Told, Work};
+use crate::work::{Listed, Misfit, Service, Shown, Told, Work};
 use command_line::WebHost;
 use std::alloc::Global;
 use std::io::{Read, Write};
@@ -66,7 +68,7 @@ pub fn accept<S: Machine, R: Read, W: Write>(
 }
 
 /// Opens the session that the disk in a file holds, and shows its tables to browsers, with the names of a list where one is given.
-pub fn show_tables<S: Machine, R: Read, W: Write>(
+fn show_tables<S: Machine, R: Read, W: Write>(
     rt: &S,
     alloc: Global,
     texts: PageTexts,
@@ -88,6 +90,38 @@ pub fn show_tables<S: Machine, R: Read, W: Write>(
         misfit: Misfit::Refused,
     };
     run_listed(rt, alloc, disk, &pages, names, input, output)
+}
+
+/// The same, or over the session that the disks in two files hold.
+pub fn run_web<S: Machine, R: Read, W: Write>(
+    rt: &S,
+    alloc: Global,
+    texts: PageTexts,
+    disk: &str,
+    host: WebHost<'_>,
+    minutes: u16,
+    names: Option<&str>,
+    copy: Option<&str>,
+    input: &mut R,
+    output: &mut W,
+) -> Result<(), RunFault>
+    ensures { RunsWeb texts disk.entry host.entry minutes names.entry copy.entry (stream R.remaining input.old input.new)
+        (stream W.contents output.old output.new) result }
+{
+    match copy {
+        None => show_tables(rt, alloc, texts, disk, host, minutes, names, input, output),
+        Some(copy) => {
+            let shown = Shown {
+                texts,
+                host,
+                minutes,
+                misfit: Misfit::Refused,
+                names: None,
+            };
+            let disks = TwoDisks { disk, copy };
+            show_copied(rt, alloc, &shown, disks, names, output)
+        }
+    }
 }
 
 /// Reads the session that the disk in a file holds, and writes its results as a page, with the names of a list likewise.

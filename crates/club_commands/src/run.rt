@@ -5,6 +5,7 @@ ghost use Rattle.line_replies.specs.declared.fault.ServeFault.TheVariants.{Read 
 ghost use Rattle.club_commands.specs.Ended.{stream_line, store_line, fault_line, fault_status};
 ghost use Rattle.club_commands.specs.Run.{HoldsAuction, Runs, EndsWith, RefusesWords, IsUsage, HasRun, HasFailed};
 
+use crate::copying::run_copy;
 use crate::evening::run_evening;
 use crate::evenings::{make_draft, make_plan, make_slips};
 use crate::fault::RunFault;
@@ -13,7 +14,7 @@ use crate::formatting::run_format;
 use crate::machine::Machine;
 use crate::makeable::write_makeable;
 use crate::on_disk::run_over;
-use crate::over_disk::{accept, correct, export, serve_set, show_tables, tell, write_page};
+use crate::over_disk::{accept, correct, export, run_web, serve_set, tell, write_page};
 use crate::printable::Printable;
 use crate::version::run_version;
 use crate::work::{Told, Work};
@@ -124,7 +125,10 @@ fn do_command<S: Machine, R: Read, W: Write>(
             host,
             minutes,
             names,
-        } => show_tables(rt, alloc, texts, disk, host, minutes, names, input, output),
+            copy,
+        } => run_web(
+            rt, alloc, texts, disk, host, minutes, names, copy, input, output,
+        ),
         Command::Rank { disk } => tell(rt, alloc, disk, Told::Ranking, input, output),
         Command::Pbn { disk } => tell(rt, alloc, disk, Told::Games, input, output),
         Command::Results { disk, html, names } => write_page(
@@ -137,6 +141,7 @@ fn do_command<S: Machine, R: Read, W: Write>(
         Command::Slips { config, slips } => make_slips(rt, config, &slips, output),
         Command::Evening(words) => run_evening(rt, alloc, texts, &words, input, output),
         Command::Makeable { file, pbn } => write_makeable(rt, alloc, pbn, file, output),
+        Command::Copy { disk, copy } => run_copy(rt, alloc, disk, copy, input, output),
         Command::Version => run_version(output),
     }
 }

@@ -1,5 +1,5 @@
 //! Lines answered over the session that a disk holds, which is opened for it.
-ghost use Rattle.std.specs.Prelude.{◌≡◌, [], false, Err, MatchResult};
+ghost use Rattle.std.specs.Prelude.{◌≡◌, [], false, Err, MatchResult, ◌*◌};
 ghost use Rattle.line_text.specs.Streams.{stream};
 ghost use Rattle.sector_disk.specs.File.{file_disk};
 ghost use Rattle.club_commands.specs.declared.fault.SystemFault.TheVariants.{Listener};
@@ -10,7 +10,7 @@ use crate::fault::{RunFault, SystemFault};
 use crate::machine::Host;
 use crate::script::serve_store;
 use crate::serving::serve_connections;
-use crate::web::{Shown, show_over};
+use crate::web::show_over;
 use crate::work::Service;
 use bridge_endings::Cache;
 use club_disk::{ClubDisk, ClubStore, Left, open_session, with_disk};
@@ -76,25 +76,18 @@ fn serve_with<S: Host, R: Read, W: Write>(
             let ended = listen(rt, port, count, &mut store, &mut cache);
             with_disk(store, ended)
         }
-        Service::Pages {
-            texts,
-            host,
-            minutes,
-            disk,
-            misfit,
-            names,
-        } => {
-            let desk = Desk::new(60 * u32::from(minutes), disk);
-            let shown = Shown {
-                texts,
-                host,
-                minutes,
-                misfit,
-                names,
-            };
+        Service::Pages { shown, disk } => {
+            let desk = Desk::new(seconds_of(shown.minutes), disk);
             show_over(rt, alloc, &shown, store, cache, desk, output)
         }
     }
+}
+
+/// The seconds of so many minutes.
+fn seconds_of(minutes: u16) -> u32
+    ensures { result ≡ 60 * minutes }
+{
+    60 * u32::from(minutes)
 }
 
 /// Serves the lines of so many connections over a store, where there is a listener. What was found is handed in, since only so

@@ -1,5 +1,5 @@
 //! Pages for browsers, as the command `web` shows them.
-ghost use Rattle.std.specs.Prelude.{◌≡◌, ◌≤◌, [], false, length, string_bytes, OnOk, IfOk, IfErr, IfSome};
+ghost use Rattle.std.specs.Prelude.{true, ◌≡◌, ◌≤◌, [], false, length, string_bytes, OnOk, IfOk, IfErr, IfSome};
 ghost use Rattle.line_text.specs.Streams.{stream};
 ghost use Rattle.table_pages.specs.Site.{site_of};
 ghost use Rattle.club_commands.specs.declared.fault.RunFault.TheVariants.{System};
@@ -13,7 +13,7 @@ use crate::listed::refuse_list;
 use crate::listening::{listen_at, listening_line, names_of};
 use crate::machine::Host;
 use crate::output::write_output;
-use crate::work::Misfit;
+use crate::work::{Misfit, Shown};
 use bridge_endings::Cache;
 use bridge_session::Session;
 use club_disk::{ClubDisk, ClubStore, Left, with_disk};
@@ -28,7 +28,9 @@ use std::hash::RandomState;
 use std::io::{self, Write};
 use std::net::{Net, TcpListener, TcpStream};
 use std::time::Clock;
-use table_pages::{HostNames, PageTexts, Seconds, ServerClock, TablePages, show_minutes};
+use table_pages::{
+    HostNames, LineServer, PageTexts, Seconds, ServerClock, TablePages, show_minutes,
+};
 
 /// How the showing of pages ended, by whether the store has failed and by what the clock answered, which are handed in, since
 /// only so a clause can say what comes of them.
@@ -107,29 +109,28 @@ fn listen_and_show<N: Host, W: Write, K: Seconds>(
     show_heard(rt, alloc, listen_at(rt, host), minutes, line, pages, output)
 }
 
-/// The pages of these texts over a store, by this clock, with the lines of the players' names and what stands beside its session,
-/// where players are told of other tables or not.
-fn pages_over<K: Seconds>(
+/// The pages of these texts over what answers lines, by this clock, with the lines of the players' names and what stands beside the
+/// session, where players are told of other tables or not.
+pub fn pages_over<L: LineServer, K: Seconds>(
     alloc: Global,
     names: HostNames,
     texts: PageTexts,
     people: Vec<u8>,
-    store: ClubStore,
+    server: L,
     cache: Cache,
     desk: Desk,
     open_boards: bool,
     clock: K,
-) -> TablePages<ClubStore, K>
-    requires works { store.failed ≡ false }
-    requires none_pending { store.pending ≡ [] }
-    ensures server { result.server ≡ store }
+) -> TablePages<L, K>
+    requires { L.is_ready server ≡ true }
+    ensures server { result.server ≡ server }
     ensures names { result.names ≡ names }
     ensures texts { result.texts ≡ texts }
     ensures people { result.people ≡ people }
     ensures open { result.is_open ≡ open_boards }
     ensures desk { result.desk ≡ desk }
 {
-    let mut pages = TablePages::new(alloc, names, texts, store, cache, desk, clock);
+    let mut pages = TablePages::new(alloc, names, texts, server, cache, desk, clock);
     pages.show_names(people);
     if open_boards {
         pages.open_boards();
@@ -137,23 +138,8 @@ fn pages_over<K: Seconds>(
     pages
 }
 
-/// What pages are shown, where, for how many minutes, and with which names in place of the configuration's.
-#[derive(Clone, Copy)]
-pub struct Shown<'a> {
-    /// What the pages are.
-    pub texts: PageTexts,
-    /// Where they are shown.
-    pub host: WebHost<'a>,
-    /// For how many minutes, from 1 to 1440.
-    pub minutes: u16,
-    /// What comes of a list with another number of pairs.
-    pub misfit: Misfit,
-    /// The names of a list.
-    pub names: Option<&'a [PairNames]>,
-}
-
 /// The lines that tell the names of the players of a store's session.
-fn people_of(
+pub fn people_of(
     alloc: Global,
     names: Option<&[PairNames]>,
     store: &ClubStore,
@@ -190,28 +176,12 @@ fn show_named<N: Host, W: Write>(
     let Ok(people) = people_of(alloc, shown.names, &store) else {
         return with_disk(store, Err(RunFault::Store(StoreFault::NoMemory)));
     };
+    let (host, texts, minutes) = (&shown.host, shown.texts, shown.minutes);
+    let open = host.open_boards;
     let clock = ServerClock::new(rt);
-    let open = shown.host.open_boards;
-    let mut pages = pages_over(
-        alloc,
-        names,
-        shown.texts,
-        people,
-        store,
-        cache,
-        desk,
-        open,
-        clock,
-    );
-    let ended = listen_and_show(
-        rt,
-        alloc,
-        &shown.host,
-        shown.minutes,
-        line.as_str(),
-        &mut pages,
-        output,
-    );
+    let mut pages = pages_over(alloc, names, texts, people, store, cache, desk, open, clock);
+    let line = line.as_str();
+    let ended = listen_and_show(rt, alloc, host, minutes, line, &mut pages, output);
     with_disk(pages.into_server(), ended)
 }
 

@@ -22,19 +22,26 @@ pub enum Service<'a> {
     },
     /// To browsers, by pages.
     Pages {
-        /// What the pages are.
-        texts: PageTexts,
-        /// Where the pages are shown.
-        host: WebHost<'a>,
-        /// For how many minutes, from 1 to 1440.
-        minutes: u16,
+        /// What is shown.
+        shown: Shown<'a>,
         /// The name of the disk's file, which the director is told.
         disk: &'a str,
-        /// What comes of a list with another number of pairs.
-        misfit: Misfit,
-        /// The names that are shown, in place of the configuration's.
-        names: Option<&'a [PairNames]>,
     },
+}
+
+/// What pages are shown, where, for how many minutes, and with which names in place of the configuration's.
+#[derive(Clone, Copy, Debug)]
+pub struct Shown<'a> {
+    /// What the pages are.
+    pub texts: PageTexts,
+    /// Where they are shown.
+    pub host: WebHost<'a>,
+    /// For how many minutes, from 1 to 1440.
+    pub minutes: u16,
+    /// What comes of a list with another number of pairs.
+    pub misfit: Misfit,
+    /// The names of a list.
+    pub names: Option<&'a [PairNames]>,
 }
 
 /// What comes of a list of names with another number of pairs than the session has.
@@ -82,14 +89,16 @@ impl<'a> Listed<'a> {
                 minutes,
                 disk,
                 misfit,
-            } => Work::Serve(Service::Pages {
-                texts,
-                host,
-                minutes,
-                disk,
-                misfit,
-                names,
-            }),
+            } => {
+                let shown = Shown {
+                    texts,
+                    host,
+                    minutes,
+                    misfit,
+                    names,
+                };
+                Work::Serve(Service::Pages { shown, disk })
+            }
         }
     }
 }

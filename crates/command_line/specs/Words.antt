@@ -7,7 +7,7 @@ use Rattle.clap.specs.Words.{App, Row, Rule, Text, new_app, new_rule, with_rule,
 use Rattle.clap.specs.declared.builder.action.ArgAction.TheVariants.{SetTrue}
 use Rattle.clap.specs.declared.builder.value_parser.ValueParser.TheVariants as parser
 use Rattle.command_line.specs.declared.command.Command.{Command}
-use Rattle.command_line.specs.declared.command.Command.TheVariants.{Auction, Format, Script, Correct, Serve, Web, Rank, Pbn, Results, Check, Plan, Draft, Slips, Evening, Makeable, Export, Version}
+use Rattle.command_line.specs.declared.command.Command.TheVariants.{Auction, Format, Script, Correct, Serve, Web, Rank, Pbn, Results, Check, Plan, Draft, Slips, Evening, Makeable, Export, Copy, Version}
 use Rattle.command_line.specs.declared.command.WebHost.{WebHost}
 use Rattle.command_line.specs.declared.command.DraftWords.{DraftWords}
 use Rattle.command_line.specs.declared.command.SlipWords.{SlipWords}
@@ -91,9 +91,17 @@ open_boards_rule = flag_rule (codes "open-boards")
 abbrev pub names_option_rule : Rule
 names_option_rule = option_rule (codes "names")
 
--- with those options and that flag or without
+-- the option `--copy DISK2`
+abbrev pub copy_rule : Rule
+copy_rule = option_rule (codes "copy")
+
+-- with an address and a name or none
+abbrev pub hosted_web_app : App
+hosted_web_app = with_rule (with_rule plain_web_app address_rule) name_rule
+
+-- with the other options and that flag or without
 abbrev pub web_app : App
-web_app = with_rule (with_rule (with_rule (with_rule plain_web_app address_rule) name_rule) open_boards_rule) names_option_rule
+web_app = with_rule (with_rule (with_rule hosted_web_app open_boards_rule) names_option_rule) copy_rule
 
 -- the command `rank DISK`
 abbrev pub rank_app : App
@@ -210,6 +218,14 @@ rankings_rule = flag_rule (codes "rankings")
 abbrev pub export_app : App
 export_app = with_rule (disk_app (codes "export")) rankings_rule
 
+-- the argument DISK2
+abbrev pub second_disk_rule : Rule
+second_disk_rule = record (new_rule (codes "DISK2")) { required = true }
+
+-- the command `copy DISK DISK2`
+abbrev pub copy_app : App
+copy_app = with_rule (disk_app (codes "copy")) second_disk_rule
+
 -- the command `version`
 abbrev pub version_app : App
 version_app = new_app (codes "version")
@@ -226,7 +242,7 @@ bare_app = record named_app { top = record named_app.top { no_binary_name = true
 abbrev pub command_apps : List App
 command_apps =
     auction_app ∷ format_app ∷ script_app ∷ serve_app ∷ web_app ∷ rank_app ∷ pbn_app ∷ results_app ∷ check_app ∷ plan_app
-    ∷ correct_app ∷ draft_app ∷ slips_app ∷ evening_app ∷ makeable_app ∷ export_app ∷ version_app ∷ []
+    ∷ correct_app ∷ draft_app ∷ slips_app ∷ evening_app ∷ makeable_app ∷ export_app ∷ copy_app ∷ version_app ∷ []
 
 -- a program with these commands, one after another
 abbrev pub with_commands : App → List App → App
@@ -286,8 +302,9 @@ HasWords rows (Script disk) = HasText rows (codes "DISK") disk.now
 HasWords rows (Correct disk) = HasText rows (codes "DISK") disk.now
 HasWords rows (Serve disk port count) = HasText rows (codes "DISK") disk.now
     × HasNumber 16 rows (codes "PORT") port × HasNumber 16 rows (codes "COUNT") count
-HasWords rows (Web disk host minutes names) = HasText rows (codes "DISK") disk.now
+HasWords rows (Web disk host minutes names copy) = HasText rows (codes "DISK") disk.now
     × HasHost rows host × HasNumber 16 rows (codes "MINUTES") minutes × HasOption rows (codes "names") names
+    × HasOption rows (codes "copy") copy
 HasWords rows (Rank disk) = HasText rows (codes "DISK") disk.now
 HasWords rows (Pbn disk) = HasText rows (codes "DISK") disk.now
 HasWords rows (Results disk html names) = HasText rows (codes "DISK") disk.now × HasFlag rows (codes "html") html
@@ -299,6 +316,7 @@ HasWords rows (Slips config slips) = HasText rows (codes "CONFIG") config.now ×
 HasWords rows (Evening words) = HasEvening rows words
 HasWords rows (Makeable file pbn) = HasText rows (codes "FILE") file.now × HasFlag rows (codes "pbn") pbn
 HasWords rows (Export disk rankings) = HasText rows (codes "DISK") disk.now × HasFlag rows (codes "rankings") rankings
+HasWords rows (Copy disk copy) = HasText rows (codes "DISK") disk.now × HasText rows (codes "DISK2") copy.now
 HasWords rows Version = Unit {0}
 
 -- the name of a command
@@ -308,7 +326,7 @@ name_of (Format disk config) = codes "format"
 name_of (Script disk) = codes "script"
 name_of (Correct disk) = codes "correct"
 name_of (Serve disk port count) = codes "serve"
-name_of (Web disk host minutes names) = codes "web"
+name_of (Web disk host minutes names copy) = codes "web"
 name_of (Rank disk) = codes "rank"
 name_of (Pbn disk) = codes "pbn"
 name_of (Results disk html names) = codes "results"
@@ -319,6 +337,7 @@ name_of (Slips config slips) = codes "slips"
 name_of (Evening words) = codes "evening"
 name_of (Makeable file pbn) = codes "makeable"
 name_of (Export disk rankings) = codes "export"
+name_of (Copy disk copy) = codes "copy"
 name_of Version = codes "version"
 
 -- the command of that name, with these arguments

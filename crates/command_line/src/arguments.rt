@@ -1,7 +1,7 @@
 //! The arguments of the commands, as they are declared to clap.
 ghost use Rattle.std.specs.Prelude.{◌≡◌, false};
 ghost use Rattle.clap.specs.Words.{rule_of};
-ghost use Rattle.command_line.specs.Words.{board_rule, disk_rule, config_rule, file_rule, port_rule, count_rule, minutes_rule, address_rule, name_rule, open_boards_rule, html_rule, rankings_rule, pbn_rule};
+ghost use Rattle.command_line.specs.Words.{board_rule, disk_rule, second_disk_rule, config_rule, file_rule, port_rule, count_rule, minutes_rule, address_rule, name_rule, open_boards_rule, copy_rule, html_rule, rankings_rule, pbn_rule};
 
 use clap::builder::ValueParser;
 use clap::{Arg, ArgAction};
@@ -14,6 +14,16 @@ pub fn disk_argument<'a>(alloc: Global) -> Arg<'a>
 {
     Arg::new(alloc, "DISK")
         .help("The file that is the disk")
+        .required(true)
+}
+
+/// The argument DISK2.
+pub fn second_disk_argument<'a>(alloc: Global) -> Arg<'a>
+    ensures rule { rule_of result ≡ second_disk_rule }
+    ensures local { result.global ≡ false }
+{
+    Arg::new(alloc, "DISK2")
+        .help("The file that is the second disk")
         .required(true)
 }
 
@@ -138,6 +148,18 @@ pub fn open_boards_argument<'a>(alloc: Global) -> Arg<'a>
             "Players see what other tables did on the boards that they have finished, from the start",
         )
         .action(ArgAction::SetTrue)
+}
+
+/// The option `--copy`.
+pub fn copy_argument<'a>(alloc: Global) -> Arg<'a>
+    ensures rule { rule_of result ≡ copy_rule }
+    ensures local { result.global ≡ false }
+{
+    Arg::new(alloc, "copy")
+        .long("copy")
+        .value_name("DISK2")
+        .help("A second file that keeps the same session")
+        .value_parser(ValueParser::NonEmptyString)
 }
 
 /// The argument BOARD.

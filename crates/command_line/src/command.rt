@@ -33,8 +33,8 @@ pub enum Command<'a> {
         /// COUNT, from 1 to 1000.
         count: u16,
     },
-    /// `web DISK PORT MINUTES [--address IP] [--name HOST] [--open-boards] [--names NAMES]`: pages for browsers, for so many
-    /// minutes, over the session that a disk holds.
+    /// `web DISK PORT MINUTES [--address IP] [--name HOST] [--open-boards] [--names NAMES] [--copy DISK2]`: pages for browsers,
+    /// for so many minutes, over the session that a disk holds, or that two do.
     Web {
         /// DISK, the name of the disk's file.
         disk: &'a str,
@@ -44,6 +44,8 @@ pub enum Command<'a> {
         minutes: u16,
         /// The file with the names as people write them, in place of the configuration's names.
         names: Option<&'a str>,
+        /// DISK2, the name of the file of a second disk that keeps the same session.
+        copy: Option<&'a str>,
     },
     /// `rank DISK`: the ranking of each field of the session that a disk holds.
     Rank {
@@ -109,6 +111,13 @@ pub enum Command<'a> {
         disk: &'a str,
         /// Whether `--rankings` is among the words.
         rankings: bool,
+    },
+    /// `copy DISK DISK2`: a new disk for the session that a disk holds.
+    Copy {
+        /// DISK, the name of the disk's file.
+        disk: &'a str,
+        /// DISK2, the name of the new disk's file.
+        copy: &'a str,
     },
     /// `version`: the program's name, its version, and the kit that proved it.
     Version,

@@ -2,12 +2,12 @@
 ghost use Rattle.std.specs.Prelude.{◌≡◌, IfOk, false};
 ghost use Rattle.clap.specs.Words.{app_of, shape_of};
 ghost use Rattle.clap.specs.declared.builder.command.Command.TheViews.{out-Command as fields_of};
-ghost use Rattle.command_line.specs.Words.{auction_app, format_app, script_app, serve_app, plain_web_app, web_app, rank_app, pbn_app, results_app, check_app, plan_app, correct_app, bare_app, makeable_app, export_app, version_app, club_app};
+ghost use Rattle.command_line.specs.Words.{auction_app, format_app, script_app, serve_app, plain_web_app, hosted_web_app, web_app, rank_app, pbn_app, results_app, check_app, plan_app, correct_app, bare_app, makeable_app, export_app, copy_app, version_app, club_app};
 
 use crate::arguments::{
-    address_argument, board_argument, config_argument, count_argument, disk_argument,
-    file_argument, html_argument, minutes_argument, name_argument, open_boards_argument,
-    pbn_argument, port_argument, rankings_argument,
+    address_argument, board_argument, config_argument, copy_argument, count_argument,
+    disk_argument, file_argument, html_argument, minutes_argument, name_argument,
+    open_boards_argument, pbn_argument, port_argument, rankings_argument, second_disk_argument,
 };
 use crate::evening_arguments::names_option;
 use crate::evening_declaration::{draft_command, evening_command, slips_command};
@@ -34,6 +34,7 @@ pub fn club_command<'a>(alloc: Global) -> Result<clap::Command<'a>, AllocError>
         .subcommand(evening_command(alloc)?)?
         .subcommand(makeable_command(alloc)?)?
         .subcommand(export_command(alloc)?)?
+        .subcommand(copy_command(alloc)?)?
         .subcommand(version_command(alloc))
 }
 
@@ -67,6 +68,17 @@ fn format_command<'a>(alloc: Global) -> Result<clap::Command<'a>, AllocError>
         .about("Makes the file DISK anew, for the session that begins by a configuration")
         .arg(disk_argument(alloc))?
         .arg(config_argument(alloc))
+}
+
+/// The command `copy DISK DISK2`.
+fn copy_command<'a>(alloc: Global) -> Result<clap::Command<'a>, AllocError>
+    ensures shape { IfOk result (λ command. shape_of command ≡ copy_app.top) }
+    ensures local { IfOk result (λ command. (fields_of command).has_globals ≡ false) }
+{
+    clap::Command::new(alloc, "copy")
+        .about("Makes the file DISK2 anew, for the session on a disk")
+        .arg(disk_argument(alloc))?
+        .arg(second_disk_argument(alloc))
 }
 
 /// The command `script DISK`.
@@ -103,16 +115,26 @@ fn serve_command<'a>(alloc: Global) -> Result<clap::Command<'a>, AllocError>
         .arg(count_argument(alloc))
 }
 
-/// The command `web DISK PORT MINUTES`, with an address, a name and a list of names or none, and with the boards open or not.
+/// The command `web DISK PORT MINUTES`, with an address, a name, a list of names and a second disk or none, and with the boards
+/// open or not.
 fn web_command<'a>(alloc: Global) -> Result<clap::Command<'a>, AllocError>
     ensures shape { IfOk result (λ command. shape_of command ≡ web_app.top) }
     ensures local { IfOk result (λ command. (fields_of command).has_globals ≡ false) }
 {
+    hosted_web_command(alloc)?
+        .arg(open_boards_argument(alloc))?
+        .arg(names_option(alloc))?
+        .arg(copy_argument(alloc))
+}
+
+/// The command `web DISK PORT MINUTES`, with an address and a name or none.
+fn hosted_web_command<'a>(alloc: Global) -> Result<clap::Command<'a>, AllocError>
+    ensures shape { IfOk result (λ command. shape_of command ≡ hosted_web_app.top) }
+    ensures local { IfOk result (λ command. (fields_of command).has_globals ≡ false) }
+{
     plain_web_command(alloc)?
         .arg(address_argument(alloc))?
-        .arg(name_argument(alloc))?
-        .arg(open_boards_argument(alloc))?
-        .arg(names_option(alloc))
+        .arg(name_argument(alloc))
 }
 
 /// The command `web DISK PORT MINUTES`.

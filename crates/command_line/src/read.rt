@@ -56,6 +56,7 @@ fn asked<'a>(matches: &ArgMatches<'a>) -> Option<Command<'a>>
         ("evening", found) => evening_of(found),
         ("makeable", found) => makeable_of(found),
         ("export", found) => export_of(found),
+        ("copy", found) => copy_of(found),
         ("version", _) => Some(Command::Version),
         // clap's checks leave no other name. The contract allows the answer of memory refused alone here.
         _ => None,
@@ -77,6 +78,15 @@ fn format_of<'a>(found: &ArgMatches<'a>) -> Option<Command<'a>>
     let disk = found.get_str("DISK")?;
     let config = found.get_str("CONFIG")?;
     Some(Command::Format { disk, config })
+}
+
+/// The command `copy` with its disks.
+fn copy_of<'a>(found: &ArgMatches<'a>) -> Option<Command<'a>>
+    ensures { IfSome result (IsNamed (codes "copy") (rows_of (found_of found.now))) }
+{
+    let disk = found.get_str("DISK")?;
+    let copy = found.get_str("DISK2")?;
+    Some(Command::Copy { disk, copy })
 }
 
 /// The command `script` with its disk.
@@ -105,7 +115,7 @@ fn serve_of<'a>(found: &ArgMatches<'a>) -> Option<Command<'a>>
     Some(Command::Serve { disk, port, count })
 }
 
-/// The command `web` with its disk, its numbers and its list of names.
+/// The command `web` with its disk, its numbers, its list of names and its second disk.
 fn web_of<'a>(found: &ArgMatches<'a>) -> Option<Command<'a>>
     ensures { IfSome result (IsNamed (codes "web") (rows_of (found_of found.now))) }
 {
@@ -113,11 +123,13 @@ fn web_of<'a>(found: &ArgMatches<'a>) -> Option<Command<'a>>
     let host = host_of(found)?;
     let minutes = number_of(found, "MINUTES")?;
     let names = option_of(found, "names");
+    let copy = option_of(found, "copy");
     Some(Command::Web {
         disk,
         host,
         minutes,
         names,
+        copy,
     })
 }
 

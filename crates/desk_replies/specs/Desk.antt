@@ -20,6 +20,10 @@ new_desk ends disk = record {
   statements = replicate 12 None;
 }
 
+-- the same beside a session on another disk
+abbrev pub with_disk : Desk → List ℕ → Desk
+with_disk desk disk = record desk { disk = plain_text_of 1 200 disk }
+
 -- the call of a table, if there is one
 abbrev pub call_at : Desk → ℕ → Option TableCall
 call_at desk table = unwrap_or (slice_get desk.calls (table - 1)) None

@@ -2,7 +2,7 @@
 ghost use Rattle.std.specs.Prelude.{◌≡◌, ◌<◌, ◌-◌, length, Some, None};
 ghost use Rattle.std.specs.Option.{option_copied};
 ghost use Rattle.session_rules.specs.Numbers.{IsTableNumber};
-ghost use Rattle.desk_replies.specs.Desk.{new_desk, call_at, statement_at, is_soon, with_notice, without_notice, with_clock, set_call, with_call, is_said_with, with_statement};
+ghost use Rattle.desk_replies.specs.Desk.{with_disk, new_desk, call_at, statement_at, is_soon, with_notice, without_notice, with_clock, set_call, with_call, is_said_with, with_statement};
 
 use crate::plain_text::{MOST_CHARACTERS, PlainText};
 use bridge_cards::Seat;
@@ -101,6 +101,13 @@ impl Desk {
                 None, None, None, None, None, None, None, None, None, None, None, None,
             ],
         }
+    }
+
+    /// From now on the session's disk has this name.
+    pub fn name_disk(&mut self, disk: &str)
+        ensures { self.new ≡ with_disk self.old disk.now }
+    {
+        self.disk = PlainText::read(1, MOST_CHARACTERS, disk.as_bytes());
     }
 
     /// The calls of all tables, by the tables' numbers.

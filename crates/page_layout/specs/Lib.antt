@@ -1,3 +1,4 @@
 pub mod Html
 pub mod Table
+pub mod Linked
 pub mod Page

@@ -8,7 +8,7 @@ use crate::format::{Align, Column, Content, Format};
 use crate::text::{PAGE_BYTES, PageText, push_blanks, push_bytes};
 
 /// The class of a cell at that side, with the end of its tag.
-fn align_class(align: Align) -> &'static [u8]
+pub(crate) fn align_class(align: Align) -> &'static [u8]
     ensures text { result.now ≡ align_class align }
     ensures short { length result.now ≤ 11 }
 {

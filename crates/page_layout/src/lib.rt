@@ -14,6 +14,7 @@ mod cell;
 pub mod columns;
 mod escape;
 mod format;
+mod linked;
 mod page;
 mod style;
 mod table;
@@ -22,7 +23,9 @@ mod tests;
 mod text;
 
 pub use block::{push_heading, push_paragraph};
+pub use escape::push_html;
 pub use format::{Align, Column, Content, Format, Level, Section};
+pub use linked::push_linked_row;
 pub use page::{push_page_end, push_page_start, push_section_end, push_section_start};
 pub use table::{push_row, push_table_end, push_table_start, push_titles};
 pub use text::{PAGE_BYTES, PageText, push_bytes};

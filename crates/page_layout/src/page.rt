@@ -10,9 +10,9 @@ use crate::text::{PAGE_BYTES, PageText, push_bytes};
 
 /// Adds what begins a page of that title: in HTML its head and its style, in plain text nothing.
 pub fn push_page_start(text: &mut PageText, format: Format, title: &[u8])
-    requires { array_vec_len text.old + (6144 + 31 * length title.now) ≤ PAGE_BYTES }
+    requires { array_vec_len text.old + (8192 + 31 * length title.now) ≤ PAGE_BYTES }
     ensures text { text.new.items ≡ text.old.items ++ page_start format title.now }
-    ensures room { array_vec_len text.new ≤ array_vec_len text.old + (6144 + 31 * length title.now) }
+    ensures room { array_vec_len text.new ≤ array_vec_len text.old + (8192 + 31 * length title.now) }
 {
     match format {
         Format::Plain => {}

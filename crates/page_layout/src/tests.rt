@@ -1,8 +1,8 @@
 //! A small page, as it was written by hand in either format, and what no page may hold.
 use super::style::{PAGE_START, PAGE_STYLE};
 use crate::{
-    Align, Column, Content, Format, Level, PageText, Section, push_heading, push_page_end,
-    push_page_start, push_paragraph, push_row, push_section_end, push_section_start,
+    Align, Column, Content, Format, Level, PageText, Section, push_heading, push_linked_row,
+    push_page_end, push_page_start, push_paragraph, push_row, push_section_end, push_section_start,
     push_table_end, push_table_start, push_titles,
 };
 
@@ -83,4 +83,15 @@ fn heads_of_pages_ask_for_nothing(rt: HostRuntime) {
     }
     assert!(&rt; start.starts_with(b"<!doctype html>\n"));
     assert!(&rt; style.ends_with(b"<body>\n"));
+}
+
+#[test]
+fn a_row_with_a_link(rt: HostRuntime) {
+    let mut text = PageText::new();
+    let targets = [b"".as_slice(), b"board-4", b""];
+    let cells = [b"-50".as_slice(), b"4HXX", b"D's <x>"];
+    push_linked_row(&mut text, &COLUMNS, &targets, &cells);
+    let wanted =
+        "<tr><td class=\"r\">-50</td><td><a href=\"#board-4\">4<span class=\"h\">&hearts;</span>XX</a></td><td>D&#39;s &lt;x&gt;</td></tr>\n";
+    assert!(&rt; text.as_slice() == wanted.as_bytes());
 }

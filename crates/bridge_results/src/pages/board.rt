@@ -26,7 +26,7 @@ use page_layout::{
 use std::io::{Error, Write};
 
 /// The heading of a board.
-fn board_words(board: BoardNumber) -> ArrayString<20>
+pub fn board_words(board: BoardNumber) -> ArrayString<20>
     ensures text { result.bytes ≡ board_words board }
     ensures short { length result.bytes ≤ 20 }
 {
@@ -37,7 +37,7 @@ fn board_words(board: BoardNumber) -> ArrayString<20>
 }
 
 /// The dealer and the vulnerability of a board.
-fn deal_words(board: BoardNumber) -> ArrayString<40>
+pub fn deal_words(board: BoardNumber) -> ArrayString<40>
     ensures text { result.bytes ≡ deal_words board }
     ensures short { length result.bytes ≤ 40 }
 {
@@ -183,7 +183,11 @@ fn write_lines<W: Write>(
 }
 
 /// Writes the hands of a board, once it is dealt.
-fn write_hands<W: Write>(format: Format, deal: Option<&Deal>, writer: &mut W) -> Result<(), Error>
+pub fn write_hands<W: Write>(
+    format: Format,
+    deal: Option<&Deal>,
+    writer: &mut W,
+) -> Result<(), Error>
     ensures { Written (stream W.contents writer.old writer.new) (hands_text format (option_copied deal.entry)) result }
 {
     match deal {
@@ -193,7 +197,7 @@ fn write_hands<W: Write>(format: Format, deal: Option<&Deal>, writer: &mut W) ->
 }
 
 /// Writes what ends the section of a board.
-fn write_end<W: Write>(format: Format, writer: &mut W) -> Result<(), Error>
+pub fn write_end<W: Write>(format: Format, writer: &mut W) -> Result<(), Error>
     ensures { Written (stream W.contents writer.old writer.new) (section_end format) result }
 {
     let mut text = PageText::new();

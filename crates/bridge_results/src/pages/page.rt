@@ -7,8 +7,9 @@ ghost use Rattle.bridge_ranking.specs.declared.field.Field.TheVariants.{First, S
 ghost use Rattle.page_layout.specs.Page.{page_end};
 ghost use Rattle.bridge_results.specs.EventText.{event_text};
 ghost use Rattle.bridge_results.specs.RankingText.{field_text};
-ghost use Rattle.bridge_results.specs.ResultsText.{ranked_text, rankings_text, front_text, sheets_text, named_page_text, IsFieldRanking, WritesPage, WritesNamedPage};
+ghost use Rattle.bridge_results.specs.ResultsText.{ranked_text, rankings_text, front_text, sheets_text, plain_page, IsFieldRanking, WritesPage, WritesNamedPage};
 
+use crate::html::write_html;
 use crate::pages::event::event_text;
 use crate::pages::ranking::write_field;
 use crate::pages::sheets::{write_board_sheet, write_card_sheet};
@@ -56,7 +57,7 @@ fn write_ranked<W: Write>(
 }
 
 /// Writes the head of the page.
-fn write_event<W: Write>(format: Format, config: &Config, writer: &mut W) -> Result<(), Error>
+pub fn write_event<W: Write>(format: Format, config: &Config, writer: &mut W) -> Result<(), Error>
     ensures { Written (stream W.contents writer.old writer.new) (event_text format config.now) result }
 {
     let text = event_text(format, config);
@@ -124,7 +125,6 @@ fn write_front<W: Write>(
 /// Writes the page with these rankings.
 #[tactic(auto, using(page_layout::proofs::Walk::then_written, page_layout::proofs::Walk::failed_before))]
 fn write_page<W: Write>(
-    format: Format,
     names: Option<&[PairNames]>,
     session: &Session,
     results: &Results<'_>,
@@ -133,10 +133,17 @@ fn write_page<W: Write>(
     writer: &mut W,
 ) -> Result<(), Error>
     requires { results.now ≡ session.now }
-    ensures { Written (stream W.contents writer.old writer.new) (named_page_text format names.entry session.now (option_map (λ ranked. ranked.items) first.now) (option_map (λ ranked. ranked.items) second.now)) result }
+    ensures { Written (stream W.contents writer.old writer.new) (plain_page names.entry session.now (option_map (λ ranked. ranked.items) first.now) (option_map (λ ranked. ranked.items) second.now)) result }
 {
-    write_front(format, names, session.config(), first, second, writer)?;
-    write_sheets(format, names, session, results, writer)
+    write_front(
+        Format::Plain,
+        names,
+        session.config(),
+        first,
+        second,
+        writer,
+    )?;
+    write_sheets(Format::Plain, names, session, results, writer)
 }
 
 /// Writes the results of the session as a page: the event, the ranking of each field, each board that was played with its
@@ -166,5 +173,8 @@ pub fn write_results_with<W: Write>(
     let results = Results::new(session);
     let first = results.ranking(Field::First);
     let second = results.ranking(Field::Second);
-    write_page(format, names, session, &results, &first, &second, writer)
+    match format {
+        Format::Plain => write_page(names, session, &results, &first, &second, writer),
+        Format::Html => write_html(names, session, &results, &first, &second, writer),
+    }
 }

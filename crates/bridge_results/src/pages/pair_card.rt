@@ -28,7 +28,7 @@ use std::io::{Error, Write};
 const HEADING_BYTES: usize = 342;
 
 /// The heading of a card: the pair's number and its names.
-fn pair_words(
+pub fn pair_words(
     names: Option<&[PairNames]>,
     pairs: &[PairFields],
     pair: u8,
@@ -75,7 +75,7 @@ fn write_head<W: Write>(
 }
 
 /// The letters of a side.
-fn side_words(side: Side) -> &'static [u8]
+pub fn side_words(side: Side) -> &'static [u8]
     ensures text { result.now ≡ side_words side }
     ensures short { length result.now ≤ 2 }
 {
@@ -86,7 +86,7 @@ fn side_words(side: Side) -> &'static [u8]
 }
 
 /// What the pair gained by a play that is not void.
-fn counted_gain(outcome: Outcome, gain: i32) -> Option<i32>
+pub fn counted_gain(outcome: Outcome, gain: i32) -> Option<i32>
     ensures { result ≡ counted_gain outcome gain }
 {
     match outcome {

@@ -122,7 +122,7 @@ fn field_words(field: Field) -> &'static [u8]
 }
 
 /// Adds the titles of a ranking.
-fn push_ranked_titles(text: &mut PageText, format: Format, scoring: Scoring)
+pub fn push_ranked_titles(text: &mut PageText, format: Format, scoring: Scoring)
     requires { length text.old.items ≤ 2000 }
     ensures { text.new.items ≡ text.old.items ++ ranked_titles format scoring }
 {
@@ -160,7 +160,7 @@ fn write_head<W: Write>(
 }
 
 /// Writes what stands after the rows of a ranking.
-fn write_end<W: Write>(format: Format, writer: &mut W) -> Result<(), Error>
+pub fn write_end<W: Write>(format: Format, writer: &mut W) -> Result<(), Error>
     ensures { Written (stream W.contents writer.old writer.new) (table_end format ++ section_end format) result }
 {
     let mut text = PageText::new();

@@ -17,7 +17,7 @@ pub returns-in-Serve : goal.returns-in-Serve
 returns-in-Serve g c = rw c.in-Serve.is c.accept.ensures
 
 pub returns-in-Web : goal.returns-in-Web
-returns-in-Web g c = rw c.in-Web.is c.show_tables.ensures
+returns-in-Web g c = rw c.in-Web.is c.run_web.ensures
 
 pub returns-in-Rank : goal.returns-in-Rank
 returns-in-Rank g c = rw c.in-Rank.is c.tell.ensures
@@ -48,6 +48,9 @@ returns-in-Evening g c = rw c.in-Evening.is c.run_evening.ensures
 
 pub returns-in-Makeable : goal.returns-in-Makeable
 returns-in-Makeable g c = rw c.in-Makeable.is (c.write_makeable.ensures, Keeps-refl _)
+
+pub returns-in-Copy : goal.returns-in-Copy
+returns-in-Copy g c = rw c.in-Copy.is c.run_copy.ensures
 
 pub returns-in-Version : goal.returns-in-Version
 returns-in-Version g c = rw c.in-Version.is (c.run_version.ensures, Keeps-refl _)

@@ -2,7 +2,7 @@ use Rattle.std.proofs.Common.{◌∙◌, ap}
 use Rattle.line_text.specs.Streams.{stream}
 use Rattle.table_pages.specs.Site.{site_of}
 use Rattle.club_disk.specs.Stored.{ClubStore}
-use Rattle.club_commands.proofs.Shown.{made_site, shows_over}
+use Rattle.club_commands.proofs.Shown.{made_site, settled_store, shows_over}
 use Rattle.club_commands.proofs.web.show_named.Goals as goal
 
 pub returns : goal.returns
@@ -17,3 +17,6 @@ returns g c =
     c.pages_over-pages.ensures.server c.with_disk-2.ensures.ended
     (c.with_disk-2.ensures.disk ∙ ap (λ (s : ClubStore). s.disk) c.into_server.ensures)
     c.listen_and_show-ended.ensures
+
+pub pages_over-pages-requires : goal.pages_over-pages-requires
+pages_over-pages-requires g c = settled_store c.args.store c.requires.works c.requires.none_pending

@@ -1,4 +1,4 @@
-use Rattle.command_line.specs.Words.{auction_app, format_app, script_app, serve_app, web_app, rank_app, pbn_app, results_app, check_app, plan_app, correct_app, draft_app, slips_app, evening_app, makeable_app, export_app, version_app}
+use Rattle.command_line.specs.Words.{auction_app, format_app, script_app, serve_app, web_app, rank_app, pbn_app, results_app, check_app, plan_app, correct_app, draft_app, slips_app, evening_app, makeable_app, export_app, copy_app, version_app}
 use Rattle.command_line.proofs.Adding.{adds, adds_last}
 use Rattle.command_line.proofs.declaration.club_command.Goals as goal
 
@@ -21,4 +21,5 @@ returns c =
     let with_evening = adds _ _ _ _ evening_app.top with_slips c.in_ok-evening_command.ensures.shape c.in_ok-evening_command.ensures.local c.in_ok-subcommand-14.ensures in
     let with_makeable = adds _ _ _ _ makeable_app.top with_evening c.in_ok-makeable_command.ensures.shape c.in_ok-makeable_command.ensures.local c.in_ok-subcommand-15.ensures in
     let with_export = adds _ _ _ _ export_app.top with_makeable c.in_ok-export_command.ensures.shape c.in_ok-export_command.ensures.local c.in_ok-subcommand-16.ensures in
-    adds_last _ _ c.subcommand-17.result _ version_app.top with_export c.version_command.ensures.shape c.version_command.ensures.local c.subcommand-17.ensures
+    let with_copy = adds _ _ _ _ copy_app.top with_export c.in_ok-copy_command.ensures.shape c.in_ok-copy_command.ensures.local c.in_ok-subcommand-17.ensures in
+    adds_last _ _ c.subcommand-18.result _ version_app.top with_copy c.version_command.ensures.shape c.version_command.ensures.local c.subcommand-18.ensures

@@ -11,5 +11,6 @@ returns c = (
     c.in_ok-host.ensures,
     c.in_ok-minutes.ensures,
     c.option_of-names.ensures,
+    c.option_of-copy.ensures,
   ),
 )

@@ -1,0 +1,12 @@
+use Rattle.page_layout.proofs.Walk.{failed_before}
+use Rattle.bridge_results.proofs.PageParts.{then_failed}
+use Rattle.bridge_results.proofs.html.page.write_html.Goals as goal
+
+pub returns-in_err-write_front : goal.returns-in_err-write_front
+returns-in_err-write_front g c =
+    failed_before _ _ _ _ _ c.from_residual.ensures.0 (rw c.config.ensures at c.in_err-write_front.ensures)
+
+pub returns-in_err-write_board_sheet : goal.returns-in_err-write_board_sheet
+returns-in_err-write_board_sheet g c =
+    then_failed _ _ _ _ _ _ _ c.from_residual-in_err-write_board_sheet.ensures.0 (rw c.config.ensures at c.in_ok-write_front.ensures)
+    c.in_err-write_board_sheet.ensures

@@ -1,0 +1,118 @@
+-- A board in HTML: its hands, its traveller, its frequencies, and how each table played it.
+use Rattle.std.specs.Prelude.{ℕ, Bool, true, false, List, [], ◌∷◌, ◌++◌, codes, flat_map, ℤ}
+use Rattle.std.specs.Option.{option_map}
+use Rattle.std.specs.Fmt.{decimal}
+use Rattle.bridge_cards.specs.declared.seat.Side.TheVariants.{NorthSouth}
+use Rattle.bridge_score.specs.declared.ranking.Scoring.{Scoring}
+use Rattle.bridge_score.specs.declared.ranking.Scoring.TheVariants.{MatchPoints, Imps}
+use Rattle.bridge_ranking.specs.Ranking.{games_of, scores_on, available_of}
+use Rattle.session_rules.specs.State.{SessionValue, deal_on}
+use Rattle.page_layout.specs.declared.format.Format.TheVariants.{Html}
+use Rattle.page_layout.specs.declared.format.Level.TheVariants as level
+use Rattle.page_layout.specs.Page.{heading_text, paragraph_text, section_end}
+use Rattle.page_layout.specs.Table.{title_row, table_end}
+use Rattle.page_layout.specs.Linked.{linked_row}
+use Rattle.bridge_results.specs.declared.compare.Comparison.{Comparison}
+use Rattle.bridge_results.specs.declared.traveller.BoardLine.{BoardLine}
+use Rattle.bridge_results.specs.declared.html.columns.TheConstants.{SHARE_LINE_COLUMNS, SUM_LINE_COLUMNS}
+use Rattle.bridge_results.specs.Frequencies.{frequencies_of}
+use Rattle.bridge_results.specs.PlayCells.{declarer_cell, score_cell, line_score}
+use Rattle.bridge_results.specs.BoardText.{board_words, deal_words, hands_text, side_gain, frequencies_text}
+use Rattle.bridge_results.specs.ShownPairs.{Names}
+use Rattle.bridge_results.specs.HtmlCells.{result_cell, perhaps_card, percent_cell}
+use Rattle.bridge_results.specs.HtmlLinks.{board_target, pair_target, play_target}
+use Rattle.bridge_results.specs.HtmlCourse.{course_on}
+
+-- what was available on a board to each side
+abbrev pub available_on : SessionValue → ℕ → ℕ
+available_on s board = available_of (scores_on (games_of s) NorthSouth board)
+
+-- what stands above the hands of a board
+unfoldable pub board_start : ℕ → List ℕ
+board_start board =
+    (((codes "<section class=\"traveller\" id=\"" ++ board_target board) ++ codes "\">\n")
+    ++ heading_text Html level.Part (board_words board)) ++ paragraph_text Html (deal_words board)
+
+-- where the cells of a line lead: to both pairs' cards, and to how the board was played there
+abbrev pub line_targets : BoardLine → List (List ℕ) → List (List ℕ)
+line_targets line others =
+    pair_target line.play.row.ns ∷ pair_target line.play.row.ew ∷ play_target line.play ∷ [] ∷ [] ∷ [] ∷ [] ∷ [] ∷ others
+
+-- what each side gained of what it could, with what stands in the cells behind it
+abbrev pub gain_cells : Scoring → BoardLine → List (List ℕ) → List (List ℕ)
+gain_cells scoring line others = side_gain scoring line.comparison true ∷ side_gain scoring line.comparison false ∷ others
+
+-- the cells of a line: the pairs, the contract and what came of it, declarer, lead, score, and what each side gained
+abbrev pub html_line_cells : Scoring → BoardLine → List (List ℕ) → List (List ℕ)
+html_line_cells scoring line others =
+    decimal line.play.row.ns ∷ decimal line.play.row.ew ∷ result_cell line.play.outcome ∷ declarer_cell line.play.outcome
+    ∷ perhaps_card line.play.lead ∷ score_cell line.play.outcome (line_score line.comparison) ∷ gain_cells scoring line others
+
+-- what North and South gained, or else East and West, if anything can be
+abbrev pub gain_for : Bool → Comparison → ℤ
+gain_for true compared = compared.ns_gain
+gain_for false compared = compared.ew_gain
+
+-- the same in per cent of what was available
+abbrev pub side_percent : BoardLine → ℕ → Bool → List ℕ
+side_percent line available ns = percent_cell (option_map (gain_for ns) line.comparison) available
+
+-- the row of a line: by matchpoints with both sides' gain in per cent
+abbrev pub html_line : Scoring → ℕ → BoardLine → List ℕ
+html_line MatchPoints available line =
+    linked_row SHARE_LINE_COLUMNS (line_targets line ([] ∷ [] ∷ []))
+    (html_line_cells MatchPoints line (side_percent line available true ∷ side_percent line available false ∷ []))
+html_line Imps available line = linked_row SUM_LINE_COLUMNS (line_targets line []) (html_line_cells Imps line [])
+
+-- the titles of a traveller
+abbrev pub html_line_titles : Scoring → List ℕ
+html_line_titles MatchPoints =
+    title_row Html SHARE_LINE_COLUMNS
+    (codes "NS" ∷ codes "EW" ∷ codes "Contract" ∷ codes "By" ∷ codes "Lead" ∷ codes "Score" ∷ codes "NS MP" ∷ codes "EW MP"
+    ∷ codes "NS %" ∷ codes "EW %" ∷ [])
+html_line_titles Imps =
+    title_row Html SUM_LINE_COLUMNS
+    (codes "NS" ∷ codes "EW" ∷ codes "Contract" ∷ codes "By" ∷ codes "Lead" ∷ codes "Score" ∷ codes "NS IMPs" ∷ codes "EW IMPs"
+    ∷ [])
+
+-- what stands above the rows of a traveller
+unfoldable pub html_lines_head : Scoring → List ℕ
+html_lines_head scoring = codes "<table class=\"lines\">\n<caption>Results</caption>\n" ++ html_line_titles scoring
+
+-- the rows of a traveller
+abbrev pub html_lines : Scoring → ℕ → List BoardLine → List ℕ
+html_lines scoring available lines = flat_map (html_line scoring available) lines
+
+-- a traveller
+abbrev pub html_traveller : Scoring → ℕ → List BoardLine → List ℕ
+html_traveller scoring available lines = html_lines_head scoring ++ (html_lines scoring available lines ++ table_end Html)
+
+-- the traveller and the frequencies of a board
+abbrev pub html_tables : Scoring → ℕ → List BoardLine → List ℕ
+html_tables scoring available lines =
+    html_traveller scoring available lines ++ frequencies_text Html scoring (frequencies_of lines)
+
+-- how the play of a line went
+abbrev pub line_course : Names → SessionValue → BoardLine → List ℕ
+line_course names s line = course_on names s line.play
+
+-- how each table played the board
+abbrev pub courses_html : Names → SessionValue → List BoardLine → List ℕ
+courses_html names s lines = flat_map (line_course names s) lines
+
+-- the hands of a board, once it is dealt
+abbrev pub html_hands : SessionValue → ℕ → List ℕ
+html_hands s board = hands_text Html (deal_on s.deals board)
+
+-- the heading and the hands of a board
+abbrev pub html_deal : SessionValue → ℕ → List ℕ
+html_deal s board = board_start board ++ html_hands s board
+
+-- the tables of a board, and how it was played
+abbrev pub html_played : Names → SessionValue → ℕ → List BoardLine → List ℕ
+html_played names s board lines =
+    html_tables s.configuration.scoring (available_on s board) lines ++ (courses_html names s lines ++ section_end Html)
+
+-- A board: its dealer, vulnerability and hands, its traveller and frequencies, and how each table played it.
+abbrev pub board_html : Names → SessionValue → ℕ → List BoardLine → List ℕ
+board_html names s board lines = html_deal s board ++ html_played names s board lines

@@ -1,0 +1,129 @@
+//! A board in HTML: its hands, its traveller, its frequencies, and how each table played it.
+ghost use Rattle.std.specs.Prelude.{◌≡◌, ◌≤◌, ◌++◌, length};
+ghost use Rattle.line_text.specs.Streams.{stream, Written};
+ghost use Rattle.bridge_results.specs.HtmlBoard.{available_on, board_start, html_hands, html_deal, html_tables, html_played, board_html};
+
+use crate::html::lines::write_traveller;
+use crate::html::links::board_target;
+use crate::html::recorded::write_courses;
+use crate::pages::board::{board_words, deal_words, write_end, write_hands};
+use crate::pages::frequencies::write_frequencies_of;
+use crate::results::Results;
+use crate::traveller::BoardLine;
+use bridge_cards::BoardNumber;
+use bridge_score::Scoring;
+use bridge_session::Session;
+use evening_draft::PairNames;
+use line_text::write_text;
+use page_layout::{Format, Level, PageText, push_bytes, push_heading, push_paragraph};
+use std::io::{Error, Write};
+
+/// Writes what stands above the hands of a board.
+#[tactic(auto, unfolding(crate::specs::HtmlBoard::board_start))]
+fn write_start<W: Write>(board: BoardNumber, writer: &mut W) -> Result<(), Error>
+    ensures { Written (stream W.contents writer.old writer.new) (board_start board) result }
+{
+    let target = board_target(board);
+    let heading = board_words(board);
+    let words = deal_words(board);
+    let mut text = PageText::new();
+    push_bytes(&mut text, b"<section class=\"traveller\" id=\"");
+    push_bytes(&mut text, target.as_str().as_bytes());
+    push_bytes(&mut text, b"\">\n");
+    push_heading(
+        &mut text,
+        Format::Html,
+        Level::Part,
+        heading.as_str().as_bytes(),
+    );
+    push_paragraph(&mut text, Format::Html, words.as_str().as_bytes());
+    write_text(writer, text.as_slice())
+}
+
+/// Writes the hands of a board, once it is dealt.
+fn write_hands_of<W: Write>(
+    session: &Session,
+    board: BoardNumber,
+    writer: &mut W,
+) -> Result<(), Error>
+    ensures { Written (stream W.contents writer.old writer.new) (html_hands session.now board) result }
+{
+    write_hands(Format::Html, session.deal(board), writer)
+}
+
+/// Writes the heading and the hands of a board.
+#[tactic(auto, using(page_layout::proofs::Walk::then_written, page_layout::proofs::Walk::failed_before))]
+fn write_deal<W: Write>(session: &Session, board: BoardNumber, writer: &mut W) -> Result<(), Error>
+    ensures { Written (stream W.contents writer.old writer.new) (html_deal session.now board) result }
+{
+    write_start(board, writer)?;
+    write_hands_of(session, board, writer)
+}
+
+/// Writes the traveller and the frequencies of a board.
+#[tactic(auto, using(page_layout::proofs::Walk::then_written, page_layout::proofs::Walk::failed_before))]
+fn write_tables<W: Write>(
+    scoring: Scoring,
+    available: u32,
+    lines: &[BoardLine],
+    writer: &mut W,
+) -> Result<(), Error>
+    requires { length lines.now ≤ 144 }
+    ensures { Written (stream W.contents writer.old writer.new) (html_tables scoring available lines.now) result }
+{
+    write_traveller(scoring, available, lines, writer)?;
+    write_frequencies_of(Format::Html, scoring, lines, writer)
+}
+
+/// Writes the tables of a board.
+fn write_tables_of<W: Write>(
+    session: &Session,
+    results: &Results<'_>,
+    board: BoardNumber,
+    lines: &[BoardLine],
+    writer: &mut W,
+) -> Result<(), Error>
+    requires results { results.now ≡ session.now }
+    requires few { length lines.now ≤ 144 }
+    ensures { Written (stream W.contents writer.old writer.new) (html_tables session.now.configuration.scoring (available_on session.now board) lines.now) result }
+{
+    let scoring = session.config().fields().scoring;
+    write_tables(scoring, results.available(board), lines, writer)
+}
+
+/// Writes the tables of a board, and how it was played.
+#[tactic(auto, using(page_layout::proofs::Walk::then_written, page_layout::proofs::Walk::failed_before))]
+fn write_played<W: Write>(
+    names: Option<&[PairNames]>,
+    session: &Session,
+    results: &Results<'_>,
+    board: BoardNumber,
+    lines: &[BoardLine],
+    writer: &mut W,
+) -> Result<(), Error>
+    requires results { results.now ≡ session.now }
+    requires few { length lines.now ≤ 144 }
+    ensures { Written (stream W.contents writer.old writer.new) (html_played names.entry session.now board lines.now) result }
+{
+    write_tables_of(session, results, board, lines, writer)?;
+    write_courses(names, session, lines, writer)?;
+    write_end(Format::Html, writer)
+}
+
+/// Writes a board with the lines of its traveller.
+#[tactic(auto, using(page_layout::proofs::Walk::then_written, page_layout::proofs::Walk::failed_before))]
+pub fn write_board<W: Write>(
+    names: Option<&[PairNames]>,
+    session: &Session,
+    results: &Results<'_>,
+    board: BoardNumber,
+    lines: &[BoardLine],
+    writer: &mut W,
+) -> Result<(), Error>
+    requires results { results.now ≡ session.now }
+    requires few { length lines.now ≤ 144 }
+    ensures { Written (stream W.contents writer.old writer.new) (board_html names.entry session.now board lines.now) result }
+{
+    write_deal(session, board, writer)?;
+    write_played(names, session, results, board, lines, writer)
+}

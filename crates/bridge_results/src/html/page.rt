@@ -1,0 +1,31 @@
+//! The results of a session as one HTML page, whole.
+ghost use Rattle.std.specs.Prelude.{◌≡◌, ◌++◌};
+ghost use Rattle.std.specs.Option.{option_map};
+ghost use Rattle.line_text.specs.Streams.{stream, Written};
+ghost use Rattle.bridge_results.specs.HtmlPage.{page_html};
+
+use crate::html::boards::write_board_sheet;
+use crate::html::cards::write_card_sheet;
+use crate::html::front::write_front;
+use crate::results::Results;
+use bridge_session::{Ranking, Session};
+use evening_draft::PairNames;
+use std::io::{Error, Write};
+
+/// Writes the page with these rankings: the event, the rankings, the boards with how each table played them, and the score cards.
+#[tactic(auto, using(page_layout::proofs::Walk::then_written, page_layout::proofs::Walk::failed_before))]
+pub fn write_html<W: Write>(
+    names: Option<&[PairNames]>,
+    session: &Session,
+    results: &Results<'_>,
+    first: &Option<Ranking>,
+    second: &Option<Ranking>,
+    writer: &mut W,
+) -> Result<(), Error>
+    requires { results.now ≡ session.now }
+    ensures { Written (stream W.contents writer.old writer.new) (page_html names.entry session.now (option_map (λ ranked. ranked.items) first.now) (option_map (λ ranked. ranked.items) second.now)) result }
+{
+    write_front(session.config(), names, first, second, writer)?;
+    write_board_sheet(names, session, results, writer)?;
+    write_card_sheet(names, session, results, first, second, writer)
+}

@@ -1,0 +1,5 @@
+use Rattle.std.proofs.Common.{inr}
+use Rattle.club_commands.proofs.copied.show_opened.Goals as goal
+
+pub returns : goal.returns
+returns g c = inr c.show_joined.ensures

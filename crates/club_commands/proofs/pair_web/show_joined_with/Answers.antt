@@ -1,0 +1,35 @@
+use Rattle.std.proofs.Common.{◌∙◌, ◌++◌, ap, sym, List, ℕ}
+use Rattle.std.specs.String.{string_bytes}
+use Rattle.table_pages.specs.declared.host_names.HostNames.{HostNames}
+use Rattle.club_commands.specs.PairWeb.{level_line}
+use Rattle.club_commands.specs.Web.{listening_line}
+use Rattle.line_text.specs.Streams.{stream}
+use Rattle.table_pages.specs.Site.{site_of}
+use Rattle.club_commands.proofs.Shown.{made_site}
+use Rattle.club_commands.proofs.PairShown.{settled_pair, joined_shown}
+use Rattle.club_commands.proofs.pair_web.show_joined_with.Goals as goal
+
+pub returns : goal.returns
+returns g c =
+    let pages = c.pages_over-pages.result in
+    let shown = c.args.shown.now in
+    joined_shown shown.texts shown.host shown.names c.args.joined.judged.disk_first c.args.joined.judged.was_level c.args.joined.first c.args.joined.second
+    (site_of pages.texts pages.names pages.people.items) c.new-server.result pages.server c.show_pair_at.new.pages.server
+    (stream g.W.Write.contents c.args.output.now c.show_pair_at.new.output) c.show_pair_at.result
+    (made_site shown.host pages.texts shown.texts pages.names c.in-Ok.names _ _ c.pages_over-pages.ensures.names c.pages_over-pages.ensures.texts
+    (ap (λ people. people.items) c.pages_over-pages.ensures.people ∙ c.in-Ok-people_of.ensures) c.in-Ok.ensures.host c.in-Ok.ensures.alias)
+    c.pages_over-pages.ensures.server
+    (record { first = c.new-server.ensures.first; second = c.new-server.ensures.second; stopped = c.new-server.ensures.begun })
+    c.show_pair_at.ensures
+
+pub pages_over-pages-requires : goal.pages_over-pages-requires
+pages_over-pages-requires g c =
+    rw (c.new-server.ensures.first, c.new-server.ensures.second)
+    (settled_pair c.args.joined.first c.args.joined.second c.new-server.result.stopped c.requires.works)
+
+pub show_pair_at-requires : goal.show_pair_at-requires
+show_pair_at-requires g c = record {
+  line = c.as_str-line.ensures.value ∙ c.in-Ok-pair_line.ensures
+      ∙ ap (λ (host : List ℕ). level_line c.args.joined.judged.was_level ++ listening_line host)
+      (c.host.ensures ∙ ap (λ (names : HostNames). string_bytes names.host) (sym c.pages_over-pages.ensures.names));
+}

@@ -1,0 +1,180 @@
+//! The command `web` with a second disk in a file: both files are locked for as long as pages are shown, which no clause can say
+//! and tests show.
+ghost use Rattle.std.specs.Prelude.{◌≡◌, ◌⊎◌, None};
+ghost use Rattle.line_text.specs.Streams.{stream};
+ghost use Rattle.evening_commands.specs.NamesView.{list_seen};
+ghost use Rattle.session_pair.specs.Joining.{IsOne};
+ghost use Rattle.club_commands.specs.PairWeb.{IsNothingShown, ShowsJoined, ShowsTwo, ShowsTwoFound, ShowsTwoListed};
+
+use crate::fault::RunFault;
+use crate::listed::refuse_list;
+use crate::machine::{Host, Machine};
+use crate::pair_web::show_joined;
+use crate::work::Shown;
+use bridge_endings::Cache;
+use club_disk::{Access, ClubDisk, ClubStore, lock_for, locked_disk};
+use desk_replies::Desk;
+use evening_commands::{EveningFault, Names, list_of_file};
+use pair_pages::DiskNames;
+use sector_disk::DiskFault;
+use session_pair::{JoinFault, Joined, join_disks};
+use session_store::StoreFault;
+use std::alloc::{AllocError, Global};
+use std::io::Write;
+
+/// How many endings are kept for the answers to `SOLVE`.
+const CACHED_ENDINGS: usize = 4096;
+
+/// The files of two disks.
+#[derive(Clone, Copy)]
+pub struct TwoDisks<'a> {
+    /// The name of the disk's file.
+    pub disk: &'a str,
+    /// The name of the copy's file.
+    pub copy: &'a str,
+}
+
+/// What the director is told of the disks, of which the one was taken first or the other.
+fn disk_names(
+    alloc: Global,
+    disks: TwoDisks<'_>,
+    disk_first: bool,
+) -> Result<DiskNames, AllocError> {
+    let TwoDisks { disk, copy } = disks;
+    let disk_lost = format!(in alloc; "{copy} alone, {disk} is lost")?;
+    let copy_lost = format!(in alloc; "{disk} alone, {copy} is lost")?;
+    let level = format!(in alloc; "{disk} and {copy}")?;
+    let (first_lost, second_lost) = if disk_first {
+        (disk_lost, copy_lost)
+    } else {
+        (copy_lost, disk_lost)
+    };
+    Ok(DiskNames {
+        level,
+        first_lost,
+        second_lost,
+    })
+}
+
+/// Shows pages over a session, where it was opened on two disks and there was memory for a cache of endings. What was opened and
+/// given is handed in, since only so a clause can say what comes of it.
+fn show_opened<N: Host, W: Write>(
+    rt: &N,
+    alloc: Global,
+    shown: &Shown<'_>,
+    disks: TwoDisks<'_>,
+    joined: Joined<ClubStore>,
+    output: &mut W,
+) -> Result<(), RunFault>
+    requires works { IsOne joined.first joined.second }
+    ensures { IsNothingShown (stream W.contents output.old output.new) result
+        ⊎ ShowsJoined shown.now.texts shown.now.host (stream W.contents output.old output.new) result shown.now.names
+        joined.judged.disk_first joined.judged.was_level joined.first joined.second }
+{
+    let Ok(cache) = Cache::new(alloc, CACHED_ENDINGS) else {
+        return Err(RunFault::Store(StoreFault::NoMemory));
+    };
+    let Ok(names) = disk_names(alloc, disks, joined.judged.disk_first) else {
+        return Err(RunFault::Store(StoreFault::NoMemory));
+    };
+    let desk = Desk::new(60 * u32::from(shown.minutes), disks.disk);
+    show_joined(rt, alloc, shown, joined, names, cache, desk, output)
+}
+
+/// Opens the session on two disks, and shows pages over it.
+fn show_on<N: Host, W: Write>(
+    rt: &N,
+    alloc: Global,
+    shown: &Shown<'_>,
+    disks: TwoDisks<'_>,
+    disk: ClubDisk,
+    copy: ClubDisk,
+    output: &mut W,
+) -> Result<(), RunFault>
+    ensures { ShowsTwo shown.now.texts shown.now.host (stream W.contents output.old output.new) result shown.now.names }
+{
+    match join_disks(alloc, disk, copy) {
+        Err(fault) => Err(RunFault::Joining(fault)),
+        Ok(joined) => show_opened(rt, alloc, shown, disks, joined, output),
+    }
+}
+
+/// The same of two disks that may have been found.
+fn show_found<N: Host, W: Write>(
+    rt: &N,
+    alloc: Global,
+    shown: &Shown<'_>,
+    disks: TwoDisks<'_>,
+    disk: Result<ClubDisk, DiskFault>,
+    copy: Result<ClubDisk, DiskFault>,
+    output: &mut W,
+) -> Result<(), RunFault>
+    ensures { ShowsTwo shown.now.texts shown.now.host (stream W.contents output.old output.new) result shown.now.names }
+{
+    let Ok(disk) = disk else {
+        return Err(RunFault::Store(StoreFault::Disk));
+    };
+    let Ok(copy) = copy else {
+        return Err(RunFault::Joining(JoinFault::Copy(StoreFault::Disk)));
+    };
+    show_on(rt, alloc, shown, disks, disk, copy, output)
+}
+
+/// Locks the files of both disks, opens the session on them, and shows pages over it.
+fn show_two<S: Machine, W: Write>(
+    rt: &S,
+    alloc: Global,
+    shown: &Shown<'_>,
+    disks: TwoDisks<'_>,
+    output: &mut W,
+) -> Result<(), RunFault>
+    ensures { ShowsTwo shown.now.texts shown.now.host (stream W.contents output.old output.new) result shown.now.names }
+{
+    let lock = lock_for(rt, alloc, disks.disk, Access::Write);
+    let copy_lock = lock_for(rt, alloc, disks.copy, Access::Write);
+    let disk = locked_disk(rt, disks.disk, Access::Write, &lock);
+    let copy = locked_disk(rt, disks.copy, Access::Write, &copy_lock);
+    show_found(rt, alloc, shown, disks, disk, copy, output)
+}
+
+/// The same with the names of a list, where one was read.
+fn show_two_found<S: Machine, W: Write>(
+    rt: &S,
+    alloc: Global,
+    shown: &Shown<'_>,
+    disks: TwoDisks<'_>,
+    found: Result<Names, EveningFault>,
+    output: &mut W,
+) -> Result<(), RunFault>
+    ensures { ShowsTwoFound shown.now.texts shown.now.host (stream W.contents output.old output.new) result (list_seen found) }
+{
+    match found {
+        Ok(names) => {
+            let named = Shown {
+                names: Some(names.as_slice()),
+                ..*shown
+            };
+            show_two(rt, alloc, &named, disks, output)
+        }
+        Err(fault) => refuse_list(fault, output),
+    }
+}
+
+/// Shows pages over the session that the disks in two files hold, with the names of the list in another, where one is given. The
+/// list is read first.
+pub fn show_copied<S: Machine, W: Write>(
+    rt: &S,
+    alloc: Global,
+    shown: &Shown<'_>,
+    disks: TwoDisks<'_>,
+    names: Option<&str>,
+    output: &mut W,
+) -> Result<(), RunFault>
+    requires { shown.now.names ≡ None }
+    ensures { ShowsTwoListed shown.now.texts shown.now.host (stream W.contents output.old output.new) result names.entry }
+{
+    match names {
+        None => show_two(rt, alloc, shown, disks, output),
+        Some(file) => show_two_found(rt, alloc, shown, disks, list_of_file(rt, file), output),
+    }
+}

@@ -1,0 +1,29 @@
+//! What the director is told of two disks.
+ghost use Rattle.std.specs.Prelude.{◌≡◌};
+ghost use Rattle.pair_pages.specs.Pair.{disk_name};
+
+use session_store::PairStanding;
+
+/// What the director is told of the disks, by which of them are still kept.
+#[derive(Drop)]
+pub struct DiskNames {
+    /// Where both are.
+    pub level: String,
+    /// Where the first is lost.
+    pub first_lost: String,
+    /// Where the second is lost.
+    pub second_lost: String,
+}
+
+impl DiskNames {
+    /// What is told where the disks stand so.
+    pub fn told(&self, standing: Option<PairStanding>) -> &str
+        ensures { result.now ≡ disk_name self.now standing }
+    {
+        match standing {
+            Some(PairStanding::FirstLost) => self.first_lost.as_str(),
+            Some(PairStanding::SecondLost) => self.second_lost.as_str(),
+            _ => self.level.as_str(),
+        }
+    }
+}

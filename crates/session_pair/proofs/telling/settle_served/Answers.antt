@@ -1,0 +1,41 @@
+use Rattle.session_pair.proofs.TellingLemmas.{confirmed-still, stays, tells}
+use Rattle.session_pair.proofs.telling.settle_served.Goals as goal
+
+pub returns-in-Ok-clause-told : goal.returns-in-Ok-clause-told
+returns-in-Ok-clause-told g c = λ v w served is.
+    let stay = stays g.K.Kept.kept g.A.SectorDisk.disk g.B.SectorDisk.disk c.args.first.now c.settle_pair.new.first c.args.second.now
+    c.settle_pair.new.second _ c.settle_pair.ensures.first c.settle_pair.ensures.second c.in-Ok.ensures.settled c.in-Ok.ensures.standing in
+    tells g.K.Kept.kept g.A.SectorDisk.disk g.B.SectorDisk.disk c.args.first.now c.settle_pair.new.first c.args.second.now
+    c.settle_pair.new.second v w c.pair_laws.ensures.served served (c.is_one_state-is_one.ensures.first is)
+    (c.is_one_state-is_one.ensures.second is) c.in-Ok.ensures.told stay.1
+
+pub returns-in-Ok-clause-works : goal.returns-in-Ok-clause-works
+returns-in-Ok-clause-works g c = λ is.
+    (stays g.K.Kept.kept g.A.SectorDisk.disk g.B.SectorDisk.disk c.args.first.now c.settle_pair.new.first c.args.second.now
+    c.settle_pair.new.second _ c.settle_pair.ensures.first c.settle_pair.ensures.second c.in-Ok.ensures.settled c.in-Ok.ensures.standing).2
+
+pub returns-in-Ok-clause-state : goal.returns-in-Ok-clause-state
+returns-in-Ok-clause-state g c = λ is.
+    (stays g.K.Kept.kept g.A.SectorDisk.disk g.B.SectorDisk.disk c.args.first.now c.settle_pair.new.first c.args.second.now
+    c.settle_pair.new.second _ c.settle_pair.ensures.first c.settle_pair.ensures.second c.in-Ok.ensures.settled c.in-Ok.ensures.standing).1
+
+pub returns-in-Ok-clause-lost : goal.returns-in-Ok-clause-lost
+returns-in-Ok-clause-lost g c = λ is.
+    (stays g.K.Kept.kept g.A.SectorDisk.disk g.B.SectorDisk.disk c.args.first.now c.settle_pair.new.first c.args.second.now
+    c.settle_pair.new.second _ c.settle_pair.ensures.first c.settle_pair.ensures.second c.in-Ok.ensures.settled c.in-Ok.ensures.standing).0
+
+pub returns-in-Ok-clause-first_confirmed : goal.returns-in-Ok-clause-first_confirmed
+returns-in-Ok-clause-first_confirmed g c =
+    confirmed-still g.K.Kept.kept g.A.SectorDisk.disk c.args.first.now c.settle_pair.new.first c.settle_pair.ensures.first
+
+pub returns-in-Ok-clause-second_confirmed : goal.returns-in-Ok-clause-second_confirmed
+returns-in-Ok-clause-second_confirmed g c =
+    confirmed-still g.K.Kept.kept g.B.SectorDisk.disk c.args.second.now c.settle_pair.new.second c.settle_pair.ensures.second
+
+pub returns-in-Err-clause-first_confirmed : goal.returns-in-Err-clause-first_confirmed
+returns-in-Err-clause-first_confirmed g c =
+    confirmed-still g.K.Kept.kept g.A.SectorDisk.disk c.args.first.now c.settle_pair.new.first c.settle_pair.ensures.first
+
+pub returns-in-Err-clause-second_confirmed : goal.returns-in-Err-clause-second_confirmed
+returns-in-Err-clause-second_confirmed g c =
+    confirmed-still g.K.Kept.kept g.B.SectorDisk.disk c.args.second.now c.settle_pair.new.second c.settle_pair.ensures.second

@@ -1,0 +1,32 @@
+-- What may be told of a pair of stores.
+use Rattle.std.specs.Prelude.{◌≡◌, Bool, true, false, List, []}
+use Rattle.sector_disk.specs.Disk.{Disk}
+use Rattle.session_store.specs.Keeping.{Keeping}
+use Rattle.session_store.specs.Value.{StoreValue}
+use Rattle.session_store.specs.Store.{Continues}
+use Rattle.session_store.specs.Pair.{IsToldPair}
+
+-- of two sides, the second's where a call of the first's disk has failed, and else the first's
+abbrev pub of_side : {P : Type 0} → Bool → P → P → P
+of_side true first second = second
+of_side false first second = first
+
+-- the state that is shown of a pair: that of a side that works
+abbrev pub shown_of : {D E S A : Type 0} → StoreValue D S A → StoreValue E S A → S
+shown_of v w = of_side v.failed v.state w.state
+
+-- nothing is pending in a store that works
+abbrev pub HasConfirmed : {D S A : Type 0} → StoreValue D S A → Type 0
+HasConfirmed v = v.failed ≡ false → v.pending ≡ []
+
+module _ {D E S A R : Type 0} (kept : Keeping S A R) (first : Disk D) (second : Disk E) where
+  -- of a pair of which some state might be told, both stores were served and have confirmed all, and it stands so then
+  pub record WereServed (v : StoreValue D S A) (w : StoreValue E S A) (v' : StoreValue D S A) (w' : StoreValue E S A) : Type 0 where
+    pub state : S
+    pub told : IsToldPair kept first second v w state
+    pub accepted : List A
+    pub first_served : Continues kept first v accepted v'
+    pub accepted_second : List A
+    pub second_served : Continues kept second w accepted_second w'
+    pub first_confirmed : HasConfirmed v'
+    pub second_confirmed : HasConfirmed w'

@@ -1,0 +1,203 @@
+//! A session opened on two disks.
+ghost use Rattle.std.specs.Prelude.{◌≡◌, ◌↔◌, true, IfOk, IfErr};
+ghost use Rattle.std.specs.Bool.{Decides};
+ghost use Rattle.session_pair.specs.Joining.{IsJudged, IsUnjudged, HasJoined, MayFollow, SeesBoth, IsOne};
+ghost use Rattle.session_pair.specs.Choosing.{ComesFirst};
+ghost use Rattle.session_store.specs.PairOpening.{IsPairOpened};
+ghost use Rattle.bridge_session.specs.SessionKeeping.{session_keeping};
+
+use crate::comes_first;
+use bridge_session::Session;
+use sector_disk::SectorDisk;
+use session_store::{
+    PairFault, PairStanding, Reading, Store, StoreFault, is_same_state, open_pair, pair_standing,
+    read_state,
+};
+use std::alloc::{AllocError, Global};
+use std::cmp::Ordering;
+
+/// Why a session was not opened on two disks. Nothing was written where the disks differ or one gave no session.
+#[derive(Clone, Copy, Debug, PartialEq, Eq)]
+pub enum JoinFault {
+    /// The disk gives no session, a call of it failed, or memory was refused.
+    Disk(StoreFault),
+    /// The copy gives no session, or a call of it failed.
+    Copy(StoreFault),
+    /// The copy holds a session of another configuration.
+    OtherSession,
+    /// The disks are of different epochs, and the session of the greater one lacks something of the other.
+    OtherPlays,
+}
+
+/// How two disks of one session stand to each other.
+#[derive(Clone, Copy, Debug, PartialEq, Eq)]
+pub struct Judged {
+    /// Whether the disk is taken first, and not the copy.
+    pub disk_first: bool,
+    /// Whether both hold the same.
+    pub was_level: bool,
+}
+
+/// A session opened on two disks.
+#[derive(Drop)]
+pub struct Joined<S: Drop> {
+    /// The store of the disk that was taken first.
+    pub first: S,
+    /// The store of the other.
+    pub second: S,
+    /// How they stood to each other.
+    pub judged: Judged,
+}
+
+/// Whether two sessions are of one configuration.
+fn is_one_configuration(alloc: Global, session: Session, other: Session) -> Result<bool, AllocError>
+    ensures { IfOk result (λ same. (same ≡ true) ↔ (session.configuration ≡ other.configuration)) }
+{
+    let opening = Session::new(alloc, session.into_config())?;
+    let other_opening = Session::new(alloc, other.into_config())?;
+    Ok(is_same_state(&opening, &other_opening))
+}
+
+/// How two disks stand to each other, by what was read of them.
+fn stand_so(disk: &Reading<Session>, copy: &Reading<Session>) -> Judged
+    ensures first { (result.disk_first ≡ true) ↔ ComesFirst disk.now.epoch disk.now.records copy.now.epoch copy.now.records }
+    ensures level { (result.was_level ≡ true) ↔ (disk.now.state ≡ copy.now.state) }
+{
+    Judged {
+        disk_first: comes_first(disk, copy),
+        was_level: is_same_state(&disk.state, &copy.state),
+    }
+}
+
+/// Whether two disks are of one epoch, in which each has all that was told, or that of the greater one has all that the other
+/// has.
+fn may_follow(disk: &Reading<Session>, copy: &Reading<Session>) -> bool
+    ensures { Decides result (MayFollow disk.now.state disk.now.epoch copy.now.state copy.now.epoch) }
+{
+    match disk.epoch.cmp(&copy.epoch) {
+        Ordering::Equal => true,
+        Ordering::Greater => disk.state.has_all_of(&copy.state),
+        Ordering::Less => copy.state.has_all_of(&disk.state),
+    }
+}
+
+/// How two disks stand to each other, by what was read of them, if they may be joined: they hold the same, or are of one
+/// configuration and the one may follow the other.
+fn judge(alloc: Global, disk: Reading<Session>, copy: Reading<Session>) -> Result<Judged, JoinFault>
+    ensures judged { IfOk result (IsJudged disk.state disk.epoch disk.records copy.state copy.epoch copy.records) }
+    ensures fault { IfErr result (IsUnjudged disk.state disk.epoch copy.state copy.epoch) }
+{
+    let judged = stand_so(&disk, &copy);
+    if judged.was_level {
+        return Ok(judged);
+    }
+    let may_follow = may_follow(&disk, &copy);
+    match is_one_configuration(alloc, disk.state, copy.state) {
+        Err(_) => Err(JoinFault::Disk(StoreFault::NoMemory)),
+        Ok(is_one) => {
+            if !is_one {
+                return Err(JoinFault::OtherSession);
+            }
+            if may_follow {
+                Ok(judged)
+            } else {
+                Err(JoinFault::OtherPlays)
+            }
+        }
+    }
+}
+
+/// Reads both disks whole, and says how they stand to each other. Nothing is written.
+fn judge_disks<D: SectorDisk>(
+    alloc: Global,
+    disk: &mut D,
+    copy: &mut D,
+) -> Result<Judged, JoinFault>
+    ensures judged { IfOk result (SeesBoth D.disk disk.old copy.old disk.new copy.new) }
+{
+    match read_state::<D, Session>(alloc, disk) {
+        Err(fault) => Err(JoinFault::Disk(fault)),
+        Ok(ours) => match read_state::<D, Session>(alloc, copy) {
+            Err(fault) => Err(JoinFault::Copy(fault)),
+            Ok(theirs) => judge(alloc, ours, theirs),
+        },
+    }
+}
+
+/// Whether both stores work, and nothing is pending in either.
+fn are_level<D: SectorDisk + Drop>(first: &Store<D, Session>, second: &Store<D, Session>) -> bool
+    ensures { result ≡ true → IsOne first.now second.now }
+{
+    if !first.pending().is_empty() {
+        return false;
+    }
+    if !second.pending().is_empty() {
+        return false;
+    }
+    match pair_standing(first, second) {
+        Some(PairStanding::Level) => true,
+        _ => false,
+    }
+}
+
+/// The fault of the disk that was taken first, or of the other.
+fn fault_of(disk_first: bool, fault: PairFault) -> JoinFault {
+    match (fault, disk_first) {
+        (PairFault::First(fault), true) => JoinFault::Disk(fault),
+        (PairFault::First(fault), false) => JoinFault::Copy(fault),
+        (PairFault::Second(fault), true) => JoinFault::Copy(fault),
+        (PairFault::Second(fault), false) => JoinFault::Disk(fault),
+        (PairFault::SecondNewer, _) => JoinFault::OtherPlays,
+    }
+}
+
+/// Opens a session on two disks in that order, where both are kept then. One that fails while the other's state is brought to it
+/// is the fault.
+fn open_both<D: SectorDisk + Drop>(
+    alloc: Global,
+    judged: Judged,
+    first: D,
+    second: D,
+) -> Result<Joined<Store<D, Session>>, JoinFault>
+    ensures opened { IfOk result (λ joined. IsPairOpened session_keeping D.disk D.disk first second joined.first joined.second) }
+    ensures judged { IfOk result (λ joined. joined.judged ≡ judged) }
+    ensures level { IfOk result (λ joined. IsOne joined.first joined.second) }
+{
+    match open_pair(alloc, first, second) {
+        Ok((first, second)) => {
+            if are_level(&first, &second) {
+                return Ok(Joined {
+                    first,
+                    second,
+                    judged,
+                });
+            }
+            let fault = PairFault::Second(StoreFault::Disk);
+            Err(fault_of(judged.disk_first, fault))
+        }
+        Err(unopened) => Err(fault_of(judged.disk_first, unopened.fault)),
+    }
+}
+
+/// Opens the session that two disks hold. Both are read whole before anything is written. The one of the greater epoch is taken
+/// first, and of one epoch that with more records; the other is brought to its state.
+pub fn join_disks<D: SectorDisk + Drop>(
+    alloc: Global,
+    disk: D,
+    copy: D,
+) -> Result<Joined<Store<D, Session>>, JoinFault>
+    ensures joined { IfOk result (λ joined. HasJoined D.disk disk copy joined.judged joined.first joined.second) }
+{
+    let mut disk = disk;
+    let mut copy = copy;
+    match judge_disks(alloc, &mut disk, &mut copy) {
+        Err(fault) => Err(fault),
+        Ok(judged) => {
+            if judged.disk_first {
+                open_both(alloc, judged, disk, copy)
+            } else {
+                open_both(alloc, judged, copy, disk)
+            }
+        }
+    }
+}

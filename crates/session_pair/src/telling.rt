@@ -1,0 +1,66 @@
+//! When what a pair of stores served may be told.
+ghost use Rattle.std.specs.Prelude.{◌≡◌, [], true, false};
+ghost use Rattle.session_store.specs.Pair.{IsToldPair, OneWorks};
+ghost use Rattle.session_store.specs.Store.{Continues};
+ghost use Rattle.session_store.specs.Value.{StoreValue};
+ghost use Rattle.session_pair.specs.Telling.{HasConfirmed, WereServed, shown_of};
+
+use sector_disk::SectorDisk;
+use session_store::{Kept, Store, is_same_state, pair_laws, settle_pair};
+
+/// The state that is shown of a pair: that of a side that works.
+pub fn shown_state<'a, A: SectorDisk + Drop, B: SectorDisk + Drop, K: Kept>(
+    first: &'a Store<A, K>,
+    second: &'a Store<B, K>,
+) -> &'a K
+    ensures { result.now ≡ shown_of first.now second.now }
+{
+    if first.has_failed() {
+        second.state()
+    } else {
+        first.state()
+    }
+}
+
+/// Whether each side that works has the state that is shown.
+fn is_one_state<A: SectorDisk + Drop, B: SectorDisk + Drop, K: Kept>(
+    first: &Store<A, K>,
+    second: &Store<B, K>,
+) -> bool
+    ensures first { result ≡ true → first.now.failed ≡ false → first.now.state ≡ shown_of first.now second.now }
+    ensures second { result ≡ true → second.now.failed ≡ false → second.now.state ≡ shown_of first.now second.now }
+{
+    match (first.has_failed(), second.has_failed()) {
+        (false, false) => is_same_state(second.state(), first.state()),
+        (true, false) => true,
+        (false, true) => true,
+        (true, true) => false,
+    }
+}
+
+/// Settles a pair whose stores were served the same lines, and says whether what they answered may be told: each side that
+/// works has the same state, and where a side was lost the other's epoch is two above it. Where it may not, nothing more may be
+/// told of the pair: both disks were lost, or the states differ, as memory that was refused to one side alone can leave them,
+/// or there are no more epochs.
+pub fn settle_served<A: SectorDisk + Drop, B: SectorDisk + Drop, K: Kept>(
+    first: &mut Store<A, K>,
+    second: &mut Store<B, K>,
+) -> bool
+    ensures told { (v : StoreValue A K K.Action) (w : StoreValue B K K.Action)
+        → WereServed K.kept A.disk B.disk v w first.old second.old → result ≡ true
+        → IsToldPair K.kept A.disk B.disk first.new second.new (shown_of first.new second.new) }
+    ensures works { result ≡ true → OneWorks K.kept A.disk B.disk first.new second.new }
+    ensures state { result ≡ true → shown_of first.new second.new ≡ shown_of first.old second.old }
+    ensures lost { result ≡ true → first.new.failed ≡ first.old.failed }
+    ensures first { Continues K.kept A.disk first.old [] first.new }
+    ensures second { Continues K.kept B.disk second.old [] second.new }
+    ensures first_confirmed { HasConfirmed first.old → HasConfirmed first.new }
+    ensures second_confirmed { HasConfirmed second.old → HasConfirmed second.new }
+{
+    pair_laws::<A, B, K>();
+    let is_one = is_one_state(first, second);
+    match settle_pair(first, second) {
+        Ok(_) => is_one,
+        Err(_) => false,
+    }
+}
