@@ -9,6 +9,7 @@ pub mod MakeableDeals
 pub mod Results
 pub mod Exports
 pub mod Checked
+pub mod CheckedTwo
 pub mod Serving
 pub mod Web
 pub mod Works

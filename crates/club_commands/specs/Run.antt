@@ -17,6 +17,7 @@ use Rattle.club_commands.specs.declared.work.Service.TheVariants as service
 use Rattle.club_commands.specs.declared.work.Listed.TheVariants as listed
 use Rattle.club_commands.specs.declared.work.Misfit.TheVariants.{Refused}
 use Rattle.club_commands.specs.declared.work.Work.TheVariants as work
+use Rattle.club_commands.specs.CheckedTwo.{RunsCheck}
 use Rattle.club_commands.specs.Evening.{HasEvening}
 use Rattle.club_commands.specs.Evenings.{HasDrafted, HasPlanned, HasSlips}
 use Rattle.club_commands.specs.Listed.{WithList}
@@ -51,7 +52,7 @@ Runs texts (Rank disk) input output ended = HasWorked input output ended (work.T
 Runs texts (Pbn disk) input output ended = HasWorked input output ended (work.Tell Games)
 Runs texts (Results disk html names) input output ended = WithList (HasListed (listed.Results html)) names input output ended
 Runs texts (Export disk rankings) input output ended = HasWorked input output ended (work.Export rankings)
-Runs texts (Check disk) input output ended = HasWorked input output ended work.Check
+Runs texts (Check disk copy) input output ended = RunsCheck copy input output ended
 Runs texts (Plan config names) input output ended = HasPlanned names output ended × IsUntouched input
 Runs texts (Draft names wishes) input output ended = HasDrafted wishes output ended × IsUntouched input
 Runs texts (Slips config slips) input output ended = HasSlips slips output ended × IsUntouched input
@@ -61,7 +62,7 @@ Runs texts (Copy disk copy) input output ended = HasCopied input output ended
 Runs texts Version input output ended = Writes output version_line ended × IsUntouched input
 
 -- How a command ended, and with which exit status: it was done, and nothing stands on standard error; or it stopped at a fault,
--- and standard error took a prefix of the line for that fault, no more.
+-- and standard error took a prefix of the line for that fault, no more. What the runtime says at once of a disk that is lost is beside it.
 abbrev pub EndsWith : ℕ → PageTexts → Command → Stream → Stream → Stream → Type 0
 EndsWith status texts command input output errors = (ended : Ended) × Runs texts command input output ended
     × MatchResult ended (λ _. (status ≡ 0) × IsUntouched errors)

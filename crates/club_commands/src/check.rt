@@ -28,7 +28,7 @@ const CHECK_BYTES: usize = 512;
 const SAID_BYTES: usize = 53;
 
 /// What is said of a disk.
-type CheckText = ArrayString<CHECK_BYTES>;
+pub type CheckText = ArrayString<CHECK_BYTES>;
 
 /// Adds a line of some words and what is said by them.
 fn push_said(text: &mut CheckText, words: &str, value: &str)
@@ -114,7 +114,7 @@ fn push_state(text: &mut CheckText, session: &Session)
 }
 
 /// What was seen on a disk, below a heading.
-fn seen_text(heading: &str, found: &Reading<Session>) -> CheckText
+pub fn seen_text(heading: &str, found: &Reading<Session>) -> CheckText
     requires { length heading.now ≤ 15 }
     ensures { result.bytes ≡ with_state (with_standing heading.now found.now.format found.now.epoch found.now.sector
         found.now.records) found.now.state }

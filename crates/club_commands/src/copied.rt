@@ -25,6 +25,12 @@ use std::io::Write;
 /// How many endings are kept for the answers to `SOLVE`.
 const CACHED_ENDINGS: usize = 4096;
 
+/// What standard error is told at once where the disk is lost.
+const DISK_LOST: &str = "disk lost, session goes on in the copy\n";
+
+/// The same where the copy is.
+const COPY_LOST: &str = "copy lost, session goes on in the disk\n";
+
 /// The files of two disks.
 #[derive(Clone, Copy)]
 pub struct TwoDisks<'a> {
@@ -34,7 +40,7 @@ pub struct TwoDisks<'a> {
     pub copy: &'a str,
 }
 
-/// What the director is told of the disks, of which the one was taken first or the other.
+/// What the director and standard error are told of the disks, of which the one was taken first or the other.
 fn disk_names(
     alloc: Global,
     disks: TwoDisks<'_>,
@@ -44,16 +50,23 @@ fn disk_names(
     let disk_lost = format!(in alloc; "{copy} alone, {disk} is lost")?;
     let copy_lost = format!(in alloc; "{disk} alone, {copy} is lost")?;
     let level = format!(in alloc; "{disk} and {copy}")?;
-    let (first_lost, second_lost) = if disk_first {
-        (disk_lost, copy_lost)
+    if disk_first {
+        Ok(DiskNames {
+            level,
+            first_lost: disk_lost,
+            second_lost: copy_lost,
+            first_lost_line: DISK_LOST,
+            second_lost_line: COPY_LOST,
+        })
     } else {
-        (copy_lost, disk_lost)
-    };
-    Ok(DiskNames {
-        level,
-        first_lost,
-        second_lost,
-    })
+        Ok(DiskNames {
+            level,
+            first_lost: copy_lost,
+            second_lost: disk_lost,
+            first_lost_line: COPY_LOST,
+            second_lost_line: DISK_LOST,
+        })
+    }
 }
 
 /// Shows pages over a session, where it was opened on two disks and there was memory for a cache of endings. What was opened and

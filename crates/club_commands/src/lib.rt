@@ -8,6 +8,7 @@
 #![tactic(auto)]
 
 mod check;
+mod check_two;
 mod config_file;
 mod copied;
 mod copying;
@@ -44,7 +45,7 @@ mod work;
 pub use check::check_disk;
 pub use config_file::read_session;
 pub use fault::{LostDisk, RunFault, SystemFault};
-pub use machine::{Host, Machine};
+pub use machine::{Alarm, Host, Machine};
 pub use pair_web::show_pair;
 pub use planning::plan_evening;
 pub use release::{KIT, VERSION};

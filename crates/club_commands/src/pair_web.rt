@@ -203,7 +203,7 @@ fn show_joined_with<N: Host, W: Write>(
     let Ok(people) = people_of(alloc, shown.names, &first) else {
         return Err(RunFault::Store(StoreFault::NoMemory));
     };
-    let server = PairServer::new(first, second, disks);
+    let server = PairServer::new(first, second, disks, rt.errors());
     let (host, texts, minutes) = (&shown.host, shown.texts, shown.minutes);
     let open = host.open_boards;
     let clock = ServerClock::new(rt);

@@ -5,6 +5,7 @@ ghost use Rattle.line_replies.specs.declared.fault.ServeFault.TheVariants.{Read 
 ghost use Rattle.club_commands.specs.Ended.{stream_line, store_line, fault_line, fault_status};
 ghost use Rattle.club_commands.specs.Run.{HoldsAuction, Runs, EndsWith, RefusesWords, IsUsage, HasRun, HasFailed};
 
+use crate::check_two::run_check;
 use crate::copying::run_copy;
 use crate::evening::run_evening;
 use crate::evenings::{make_draft, make_plan, make_slips};
@@ -13,11 +14,10 @@ use crate::fault_line::{fault_line, fault_status};
 use crate::formatting::run_format;
 use crate::machine::Machine;
 use crate::makeable::write_makeable;
-use crate::on_disk::run_over;
 use crate::over_disk::{accept, correct, export, run_web, serve_set, tell, write_page};
 use crate::printable::Printable;
 use crate::version::run_version;
-use crate::work::{Told, Work};
+use crate::work::Told;
 use bridge_cards::BoardNumber;
 use command_line::{Command, WordsFault, read_words};
 use line_text::write_text;
@@ -38,7 +38,8 @@ const NOT_TEXT: &str = "a word of the command line is not UTF-8\n";
 /// Runs the command that the words after the program's name ask for, and answers the exit status.
 ///
 /// The runtime gives the files that commands open, and for `serve` and `web` the connections; `auction` opens none. `web`
-/// shows pages of these texts.
+/// shows pages of these texts; where it has two disks and one is lost, the runtime's standard error is told so at once, of which
+/// no clause speaks.
 ///
 /// 0: done. 2: the words are no command, or call for help; what clap says of them goes to `errors`, and no clause speaks of
 /// that text. At 3 and 4 `errors` takes the line that names the fault, or a prefix of it where it fails itself. 3: `cannot
@@ -135,7 +136,7 @@ fn do_command<S: Machine, R: Read, W: Write>(
             rt, alloc, disk, html, names, input, output,
         ),
         Command::Export { disk, rankings } => export(rt, alloc, disk, rankings, input, output),
-        Command::Check { disk } => run_over(rt, alloc, disk, &Work::Check, input, output),
+        Command::Check { disk, copy } => run_check(rt, alloc, disk, copy, input, output),
         Command::Plan { config, names } => make_plan(rt, config, names, output),
         Command::Draft { names, wishes } => make_draft(rt, names, &wishes, output),
         Command::Slips { config, slips } => make_slips(rt, config, &slips, output),

@@ -119,9 +119,13 @@ html_rule = flag_rule (codes "html")
 abbrev pub results_app : App
 results_app = with_rule (with_rule (disk_app (codes "results")) html_rule) names_option_rule
 
--- the command `check DISK`
+-- the argument DISK2, which may be left out
+abbrev pub other_disk_rule : Rule
+other_disk_rule = new_rule (codes "DISK2")
+
+-- the command `check DISK`, with a second disk or none
 abbrev pub check_app : App
-check_app = disk_app (codes "check")
+check_app = with_rule (disk_app (codes "check")) other_disk_rule
 
 -- the command `plan CONFIG`, with that option or without
 abbrev pub plan_app : App
@@ -309,7 +313,7 @@ HasWords rows (Rank disk) = HasText rows (codes "DISK") disk.now
 HasWords rows (Pbn disk) = HasText rows (codes "DISK") disk.now
 HasWords rows (Results disk html names) = HasText rows (codes "DISK") disk.now × HasFlag rows (codes "html") html
     × HasOption rows (codes "names") names
-HasWords rows (Check disk) = HasText rows (codes "DISK") disk.now
+HasWords rows (Check disk copy) = HasText rows (codes "DISK") disk.now × HasOption rows (codes "DISK2") copy
 HasWords rows (Plan config names) = HasText rows (codes "CONFIG") config.now × HasOption rows (codes "names") names
 HasWords rows (Draft names wishes) = HasText rows (codes "NAMES") names.now × HasWishes rows wishes
 HasWords rows (Slips config slips) = HasText rows (codes "CONFIG") config.now × HasSlips rows slips
@@ -330,7 +334,7 @@ name_of (Web disk host minutes names copy) = codes "web"
 name_of (Rank disk) = codes "rank"
 name_of (Pbn disk) = codes "pbn"
 name_of (Results disk html names) = codes "results"
-name_of (Check disk) = codes "check"
+name_of (Check disk copy) = codes "check"
 name_of (Plan config names) = codes "plan"
 name_of (Draft names wishes) = codes "draft"
 name_of (Slips config slips) = codes "slips"

@@ -1,7 +1,7 @@
 //! The arguments of the commands, as they are declared to clap.
 ghost use Rattle.std.specs.Prelude.{◌≡◌, false};
 ghost use Rattle.clap.specs.Words.{rule_of};
-ghost use Rattle.command_line.specs.Words.{board_rule, disk_rule, second_disk_rule, config_rule, file_rule, port_rule, count_rule, minutes_rule, address_rule, name_rule, open_boards_rule, copy_rule, html_rule, rankings_rule, pbn_rule};
+ghost use Rattle.command_line.specs.Words.{board_rule, disk_rule, other_disk_rule, second_disk_rule, config_rule, file_rule, port_rule, count_rule, minutes_rule, address_rule, name_rule, open_boards_rule, copy_rule, html_rule, rankings_rule, pbn_rule};
 
 use clap::builder::ValueParser;
 use clap::{Arg, ArgAction};
@@ -15,6 +15,14 @@ pub fn disk_argument<'a>(alloc: Global) -> Arg<'a>
     Arg::new(alloc, "DISK")
         .help("The file that is the disk")
         .required(true)
+}
+
+/// The argument DISK2, which may be left out.
+pub fn other_disk_argument<'a>(alloc: Global) -> Arg<'a>
+    ensures rule { rule_of result ≡ other_disk_rule }
+    ensures local { result.global ≡ false }
+{
+    Arg::new(alloc, "DISK2").help("A second disk, to be compared with it")
 }
 
 /// The argument DISK2.

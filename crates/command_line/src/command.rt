@@ -67,10 +67,13 @@ pub enum Command<'a> {
         /// The file with the names as people write them, in place of the configuration's names.
         names: Option<&'a str>,
     },
-    /// `check DISK`: what a disk holds, in words, or where it is damaged and what its older snapshot holds.
+    /// `check DISK`: what a disk holds, in words, or where it is damaged and what its older snapshot holds; or
+    /// `check DISK DISK2`: what each of two disks holds, and how they stand to each other.
     Check {
         /// DISK, the name of the disk's file.
         disk: &'a str,
+        /// DISK2, the name of the second disk's file.
+        copy: Option<&'a str>,
     },
     /// `plan CONFIG [--names NAMES]`: the evening that the configuration in a file plans, in words, or what is wrong with it.
     Plan {

@@ -7,7 +7,8 @@ ghost use Rattle.command_line.specs.Words.{auction_app, format_app, script_app, 
 use crate::arguments::{
     address_argument, board_argument, config_argument, copy_argument, count_argument,
     disk_argument, file_argument, html_argument, minutes_argument, name_argument,
-    open_boards_argument, pbn_argument, port_argument, rankings_argument, second_disk_argument,
+    open_boards_argument, other_disk_argument, pbn_argument, port_argument, rankings_argument,
+    second_disk_argument,
 };
 use crate::evening_arguments::names_option;
 use crate::evening_declaration::{draft_command, evening_command, slips_command};
@@ -181,14 +182,15 @@ fn results_command<'a>(alloc: Global) -> Result<clap::Command<'a>, AllocError>
         .arg(names_option(alloc))
 }
 
-/// The command `check DISK`.
+/// The command `check DISK`, with a second disk or none.
 fn check_command<'a>(alloc: Global) -> Result<clap::Command<'a>, AllocError>
     ensures shape { IfOk result (λ command. shape_of command ≡ check_app.top) }
     ensures local { IfOk result (λ command. (fields_of command).has_globals ≡ false) }
 {
     clap::Command::new(alloc, "check")
         .about("Says what a disk holds, or where it is damaged; nothing is written to it")
-        .arg(disk_argument(alloc))
+        .arg(disk_argument(alloc))?
+        .arg(other_disk_argument(alloc))
 }
 
 /// The command `plan CONFIG`, with a list of names or none.

@@ -206,12 +206,13 @@ fn export_of<'a>(found: &ArgMatches<'a>) -> Option<Command<'a>>
     Some(Command::Export { disk, rankings })
 }
 
-/// The command `check` with its disk.
+/// The command `check` with its disk, and with a second one or none.
 fn check_of<'a>(found: &ArgMatches<'a>) -> Option<Command<'a>>
     ensures { IfSome result (IsNamed (codes "check") (rows_of (found_of found.now))) }
 {
     let disk = found.get_str("DISK")?;
-    Some(Command::Check { disk })
+    let copy = option_of(found, "DISK2");
+    Some(Command::Check { disk, copy })
 }
 
 /// The command `plan` with its configuration and its list of names.

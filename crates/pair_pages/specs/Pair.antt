@@ -37,6 +37,12 @@ disk_name names (Some FirstLost) = string_bytes names.first_lost
 disk_name names (Some SecondLost) = string_bytes names.second_lost
 disk_name names _ = string_bytes names.level
 
+-- the line of standard error once the disks stand so
+abbrev pub lost_line : DiskNames → Option PairStanding → List ℕ
+lost_line names (Some FirstLost) = names.first_lost_line.now
+lost_line names (Some SecondLost) = names.second_lost_line.now
+lost_line names _ = []
+
 -- what stands beside the session, where the disks have that name
 abbrev pub desk_of : {D E : Type 0} → DiskNames → StoreValue D SessionValue Action → StoreValue E SessionValue Action → Desk → Desk
 desk_of names first second desk = with_disk desk (disk_name names (standing_of first.failed second.failed))

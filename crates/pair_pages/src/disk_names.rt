@@ -1,6 +1,6 @@
 //! What the director is told of two disks.
 ghost use Rattle.std.specs.Prelude.{◌≡◌};
-ghost use Rattle.pair_pages.specs.Pair.{disk_name};
+ghost use Rattle.pair_pages.specs.Pair.{disk_name, lost_line};
 
 use session_store::PairStanding;
 
@@ -13,6 +13,10 @@ pub struct DiskNames {
     pub first_lost: String,
     /// Where the second is lost.
     pub second_lost: String,
+    /// The line of standard error once the first is lost.
+    pub first_lost_line: &'static str,
+    /// The same once the second is.
+    pub second_lost_line: &'static str,
 }
 
 impl DiskNames {
@@ -24,6 +28,17 @@ impl DiskNames {
             Some(PairStanding::FirstLost) => self.first_lost.as_str(),
             Some(PairStanding::SecondLost) => self.second_lost.as_str(),
             _ => self.level.as_str(),
+        }
+    }
+
+    /// The line of standard error once the disks stand so; none where both are kept, or both are lost.
+    pub fn lost_line(&self, standing: Option<PairStanding>) -> &'static str
+        ensures { result.now ≡ lost_line self.now standing }
+    {
+        match standing {
+            Some(PairStanding::FirstLost) => self.first_lost_line,
+            Some(PairStanding::SecondLost) => self.second_lost_line,
+            _ => "",
         }
     }
 }

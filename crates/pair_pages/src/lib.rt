@@ -1,7 +1,7 @@
 //! The pages of a session that two disks keep: each body of lines is served over the stores of both before anything is told.
 //!
 //! ```rust
-//! let server = PairServer::new(first, second, names);
+//! let server = PairServer::new(first, second, names, rt.stderr());
 //! let mut pages = TablePages::new(rt.alloc(), host, texts, server, cache, Desk::new(600, "club.disk"), ServerClock::new(&rt));
 //! ```
 #![tactic(auto)]

@@ -26,6 +26,7 @@ use sector_disk::SectorDisk;
 use session_pair::shown_state;
 use session_store::{PairStanding, Store, pair_standing};
 use std::alloc::Global;
+use std::io::{Eprint, Stderr};
 use table_pages::{LineServer, Replies};
 use table_server::{LineSet, ReplyText};
 
@@ -35,16 +36,27 @@ pub struct PairServer<S: Drop, T: Drop> {
     first: S,
     second: T,
     names: DiskNames,
+    /// Where it is said at once that a disk is lost.
+    errors: Stderr,
     /// Whether nothing more may be told.
     stopped: bool,
 }
 
+/// Says how the disks stand now, where that is not what was said before. No clause speaks of what standard error takes.
+fn tell_lost(errors: Stderr, before: &str, line: &str) {
+    if before != line {
+        let _ = errors.eprint(line);
+    }
+}
+
 impl<A: SectorDisk + Drop, B: SectorDisk + Drop> PairServer<Store<A, Session>, Store<B, Session>> {
-    /// The two stores of a pair that was opened, of which some state may be told, and what the director is told of their disks.
+    /// The two stores of a pair that was opened, of which some state may be told, and what the director is told of their disks, and
+    /// standard error at once where one is lost.
     pub fn new(
         first: Store<A, Session>,
         second: Store<B, Session>,
         names: DiskNames,
+        errors: Stderr,
     ) -> PairServer<Store<A, Session>, Store<B, Session>>
         ensures first { result.first ≡ first }
         ensures second { result.second ≡ second }
@@ -55,6 +67,7 @@ impl<A: SectorDisk + Drop, B: SectorDisk + Drop> PairServer<Store<A, Session>, S
             first,
             second,
             names,
+            errors,
             stopped: false,
         }
     }
@@ -93,8 +106,10 @@ impl<A: SectorDisk + Drop, B: SectorDisk + Drop> PairServer<Store<A, Session>, S
         if self.stopped {
             return None;
         }
+        let before = self.names.lost_line(self.standing());
         let served = serve_twice(&mut self.first, &mut self.second, set, alloc, cache, body);
         self.stopped = served.stopped;
+        tell_lost(self.errors, before, self.names.lost_line(self.standing()));
         served.replies
     }
 

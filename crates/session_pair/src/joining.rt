@@ -83,7 +83,11 @@ fn may_follow(disk: &Reading<Session>, copy: &Reading<Session>) -> bool
 
 /// How two disks stand to each other, by what was read of them, if they may be joined: they hold the same, or are of one
 /// configuration and the one may follow the other.
-fn judge(alloc: Global, disk: Reading<Session>, copy: Reading<Session>) -> Result<Judged, JoinFault>
+pub fn judge(
+    alloc: Global,
+    disk: Reading<Session>,
+    copy: Reading<Session>,
+) -> Result<Judged, JoinFault>
     ensures judged { IfOk result (IsJudged disk.state disk.epoch disk.records copy.state copy.epoch copy.records) }
     ensures fault { IfErr result (IsUnjudged disk.state disk.epoch copy.state copy.epoch) }
 {

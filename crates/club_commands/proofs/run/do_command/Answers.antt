@@ -32,7 +32,7 @@ pub returns-in-Export : goal.returns-in-Export
 returns-in-Export g c = rw c.in-Export.is c.export.ensures
 
 pub returns-in-Check : goal.returns-in-Check
-returns-in-Check g c = rw c.in-Check.is c.run_over.ensures
+returns-in-Check g c = rw c.in-Check.is c.run_check.ensures
 
 pub returns-in-Plan : goal.returns-in-Plan
 returns-in-Plan g c = rw c.in-Plan.is (c.make_plan.ensures, Keeps-refl _)

@@ -6,5 +6,8 @@ use Rattle.command_line.proofs.read.check_of.Goals as goal
 pub returns : goal.returns
 returns c = (
   refl,
-  text_given (λ (s : Bor (List ℕ)). s.now) c.get_str.result c.in_ok-disk.disk (found_of c.args.found.now) (codes "DISK") c.get_str.ensures c.in_ok-disk.was,
+  (
+    text_given (λ (s : Bor (List ℕ)). s.now) c.get_str.result c.in_ok-disk.disk (found_of c.args.found.now) (codes "DISK") c.get_str.ensures c.in_ok-disk.was,
+    c.option_of-copy.ensures,
+  ),
 )
