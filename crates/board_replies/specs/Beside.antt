@@ -5,8 +5,8 @@ use Rattle.std.specs.Fmt.{decimal, signed_decimal}
 use Rattle.bridge_cards.specs.declared.seat.Side.{Side}
 use Rattle.bridge_cards.specs.declared.seat.Side.TheVariants.{NorthSouth, EastWest}
 use Rattle.bridge_movement.specs.declared.row.Row.{Row}
-use Rattle.bridge_score.specs.declared.ranking.Scoring.{Scoring}
-use Rattle.bridge_score.specs.declared.ranking.Scoring.TheVariants.{MatchPoints, Imps}
+use Rattle.bridge_cards.specs.declared.scoring.Scoring.{Scoring}
+use Rattle.bridge_cards.specs.declared.scoring.Scoring.TheVariants.{MatchPoints, Imps}
 use Rattle.line_text.specs.Decimals.{tenths_text}
 use Rattle.bridge_results.specs.declared.compare.Comparison.{Comparison}
 use Rattle.bridge_results.specs.declared.traveller.BoardLine.{BoardLine}
@@ -14,7 +14,7 @@ use Rattle.bridge_results.specs.PlayCells.{line_score}
 use Rattle.bridge_results.specs.Traveller.{traveller}
 use Rattle.session_rules.specs.State.{SessionValue}
 use Rattle.line_replies.specs.ReplyTexts.{spaced_line}
-use Rattle.page_replies.specs.Place.{nothing}
+use Rattle.line_replies.specs.TableWords.{nothing}
 use Rattle.board_replies.specs.PlayLines.{result_by}
 
 -- whether a line of a traveller is that of the row

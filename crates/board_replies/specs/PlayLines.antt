@@ -22,7 +22,7 @@ use Rattle.bridge_results.specs.CardText.{side_words}
 use Rattle.bridge_results.specs.PlayCells.{result_score}
 use Rattle.line_replies.specs.ReplyTexts.{spaced_line}
 use Rattle.line_replies.specs.ViewText.{seat_word}
-use Rattle.page_replies.specs.Place.{nothing, names_at, contract_words}
+use Rattle.line_replies.specs.TableWords.{nothing, names_at, contract_words}
 use Rattle.board_replies.specs.KnownPlay.{KnownPlay}
 
 -- the side of the pair that is told, or `-` for the director

@@ -11,11 +11,10 @@ ghost use Rattle.board_replies.specs.Beside.{is_here, other_line, other_in, scor
 
 use crate::result_line::push_result;
 use crate::text::{push_end, push_number, push_signed, push_str, push_word};
-use bridge_cards::{BoardNumber, Side};
+use bridge_cards::{BoardNumber, Scoring, Side};
 use bridge_movement::Row;
 use bridge_ranking::PlayResult;
 use bridge_results::{BoardLine, Comparison, Results};
-use bridge_score::Scoring;
 use bridge_session::Session;
 use line_text::{number_text, tenths_text};
 use std::alloc::AllocError;

@@ -2,7 +2,7 @@
 ghost use Rattle.std.specs.Prelude.{◌≡◌, ◌∷◌, ◌++◌, [], OnOk, Some, codes};
 ghost use Rattle.session_rules.specs.Outcome.{HasFewTricks};
 ghost use Rattle.line_replies.specs.ReplyTexts.{each_spaced};
-ghost use Rattle.page_replies.specs.Place.{contract_words};
+ghost use Rattle.line_replies.specs.TableWords.{contract_words};
 ghost use Rattle.board_replies.specs.PlayLines.{score_on, score_words, played_words, average_words, result_by, result_line};
 
 use crate::text::{push_end, push_number, push_signed, push_str, push_word};

@@ -1,5 +1,5 @@
-//! Suits, seats, boards, cards, deals and shuffles of duplicate bridge (Laws 1, 2 and 6 of the Laws of Duplicate
-//! Bridge 2017).
+//! Suits, seats, boards, cards, deals, shuffles and ways of scoring of duplicate bridge (Laws 1, 2, 6 and 78 of the Laws
+//! of Duplicate Bridge 2017).
 //!
 //! ```rust
 //! let board = BoardNumber::new(7)?;
@@ -16,6 +16,7 @@ pub mod deal;
 pub mod deal_text;
 pub mod out_of_range;
 pub mod rank;
+pub mod scoring;
 pub mod seat;
 pub mod shuffle;
 pub mod suit;
@@ -29,6 +30,7 @@ pub use deal::{BadDeal, Deal, HAND_CARDS};
 pub use deal_text::{DEAL_BYTES, print_deal, print_hand, read_deal, read_hands};
 pub use out_of_range::OutOfRange;
 pub use rank::Rank;
+pub use scoring::Scoring;
 pub use seat::{Seat, Side, seat_text};
 pub use shuffle::deal_board;
 pub use suit::Suit;

@@ -1,7 +1,7 @@
 -- What contracts see of a configuration: its fields, with texts as lists of bytes and keys as numbers.
 use Rattle.std.specs.Prelude.{ℕ, ◌-◌, Bool, if◌then◌else◌, List, [], map, flat_map, ◌∷◌, ◌++◌, codes, slice_get, slice_index_or}
 use Rattle.std.specs.Option.{option_map_or}
-use Rattle.bridge_score.specs.declared.ranking.Scoring.{Scoring}
+use Rattle.bridge_cards.specs.declared.scoring.Scoring.{Scoring}
 use Rattle.bridge_movement.specs.MovementValue.{MovementValue}
 use Rattle.bridge_config.specs.declared.fields.Key.{Key}
 use Rattle.bridge_config.specs.declared.fields.PairFields.{PairFields}

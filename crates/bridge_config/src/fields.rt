@@ -1,7 +1,7 @@
 //! What a configuration states.
 use arrayvec::{ArrayString, ArrayVec};
+use bridge_cards::Scoring;
 use bridge_movement::{MOST_PAIRS, Movement};
-use bridge_score::Scoring;
 
 /// The most bytes of a name.
 pub const NAME_BYTES: usize = 24;

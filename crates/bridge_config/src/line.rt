@@ -12,8 +12,8 @@ use crate::fields::{DATE_BYTES, Key, NAME_BYTES, PairFields};
 use crate::limits::{is_date_form, is_date_within, is_name, stands_in};
 use crate::refused::{ConfigFault, ConfigRefused};
 use arrayvec::ArrayString;
+use bridge_cards::Scoring;
 use bridge_movement::{MOST_PAIRS, MOST_ROUNDS, MOST_SETS, MOST_TABLES, Row, Shape};
-use bridge_score::Scoring;
 use line_text::{Five, first_line, five_after, inline, is_numeral, value_of, word_after};
 
 /// A line and its number, from 1.

@@ -14,8 +14,8 @@ use crate::fields::{ConfigFields, DATE_BYTES, Key, MOST_KEYS, NAME_BYTES, PairFi
 use crate::line::{due_line, has_line};
 use crate::refused::{ConfigFault, ConfigRefused};
 use arrayvec::{ArrayString, ArrayVec};
+use bridge_cards::Scoring;
 use bridge_movement::{MOST_PAIRS, MOST_ROWS, MOST_TABLES, Movement, Row, Shape};
-use bridge_score::Scoring;
 
 /// The most bytes that a text may have.
 const CONFIG_BYTES: usize = 16384;

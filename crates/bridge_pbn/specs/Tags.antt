@@ -7,8 +7,8 @@ use Rattle.bridge_cards.specs.DealText.{deal_text}
 use Rattle.bridge_cards.specs.Vulnerability.{vulnerability_text}
 use Rattle.bridge_auction.specs.Spelling.{bid_text, doubling_text}
 use Rattle.bridge_movement.specs.declared.row.Row.{Row}
-use Rattle.bridge_score.specs.declared.ranking.Scoring.{Scoring}
-use Rattle.bridge_score.specs.declared.ranking.Scoring.TheVariants.{MatchPoints, Imps}
+use Rattle.bridge_cards.specs.declared.scoring.Scoring.{Scoring}
+use Rattle.bridge_cards.specs.declared.scoring.Scoring.TheVariants.{MatchPoints, Imps}
 use Rattle.bridge_config.specs.ConfigValue.{ConfigValue, Pair, player_name}
 use Rattle.session_rules.specs.declared.outcome.Outcome.{Outcome}
 use Rattle.session_rules.specs.declared.outcome.Outcome.TheVariants.{PassedOut, Played}

@@ -2,7 +2,7 @@
 ghost use Rattle.std.specs.Prelude.{◌≡◌, ◌≤◌, length};
 ghost use Rattle.bridge_pbn.specs.Tags.{scoring_text};
 
-use bridge_score::Scoring;
+use bridge_cards::Scoring;
 
 /// `MP` or `IMP`.
 pub fn scoring_text(scoring: Scoring) -> &'static str

@@ -13,12 +13,11 @@ use crate::text::{GAME_BYTES, GameText, TAG_BYTES, push_tag};
 use arrayvec::ArrayString;
 use bridge_auction::{Contract, doubling_text, print_bid};
 use bridge_cards::{
-    BoardNumber, DEAL_BYTES, Deal, dealer, print_deal, seat_text, vulnerability_of,
+    BoardNumber, DEAL_BYTES, Deal, Scoring, dealer, print_deal, seat_text, vulnerability_of,
     vulnerability_text,
 };
 use bridge_config::{Config, PairFields, player_name};
 use bridge_movement::Row;
-use bridge_score::Scoring;
 use bridge_session::Outcome;
 use itoa::Buffer;
 

@@ -15,8 +15,8 @@ use Rattle.std.proofs.lemmas.List.Sums.{fold_more}
 use Rattle.bridge_cards.specs.declared.seat.Side.{Side}
 use Rattle.bridge_cards.specs.declared.seat.Side.TheVariants.{NorthSouth, EastWest}
 use Rattle.bridge_cards.specs.Board.{IsBoard}
-use Rattle.bridge_score.specs.declared.ranking.Scoring.{Scoring}
-use Rattle.bridge_score.specs.declared.ranking.Scoring.TheVariants.{MatchPoints, Imps}
+use Rattle.bridge_cards.specs.declared.scoring.Scoring.{Scoring}
+use Rattle.bridge_cards.specs.declared.scoring.Scoring.TheVariants.{MatchPoints, Imps}
 use Rattle.bridge_score.specs.declared.ranking.Line.{Line}
 use Rattle.bridge_score.specs.Comparison.{int_sum_by}
 use Rattle.bridge_score.specs.Ranking.{AreOfTwoPairs}

@@ -1,6 +1,6 @@
 //! That a ranking is even-handed, as a law over the definitions that it cites.
 ghost use Rattle.std.specs.Prelude.{◌≡◌, ◌<◌, ℕ, ℤ, List, length};
-ghost use Rattle.bridge_score.specs.declared.ranking.Scoring.{Scoring as ScoringType};
+ghost use Rattle.bridge_cards.specs.declared.scoring.Scoring.{Scoring as ScoringType};
 ghost use Rattle.bridge_score.specs.Comparison.{score_at};
 ghost use Rattle.bridge_ranking.specs.Ranking.{gain_at};
 

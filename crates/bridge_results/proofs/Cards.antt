@@ -16,7 +16,7 @@ use Rattle.bridge_movement.specs.declared.shape.Shape.{Shape}
 use Rattle.bridge_movement.specs.Row.{is_live, SitsIn, SeatPairTwice}
 use Rattle.bridge_movement.specs.Shape.{IsShape}
 use Rattle.bridge_movement.specs.Fair.{IsDue, IsMovement}
-use Rattle.bridge_score.specs.declared.ranking.Scoring.{Scoring}
+use Rattle.bridge_cards.specs.declared.scoring.Scoring.{Scoring}
 use Rattle.bridge_ranking.specs.declared.game.Game.{Game}
 use Rattle.session_rules.specs.Outcome.{outcome_of}
 use Rattle.session_rules.specs.Record.{PlainRecord}

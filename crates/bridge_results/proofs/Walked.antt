@@ -5,7 +5,7 @@ use Rattle.std.proofs.lemmas.List.{take_more, take-append-drop, map-append, appe
 use Rattle.std.proofs.lemmas.List.Elements.{filter_map-append, filter-append}
 use Rattle.std.proofs.lemmas.List.Sums.{fold_push}
 use Rattle.bridge_cards.specs.declared.seat.Side.{Side}
-use Rattle.bridge_score.specs.declared.ranking.Scoring.{Scoring}
+use Rattle.bridge_cards.specs.declared.scoring.Scoring.{Scoring}
 use Rattle.bridge_ranking.specs.declared.game.Game.{Game}
 use Rattle.bridge_ranking.specs.declared.game.PlayResult.{PlayResult}
 use Rattle.bridge_ranking.specs.declared.game.PlayResult.TheVariants.{Score, Averages}

@@ -5,7 +5,7 @@ use Rattle.std.specs.Fmt.{decimal, signed_decimal}
 use Rattle.bridge_cards.specs.Board.{dealer_of, vulnerability_on}
 use Rattle.bridge_cards.specs.Seat.{seat_letter}
 use Rattle.bridge_cards.specs.Vulnerability.{vulnerability_text}
-use Rattle.bridge_score.specs.declared.ranking.Scoring.{Scoring}
+use Rattle.bridge_cards.specs.declared.scoring.Scoring.{Scoring}
 use Rattle.page_layout.specs.declared.format.Format.{Format}
 use Rattle.page_layout.specs.declared.format.Level.TheVariants as level
 use Rattle.page_layout.specs.declared.format.Section.TheVariants as section

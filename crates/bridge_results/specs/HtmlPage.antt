@@ -4,8 +4,8 @@ use Rattle.std.specs.List.{range_with_len}
 use Rattle.std.specs.Option.{option_map_or}
 use Rattle.std.specs.Fmt.{decimal, signed_decimal}
 use Rattle.bridge_score.specs.declared.ranking.Ranked.{Ranked}
-use Rattle.bridge_score.specs.declared.ranking.Scoring.{Scoring}
-use Rattle.bridge_score.specs.declared.ranking.Scoring.TheVariants.{MatchPoints, Imps}
+use Rattle.bridge_cards.specs.declared.scoring.Scoring.{Scoring}
+use Rattle.bridge_cards.specs.declared.scoring.Scoring.TheVariants.{MatchPoints, Imps}
 use Rattle.bridge_score.specs.Percent.{share_percent}
 use Rattle.bridge_config.specs.ConfigValue.{ConfigValue, Pair}
 use Rattle.session_rules.specs.State.{SessionValue}
@@ -44,11 +44,15 @@ html_ranking_start scoring heading =
 abbrev pub html_ranked_rows : Scoring → Names → List Pair → List Ranked → List ℕ
 html_ranked_rows scoring names pairs ranking = flat_map (html_ranked scoring names pairs) ranking
 
+-- a ranking of those pairs with that heading
+abbrev pub html_ranking_of : Scoring → Names → List Pair → List ℕ → List Ranked → List ℕ
+html_ranking_of scoring names pairs heading ranking =
+    html_ranking_start scoring heading ++ (html_ranked_rows scoring names pairs ranking ++ (table_end Html ++ section_end Html))
+
 -- a ranking of that heading
 abbrev pub html_ranking : ConfigValue → Names → List ℕ → List Ranked → List ℕ
 html_ranking configuration names heading ranking =
-    html_ranking_start configuration.scoring heading
-    ++ (html_ranked_rows configuration.scoring names configuration.pairs ranking ++ (table_end Html ++ section_end Html))
+    html_ranking_of configuration.scoring names configuration.pairs heading ranking
 
 -- the ranking of a field, if there is such a field
 abbrev pub html_field : ConfigValue → Names → List ℕ → Option (List Ranked) → List ℕ

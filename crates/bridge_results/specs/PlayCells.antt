@@ -5,8 +5,8 @@ use Rattle.std.specs.Fmt.{decimal, signed_decimal}
 use Rattle.bridge_cards.specs.Seat.{seat_letter}
 use Rattle.bridge_cards.specs.Card.{card_text}
 use Rattle.bridge_auction.specs.Spelling.{bid_text, doubling_text}
-use Rattle.bridge_score.specs.declared.ranking.Scoring.{Scoring}
-use Rattle.bridge_score.specs.declared.ranking.Scoring.TheVariants.{MatchPoints, Imps}
+use Rattle.bridge_cards.specs.declared.scoring.Scoring.{Scoring}
+use Rattle.bridge_cards.specs.declared.scoring.Scoring.TheVariants.{MatchPoints, Imps}
 use Rattle.bridge_ranking.specs.declared.game.PlayResult.{PlayResult}
 use Rattle.bridge_ranking.specs.declared.game.PlayResult.TheVariants.{Score, Averages}
 use Rattle.session_rules.specs.Average.{percent_of}

@@ -1,9 +1,11 @@
 -- The ranking of a field, with the names of the pairs.
-use Rattle.std.specs.Prelude.{ℕ, List, [], ◌∷◌, ◌++◌, codes, flat_map, unsigned_abs}
+use Rattle.std.specs.Prelude.{ℕ, List, [], ◌∷◌, ◌++◌, codes, flat_map, unsigned_abs, Option}
+use Rattle.std.specs.Option.{option_map}
 use Rattle.std.specs.Fmt.{decimal, signed_decimal}
+use Rattle.arrayvec.specs.ArrayVec.{ArrayVec}
 use Rattle.bridge_score.specs.declared.ranking.Ranked.{Ranked}
-use Rattle.bridge_score.specs.declared.ranking.Scoring.{Scoring}
-use Rattle.bridge_score.specs.declared.ranking.Scoring.TheVariants.{MatchPoints, Imps}
+use Rattle.bridge_cards.specs.declared.scoring.Scoring.{Scoring}
+use Rattle.bridge_cards.specs.declared.scoring.Scoring.TheVariants.{MatchPoints, Imps}
 use Rattle.bridge_score.specs.Percent.{share_percent}
 use Rattle.bridge_config.specs.ConfigValue.{Pair}
 use Rattle.bridge_ranking.specs.declared.field.Field.{Field}
@@ -16,6 +18,10 @@ use Rattle.page_layout.specs.Page.{heading_text, section_start, section_end}
 use Rattle.page_layout.specs.Table.{row_text, title_row, table_start, table_end}
 use Rattle.bridge_results.specs.ShownPairs.{Names, names_cell}
 use Rattle.bridge_results.specs.declared.pages.columns.TheConstants.{SHARE_COLUMNS, SUM_COLUMNS}
+
+-- the lines of a ranking that the code keeps, if it keeps one
+abbrev pub ranked_items : Option (ArrayVec Ranked) → Option (List Ranked)
+ranked_items ranking = option_map (λ ranked. ranked.items) ranking
 
 -- the row of a pair by matchpoints: place, pair, names, matchpoints, those available, and the percentage
 abbrev pub share_row : Format → List ℕ → Ranked → List ℕ

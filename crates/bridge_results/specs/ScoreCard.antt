@@ -5,7 +5,7 @@ use Rattle.std.specs.Option.{option_map, option_map_or}
 use Rattle.bridge_cards.specs.declared.seat.Side.{Side}
 use Rattle.bridge_cards.specs.declared.seat.Side.TheVariants.{NorthSouth, EastWest}
 use Rattle.bridge_movement.specs.declared.row.Row.{Row}
-use Rattle.bridge_score.specs.declared.ranking.Scoring.{Scoring}
+use Rattle.bridge_cards.specs.declared.scoring.Scoring.{Scoring}
 use Rattle.bridge_ranking.specs.declared.game.Game.{Game}
 use Rattle.bridge_ranking.specs.declared.game.PlayResult.{PlayResult}
 use Rattle.bridge_ranking.specs.Ranking.{games_of, scores_on, side_score, gained, available_of}

@@ -9,11 +9,10 @@ use crate::compare::result_in;
 use crate::gain::{gain_on, scores_on, side_score};
 use crate::play::TablePlay;
 use arrayvec::ArrayVec;
-use bridge_cards::{BoardNumber, Side};
+use bridge_cards::{BoardNumber, Scoring, Side};
 use bridge_movement::Row;
 use bridge_ranking::gain::available_of;
 use bridge_ranking::{Game, PlayResult};
-use bridge_score::Scoring;
 use session_rules::Outcome;
 
 /// How many plays a pair may have: three in each of 12 rounds.

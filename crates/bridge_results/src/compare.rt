@@ -9,10 +9,9 @@ ghost use Rattle.bridge_results.specs.Comparison.{result_in, game_of, games_amon
 use crate::gain::gain_on;
 use crate::play::TablePlay;
 use arrayvec::ArrayVec;
-use bridge_cards::{BoardNumber, Side};
+use bridge_cards::{BoardNumber, Scoring, Side};
 use bridge_ranking::game::{MOST_PLAYS, result_of};
 use bridge_ranking::{Game, PlayResult};
-use bridge_score::Scoring;
 
 /// What a play is compared by, and what each side gained by it against the other scores of its board: matchpoints in tenths,
 /// or cross-IMPs.

@@ -7,12 +7,11 @@ ghost use Rattle.bridge_ranking.specs.Gains.{AreGames};
 ghost use Rattle.bridge_ranking.specs.KeptGames.{IsResult};
 
 use arrayvec::ArrayVec;
-use bridge_cards::{BoardNumber, Side};
+use bridge_cards::{BoardNumber, Scoring, Side};
 use bridge_movement::MOST_ROWS;
 use bridge_ranking::gain::gained;
 use bridge_ranking::game::score_for;
 use bridge_ranking::{Game, PlayResult};
-use bridge_score::Scoring;
 
 /// The scores of a side on a board.
 type Scores = ArrayVec<i32, MOST_ROWS>;

@@ -15,9 +15,10 @@ pub mod percent;
 pub mod ranking;
 pub mod scoring_table;
 
+pub use bridge_cards::Scoring;
 pub use comparison::{cross_imps, matchpoints};
 pub use imp_scale::imps;
 pub use laws::{cross_imps_shared, matchpoints_shared};
 pub use percent::{percent_hundredths, share_percent};
-pub use ranking::{Line, MOST_LINES, Ranked, Scoring, rank};
+pub use ranking::{Line, MOST_LINES, Ranked, rank};
 pub use scoring_table::score;

@@ -7,7 +7,7 @@ use Rattle.bridge_auction.specs.declared.contract.Contract.{Contract}
 use Rattle.bridge_auction.specs.Auction.{with_call, without_last_call}
 use Rattle.bridge_auction.specs.Contract.{contract_of}
 use Rattle.bridge_play.specs.Play.{PlayValue, with_card, with_claim, with_agreement, without_claim, without_latest}
-use Rattle.bridge_score.specs.declared.ranking.Scoring.{Scoring}
+use Rattle.bridge_cards.specs.declared.scoring.Scoring.{Scoring}
 use Rattle.bridge_table.specs.declared.record.Record.{Record}
 use Rattle.session_rules.specs.declared.deed.Deed.{Deed}
 use Rattle.session_rules.specs.declared.deed.Deed.TheVariants as deed

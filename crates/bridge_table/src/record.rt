@@ -15,9 +15,8 @@ ghost use Rattle.session_rules.specs.declared.deed.Deed.TheVariants as deed;
 
 use crate::refusals::{call_result, card_result, claim_result, consent_result};
 use bridge_auction::{Auction, Call, Contract};
-use bridge_cards::{BoardNumber, Card, Deal, Seat, dealer};
+use bridge_cards::{BoardNumber, Card, Deal, Scoring, Seat, dealer};
 use bridge_play::{ClaimCount, Play};
-use bridge_score::Scoring;
 use session_rules::{Correction, Deed, MadeCount, Outcome, Refused, Ruling, TrickCount};
 
 /// The play of one board by one table: its calls, its cards and claims once there is a contract, and the ruling on it.

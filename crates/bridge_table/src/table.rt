@@ -10,8 +10,7 @@ ghost use Rattle.session_rules.specs.StateRange.{IsCorrectionInRange};
 ghost use Rattle.bridge_table.specs.Kept.{plain_of, is_kept_open, with_kept_ruling, kept_rule_answer, IsTiedIn};
 
 use crate::record::Record;
-use bridge_cards::{BoardNumber, Deal, Seat};
-use bridge_score::Scoring;
+use bridge_cards::{BoardNumber, Deal, Scoring, Seat};
 use session_rules::{Correction, Deed, MadeCount, Refused};
 
 /// The index of the current play: the first that is neither finished, void nor adjusted.

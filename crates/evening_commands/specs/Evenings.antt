@@ -8,8 +8,8 @@ use Rattle.command_line.specs.declared.command.DraftWords.{DraftWords}
 use Rattle.command_line.specs.declared.command.SlipWords.{SlipWords}
 use Rattle.bridge_movement.specs.declared.named.NamedMovement.{NamedMovement}
 use Rattle.bridge_movement.specs.declared.named.NamedMovement.TheVariants.{Mitchell, Howell}
-use Rattle.bridge_score.specs.declared.ranking.Scoring.{Scoring}
-use Rattle.bridge_score.specs.declared.ranking.Scoring.TheVariants.{MatchPoints, Imps}
+use Rattle.bridge_cards.specs.declared.scoring.Scoring.{Scoring}
+use Rattle.bridge_cards.specs.declared.scoring.Scoring.TheVariants.{MatchPoints, Imps}
 use Rattle.std.specs.Option.{option_map}
 use Rattle.evening_draft.specs.ConfigText.{IsFormOf, config_text}
 use Rattle.evening_draft.specs.Names.{ReadsNames}

@@ -2,7 +2,7 @@
 ghost use Rattle.std.specs.Prelude.{◌≡◌, ◌≢◌, ◌≤◌, Option, Some, length, IfOk, IfErr, MatchResult};
 ghost use Rattle.line_text.specs.Streams.{stream};
 ghost use Rattle.bridge_movement.specs.declared.named.NamedMovement.{NamedMovement};
-ghost use Rattle.bridge_score.specs.declared.ranking.Scoring.{Scoring};
+ghost use Rattle.bridge_cards.specs.declared.scoring.Scoring.{Scoring};
 ghost use Rattle.evening_commands.specs.TextFile.{OfReader, OfFound, OfFile};
 ghost use Rattle.evening_commands.specs.Evenings.{HasMovement, scoring_name, HasSeed, LacksSeed, MakesOn, Makes, WritesConfig, WritesMade, DraftsList, Drafts, evening_fault};
 ghost use Rattle.evening_commands.specs.NamesView.{list_seen};
@@ -11,9 +11,9 @@ use crate::fault::EveningFault;
 use crate::names_file::{Names, read_list};
 use crate::stopping::stop;
 use crate::text_file::{NoRead, Text, read_text};
+use bridge_cards::Scoring;
 use bridge_config::Config;
 use bridge_movement::NamedMovement;
-use bridge_score::Scoring;
 use command_line::DraftWords;
 use evening_draft::{
     DateText, DraftRefused, PairNames, WishWords, date_at, draft_evening, read_seed, write_config,

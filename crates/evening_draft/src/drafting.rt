@@ -53,9 +53,9 @@ pub fn draft(names: &[PairNames], wishes: &Wishes) -> Result<Config, DraftRefuse
     requires { length names.now ≤ MOST_PAIRS }
     // The movement is the one that was named.
     ensures movement { IfOk result (λ config. IsNamed wishes.now.movement (length names.now) config.movement) }
-    // The keys come from the seed and the number of pairs alone.
-    ensures keys { IfOk result (λ config. keys_of config ≡ evening_keys wishes.now.seed (length names.now)) }
-    ensures nine_digits { IfOk result (λ config. All HasNineDigits (keys_of config)) }
+    // The keys come from the seed and the number of pairs alone, and have nine digits each.
+    ensures keys { IfOk result (λ config.
+        (keys_of config ≡ evening_keys wishes.now.seed (length names.now)) × All HasNineDigits (keys_of config)) }
     ensures names { IfOk result (λ config. map (λ pair. pair.names) config.pairs ≡ names_from 1 names.now) }
     ensures stated { IfOk result (λ config. config ≡ drafted wishes.now names.now config.movement (keys_of config)) }
     ensures refused { IfErr result (IsDraftRefused wishes.now (length names.now)) }

@@ -11,8 +11,8 @@ ghost use Rattle.evening_draft.specs.ConfigText.{ended, text_of, IsConfigWritten
 use crate::form::form_of;
 use crate::line::{line_of_six, line_of_two};
 use crate::rows::write_movement;
+use bridge_cards::Scoring;
 use bridge_config::{Config, Key, PairFields};
-use bridge_score::Scoring;
 use line_text::{Five, number_text, write_text};
 use page_layout::{PageText, push_bytes};
 use std::io::{Error, Write};

@@ -1,8 +1,8 @@
 //! What an evening is made of.
 use arrayvec::ArrayString;
+use bridge_cards::Scoring;
 use bridge_config::{DATE_BYTES, NAME_BYTES};
 use bridge_movement::NamedMovement;
-use bridge_score::Scoring;
 
 /// The most bytes of a name as people write it: 40 characters of any script.
 pub const PERSON_BYTES: usize = 160;

@@ -6,9 +6,9 @@ use crate::drafting::draft;
 use crate::refused::DraftRefused;
 use crate::wishes::{PairNames, Wishes};
 use arrayvec::ArrayString;
+use bridge_cards::Scoring;
 use bridge_config::Config;
 use bridge_movement::NamedMovement;
-use bridge_score::Scoring;
 
 /// What is wished of an evening, in words.
 #[derive(Clone, Copy)]

@@ -6,8 +6,8 @@ use Rattle.line_text.specs.Lines.{is_long}
 use Rattle.line_text.specs.Words.{Five, spaced_words, words_of, word_after, five_after}
 use Rattle.line_text.specs.Numeral.{is_numeral}
 use Rattle.line_text.proofs.Splits.{some_part}
-use Rattle.bridge_score.specs.declared.ranking.Scoring.{Scoring}
-use Rattle.bridge_score.specs.declared.ranking.Scoring.TheVariants.{MatchPoints, Imps}
+use Rattle.bridge_cards.specs.declared.scoring.Scoring.{Scoring}
+use Rattle.bridge_cards.specs.declared.scoring.Scoring.TheVariants.{MatchPoints, Imps}
 use Rattle.bridge_config.specs.declared.refused.ConfigFault.{ConfigFault}
 use Rattle.bridge_config.specs.declared.refused.ConfigRefused.TheVariants.{KeyTwice}
 use Rattle.bridge_config.specs.Limits.{is_name, is_date_form, is_date_within, stands_in}

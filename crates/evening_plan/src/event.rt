@@ -6,9 +6,9 @@ ghost use Rattle.evening_plan.specs.Evening.{evening_of};
 ghost use Rattle.evening_plan.specs.EventText.{event_line, seat_words, scoring_words, place_words, count_words, board_words, two_fields, field_words, event_text};
 
 use crate::text::push_number;
+use bridge_cards::Scoring;
 use bridge_config::Config;
 use bridge_movement::Shape;
-use bridge_score::Scoring;
 use page_layout::{PAGE_BYTES, PageText, push_bytes};
 
 /// The event, on a line of its own.

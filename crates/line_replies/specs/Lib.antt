@@ -3,3 +3,4 @@ pub mod KeyWord
 pub mod ReplyTexts
 pub mod ViewText
 pub mod LineFeed
+pub mod TableWords

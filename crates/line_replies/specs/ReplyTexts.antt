@@ -5,8 +5,8 @@ use Rattle.line_text.specs.Decimals.{tenths_text, percent_text}
 use Rattle.line_text.specs.Refusal.{refusal_line}
 use Rattle.bridge_auction.specs.Refused.{refusal_number as call_refusal_number, refusal_name as call_refusal_name}
 use Rattle.bridge_score.specs.declared.ranking.Ranked.{Ranked}
-use Rattle.bridge_score.specs.declared.ranking.Scoring.{Scoring}
-use Rattle.bridge_score.specs.declared.ranking.Scoring.TheVariants.{MatchPoints, Imps}
+use Rattle.bridge_cards.specs.declared.scoring.Scoring.{Scoring}
+use Rattle.bridge_cards.specs.declared.scoring.Scoring.TheVariants.{MatchPoints, Imps}
 use Rattle.bridge_score.specs.Percent.{share_percent}
 use Rattle.line_text.specs.Lines.{lines_text}
 use Rattle.session_rules.specs.Refused.{refusal_number, refusal_name}

@@ -2,7 +2,7 @@
 ghost use Rattle.std.specs.Prelude.{◌≡◌, ◌+◌, ◌*◌, ◌≤◌, ◌∷◌, ◌++◌, [], length, map};
 ghost use Rattle.arrayvec.specs.ArrayString.{array_string_len};
 ghost use Rattle.line_text.specs.Lines.{lines_text};
-ghost use Rattle.bridge_score.specs.declared.ranking.Scoring.TheVariants.{MatchPoints};
+ghost use Rattle.bridge_cards.specs.declared.scoring.Scoring.TheVariants.{MatchPoints};
 ghost use Rattle.line_replies.specs.ReplyTexts.{each_spaced, gain_words, ranked_line, ranking_text};
 
 use crate::reply_text::{REPLY_BYTES, ReplyText, push_word};

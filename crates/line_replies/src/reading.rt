@@ -17,8 +17,7 @@ pub fn read_piece<R: Read>(
     piece: &mut [u8],
     most: usize,
 ) -> Result<usize, ServeFault>
-    requires some { 0 < most }
-    requires room { 0 < length piece.old }
+    requires room { (0 < most) × (0 < length piece.old) }
     ensures bound { IfOk result (λ taken. (taken ≤ most) × (taken ≤ length piece.new)) }
     ensures ok { IfOk result (λ taken. Gives (stream R.remaining reader.old reader.new) (take taken piece.new)) }
     ensures end { IfOk result (λ taken. taken ≡ 0 → IsAtEnd (R.remaining reader.new)) }

@@ -4,7 +4,6 @@ use Rattle.std.specs.Fmt.{decimal}
 use Rattle.std.specs.Option.{option_map_or}
 use Rattle.bridge_cards.specs.Seat.{seat_letter}
 use Rattle.bridge_auction.specs.declared.contract.Contract.{Contract}
-use Rattle.bridge_auction.specs.Spelling.{bid_text, doubling_text}
 use Rattle.bridge_config.specs.ConfigValue.{ConfigValue, Pair, player_name}
 use Rattle.bridge_movement.specs.declared.row.Row.{Row}
 use Rattle.session_rules.specs.declared.refused.Refused.{Refused as SessionRefused}
@@ -18,14 +17,7 @@ use Rattle.bridge_movement.specs.Boards.{boards_before, last_board}
 use Rattle.line_replies.specs.declared.short_reply.ShortReply.TheVariants.{Refused, BadLine}
 use Rattle.line_replies.specs.KeyWord.{key_of_word}
 use Rattle.line_replies.specs.ReplyTexts.{short_text, spaced_line, listed_text}
-
--- what stands where there is nothing to tell
-abbrev pub nothing : List (List ℕ)
-nothing = codes "-" ∷ []
-
--- the names in North, East, South and West: a pair's first player sits North or East, the second South or West
-abbrev pub names_at : List Pair → Row → List (List ℕ)
-names_at pairs row = player_name pairs row.ns true ∷ player_name pairs row.ew true ∷ player_name pairs row.ns false ∷ player_name pairs row.ew false ∷ []
+use Rattle.line_replies.specs.TableWords.{nothing, names_at, contract_words}
 
 -- the names at the table of the row of that index
 abbrev pub names_of_row : List Pair → Option Row → List (List ℕ)
@@ -51,11 +43,6 @@ abbrev pub table_words : ℕ → Result Seating SessionRefused → List (List �
 table_words boards (Err refused) = nothing
 table_words boards (Ok seating) =
     decimal seating.table ∷ (seat_letter seating.seat ∷ []) ∷ decimal (boards_before boards seating.set + 1) ∷ decimal (last_board boards seating.set) ∷ []
-
--- the bid with its doubling, and declarer
-abbrev pub contract_words : Option Contract → List (List ℕ)
-contract_words None = nothing
-contract_words (Some contract) = (bid_text contract.bid ++ doubling_text contract.doubling) ∷ (seat_letter contract.declarer ∷ []) ∷ []
 
 -- the contract that is known to the player
 abbrev pub contract_seen : Result Stage SessionRefused → Option Contract

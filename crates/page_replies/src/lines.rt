@@ -3,7 +3,8 @@ ghost use Rattle.std.specs.Prelude.{◌≡◌, ◌+◌, ◌≤◌, ◌∷◌, �
 ghost use Rattle.arrayvec.specs.ArrayString.{array_string_len};
 ghost use Rattle.bridge_config.specs.ConfigValue.{configuration_of};
 ghost use Rattle.line_replies.specs.ReplyTexts.{spaced_line, each_spaced};
-ghost use Rattle.page_replies.specs.Place.{round_line, player_line, table_words, names_words, contract_words, contract_seen, answer_words, answer_seen};
+ghost use Rattle.page_replies.specs.Place.{round_line, player_line, table_words, names_words, contract_seen, answer_words, answer_seen};
+ghost use Rattle.line_replies.specs.TableWords.{contract_words};
 
 use crate::names::{TABLE_NAMES_BYTES, push_names};
 use bridge_auction::{Contract, doubling_text, print_bid};

@@ -3,7 +3,7 @@ ghost use Rattle.std.specs.Prelude.{◌≡◌, ◌+◌, ◌≤◌, ◌++◌, len
 ghost use Rattle.arrayvec.specs.ArrayString.{array_string_len};
 ghost use Rattle.bridge_config.specs.ConfigValue.{configuration_of};
 ghost use Rattle.line_replies.specs.ReplyTexts.{each_spaced};
-ghost use Rattle.page_replies.specs.Place.{names_at};
+ghost use Rattle.line_replies.specs.TableWords.{names_at};
 
 use bridge_config::{ConfigFields, NAME_BYTES, player_name};
 use bridge_movement::Row;

@@ -3,8 +3,8 @@ use Rattle.std.proofs.Common.{Option, None, Some, IfSome, ◌≡◌, ◌+◌, �
 use Rattle.std.specs.Prelude.{Any, slice_index}
 use Rattle.bridge_config.specs.ConfigValue.{ConfigValue, Pair}
 use Rattle.bridge_config.specs.Limits.{is_name, is_date_form, IsPair, IsConfiguration}
-use Rattle.bridge_score.specs.declared.ranking.Scoring.{Scoring}
-use Rattle.bridge_score.specs.declared.ranking.Scoring.TheVariants.{MatchPoints, Imps}
+use Rattle.bridge_cards.specs.declared.scoring.Scoring.{Scoring}
+use Rattle.bridge_cards.specs.declared.scoring.Scoring.TheVariants.{MatchPoints, Imps}
 use Rattle.arrayvec.specs.ArrayVec.{ArrayVec}
 use Rattle.std.proofs.lemmas.List.{length-append, length-map, map-append, get_or-map, get_or-take, take_more}
 use Rattle.std.specs.List.{list_all}

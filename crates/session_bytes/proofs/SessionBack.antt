@@ -7,8 +7,8 @@ use Rattle.std.proofs.lemmas.List.Elements.{All-nil, All-cons, All-head, All-tai
 use Rattle.bridge_config.specs.ConfigValue.{ConfigValue, Pair, keys_in}
 use Rattle.bridge_config.specs.Limits.{IsKeyNumber, IsConfiguration}
 use Rattle.bridge_movement.specs.declared.shape.Shape.{Shape}
-use Rattle.bridge_score.specs.declared.ranking.Scoring.{Scoring}
-use Rattle.bridge_score.specs.declared.ranking.Scoring.TheVariants.{MatchPoints, Imps}
+use Rattle.bridge_cards.specs.declared.scoring.Scoring.{Scoring}
+use Rattle.bridge_cards.specs.declared.scoring.Scoring.TheVariants.{MatchPoints, Imps}
 use Rattle.session_bytes.specs.Parts.{text_bytes, four_bytes, scoring_number, size_bytes, configuration_part, movement_part, pair_part, deal_part, HasRuling, HasRecord, HasRulings, play_parts, board_parts, pair_parts, parts_of}
 use Rattle.session_bytes.specs.PartsRead.{text_in, after_text, scoring_at, numbers_in, shape_of_numbers, rows_of_part, key_in, pair_of_part, configuration_in, deal_of, tables_in, state_with, state_read}
 use Rattle.session_rules.specs.declared.ruling.Ruling.{Ruling}

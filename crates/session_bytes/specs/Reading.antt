@@ -11,8 +11,8 @@ use Rattle.bridge_auction.specs.Call.{call_number}
 use Rattle.bridge_movement.specs.declared.row.Row.{Row}
 use Rattle.bridge_play.specs.declared.claim.Claim.{Claim}
 use Rattle.bridge_play.specs.Play.{PlayValue, IsPlay, is_over}
-use Rattle.bridge_score.specs.declared.ranking.Scoring.{Scoring}
-use Rattle.bridge_score.specs.declared.ranking.Scoring.TheVariants.{MatchPoints, Imps}
+use Rattle.bridge_cards.specs.declared.scoring.Scoring.{Scoring}
+use Rattle.bridge_cards.specs.declared.scoring.Scoring.TheVariants.{MatchPoints, Imps}
 use Rattle.bridge_table.specs.declared.record.Record.{Record}
 use Rattle.session_bytes.specs.declared.record_fields.RecordFields.{RecordFields}
 use Rattle.session_rules.specs.declared.ruling.Ruling.{Ruling}

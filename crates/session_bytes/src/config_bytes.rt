@@ -6,10 +6,9 @@ ghost use Rattle.session_bytes.specs.Parts.{scoring_number, configuration_part, 
 
 use crate::part_bytes::{put, put_text};
 use arrayvec::ArrayVec;
-use bridge_cards::{Deal, Seat};
+use bridge_cards::{Deal, Scoring, Seat};
 use bridge_config::{Config, PairFields};
 use bridge_movement::Row;
-use bridge_score::Scoring;
 use session_store::PAYLOAD_BYTES;
 
 fn scoring_number(scoring: Scoring) -> u8

@@ -12,11 +12,11 @@ ghost use Rattle.session_bytes.specs.Head.{head_parts, IsHeadingOf, IsHeadingPar
 use crate::config_bytes::{write_configuration, write_movement, write_pair};
 use crate::heading::{key_of, read_heading, split_text};
 use arrayvec::{ArrayString, ArrayVec};
+use bridge_cards::Scoring;
 use bridge_config::{
     Config, ConfigFields, DATE_BYTES, Key, NAME_BYTES, PairFields, read_date, read_name,
 };
 use bridge_movement::{MOST_PAIRS, MOST_ROWS, Movement, Row, Shape};
-use bridge_score::Scoring;
 use session_store::PAYLOAD_BYTES;
 
 /// What the parts before those of the boards state.

@@ -4,9 +4,9 @@ ghost use Rattle.session_bytes.specs.PartsRead.{text_in, after_text, scoring_at,
 ghost use Rattle.session_bytes.specs.Head.{IsHeadingOf, IsHeadingPart};
 
 use arrayvec::ArrayString;
+use bridge_cards::Scoring;
 use bridge_config::{DATE_BYTES, Key, NAME_BYTES, read_date, read_name};
 use bridge_movement::Shape;
-use bridge_score::Scoring;
 
 /// What the first part states.
 #[derive(Clone, Copy)]

@@ -12,9 +12,8 @@ ghost use Rattle.std.specs.List.{list_all};
 use crate::deal_read::read_deal_part;
 use crate::record_read::read_record;
 use arrayvec::ArrayVec;
-use bridge_cards::Deal;
+use bridge_cards::{Deal, Scoring};
 use bridge_movement::Row;
-use bridge_score::Scoring;
 use bridge_table::Record;
 use session_store::{DiskFormat, PAYLOAD_BYTES};
 

@@ -10,8 +10,8 @@ use Rattle.bridge_play.specs.Legal as cards
 use Rattle.bridge_play.specs.Play.{PlayValue, is_claim_in, IsClaimIn, IsPlay}
 use Rattle.bridge_play.specs.Trick.{turn_of}
 use Rattle.bridge_play.proofs.RegularClaim.{regular_claim, claim_regular}
-use Rattle.bridge_score.specs.declared.ranking.Scoring.{Scoring}
-use Rattle.bridge_score.specs.declared.ranking.Scoring.TheVariants.{MatchPoints, Imps}
+use Rattle.bridge_cards.specs.declared.scoring.Scoring.{Scoring}
+use Rattle.bridge_cards.specs.declared.scoring.Scoring.TheVariants.{MatchPoints, Imps}
 use Rattle.session_rules.specs.declared.refused.Refused.{Refused}
 use Rattle.session_rules.specs.declared.ruling.Ruling.{Ruling}
 use Rattle.session_rules.specs.declared.ruling.Ruling.TheVariants as ruling

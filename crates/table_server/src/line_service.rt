@@ -82,8 +82,7 @@ impl LineService {
         cache: &mut Option<&mut Cache>,
         writer: &mut W,
     ) -> Result<(), ServeFault>
-        requires fits { Fits self.old.held }
-        requires few { self.old.held.served.lines + length piece.now ≤ MOST_BYTES }
+        requires { Fits self.old.held × (self.old.held.served.lines + length piece.now ≤ MOST_BYTES) }
         ensures set { self.new.set ≡ self.old.set }
         ensures fits { Fits self.new.held }
         ensures lines { self.new.held.served.lines ≤ self.old.held.served.lines + length piece.now }

@@ -3,7 +3,8 @@ ghost use Rattle.std.specs.Prelude.{◌≡◌, ◌==◌, ◌≤◌, ◌++◌, co
 ghost use Rattle.std.specs.Option.{option_copied, option_map};
 ghost use Rattle.line_text.specs.Streams.{stream, Written};
 ghost use Rattle.bridge_config.specs.ConfigValue.{pair_of};
-ghost use Rattle.bridge_score.specs.declared.ranking.Scoring.TheVariants.{MatchPoints, Imps};
+ghost use Rattle.bridge_cards.specs.declared.scoring.Scoring.TheVariants.{MatchPoints, Imps};
+ghost use Rattle.bridge_results.specs.RankingText.{ranked_items};
 ghost use Rattle.bridge_results.specs.HtmlCard.{standing_in, standing_by, standing_of, card_start, sum_words, place_words, standing_words, standing_html, html_card_titles, html_card_head, html_card_table, card_top, card_html};
 
 use crate::card::CardLine;
@@ -57,19 +58,16 @@ fn standing_in(ranking: &Ranking, pair: u8) -> Option<Standing>
 
 /// The place of a pair in a field, if there is such a field.
 fn standing_by(ranking: &Option<Ranking>, pair: u8) -> Option<Standing>
-    ensures standing { result ≡ standing_by (option_map (λ ranked. ranked.items) ranking.now) pair }
+    ensures standing { result ≡ standing_by (ranked_items ranking.now) pair }
     ensures few { IfSome result (λ standing. standing.among ≤ MOST_LINES) }
 {
-    match ranking {
-        Some(known) => standing_in(known, pair),
-        None => None,
-    }
+    standing_in(ranking.as_ref()?, pair)
 }
 
 /// The place of a pair in its field.
 pub fn standing_of(first: &Option<Ranking>, second: &Option<Ranking>, pair: u8) -> Option<Standing>
     ensures few { IfSome result (λ standing. standing.among ≤ MOST_LINES) }
-    ensures standing { result ≡ standing_of (option_map (λ ranked. ranked.items) first.now) (option_map (λ ranked. ranked.items) second.now) pair }
+    ensures standing { result ≡ standing_of (ranked_items first.now) (ranked_items second.now) pair }
 {
     match standing_by(first, pair) {
         Some(standing) => Some(standing),

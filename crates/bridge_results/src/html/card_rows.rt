@@ -2,7 +2,7 @@
 ghost use Rattle.std.specs.Prelude.{◌≡◌, ◌≤◌, length, map, flat_map};
 ghost use Rattle.line_text.specs.Streams.{stream, Written};
 ghost use Rattle.bridge_config.specs.ConfigValue.{pair_of};
-ghost use Rattle.bridge_score.specs.declared.ranking.Scoring.TheVariants.{MatchPoints, Imps};
+ghost use Rattle.bridge_cards.specs.declared.scoring.Scoring.TheVariants.{MatchPoints, Imps};
 ghost use Rattle.bridge_results.specs.HtmlCard.{html_card_line, html_card_lines};
 
 use crate::card::CardLine;
@@ -12,8 +12,8 @@ use crate::html::links::{board_target, linked_row, pair_target};
 use crate::pages::cells::{declarer_cell, gain_cell, score_cell};
 use crate::pages::pair_card::{counted_gain, side_words};
 use crate::pages::shown::shown_pair;
+use bridge_cards::Scoring;
 use bridge_config::PairFields;
-use bridge_score::Scoring;
 use evening_draft::PairNames;
 use line_text::{number_text, write_text};
 use page_layout::PageText;

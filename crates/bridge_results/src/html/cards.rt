@@ -1,9 +1,9 @@
 //! The sheet of the score cards in HTML.
 ghost use Rattle.std.specs.Prelude.{◌≡◌, ◌≤◌, ◌++◌, length, map, flat_map, IfSome};
 ghost use Rattle.std.specs.List.{range_with_len};
-ghost use Rattle.std.specs.Option.{option_map};
 ghost use Rattle.line_text.specs.Streams.{stream, Written};
 ghost use Rattle.page_layout.specs.Page.{section_end, page_end};
+ghost use Rattle.bridge_results.specs.RankingText.{ranked_items};
 ghost use Rattle.bridge_results.specs.HtmlCard.{standing_of, card_html};
 ghost use Rattle.bridge_results.specs.HtmlPage.{html_card_on, html_cards, cards_start, html_card_sheet};
 
@@ -46,7 +46,7 @@ fn write_card_of<W: Write>(
     writer: &mut W,
 ) -> Result<(), Error>
     requires { results.now ≡ session.now }
-    ensures { Written (stream W.contents writer.old writer.new) (html_card_on names.entry session.now (option_map (λ ranked. ranked.items) first.now) (option_map (λ ranked. ranked.items) second.now) pair) result }
+    ensures { Written (stream W.contents writer.old writer.new) (html_card_on names.entry session.now (ranked_items first.now) (ranked_items second.now) pair) result }
 {
     let card = results.score_card(pair);
     let standing = standing_of(first, second, pair);
@@ -72,7 +72,7 @@ fn write_cards<W: Write>(
 ) -> Result<(), Error>
     requires results { results.now ≡ session.now }
     requires few { pairs ≤ 24 }
-    ensures { Written (stream W.contents writer.old writer.new) (flat_map (html_card_on names.entry session.now (option_map (λ ranked. ranked.items) first.now) (option_map (λ ranked. ranked.items) second.now)) (range_with_len 1 pairs)) result }
+    ensures { Written (stream W.contents writer.old writer.new) (flat_map (html_card_on names.entry session.now (ranked_items first.now) (ranked_items second.now)) (range_with_len 1 pairs)) result }
 {
     for pair in 1..pairs + 1 {
         write_card_of(names, session, results, first, second, pair, writer)?;
@@ -90,7 +90,7 @@ fn write_all_cards<W: Write>(
     writer: &mut W,
 ) -> Result<(), Error>
     requires { results.now ≡ session.now }
-    ensures { Written (stream W.contents writer.old writer.new) (html_cards names.entry session.now (option_map (λ ranked. ranked.items) first.now) (option_map (λ ranked. ranked.items) second.now)) result }
+    ensures { Written (stream W.contents writer.old writer.new) (html_cards names.entry session.now (ranked_items first.now) (ranked_items second.now)) result }
 {
     let pairs = session.config().fields().movement.shape().pairs;
     write_cards(names, session, results, first, second, pairs, writer)
@@ -128,7 +128,7 @@ pub fn write_card_sheet<W: Write>(
     writer: &mut W,
 ) -> Result<(), Error>
     requires { results.now ≡ session.now }
-    ensures { Written (stream W.contents writer.old writer.new) (html_card_sheet names.entry session.now (option_map (λ ranked. ranked.items) first.now) (option_map (λ ranked. ranked.items) second.now)) result }
+    ensures { Written (stream W.contents writer.old writer.new) (html_card_sheet names.entry session.now (ranked_items first.now) (ranked_items second.now)) result }
 {
     write_sheet_start(writer)?;
     write_all_cards(names, session, results, first, second, writer)?;

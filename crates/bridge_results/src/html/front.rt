@@ -1,7 +1,7 @@
 //! The front of the page in HTML: the event and the rankings.
 ghost use Rattle.std.specs.Prelude.{◌≡◌, ◌≤◌, ◌++◌, codes, length};
-ghost use Rattle.std.specs.Option.{option_map};
 ghost use Rattle.line_text.specs.Streams.{stream, Written};
+ghost use Rattle.bridge_results.specs.RankingText.{ranked_items};
 ghost use Rattle.bridge_results.specs.HtmlPage.{html_field, first_heading, html_rankings, page_links, html_event, html_front};
 
 use crate::html::ranking::write_ranking;
@@ -22,7 +22,7 @@ fn write_field<W: Write>(
     writer: &mut W,
 ) -> Result<(), Error>
     requires { length heading.now ≤ 16 }
-    ensures { Written (stream W.contents writer.old writer.new) (html_field config.now names.entry heading.now (option_map (λ ranked. ranked.items) ranking.now)) result }
+    ensures { Written (stream W.contents writer.old writer.new) (html_field config.now names.entry heading.now (ranked_items ranking.now)) result }
 {
     match ranking {
         Some(ranking) => write_ranking(config, names, heading, ranking.as_slice(), writer),
@@ -32,7 +32,7 @@ fn write_field<W: Write>(
 
 /// The heading of the first field: that of North and South where there are two.
 fn first_heading(second: &Option<Ranking>) -> &'static [u8]
-    ensures text { result.now ≡ first_heading (option_map (λ ranked. ranked.items) second.now) }
+    ensures text { result.now ≡ first_heading (ranked_items second.now) }
     ensures short { length result.now ≤ 16 }
 {
     match second {
@@ -50,7 +50,7 @@ fn write_rankings<W: Write>(
     second: &Option<Ranking>,
     writer: &mut W,
 ) -> Result<(), Error>
-    ensures { Written (stream W.contents writer.old writer.new) (html_rankings config.now names.entry (option_map (λ ranked. ranked.items) first.now) (option_map (λ ranked. ranked.items) second.now)) result }
+    ensures { Written (stream W.contents writer.old writer.new) (html_rankings config.now names.entry (ranked_items first.now) (ranked_items second.now)) result }
 {
     write_field(config, names, first_heading(second), first, writer)?;
     write_field(config, names, b"Ranking EW", second, writer)
@@ -76,7 +76,7 @@ pub fn write_front<W: Write>(
     second: &Option<Ranking>,
     writer: &mut W,
 ) -> Result<(), Error>
-    ensures { Written (stream W.contents writer.old writer.new) (html_front config.now names.entry (option_map (λ ranked. ranked.items) first.now) (option_map (λ ranked. ranked.items) second.now)) result }
+    ensures { Written (stream W.contents writer.old writer.new) (html_front config.now names.entry (ranked_items first.now) (ranked_items second.now)) result }
 {
     write_top(config, writer)?;
     write_rankings(config, names, first, second, writer)

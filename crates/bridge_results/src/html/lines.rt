@@ -5,7 +5,7 @@ ghost use Rattle.std.specs.Option.{option_map};
 ghost use Rattle.line_text.specs.Streams.{stream, Written};
 ghost use Rattle.page_layout.specs.Table.{table_end};
 ghost use Rattle.page_layout.specs.declared.format.Format.TheVariants.{Html};
-ghost use Rattle.bridge_score.specs.declared.ranking.Scoring.TheVariants.{MatchPoints, Imps};
+ghost use Rattle.bridge_cards.specs.declared.scoring.Scoring.TheVariants.{MatchPoints, Imps};
 ghost use Rattle.bridge_results.specs.BoardText.{side_gain};
 ghost use Rattle.bridge_results.specs.HtmlBoard.{gain_for, side_percent, html_line, html_line_titles, html_lines_head, html_lines, html_traveller};
 
@@ -16,7 +16,7 @@ use crate::html::links::{linked_row, pair_target, play_target};
 use crate::pages::board::{side_gain, write_table_end};
 use crate::pages::cells::{declarer_cell, line_score, score_cell};
 use crate::traveller::BoardLine;
-use bridge_score::Scoring;
+use bridge_cards::Scoring;
 use line_text::{NumberText, number_text, write_text};
 use page_layout::{Format, PageText, push_bytes, push_titles};
 use std::io::{Error, Write};

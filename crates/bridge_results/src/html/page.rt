@@ -1,7 +1,7 @@
 //! The results of a session as one HTML page, whole.
 ghost use Rattle.std.specs.Prelude.{◌≡◌, ◌++◌};
-ghost use Rattle.std.specs.Option.{option_map};
 ghost use Rattle.line_text.specs.Streams.{stream, Written};
+ghost use Rattle.bridge_results.specs.RankingText.{ranked_items};
 ghost use Rattle.bridge_results.specs.HtmlPage.{page_html};
 
 use crate::html::boards::write_board_sheet;
@@ -23,7 +23,7 @@ pub fn write_html<W: Write>(
     writer: &mut W,
 ) -> Result<(), Error>
     requires { results.now ≡ session.now }
-    ensures { Written (stream W.contents writer.old writer.new) (page_html names.entry session.now (option_map (λ ranked. ranked.items) first.now) (option_map (λ ranked. ranked.items) second.now)) result }
+    ensures { Written (stream W.contents writer.old writer.new) (page_html names.entry session.now (ranked_items first.now) (ranked_items second.now)) result }
 {
     write_front(session.config(), names, first, second, writer)?;
     write_board_sheet(names, session, results, writer)?;

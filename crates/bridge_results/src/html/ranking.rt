@@ -2,11 +2,11 @@
 ghost use Rattle.std.specs.Prelude.{◌≡◌, ◌≤◌, ◌++◌, length, map, flat_map};
 ghost use Rattle.line_text.specs.Streams.{stream, Written};
 ghost use Rattle.bridge_config.specs.ConfigValue.{pair_of};
-ghost use Rattle.bridge_score.specs.declared.ranking.Scoring.TheVariants.{MatchPoints, Imps};
+ghost use Rattle.bridge_cards.specs.declared.scoring.Scoring.TheVariants.{MatchPoints, Imps};
 ghost use Rattle.page_layout.specs.declared.format.Format.TheVariants.{Html};
 ghost use Rattle.page_layout.specs.Page.{section_end};
 ghost use Rattle.page_layout.specs.Table.{table_end};
-ghost use Rattle.bridge_results.specs.HtmlPage.{html_ranked, html_ranking_start, html_ranked_rows, html_ranking};
+ghost use Rattle.bridge_results.specs.HtmlPage.{html_ranked, html_ranking_start, html_ranked_rows, html_ranking_of, html_ranking};
 
 use crate::html::links::{linked_row, pair_target};
 use crate::pages::columns::{SHARE_COLUMNS, SUM_COLUMNS};
@@ -125,7 +125,7 @@ fn write_pairs<W: Write>(
     writer: &mut W,
 ) -> Result<(), Error>
     requires { length heading.now ≤ 16 }
-    ensures { Written (stream W.contents writer.old writer.new) (html_ranking_start scoring heading.now ++ (html_ranked_rows scoring names.entry (map pair_of pairs.now) ranking.now ++ (table_end Html ++ section_end Html))) result }
+    ensures { Written (stream W.contents writer.old writer.new) (html_ranking_of scoring names.entry (map pair_of pairs.now) heading.now ranking.now) result }
 {
     write_start(scoring, heading, writer)?;
     write_rows(scoring, names, pairs, ranking, writer)?;

@@ -16,8 +16,9 @@ use crate::pages::diagram::diagram_text;
 use crate::pages::frequencies::write_frequencies_of;
 use crate::traveller::BoardLine;
 use arrayvec::ArrayString;
-use bridge_cards::{BoardNumber, Deal, dealer, seat_text, vulnerability_of, vulnerability_text};
-use bridge_score::Scoring;
+use bridge_cards::{
+    BoardNumber, Deal, Scoring, dealer, seat_text, vulnerability_of, vulnerability_text,
+};
 use line_text::{NumberText, number_text, signed_text, write_text};
 use page_layout::{
     Format, Level, PageText, Section, push_heading, push_paragraph, push_row, push_section_end,

@@ -8,9 +8,8 @@ ghost use Rattle.bridge_results.specs.PlayCells.{contract_cell, declarer_cell, t
 use crate::compare::Comparison;
 use arrayvec::ArrayString;
 use bridge_auction::{Contract, doubling_text, print_bid};
-use bridge_cards::{Card, seat_text};
+use bridge_cards::{Card, Scoring, seat_text};
 use bridge_ranking::PlayResult;
-use bridge_score::Scoring;
 use line_text::{NumberText, number_text, signed_text, tenths_text};
 use session_rules::{Average, Outcome};
 

@@ -4,9 +4,9 @@ ghost use Rattle.bridge_movement.specs.Shape.{IsShape};
 ghost use Rattle.bridge_results.specs.EventText.{scoring_words, place_words, count_words, event_text};
 
 use arrayvec::ArrayString;
+use bridge_cards::Scoring;
 use bridge_config::Config;
 use bridge_movement::Shape;
-use bridge_score::Scoring;
 use line_text::number_text;
 use page_layout::{Format, Level, PageText, push_heading, push_page_start, push_paragraph};
 

@@ -10,7 +10,7 @@ use crate::pages::board::write_table_end;
 use crate::pages::cells::gain_cell;
 use crate::pages::columns::FREQUENCY_COLUMNS;
 use crate::traveller::BoardLine;
-use bridge_score::Scoring;
+use bridge_cards::Scoring;
 use line_text::{number_text, signed_text, write_text};
 use page_layout::{Format, PageText, push_row, push_table_start, push_titles};
 use std::io::{Error, Write};

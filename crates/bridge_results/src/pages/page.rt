@@ -1,12 +1,11 @@
 //! The results of a session, whole.
 ghost use Rattle.std.specs.Prelude.{◌≡◌, List, Option};
-ghost use Rattle.std.specs.Option.{option_map};
 ghost use Rattle.line_text.specs.Streams.{stream, Written};
 ghost use Rattle.bridge_score.specs.declared.ranking.Ranked.{Ranked};
 ghost use Rattle.bridge_ranking.specs.declared.field.Field.TheVariants.{First, Second};
 ghost use Rattle.page_layout.specs.Page.{page_end};
 ghost use Rattle.bridge_results.specs.EventText.{event_text};
-ghost use Rattle.bridge_results.specs.RankingText.{field_text};
+ghost use Rattle.bridge_results.specs.RankingText.{ranked_items, field_text};
 ghost use Rattle.bridge_results.specs.ResultsText.{ranked_text, rankings_text, front_text, sheets_text, plain_page, IsFieldRanking, WritesPage, WritesNamedPage};
 
 use crate::html::write_html;
@@ -48,7 +47,7 @@ fn write_ranked<W: Write>(
     ranking: &Option<Ranking>,
     writer: &mut W,
 ) -> Result<(), Error>
-    ensures { Written (stream W.contents writer.old writer.new) (ranked_text format names.entry config.now field (option_map (λ ranked. ranked.items) ranking.now)) result }
+    ensures { Written (stream W.contents writer.old writer.new) (ranked_text format names.entry config.now field (ranked_items ranking.now)) result }
 {
     match ranking {
         Some(ranking) => write_field_of(format, names, config, field, ranking.as_slice(), writer),
@@ -83,7 +82,7 @@ fn write_rankings<W: Write>(
     second: &Option<Ranking>,
     writer: &mut W,
 ) -> Result<(), Error>
-    ensures { Written (stream W.contents writer.old writer.new) (rankings_text format names.entry config.now (option_map (λ ranked. ranked.items) first.now) (option_map (λ ranked. ranked.items) second.now)) result }
+    ensures { Written (stream W.contents writer.old writer.new) (rankings_text format names.entry config.now (ranked_items first.now) (ranked_items second.now)) result }
 {
     write_ranked(format, names, config, Field::First, first, writer)?;
     write_ranked(format, names, config, Field::Second, second, writer)
@@ -116,7 +115,7 @@ fn write_front<W: Write>(
     second: &Option<Ranking>,
     writer: &mut W,
 ) -> Result<(), Error>
-    ensures { Written (stream W.contents writer.old writer.new) (front_text format names.entry config.now (option_map (λ ranked. ranked.items) first.now) (option_map (λ ranked. ranked.items) second.now)) result }
+    ensures { Written (stream W.contents writer.old writer.new) (front_text format names.entry config.now (ranked_items first.now) (ranked_items second.now)) result }
 {
     write_event(format, config, writer)?;
     write_rankings(format, names, config, first, second, writer)
@@ -133,7 +132,7 @@ fn write_page<W: Write>(
     writer: &mut W,
 ) -> Result<(), Error>
     requires { results.now ≡ session.now }
-    ensures { Written (stream W.contents writer.old writer.new) (plain_page names.entry session.now (option_map (λ ranked. ranked.items) first.now) (option_map (λ ranked. ranked.items) second.now)) result }
+    ensures { Written (stream W.contents writer.old writer.new) (plain_page names.entry session.now (ranked_items first.now) (ranked_items second.now)) result }
 {
     write_front(
         Format::Plain,

@@ -12,9 +12,8 @@ use crate::pages::cells::{
 use crate::pages::columns::CARD_COLUMNS;
 use crate::pages::shown::shown_pair;
 use arrayvec::ArrayString;
-use bridge_cards::Side;
+use bridge_cards::{Scoring, Side};
 use bridge_config::PairFields;
-use bridge_score::Scoring;
 use evening_draft::PairNames;
 use line_text::{number_text, tenths_text, write_text};
 use page_layout::{

@@ -12,10 +12,9 @@ use crate::pages::cells::{
 use crate::results::Results;
 use crate::tables::fields::{push_field, push_number};
 use crate::traveller::BoardLine;
-use bridge_cards::BoardNumber;
+use bridge_cards::{BoardNumber, Scoring};
 use bridge_config::Config;
 use bridge_movement::Row;
-use bridge_score::Scoring;
 use bridge_session::Session;
 use line_text::{number_text, write_text};
 use page_layout::{PageText, push_bytes};

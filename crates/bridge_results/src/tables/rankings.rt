@@ -1,12 +1,12 @@
 //! The rankings of a session as a table.
 ghost use Rattle.std.specs.Prelude.{◌≡◌, ◌≤◌, ◌++◌, length, map, flat_map, List, Option};
-ghost use Rattle.std.specs.Option.{option_map};
 ghost use Rattle.arrayvec.specs.ArrayVec.{array_vec_len};
 ghost use Rattle.line_text.specs.Streams.{stream, Written};
 ghost use Rattle.bridge_config.specs.ConfigValue.{pair_of};
 ghost use Rattle.bridge_score.specs.declared.ranking.Ranked.{Ranked};
-ghost use Rattle.bridge_score.specs.declared.ranking.Scoring.TheVariants.{MatchPoints, Imps};
+ghost use Rattle.bridge_cards.specs.declared.scoring.Scoring.TheVariants.{MatchPoints, Imps};
 ghost use Rattle.bridge_ranking.specs.declared.field.Field.TheVariants.{First, Second};
+ghost use Rattle.bridge_results.specs.RankingText.{ranked_items};
 ghost use Rattle.bridge_results.specs.TablesText.{field_number, pair_fields, value_fields, ranked_fields, field_rows, ranking_titles, rankings_table, WritesRankings};
 
 use crate::results::Results;
@@ -154,7 +154,7 @@ fn write_field<W: Write>(
     ranking: &Option<Ranking>,
     writer: &mut W,
 ) -> Result<(), Error>
-    ensures { Written (stream W.contents writer.old writer.new) (field_rows config.now field (option_map (λ ranked. ranked.items) ranking.now)) result }
+    ensures { Written (stream W.contents writer.old writer.new) (field_rows config.now field (ranked_items ranking.now)) result }
 {
     match ranking {
         Some(ranking) => write_rows_of(config, field, ranking.as_slice(), writer),
@@ -181,7 +181,7 @@ fn write_table<W: Write>(
     second: &Option<Ranking>,
     writer: &mut W,
 ) -> Result<(), Error>
-    ensures { Written (stream W.contents writer.old writer.new) (rankings_table config.now (option_map (λ ranked. ranked.items) first.now) (option_map (λ ranked. ranked.items) second.now)) result }
+    ensures { Written (stream W.contents writer.old writer.new) (rankings_table config.now (ranked_items first.now) (ranked_items second.now)) result }
 {
     write_titles(writer)?;
     write_field(config, Field::First, first, writer)?;

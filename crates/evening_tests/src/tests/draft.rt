@@ -1,8 +1,8 @@
 //! An evening of three pairs, as it was written by hand from the first words of ChaCha20 under a key of zeros.
 use arrayvec::{ArrayString, ArrayVec};
+use bridge_cards::Scoring;
 use bridge_config::read_config;
 use bridge_movement::NamedMovement;
-use bridge_score::Scoring;
 use evening_draft::{
     PairNames, WishWords, Wishes, ascii_name, date_at, draft, draft_evening, player_name,
     read_names, read_seed, shown_name, write_config, write_names_fault,

@@ -1,10 +1,9 @@
 //! A second reading of a session: it keeps every action that was taken, and works each answer out from all of them.
 use super::holder::{Holder, holder_of};
 use super::story::Story;
-use bridge_cards::{BoardNumber, CardSet, Deal, Seat};
+use bridge_cards::{BoardNumber, CardSet, Deal, Scoring, Seat};
 use bridge_config::{Config, Key};
 use bridge_movement::Row;
-use bridge_score::Scoring;
 use bridge_session::{Action, PlayId, Refused};
 
 /// The configuration, and what was taken, the earliest first.

@@ -16,10 +16,7 @@ made c =
     ∙ ap (drafted c.args.wishes.now c.args.names.now c.of_pairs-movement.result) c.as_slice.ensures.value)
 
 pub returns-in-Some-config_with-clause-keys : goal.returns-in-Some-config_with-clause-keys
-returns-in-Some-config_with-clause-keys c = (made c).keys
-
-pub returns-in-Some-config_with-clause-nine_digits : goal.returns-in-Some-config_with-clause-nine_digits
-returns-in-Some-config_with-clause-nine_digits c = (made c).nine
+returns-in-Some-config_with-clause-keys c = ((made c).keys, (made c).nine)
 
 pub returns-in-Some-config_with-clause-names : goal.returns-in-Some-config_with-clause-names
 returns-in-Some-config_with-clause-names c = (made c).ascii

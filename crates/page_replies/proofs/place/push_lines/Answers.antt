@@ -5,7 +5,8 @@ use Rattle.line_replies.proofs.Added.{line_then, line_last}
 use Rattle.line_replies.specs.ReplyTexts.{spaced_line, listed_text}
 use Rattle.line_replies.proofs.Pairs.{listed_is}
 use Rattle.session_rules.specs.Stage.{stage_to}
-use Rattle.page_replies.specs.Place.{round_line, player_line, table_words, names_words, contract_words, contract_seen, answer_words, answer_seen, place_lines}
+use Rattle.page_replies.specs.Place.{round_line, player_line, table_words, names_words, contract_seen, answer_words, answer_seen, place_lines}
+use Rattle.line_replies.specs.TableWords.{contract_words}
 use Rattle.page_replies.proofs.place.push_lines.Goals as goal
 
 pub returns : goal.returns

@@ -5,7 +5,7 @@ use Rattle.bridge_config.specs.ConfigValue.{ConfigValue}
 use Rattle.bridge_movement.specs.declared.row.Row.{Row}
 use Rattle.bridge_movement.specs.declared.shape.Shape.{Shape}
 use Rattle.bridge_score.specs.declared.ranking.Line.{Line}
-use Rattle.bridge_score.specs.declared.ranking.Scoring.{Scoring}
+use Rattle.bridge_cards.specs.declared.scoring.Scoring.{Scoring}
 use Rattle.bridge_score.specs.Ranking.{ranked_in}
 use Rattle.bridge_ranking.specs.declared.game.Game.{Game}
 use Rattle.bridge_table.specs.declared.record.Record.{Record}

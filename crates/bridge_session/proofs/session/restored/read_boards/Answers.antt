@@ -6,7 +6,7 @@ use Rattle.std.proofs.lemmas.List.{take-append-drop, with_items_is}
 use Rattle.std.proofs.lemmas.Simd.{map-map}
 use Rattle.bridge_movement.specs.declared.row.Row.{Row}
 use Rattle.bridge_config.specs.ConfigValue.{ConfigValue, configuration_of}
-use Rattle.bridge_score.specs.declared.ranking.Scoring.{Scoring}
+use Rattle.bridge_cards.specs.declared.scoring.Scoring.{Scoring}
 use Rattle.bridge_table.specs.declared.record.Record.{Record}
 use Rattle.session_rules.specs.State.{Deals, row_boards}
 use Rattle.session_rules.specs.StateRange.{AreHandsOrNone, IsSession}

@@ -11,7 +11,7 @@ use Rattle.table_server.proofs.line_service.LineService.take.Goals as goal
 pub loop-byte-init : goal.loop-byte-init
 loop-byte-init g c = record {
   set = refl;
-  fits = c.requires.fits;
+  fits = c.requires.0;
   lines = omega arith;
   hears = λ start bytes written h.
       ([], Appends-nil (g.W.Write.contents c.args.writer.now), rw (append-nil bytes, append-nil written) h);
